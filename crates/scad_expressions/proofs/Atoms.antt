@@ -4,8 +4,8 @@ use Rattle.std.proofs.lemmas.Bool.{eqb-true}
 use Rattle.scad_lexer.specs.declared.token.Token.{Token}
 use Rattle.scad_ast.specs.Terms.{Term, NameTerm, ArgTerm}
 use Rattle.scad_grammar.specs.declared.SyntaxFault.{SyntaxFault}
-use Rattle.scad_grammar.specs.Classes.{numeral, text, true_word, false_word, undef_word, child_count, special, name, question_sign, open_parenthesis_sign, class_of, listed, among, is, other_than, bytes_of}
-use Rattle.scad_grammar.specs.Faults.{Reads, one, fault_of, left_out}
+use Rattle.scad_grammar.specs.Classes.{numeral, text, true_word, false_word, undef_word, child_count, special, name, question_sign, open_parenthesis_sign, class_of, is_listed, among, is, other_than, bytes_of}
+use Rattle.scad_grammar.specs.Faults.{TokenReader, one, fault_of, left_out_classes}
 use Rattle.scad_grammar.specs.Grammar.{levels}
 use Rattle.scad_grammar.specs.Reading.{Read, after, starts, choice}
 use Rattle.scad_grammar.specs.Reads.{suffix_read, unary_read, chain_read, paren_read, bracket_read, name_read, primary_read, choice_read}
@@ -36,15 +36,15 @@ module _ (us : List Token) (e : starts (among continuations) us ≡ false) where
   no_operator = (starts_apart suffix_signs binary_signs us not_called).1
 
 -- a class that is not the first of a list
-not_first : (c : ℕ) (cs : List ℕ) (k : ℕ) → listed (c ∷ []) k ≡ false → listed (c ∷ cs) k ≡ listed cs k
+not_first : (c : ℕ) (cs : List ℕ) (k : ℕ) → is_listed (c ∷ []) k ≡ false → is_listed (c ∷ cs) k ≡ is_listed cs k
 not_first c cs k e = go (nat_eq k c) e
   where
-    go : (b : Bool) → cond b true false ≡ false → cond b true (listed cs k) ≡ listed cs k
+    go : (b : Bool) → cond b true false ≡ false → cond b true (is_listed cs k) ≡ is_listed cs k
     go true e = absurd (cc)
     go false e = refl
 
-not_literal : (k : ℕ) → listed (numeral ∷ []) k ≡ false → listed (text ∷ []) k ≡ false → listed (true_word ∷ []) k ≡ false → listed (false_word ∷ []) k ≡ false
-    → listed (undef_word ∷ []) k ≡ false → listed (child_count ∷ []) k ≡ false → listed (special ∷ []) k ≡ false → listed literals k ≡ false
+not_literal : (k : ℕ) → is_listed (numeral ∷ []) k ≡ false → is_listed (text ∷ []) k ≡ false → is_listed (true_word ∷ []) k ≡ false → is_listed (false_word ∷ []) k ≡ false
+    → is_listed (undef_word ∷ []) k ≡ false → is_listed (child_count ∷ []) k ≡ false → is_listed (special ∷ []) k ≡ false → is_listed literals k ≡ false
 not_literal k n x y z v w s =
     not_first numeral (text ∷ true_word ∷ false_word ∷ undef_word ∷ child_count ∷ special ∷ []) k n
     ∙ not_first text (true_word ∷ false_word ∷ undef_word ∷ child_count ∷ special ∷ []) k x
@@ -54,15 +54,15 @@ not_literal k n x y z v w s =
     ∙ not_first child_count (special ∷ []) k w
     ∙ not_first special [] k s
 
-not_atom : (k : ℕ) → listed (numeral ∷ []) k ≡ false → listed (text ∷ []) k ≡ false → listed (true_word ∷ []) k ≡ false → listed (false_word ∷ []) k ≡ false
-    → listed (undef_word ∷ []) k ≡ false → listed (child_count ∷ []) k ≡ false → listed (special ∷ []) k ≡ false → listed (name ∷ []) k ≡ false → listed atoms k ≡ false
+not_atom : (k : ℕ) → is_listed (numeral ∷ []) k ≡ false → is_listed (text ∷ []) k ≡ false → is_listed (true_word ∷ []) k ≡ false → is_listed (false_word ∷ []) k ≡ false
+    → is_listed (undef_word ∷ []) k ≡ false → is_listed (child_count ∷ []) k ≡ false → is_listed (special ∷ []) k ≡ false → is_listed (name ∷ []) k ≡ false → is_listed atoms k ≡ false
 not_atom k n x y z v w s g = not_first name literals k g ∙ not_literal k n x y z v w s
 
 -- a literal is an atom
 pub literal_is_atom : (t : Token) → among literals t ≡ true → among atoms t ≡ true
 literal_is_atom t e = go (nat_eq (class_of t.kind) name)
   where
-    go : (b : Bool) → cond b true (listed literals (class_of t.kind)) ≡ true
+    go : (b : Bool) → cond b true (is_listed literals (class_of t.kind)) ≡ true
     go true = refl
     go false = e
 
@@ -70,7 +70,7 @@ literal_is_atom t e = go (nat_eq (class_of t.kind) name)
 pub literal_taken : (ts : List Token) (t : Token) (us : List Token) → starts (among literals) ts ≡ true → one (among literals) ts ≡ Ok (t, us) → (ts ≡ t ∷ us) × (among literals t ≡ true)
 literal_taken [] t us s e = absurd (cc)
 literal_taken (y ∷ l) t us s e =
-    let f : ◌≡◌ {A = Read Token SyntaxFault Token} (Ok (y, l)) (Ok (t, us)) = ap (λ b. cond b (Ok (y, l)) (Err (fault_of left_out (Some y), y ∷ l))) (sym s) ∙ e in
+    let f : ◌≡◌ {A = Read Token SyntaxFault Token} (Ok (y, l)) (Ok (t, us)) = ap (λ b. cond b (Ok (y, l)) (Err (fault_of left_out_classes (Some y), y ∷ l))) (sym s) ∙ e in
     let g : ◌≡◌ {A = Token × List Token} (y, l) (t, us) = cc in
     (ap (λ (p : Token × List Token). p.0 ∷ p.1) g, ap (λ (p : Token × List Token). among literals p.0) (sym g) ∙ s)
 
@@ -79,15 +79,15 @@ abbrev Spares : (ℕ → Bool) → List ℕ → Type 0
 Spares f [] = Unit {0}
 Spares f (c ∷ cs) = (f c ≡ false) × Spares f cs
 
-spared : (f : ℕ → Bool) (cs : List ℕ) (k : ℕ) → Spares f cs → listed cs k ≡ true → f k ≡ false
+spared : (f : ℕ → Bool) (cs : List ℕ) (k : ℕ) → Spares f cs → is_listed cs k ≡ true → f k ≡ false
 spared f [] k h e = absurd (cc)
 spared f (c ∷ cs) k h e = go (nat_eq k c) refl e (spared f cs k h.1)
   where
-    go : (b : Bool) → nat_eq k c ≡ b → cond b true (listed cs k) ≡ true → (listed cs k ≡ true → f k ≡ false) → f k ≡ false
+    go : (b : Bool) → nat_eq k c ≡ b → cond b true (is_listed cs k) ≡ true → (is_listed cs k ≡ true → f k ≡ false) → f k ≡ false
     go true g e more = ap f (eqb-true k c g) ∙ h.0
     go false g e more = more e
 
-module _ (e : Reads Term) (a : Reads ArgTerm) (t : Token) (us : List Token) where
+module _ (e : TokenReader Term) (a : TokenReader ArgTerm) (t : Token) (us : List Token) where
   -- one literal, or something else
   literal_or : (f : Token → Term) (b : Bool) (y : SyntaxFault × List Token) (other : Read Token SyntaxFault Term) (z : Term)
       → (b ≡ false → other ≡ Ok (z, us)) → cond b (after (cond {A = Read Token SyntaxFault Token} b (Ok (t, us)) (Err y)) (λ x ts. Ok (f x, ts))) other ≡ Ok (cond b (f t) z, us)
@@ -125,7 +125,7 @@ module _ (e : Reads Term) (a : Reads ArgTerm) (t : Token) (us : List Token) wher
           absurd (cc)
 
 unsigned : (t : Token) → among atoms t ≡ true → among unary_signs t ≡ false
-unsigned t = spared (listed unary_signs) atoms (class_of t.kind) (refl, (refl, (refl, (refl, (refl, (refl, (refl, (refl, tt))))))))
+unsigned t = spared (is_listed unary_signs) atoms (class_of t.kind) (refl, (refl, (refl, (refl, (refl, (refl, (refl, (refl, tt))))))))
 
 -- what stands behind an atom alone does not go on with it
 apart : (us : List Token) → starts (other_than continuations) us ≡ true → starts (among continuations) us ≡ false
@@ -136,7 +136,7 @@ apart (u ∷ us) h = go (among continuations u) h
     go true h = absurd (cc)
     go false h = refl
 
-module _ (e w : Reads Term) (a : Reads ArgTerm) (t : Token) (us : List Token) (h : has_lone_atom (t ∷ us) ≡ true) where
+module _ (e w : TokenReader Term) (a : TokenReader ArgTerm) (t : Token) (us : List Token) (h : has_lone_atom (t ∷ us) ≡ true) where
   atom : among atoms t ≡ true
   atom = (both_hold (among atoms t) (starts (other_than continuations) us) h).0
 

@@ -3,9 +3,9 @@ use Rattle.std.proofs.Common.{◌≡◌, ℕ, zero, suc, ◌+◌, ◌-◌, ◌<�
 use Rattle.scad_lexer.specs.declared.token.Token.{Token}
 use Rattle.scad_ast.specs.Terms.{Term, LinkTerm}
 use Rattle.scad_grammar.specs.declared.SyntaxFault.{SyntaxFault}
-use Rattle.scad_grammar.specs.Classes.{among, listed, class_of}
-use Rattle.scad_grammar.specs.Faults.{Reads, one}
-use Rattle.scad_grammar.specs.Grammar.{levels, chain_of, link}
+use Rattle.scad_grammar.specs.Classes.{among, is_listed, class_of}
+use Rattle.scad_grammar.specs.Faults.{TokenReader, one}
+use Rattle.scad_grammar.specs.Grammar.{levels, chain_term, link}
 use Rattle.scad_grammar.specs.Reading.{Read, after, starts, mapped, both, many_times, many}
 use Rattle.scad_grammar.specs.Reads.{chain_read}
 use Rattle.scad_tokens.specs.declared.class.Level.{Level}
@@ -14,7 +14,7 @@ use Rattle.scad_expressions.specs.Climbing.{climb_read}
 use Rattle.scad_tokens.specs.TokenClasses.{joined, binary_signs, operators_at, looser_than, levels_below, levels_at, tighter_levels}
 use Rattle.scad_expressions.proofs.Levels.{same_level, looser_step}
 
-one_by_one : {A B C : Type 0} (q : Read Token SyntaxFault A) (f : A → Reads B) (g : B → Reads C)
+one_by_one : {A B C : Type 0} (q : Read Token SyntaxFault A) (f : A → TokenReader B) (g : B → TokenReader C)
     → after (after q f) g ≡ after q (λ x us. after (f x us) g)
 one_by_one (Ok p) f g = refl
 one_by_one (Err e) f g = refl
@@ -24,19 +24,19 @@ as_it_is (Ok p) = refl
 as_it_is (Err e) = refl
 
 -- an operand, and what is climbed behind it
-pub chain_climbs : (levels : List (List ℕ)) (u : Reads Term) (ts : List Token)
+pub chain_climbs : (levels : List (List ℕ)) (u : TokenReader Term) (ts : List Token)
     → chain_read levels u ts ≡ after (u ts) (climb_read levels u)
 chain_climbs [] u ts = as_it_is (u ts)
 chain_climbs (ops ∷ levels) u ts =
-    ap (λ q. after q (λ a us. after (many (among ops) (both link (one (among ops)) (chain_read levels u)) us) (λ b vs. Ok (chain_of a b, vs)))) (chain_climbs levels u ts)
-    ∙ one_by_one (u ts) (climb_read levels u) (λ a us. after (many (among ops) (both link (one (among ops)) (chain_read levels u)) us) (λ b vs. Ok (chain_of a b, vs)))
+    ap (λ q. after q (λ a us. after (many (among ops) (both link (one (among ops)) (chain_read levels u)) us) (λ b vs. Ok (chain_term a b, vs)))) (chain_climbs levels u ts)
+    ∙ one_by_one (u ts) (climb_read levels u) (λ a us. after (many (among ops) (both link (one (among ops)) (chain_read levels u)) us) (λ b vs. Ok (chain_term a b, vs)))
 
-pub chain_stops : (levels : List (List ℕ)) (u : Reads Term) (ts : List Token) (x : SyntaxFault × List Token)
+pub chain_stops : (levels : List (List ℕ)) (u : TokenReader Term) (ts : List Token) (x : SyntaxFault × List Token)
     → u ts ≡ Err x → chain_read levels u ts ≡ Err x
 chain_stops levels u ts x e = chain_climbs levels u ts ∙ ap (λ q. after q (climb_read levels u)) e
 
 -- no item stands here
-pub many_none : {A : Type 0} (test : Token → Bool) (r : Reads A) (ts : List Token) → starts test ts ≡ false
+pub many_none : {A : Type 0} (test : Token → Bool) (r : TokenReader A) (ts : List Token) → starts test ts ≡ false
     → many test r ts ≡ Ok ([], ts)
 unfolding many many_times
 many_none test r [] e = refl
@@ -44,13 +44,13 @@ many_none test r (t ∷ ts) e = rw e refl
 
 -- a class of none of two lists
 not_either : (b : Bool) (xs ys : List ℕ) (k : ℕ)
-    → (listed (xs ++ ys) k ≡ false → (listed xs k ≡ false) × (listed ys k ≡ false))
-    → cond b true (listed (xs ++ ys) k) ≡ false → (cond b true (listed xs k) ≡ false) × (listed ys k ≡ false)
+    → (is_listed (xs ++ ys) k ≡ false → (is_listed xs k ≡ false) × (is_listed ys k ≡ false))
+    → cond b true (is_listed (xs ++ ys) k) ≡ false → (cond b true (is_listed xs k) ≡ false) × (is_listed ys k ≡ false)
 not_either true xs ys k ih e = absurd (cc)
 not_either false xs ys k ih e = ih e
 
-listed_apart : (xs ys : List ℕ) (k : ℕ) → listed (xs ++ ys) k ≡ false
-    → (listed xs k ≡ false) × (listed ys k ≡ false)
+listed_apart : (xs ys : List ℕ) (k : ℕ) → is_listed (xs ++ ys) k ≡ false
+    → (is_listed xs k ≡ false) × (is_listed ys k ≡ false)
 listed_apart [] ys k e = (refl, e)
 listed_apart (c ∷ xs) ys k e = not_either (nat_eq k c) xs ys k (listed_apart xs ys k) e
 
@@ -60,7 +60,7 @@ starts_apart xs ys [] e = (refl, refl)
 starts_apart xs ys (t ∷ ts) e = listed_apart xs ys (class_of t.kind) e
 
 -- no operator of these levels stands here
-pub climbs_none : (ls : List (List ℕ)) (u : Reads Term) (x : Term) (ts : List Token)
+pub climbs_none : (ls : List (List ℕ)) (u : TokenReader Term) (x : Term) (ts : List Token)
     → starts (among (joined ls)) ts ≡ false → climb_read ls u x ts ≡ Ok (x, ts)
 climbs_none [] u x ts e = refl
 climbs_none (ops ∷ ls) u x ts e =
@@ -88,23 +88,23 @@ none_at Product ts e =
     (none_below (operators_at Or) (levels_at And) ts e))))
 
 -- no operator stands here
-pub climb_none : (u : Reads Term) (x : Term) (ts : List Token) → starts (among binary_signs) ts ≡ false → climb_read levels u x ts ≡ Ok (x, ts)
+pub climb_none : (u : TokenReader Term) (x : Term) (ts : List Token) → starts (among binary_signs) ts ≡ false → climb_read levels u x ts ≡ Ok (x, ts)
 climb_none u x ts e = climbs_none levels u x ts e
 
 -- the operators of a level behind those that bind more tightly
-pub climb_step : (at : Level) (u : Reads Term) (x first : Term) (ts rest : List Token) → climb_read (levels_below at) u x ts ≡ Ok (first, rest)
-    → climb_read (levels_at at) u x ts ≡ mapped (chain_of first) (many (among (operators_at at)) (both link (one (among (operators_at at))) (chain_read (levels_below at) u))) rest
+pub climb_step : (at : Level) (u : TokenReader Term) (x first : Term) (ts rest : List Token) → climb_read (levels_below at) u x ts ≡ Ok (first, rest)
+    → climb_read (levels_at at) u x ts ≡ mapped (chain_term first) (many (among (operators_at at)) (both link (one (among (operators_at at))) (chain_read (levels_below at) u))) rest
 climb_step at u x first ts rest e =
-    ap (λ q. after q (λ a us. after (many (among (operators_at at)) (both link (one (among (operators_at at))) (chain_read (levels_below at) u)) us) (λ b vs. Ok (chain_of a b, vs)))) e
+    ap (λ q. after q (λ a us. after (many (among (operators_at at)) (both link (one (among (operators_at at))) (chain_read (levels_below at) u)) us) (λ b vs. Ok (chain_term a b, vs)))) e
 
-pub climb_step_none : (at : Level) (u : Reads Term) (x first : Term) (ts rest : List Token) → climb_read (levels_below at) u x ts ≡ Ok (first, rest)
+pub climb_step_none : (at : Level) (u : TokenReader Term) (x first : Term) (ts rest : List Token) → climb_read (levels_below at) u x ts ≡ Ok (first, rest)
     → starts (among (operators_at at)) rest ≡ false → climb_read (levels_at at) u x ts ≡ Ok (first, rest)
 climb_step_none at u x first ts rest e none =
     climb_step at u x first ts rest e
-    ∙ ap (λ (q : Read Token SyntaxFault (List LinkTerm)). after q (λ b vs. Ok (chain_of first b, vs))) (many_none (among (operators_at at)) _ rest none)
+    ∙ ap (λ (q : Read Token SyntaxFault (List LinkTerm)). after q (λ b vs. Ok (chain_term first b, vs))) (many_none (among (operators_at at)) _ rest none)
 
 -- a fault among the operators of a level is one of all levels that bind less tightly
-climb_stops_over : (n : ℕ) (at level : Level) (u : Reads Term) (x : Term) (ts : List Token) (y : SyntaxFault × List Token)
+climb_stops_over : (n : ℕ) (at level : Level) (u : TokenReader Term) (x : Term) (ts : List Token) (y : SyntaxFault × List Token)
     → tighter_levels level ≡ suc (n + tighter_levels at) → climb_read (levels_at at) u x ts ≡ Err y → climb_read (levels_below level) u x ts ≡ Err y
 climb_stops_over zero at level u x ts y g e =
     let next = looser_step at level (omega (arith, g)) in
@@ -113,9 +113,9 @@ climb_stops_over zero at level u x ts y g e =
 climb_stops_over (suc n) at level u x ts y g e =
     let next = looser_step at level (omega (arith, g)) in
     climb_stops_over n (looser_than at) level u x ts y (omega (arith, g, next.1))
-    (ap (λ q. after q (λ a us. after (many (among (operators_at (looser_than at))) (both link (one (among (operators_at (looser_than at)))) (chain_read (levels_below (looser_than at)) u)) us) (λ b vs. Ok (chain_of a b, vs))))
+    (ap (λ q. after q (λ a us. after (many (among (operators_at (looser_than at))) (both link (one (among (operators_at (looser_than at)))) (chain_read (levels_below (looser_than at)) u)) us) (λ b vs. Ok (chain_term a b, vs))))
     (ap (λ (ls : List (List ℕ)). climb_read ls u x ts) next.0 ∙ e))
 
-pub climb_stops : (at level : Level) (u : Reads Term) (x : Term) (ts : List Token) (y : SyntaxFault × List Token)
+pub climb_stops : (at level : Level) (u : TokenReader Term) (x : Term) (ts : List Token) (y : SyntaxFault × List Token)
     → tighter_levels at < tighter_levels level → climb_read (levels_at at) u x ts ≡ Err y → climb_read (levels_below level) u x ts ≡ Err y
 climb_stops at level u x ts y less e = climb_stops_over (tighter_levels level - suc (tighter_levels at)) at level u x ts y (omega (arith, less)) e

@@ -4,8 +4,8 @@ use Rattle.scad_lexer.specs.declared.token.Token.{Token}
 use Rattle.scad_ast.specs.Terms.{PositionalTerm}
 use Rattle.scad_grammar.specs.declared.SyntaxFault.{SyntaxFault}
 use Rattle.scad_grammar.specs.Classes.{argument_names, assign_sign, among, is}
-use Rattle.scad_grammar.specs.Faults.{Reads}
-use Rattle.scad_grammar.specs.Grammar.{given_of}
+use Rattle.scad_grammar.specs.Faults.{TokenReader}
+use Rattle.scad_grammar.specs.Grammar.{given_term}
 use Rattle.scad_grammar.specs.Reading.{Read, after, mapped, ahead}
 use Rattle.scad_grammar.specs.Reads.{arg_in, expr_read}
 use Rattle.scad_tokens.specs.Views.{value_assigned}
@@ -16,7 +16,7 @@ both_hold true false e = absurd (cc)
 both_hold false c e = absurd (cc)
 
 -- what is read where a token of these classes and a `=` stand, and where they don't
-module _ {X Y : Type 0} (make : Token → X → Y) (classes : List ℕ) (r : Reads X) (q : Reads Y) where
+module _ {X Y : Type 0} (make : Token → X → Y) (classes : List ℕ) (r : TokenReader X) (q : TokenReader Y) where
   assigned_here : (y : Token) (l : List Token) (other : Read Token SyntaxFault Y) (t : Token) (us : List Token) (b : Bool) → cond {A = Option (Token × List Token)} b (Some (y, l)) None ≡ Some (t, us)
       → cond b (after (r l) (λ x vs. Ok (make y x, vs))) other ≡ after (r us) (λ x vs. Ok (make t x, vs))
   assigned_here y l other t us true e =
@@ -40,10 +40,10 @@ module _ {X Y : Type 0} (make : Token → X → Y) (classes : List ℕ) (r : Rea
   none_ahead (y ∷ z ∷ l) e = none_here y l (after (r l) (λ x vs. Ok (make y x, vs))) (q (y ∷ z ∷ l)) (among classes y && is assign_sign z) e
 
 pub arg_given : (d : ℕ) (ts : List Token) (t : Token) (us : List Token) → d ≢ 0 → value_assigned argument_names ts ≡ Some (t, us)
-    → arg_in d (expr_read d) ts ≡ mapped (given_of t) (expr_read d) us
+    → arg_in d (expr_read d) ts ≡ mapped (given_term t) (expr_read d) us
 arg_given zero ts t us n e = absurd (n refl)
-arg_given (suc d) ts t us n e = assigned_ahead given_of argument_names (expr_read (suc d)) (mapped PositionalTerm (expr_read (suc d))) ts t us e
+arg_given (suc d) ts t us n e = assigned_ahead given_term argument_names (expr_read (suc d)) (mapped PositionalTerm (expr_read (suc d))) ts t us e
 
 pub arg_positional : (d : ℕ) (ts : List Token) → d ≢ 0 → value_assigned argument_names ts ≡ None → arg_in d (expr_read d) ts ≡ mapped PositionalTerm (expr_read d) ts
 arg_positional zero ts n e = absurd (n refl)
-arg_positional (suc d) ts n e = none_ahead given_of argument_names (expr_read (suc d)) (mapped PositionalTerm (expr_read (suc d))) ts e
+arg_positional (suc d) ts n e = none_ahead given_term argument_names (expr_read (suc d)) (mapped PositionalTerm (expr_read (suc d))) ts e

@@ -7,8 +7,8 @@ use Rattle.scad_grammar.specs.declared.SyntaxFault.{SyntaxFault}
 use Rattle.scad_grammar.specs.declared.SyntaxFault.TheVariants.{Nested}
 use Rattle.scad_grammar.specs.Classes.{name, argument_names, open_bracket_sign, close_bracket_sign, open_parenthesis_sign, close_parenthesis_sign, comma_sign, dot_sign, assign_sign, among, is, other_than}
 use Rattle.scad_grammar.specs.Languages.{Language, first_of, second_of, cons}
-use Rattle.scad_grammar.specs.Grammar.{whole, Statement, link, chain_of, index_of, member_of, mark_of, param_of, binder_of}
-use Rattle.scad_grammar.specs.Faults.{Reads, one, fault_of, left_out, left_out_of_expressions}
+use Rattle.scad_grammar.specs.Grammar.{whole, Statement, link, chain_term, index_term, member_term, mark_term, param_term, binder_term}
+use Rattle.scad_grammar.specs.Faults.{TokenReader, one, fault_of, left_out_classes, left_out_of_expressions}
 use Rattle.scad_grammar.specs.Reading.{Read, after, starts, mapped, nothing, both, maybe, many, trailing}
 use Rattle.scad_grammar.specs.Reads.{firsts_of_expression, nested, head_of, given, suffix_read, unary_read, primary_read, chain_read, args_read, in_parentheses, arg_in, expr_read, operand_read}
 use Rattle.scad_grammar.specs.StatementReads.{mark_signs, param_in, binder_in, firsts_of_statement, statement_read}
@@ -22,21 +22,21 @@ use Rattle.scad_tokens.specs.TokenClasses.{operators_at, levels_below}
 use Rattle.scad_tokens.specs.Views.{Gives}
 use Rattle.scad_expressions.proofs.Loops.{Shorter, Strictly}
 
-shorter : {A : Type 0} (r : Reads A) → Shrinks r → Shorter r
+shorter : {A : Type 0} (r : TokenReader A) → Shrinks r → Shorter r
 shorter r h ts x us e = omega (arith, h.at ts, ap left e)
 
 -- what gives what such a reader reads
-pub given_shorter : {A X : Type 0} (view : A → X) (r : Reads X) → Shorter r → (ts : List Token) (given : Result (A × Bor (List Token)) Stopped)
+pub given_shorter : {A X : Type 0} (view : A → X) (r : TokenReader X) → Shorter r → (ts : List Token) (given : Result (A × Bor (List Token)) Stopped)
     → Gives (λ (p : A × Bor (List Token)). (view p.0, p.1.now)) given (r ts) → IfOk given (λ p. length p.1.now ≤ length ts)
 given_shorter view r h ts (Ok p) g = h ts (view p.0) p.1.now g
 given_shorter view r h ts (Err s) g = tt
 
 -- what a reader of the grammar leaves
-told_left : {A : Type 0} (r : Reads A) (L W : Language A) (ts : List Token) (q : Read Token SyntaxFault A) → Told r L W ts q → left q ≤ length ts
+told_left : {A : Type 0} (r : TokenReader A) (L W : Language A) (ts : List Token) (q : Read Token SyntaxFault A) → Told r L W ts q → left q ≤ length ts
 told_left r L W ts (Ok p) t = omega (arith, ap length t.1, length-append t.0 p.1)
 told_left r L W ts (Err y) t = omega (arith, ap length t.1, length-append t.0 y.1)
 
-reader_shrinks : {A : Type 0} (r : Reads A) (L W : Language A) (more : A → Token → Bool) → IsReader r L W more → Shrinks r
+reader_shrinks : {A : Type 0} (r : TokenReader A) (L W : Language A) (more : A → Token → Bool) → IsReader r L W more → Shrinks r
 reader_shrinks r L W more ir = record { at = λ ts. told_left r L W ts (r ts) (ir.told ts) }
 
 nested_left : (A : Type 0) (begins classes : List ℕ) (ts : List Token) (b : Bool) → left (cond {A = Read Token SyntaxFault A} b (Err (Nested, ts)) (Err (fault_of classes (head_of ts), ts))) ≤ length ts
@@ -46,11 +46,11 @@ nested_left A begins classes ts false = omega arith
 nested_shrinks : {A : Type 0} (begins classes : List ℕ) → Shrinks (nested {A = A} begins classes)
 nested_shrinks {A} begins classes = record { at = λ ts. nested_left A begins classes ts (starts (among begins) ts) }
 
-maybe_shrinks : {A : Type 0} (test : Token → Bool) (r : Reads A) → Shrinks r → Shrinks (maybe test r)
+maybe_shrinks : {A : Type 0} (test : Token → Bool) (r : TokenReader A) → Shrinks r → Shrinks (maybe test r)
 maybe_shrinks test r h = choice_shrinks test (mapped Some r) (nothing None) (mapped_shrinks Some r h) (nothing_shrinks None)
 
 taken_shrinks : (test : Token → Bool) → Shrinks (one test)
-taken_shrinks test = one_shrinks test (fault_of left_out)
+taken_shrinks test = one_shrinks test (fault_of left_out_classes)
 
 expr_shrinks : (d : ℕ) → Shrinks (expr_read d)
 expr_shrinks d = reader_shrinks (expr_read d) _ _ _ (depth_reads d).0
@@ -59,11 +59,11 @@ unary_shrinks : (d : ℕ) → Shrinks (unary_read (expr_read d) (operand_read d)
 unfolding operand_read
 unary_shrinks d = reader_shrinks (operand_read (suc d)) _ _ _ (depth_reads (suc d)).1
 
-chain_shrinks : (levels : List (List ℕ)) (u : Reads Term) → Shrinks u → Shrinks (chain_read levels u)
+chain_shrinks : (levels : List (List ℕ)) (u : TokenReader Term) → Shrinks u → Shrinks (chain_read levels u)
 chain_shrinks [] u h = h
 chain_shrinks (ops ∷ levels) u h =
     let below = chain_shrinks levels u h in
-    both_shrinks chain_of (chain_read levels u) (many (among ops) (both link (one (among ops)) (chain_read levels u))) below
+    both_shrinks chain_term (chain_read levels u) (many (among ops) (both link (one (among ops)) (chain_read levels u))) below
     (many_shrinks (among ops) (both link (one (among ops)) (chain_read levels u)) (both_shrinks link (one (among ops)) (chain_read levels u) (taken_shrinks (among ops)) below))
 
 valued_shrinks : (d : ℕ) → Shrinks (both second_of (one (is assign_sign)) (expr_read d))
@@ -73,7 +73,7 @@ arg_shrinks : (d : ℕ) → Shrinks (arg_in d (expr_read d))
 arg_shrinks zero = nested_shrinks firsts_of_expression left_out_of_expressions
 arg_shrinks (suc d) = ahead_shrinks given (among argument_names) (is assign_sign) (expr_read (suc d)) (mapped PositionalTerm (expr_read (suc d))) (expr_shrinks (suc d)) (mapped_shrinks PositionalTerm (expr_read (suc d)) (expr_shrinks (suc d)))
 
-args_shrinks : (a : Reads ArgTerm) → Shrinks a → Shrinks (args_read a)
+args_shrinks : (a : TokenReader ArgTerm) → Shrinks a → Shrinks (args_read a)
 args_shrinks a h =
     let more = trailing_shrinks (is comma_sign) (other_than (close_parenthesis_sign ∷ [])) a h in
     choice_shrinks (other_than (close_parenthesis_sign ∷ [])) (both cons a (trailing (is comma_sign) (other_than (close_parenthesis_sign ∷ [])) a)) (nothing []) (both_shrinks cons a (trailing (is comma_sign) (other_than (close_parenthesis_sign ∷ [])) a) h more) (nothing_shrinks [])
@@ -93,27 +93,27 @@ arguments_shorter d =
     (both_shrinks first_of (args_read (arg_in d (expr_read d))) (one (is close_parenthesis_sign)) args (taken_shrinks (is close_parenthesis_sign))))
 
 pub param_shorter : (d : ℕ) → Shorter (param_in d (expr_read d))
-param_shorter zero = shorter (param_in zero (expr_read zero)) (nested_shrinks (name ∷ []) left_out)
+param_shorter zero = shorter (param_in zero (expr_read zero)) (nested_shrinks (name ∷ []) left_out_classes)
 param_shorter (suc d) =
     shorter (param_in (suc d) (expr_read (suc d)))
-    (both_shrinks param_of (one (is name)) (maybe (is assign_sign) (both second_of (one (is assign_sign)) (expr_read (suc d)))) (taken_shrinks (is name)) (maybe_shrinks (is assign_sign) (both second_of (one (is assign_sign)) (expr_read (suc d))) (valued_shrinks (suc d))))
+    (both_shrinks param_term (one (is name)) (maybe (is assign_sign) (both second_of (one (is assign_sign)) (expr_read (suc d)))) (taken_shrinks (is name)) (maybe_shrinks (is assign_sign) (both second_of (one (is assign_sign)) (expr_read (suc d))) (valued_shrinks (suc d))))
 
 pub binder_shorter : (d : ℕ) → Shorter (binder_in d (expr_read d))
-binder_shorter zero = shorter (binder_in zero (expr_read zero)) (nested_shrinks (name ∷ []) left_out)
-binder_shorter (suc d) = shorter (binder_in (suc d) (expr_read (suc d))) (both_shrinks binder_of (one (is name)) (both second_of (one (is assign_sign)) (expr_read (suc d))) (taken_shrinks (is name)) (valued_shrinks (suc d)))
+binder_shorter zero = shorter (binder_in zero (expr_read zero)) (nested_shrinks (name ∷ []) left_out_classes)
+binder_shorter (suc d) = shorter (binder_in (suc d) (expr_read (suc d))) (both_shrinks binder_term (one (is name)) (both second_of (one (is assign_sign)) (expr_read (suc d))) (taken_shrinks (is name)) (valued_shrinks (suc d)))
 
 pub one_strict : (test : Token → Bool) → Strictly (one test)
 one_strict test [] x us e = absurd (cc)
 one_strict test (t ∷ ts) x us e = go (test t) e
   where
-    go : (b : Bool) → cond {A = Read Token SyntaxFault Token} b (Ok (t, ts)) (Err (fault_of left_out (Some t), t ∷ ts)) ≡ Ok (x, us) → length us < suc (length ts)
+    go : (b : Bool) → cond {A = Read Token SyntaxFault Token} b (Ok (t, ts)) (Err (fault_of left_out_classes (Some t), t ∷ ts)) ≡ Ok (x, us) → length us < suc (length ts)
     go true e =
         let f : ◌≡◌ {A = Token × List Token} (t, ts) (x, us) = cc in
         omega (arith, ap length (ap (λ (p : Token × List Token). p.1) f))
     go false e = absurd (cc)
 
 -- a token, and then something
-module _ {A C : Type 0} (f : Token → A → C) (test : Token → Bool) (r : Reads A) (h : Shrinks r) where
+module _ {A C : Type 0} (f : Token → A → C) (test : Token → Bool) (r : TokenReader A) (h : Shrinks r) where
   then_left : (ts : List Token) (q : Read Token SyntaxFault Token) → one test ts ≡ q → (x : C) (us : List Token) → after q (λ t vs. after (r vs) (λ y ws. Ok (f t y, ws))) ≡ Ok (x, us) → length us < length ts
   then_left ts (Ok p) g x us e =
       let less : length p.1 < length ts = one_strict test ts p.0 p.1 g in
@@ -129,14 +129,14 @@ link_strict level d = then_strict link (among (operators_at level)) _ (chain_shr
 pub suffix_strict : (d : ℕ) → Strictly (suffix_read (expr_read d))
 suffix_strict d ts x us e = go (starts (is open_bracket_sign) ts) e
   where
-    go : (b : Bool) → cond b (both index_of (one (is open_bracket_sign)) (both first_of (expr_read d) (one (is close_bracket_sign))) ts) (both member_of (one (is dot_sign)) (one (is name)) ts) ≡ Ok (x, us) → length us < length ts
-    go true e = then_strict index_of (is open_bracket_sign) _ (both_shrinks first_of (expr_read d) (one (is close_bracket_sign)) (expr_shrinks d) (taken_shrinks (is close_bracket_sign))) ts x us e
-    go false e = then_strict member_of (is dot_sign) (one (is name)) (taken_shrinks (is name)) ts x us e
+    go : (b : Bool) → cond b (both index_term (one (is open_bracket_sign)) (both first_of (expr_read d) (one (is close_bracket_sign))) ts) (both member_term (one (is dot_sign)) (one (is name)) ts) ≡ Ok (x, us) → length us < length ts
+    go true e = then_strict index_term (is open_bracket_sign) _ (both_shrinks first_of (expr_read d) (one (is close_bracket_sign)) (expr_shrinks d) (taken_shrinks (is close_bracket_sign))) ts x us e
+    go false e = then_strict member_term (is dot_sign) (one (is name)) (taken_shrinks (is name)) ts x us e
 
-pub mark_strict : Strictly (mapped mark_of (one (among mark_signs)))
+pub mark_strict : Strictly (mapped mark_term (one (among mark_signs)))
 mark_strict ts x us e = go (one (among mark_signs) ts) refl e
   where
-    go : (q : Read Token SyntaxFault Token) → one (among mark_signs) ts ≡ q → after q (λ t vs. Ok (mark_of t, vs)) ≡ Ok (x, us) → length us < length ts
+    go : (q : Read Token SyntaxFault Token) → one (among mark_signs) ts ≡ q → after q (λ t vs. Ok (mark_term t, vs)) ≡ Ok (x, us) → length us < length ts
     go (Ok p) g e = let less : length p.1 < length ts = one_strict (among mark_signs) ts p.0 p.1 g in omega (arith, less, ap left e)
     go (Err y) g e = absurd (cc)
 
@@ -145,7 +145,7 @@ some_token : (s : List Token) (test : Token → Bool) → starts test (s ++ []) 
 some_token [] test e = absurd (cc)
 some_token (t ∷ s) test e = omega arith
 
-told_strict : {A : Type 0} (r : Reads A) (L W : Language A) (test : Token → Bool) → Opens L test → (ts : List Token) (q : Read Token SyntaxFault A) → Told r L W ts q → (x : A) (us : List Token) → q ≡ Ok (x, us) → length us < length ts
+told_strict : {A : Type 0} (r : TokenReader A) (L W : Language A) (test : Token → Bool) → Opens L test → (ts : List Token) (q : Read Token SyntaxFault A) → Told r L W ts q → (x : A) (us : List Token) → q ≡ Ok (x, us) → length us < length ts
 told_strict r L W test opens ts (Ok p) t x us e = omega (arith, ap length t.1, length-append t.0 p.1, some_token t.0 test (opens p.0 t.0 [] t.2), ap left e)
 told_strict r L W test opens ts (Err y) t x us e = absurd (cc)
 

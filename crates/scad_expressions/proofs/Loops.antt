@@ -3,18 +3,18 @@ use Rattle.std.proofs.Common.{◌≡◌, ℕ, zero, suc, ◌<◌, ◌≤◌, Lis
 use Rattle.scad_lexer.specs.declared.token.Token.{Token}
 use Rattle.scad_grammar.specs.declared.SyntaxFault.{SyntaxFault}
 use Rattle.scad_grammar.specs.Classes.{comma_sign, is}
-use Rattle.scad_grammar.specs.Faults.{Reads}
+use Rattle.scad_grammar.specs.Faults.{TokenReader}
 use Rattle.scad_grammar.specs.Reading.{Read, after, starts, with_front, many_times, many, trailing_times, trailing}
 use Rattle.scad_tokens.specs.Views.{item_stands, past_comma}
 
 -- no more tokens are left than there were, and fewer
-abbrev pub Shorter : {A : Type 0} → Reads A → Type 0
+abbrev pub Shorter : {A : Type 0} → TokenReader A → Type 0
 Shorter {A} r = (ts : List Token) (x : A) (us : List Token) → r ts ≡ Ok (x, us) → length us ≤ length ts
 
-abbrev pub Strictly : {A : Type 0} → Reads A → Type 0
+abbrev pub Strictly : {A : Type 0} → TokenReader A → Type 0
 Strictly {A} r = (ts : List Token) (x : A) (us : List Token) → r ts ≡ Ok (x, us) → length us < length ts
 
-module _ {A : Type 0} (test : Token → Bool) (r : Reads A) (strict : Strictly r) where
+module _ {A : Type 0} (test : Token → Bool) (r : TokenReader A) (strict : Strictly r) where
   enough_after : (n m : ℕ) → ((k : ℕ) (us : List Token) → length us ≤ n → length us ≤ k → many_times n test r us ≡ many_times k test r us)
       → (ts : List Token) → length ts ≤ suc n → length ts ≤ suc m → (q : Read Token SyntaxFault A) → r ts ≡ q → after q (λ x us. with_front x (many_times n test r us)) ≡ after q (λ x us. with_front x (many_times m test r us))
   enough_after n m same ts a b (Ok p) e =
@@ -53,7 +53,7 @@ module _ {A : Type 0} (test : Token → Bool) (r : Reads A) (strict : Strictly r
   many_stop ts e a b = many_step ts ∙ ap (λ c. cond c (after (r ts) (λ x us. with_front x (many test r us))) (Ok ([], ts))) a ∙ ap (λ q. after q (λ x us. with_front x (many test r us))) b
 
 -- items behind commas, and maybe a comma behind the last
-module _ {A : Type 0} (go : Token → Bool) (r : Reads A) (shorter : Shorter r) where
+module _ {A : Type 0} (go : Token → Bool) (r : TokenReader A) (shorter : Shorter r) where
   fewer_after : (n m : ℕ) → ((k : ℕ) (us : List Token) → length us ≤ n → length us ≤ k → trailing_times n (is comma_sign) go r us ≡ trailing_times k (is comma_sign) go r us)
       → (ts : List Token) → length ts ≤ n → length ts ≤ m → (q : Read Token SyntaxFault A) → r ts ≡ q → after q (λ x us. with_front x (trailing_times n (is comma_sign) go r us)) ≡ after q (λ x us. with_front x (trailing_times m (is comma_sign) go r us))
   fewer_after n m same ts a b (Ok p) e =

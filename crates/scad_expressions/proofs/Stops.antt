@@ -11,7 +11,7 @@ use Rattle.scad_ast.specs.ExprView.{term_of, terms_of, link_of, suffix_of, arg_o
 use Rattle.scad_ast.specs.StatementView.{param_of, params_of, binder_of, binders_of, statement_of, statements_of}
 use Rattle.scad_grammar.specs.declared.SyntaxFault.{SyntaxFault}
 use Rattle.scad_grammar.specs.Classes.{open_parenthesis_sign, close_parenthesis_sign, is}
-use Rattle.scad_grammar.specs.Faults.{Reads, one}
+use Rattle.scad_grammar.specs.Faults.{TokenReader, one}
 use Rattle.scad_grammar.specs.Reading.{Read, after}
 use Rattle.scad_grammar.specs.Reads.{in_parentheses}
 use Rattle.scad_tokens.specs.declared.next.Stopped.{Stopped}
@@ -99,7 +99,7 @@ as_it_is (Ok p) = refl
 as_it_is (Err e) = refl
 
 -- what stands behind an opening parenthesis
-pub parenthesized : {X : Type 0} (r : Reads X) (ts : List Token) (t : Token) (us : List Token) → one (is open_parenthesis_sign) ts ≡ Ok (t, us)
+pub parenthesized : {X : Type 0} (r : TokenReader X) (ts : List Token) (t : Token) (us : List Token) → one (is open_parenthesis_sign) ts ≡ Ok (t, us)
     → in_parentheses r ts ≡ closed_by (is close_parenthesis_sign) (r us)
 parenthesized {X} r ts t us e =
     ap (λ (q : Read Token SyntaxFault Token). after {B = X} q (λ mark vs. after (closed_by (is close_parenthesis_sign) (r vs)) (λ x ws. Ok (x, ws)))) e

@@ -4,7 +4,7 @@ ghost use Rattle.scad_ast.specs.ExprView.{term_of, terms_of, link_of, suffix_of,
 ghost use Rattle.scad_grammar.specs.Classes.{among, is, other_than, symbol_class, bytes_of};
 ghost use Rattle.scad_grammar.specs.Classes.{comma_sign, close_bracket_sign, close_parenthesis_sign, colon_sign, question_sign};
 ghost use Rattle.scad_grammar.specs.Faults.{one};
-ghost use Rattle.scad_grammar.specs.Grammar.{levels, given_of, chain_of, choice_of, postfix_of, unary_of, named_of, bracket_of, filled_of};
+ghost use Rattle.scad_grammar.specs.Grammar.{levels, given_term, chain_term, choice_term, postfix_term, unary_term, name_term, bracket_term, filled_term};
 ghost use Rattle.scad_grammar.specs.Languages.{pair_of, second_of};
 ghost use Rattle.scad_grammar.specs.Reading.{starts, both, mapped, maybe, many, trailing, in_front};
 ghost use Rattle.scad_grammar.specs.Reads.{expr_read, operand_read, arg_in, args_read, postfix_read, suffix_read, chain_read, choice_read, name_read, paren_read, bracket_read, range_read, rest_read, in_parentheses};
@@ -67,7 +67,7 @@ fn choice<'a>(alloc: Global, tokens: &'a [Token], depth: u32) -> Parsed<'a, Expr
 #[cycle(expression)]
 #[inline(never)]
 fn chosen<'a>(alloc: Global, test: Expr, tokens: &'a [Token], depth: u32) -> Parsed<'a, Expr>
-    ensures value { Gives (λ p. (term_of p.0, p.1.now)) result (mapped (choice_of (term_of test)) (mapped Some (both pair_of (one (is question_sign)) (both pair_of (expr_read depth) (both second_of (one (is colon_sign)) (expr_read depth))))) tokens.now) }
+    ensures value { Gives (λ p. (term_of p.0, p.1.now)) result (mapped (choice_term (term_of test)) (mapped Some (both pair_of (one (is question_sign)) (both pair_of (expr_read depth) (both second_of (one (is colon_sign)) (expr_read depth))))) tokens.now) }
 {
     let ((test, ((mark, yes), no)), rest) = with(test, sides(alloc, tokens, depth))?;
     let place = test.place();
@@ -183,7 +183,7 @@ fn linked<'a>(
     level: Level,
 ) -> Parsed<'a, Expr>
     requires { starts (among (operators_at level)) tokens.now ≡ true }
-    ensures value { Gives (λ p. (term_of p.0, p.1.now)) result (mapped (chain_of (term_of first)) (many (among (operators_at level)) (link_in level depth)) tokens.now) }
+    ensures value { Gives (λ p. (term_of p.0, p.1.now)) result (mapped (chain_term (term_of first)) (many (among (operators_at level)) (link_in level depth)) tokens.now) }
 {
     let ((first, (next, more)), rest) = with(first, some_links(alloc, tokens, depth, level))?;
     let place = first.place();
@@ -250,7 +250,7 @@ fn unary<'a>(alloc: Global, tokens: &'a [Token], depth: u32) -> Parsed<'a, Expr>
 #[cycle(expression)]
 #[inline(never)]
 fn signed<'a>(alloc: Global, operator: &Token, tokens: &'a [Token], depth: u32) -> Parsed<'a, Expr>
-    ensures value { Gives (λ p. (term_of p.0, p.1.now)) result (mapped (unary_of operator.now) (operand_read depth) tokens.now) }
+    ensures value { Gives (λ p. (term_of p.0, p.1.now)) result (mapped (unary_term operator.now) (operand_read depth) tokens.now) }
 {
     let (of, rest) = boxed(alloc, operand(alloc, tokens, depth))?;
     let op = unary_operator(&operator.kind);
@@ -291,7 +291,7 @@ fn postfix<'a>(alloc: Global, tokens: &'a [Token], depth: u32) -> Parsed<'a, Exp
 #[inline(never)]
 fn suffixed<'a>(alloc: Global, of: Expr, tokens: &'a [Token], depth: u32) -> Parsed<'a, Expr>
     requires { starts (among suffix_signs) tokens.now ≡ true }
-    ensures value { Gives (λ p. (term_of p.0, p.1.now)) result (mapped (postfix_of (term_of of)) (many (among suffix_signs) (suffix_read (expr_read depth))) tokens.now) }
+    ensures value { Gives (λ p. (term_of p.0, p.1.now)) result (mapped (postfix_term (term_of of)) (many (among suffix_signs) (suffix_read (expr_read depth))) tokens.now) }
 {
     let ((of, (next, more)), rest) = with(of, some_suffixes(alloc, tokens, depth))?;
     let place = of.place();
@@ -411,7 +411,7 @@ fn named<'a>(alloc: Global, tokens: &'a [Token], depth: u32) -> Parsed<'a, Expr>
 #[cycle(expression)]
 #[inline(never)]
 fn called<'a>(alloc: Global, name: &Token, tokens: &'a [Token], depth: u32) -> Parsed<'a, Expr>
-    ensures value { Gives (λ p. (term_of p.0, p.1.now)) result (mapped (named_of name.now) (mapped Some (in_parentheses (args_read (arg_in depth (expr_read depth))))) tokens.now) }
+    ensures value { Gives (λ p. (term_of p.0, p.1.now)) result (mapped (name_term name.now) (mapped Some (in_parentheses (args_read (arg_in depth (expr_read depth))))) tokens.now) }
 {
     let bytes = bytes(alloc, &name.kind)?;
     let ((bytes, args), rest) = with(bytes, arguments(alloc, tokens, depth))?;
@@ -432,7 +432,7 @@ fn bracket<'a>(alloc: Global, tokens: &'a [Token], depth: u32) -> Parsed<'a, Exp
 // What a bracket makes with what stands in it: a list or a range.
 #[cycle(expression)]
 fn inside<'a>(alloc: Global, bracket: &Token, tokens: &'a [Token], depth: u32) -> Parsed<'a, Expr>
-    ensures value { Gives (λ p. (term_of p.0, p.1.now)) result (mapped (bracket_of bracket.now) (maybe (other_than (close_bracket_sign ∷ [])) (both pair_of (expr_read depth) (rest_read (expr_read depth)))) tokens.now) }
+    ensures value { Gives (λ p. (term_of p.0, p.1.now)) result (mapped (bracket_term bracket.now) (maybe (other_than (close_bracket_sign ∷ [])) (both pair_of (expr_read depth) (rest_read (expr_read depth)))) tokens.now) }
 {
     if !is_before(Symbol::CloseBracket, tokens) {
         return list(alloc, bracket, no_items(alloc), tokens);
@@ -450,7 +450,7 @@ fn filled<'a>(
     tokens: &'a [Token],
     depth: u32,
 ) -> Parsed<'a, Expr>
-    ensures value { Gives (λ p. (term_of p.0, p.1.now)) result (mapped (filled_of bracket.now (term_of first)) (rest_read (expr_read depth)) tokens.now) }
+    ensures value { Gives (λ p. (term_of p.0, p.1.now)) result (mapped (filled_term bracket.now (term_of first)) (rest_read (expr_read depth)) tokens.now) }
 {
     if !TokenClass::Sign(Symbol::Colon).begins(tokens) {
         let more = is_comma_before(Symbol::CloseBracket, tokens);
@@ -479,7 +479,7 @@ fn range<'a>(
     tokens: &'a [Token],
     depth: u32,
 ) -> Parsed<'a, Expr>
-    ensures value { Gives (λ p. (term_of p.0, p.1.now)) result (mapped (filled_of bracket.now (term_of from)) (range_read (expr_read depth)) tokens.now) }
+    ensures value { Gives (λ p. (term_of p.0, p.1.now)) result (mapped (filled_term bracket.now (term_of from)) (range_read (expr_read depth)) tokens.now) }
 {
     let place = bracket.place;
     let ((from, _), rest) = with(from, take(TokenClass::Sign(Symbol::Colon), tokens))?;
@@ -586,7 +586,7 @@ fn arg<'a>(alloc: Global, tokens: &'a [Token], depth: u32) -> Parsed<'a, Arg>
 #[inline(always)]
 fn given(name: &Token, bytes: CompactBytes, value: Expr) -> Arg
     requires { bytes ≡ bytes_of name.now.kind }
-    ensures { arg_of result ≡ given_of name.now (term_of value) }
+    ensures { arg_of result ≡ given_term name.now (term_of value) }
 {
     if TokenClass::Special.has(&name.kind) {
         Arg::Special(name.place, bytes, value)

@@ -7,9 +7,9 @@ use Rattle.scad_lexer.specs.declared.token.Symbol.TheVariants.{OpenParenthesis, 
 use Rattle.scad_ast.specs.Terms.{Term, ArgTerm, ParamTerm, BinderTerm, MarkTerm, InstanceStatement, InstanceTerm, CoreTerm, ForTerm, IntersectionForTerm, BodyTerm}
 use Rattle.scad_grammar.specs.Classes.{name, if_word, else_word, for_word, intersection_for_word, open_parenthesis_sign, close_parenthesis_sign, comma_sign, assign_sign, among, is, other_than}
 use Rattle.scad_grammar.specs.Languages.{Language, One, Mapped, Both, BothIf, EitherOf, Nothing, Many, Maybe, Behind, Separated, first_of, second_of, pair_of, cons}
-use Rattle.scad_grammar.specs.Grammar.{InParentheses, Param, Params, Binder, Binders, Core, Instance, binder_of, param_of, mark_of, if_of, loop_of, call_of, instance_of, IsNearest, ends_open, instance_open, core_open}
+use Rattle.scad_grammar.specs.Grammar.{InParentheses, Param, Params, Binder, Binders, Core, Instance, binder_term, param_term, mark_term, if_term, loop_term, call_term, instance_term, IsNearest, ends_open, instance_open, core_open}
 use Rattle.scad_grammar.specs.Reading.{Read, after, starts, mapped, nothing, both, choice, maybe, trailing}
-use Rattle.scad_grammar.specs.Faults.{Reads, one, fault_of, left_out}
+use Rattle.scad_grammar.specs.Faults.{TokenReader, one, fault_of, left_out_classes}
 use Rattle.scad_grammar.specs.Reads.{in_parentheses, args_read}
 use Rattle.scad_grammar.specs.StatementReads.{mark_signs, loop_words, firsts_of_core, firsts_of_instance, param_read, binder_read, params_read, binders_read, if_read, call_read, marks_read, instance_read}
 use Rattle.scad_grammar.proofs.Readers.{IsReader, Opens, both_reads, choice_reads, mapped_reads, many_reads, nothing_reads, both_opens, either_opens, mapped_opens, one_opens, never_starts}
@@ -62,13 +62,13 @@ pub not_else : (v : Bool) (cs : List ℕ) → apart cs (else_word ∷ []) ≡ tr
 not_else v cs a l e = open_less v l (next_apart cs (else_word ∷ []) a l e)
 
 -- something behind a token
-behind_reads : (e : Reads Term) (E F : Language Term) (more : List ℕ) (test : Token → Bool) → OneReads test → IsReader e E F (λ x. among more) → Some_of F → IsReader (both second_of (one test) e) (Behind test E) (Behind test F) (λ x. among more)
+behind_reads : (e : TokenReader Term) (E F : Language Term) (more : List ℕ) (test : Token → Bool) → OneReads test → IsReader e E F (λ x. among more) → Some_of F → IsReader (both second_of (one test) e) (Behind test E) (Behind test F) (λ x. among more)
 behind_reads e E F more test it ie some = then e E F test (λ x. among more) (λ x. among more) second_of it ie some (λ t y rest h. h)
 
-module _ (e : Reads Term) (E F : Language Term) (ie : IsReader e E F (λ x. among expression_more)) (some_e : Some_of F) where
+module _ (e : TokenReader Term) (E F : Language Term) (ie : IsReader e E F (λ x. among expression_more)) (some_e : Some_of F) where
   pub param_reads : IsReader (param_read e) (Param E) (Param F) (λ x. among arg_more)
   param_reads =
-      then (maybe (is assign_sign) (both second_of (one (is assign_sign)) e)) (Maybe (Behind (is assign_sign) E)) (Maybe (Behind (is assign_sign) F)) (is name) (or_first (is assign_sign) (λ x. among expression_more)) (λ x. among arg_more) param_of name_one
+      then (maybe (is assign_sign) (both second_of (one (is assign_sign)) e)) (Maybe (Behind (is assign_sign) E)) (Maybe (Behind (is assign_sign) F)) (is name) (or_first (is assign_sign) (λ x. among expression_more)) (λ x. among arg_more) param_term name_one
       (maybe_reads (is assign_sign) (both second_of (one (is assign_sign)) e) (Behind (is assign_sign) E) (Behind (is assign_sign) F) (λ x. among expression_more) (behind_reads e E F expression_more (is assign_sign) assign_one ie some_e)
       (both_opens second_of (One (is assign_sign)) E (is assign_sign) (one_opens (is assign_sign))))
       ([], None, refl)
@@ -76,16 +76,16 @@ module _ (e : Reads Term) (E F : Language Term) (ie : IsReader e E F (λ x. amon
 
   pub binder_reads : IsReader (binder_read e) (Binder E) (Binder F) (λ x. among expression_more)
   binder_reads =
-      then (both second_of (one (is assign_sign)) e) (Behind (is assign_sign) E) (Behind (is assign_sign) F) (is name) (λ x. among expression_more) (λ x. among expression_more) binder_of name_one (behind_reads e E F expression_more (is assign_sign) assign_one ie some_e)
+      then (both second_of (one (is assign_sign)) e) (Behind (is assign_sign) E) (Behind (is assign_sign) F) (is name) (λ x. among expression_more) (λ x. among expression_more) binder_term name_one (behind_reads e E F expression_more (is assign_sign) assign_one ie some_e)
       (token (Symbol Assign) ∷ some_e.0, some_e.1, (token (Symbol Assign), some_e.1, token (Symbol Assign) ∷ [], some_e.0, (refl, refl), some_e.2, refl, refl)) (λ t y rest h. h)
 
 pub param_opens : (E : Language Term) → Opens (Param E) (is name)
-param_opens E = both_opens param_of (One (is name)) _ (is name) (one_opens (is name))
+param_opens E = both_opens param_term (One (is name)) _ (is name) (one_opens (is name))
 
 pub binder_opens : (E : Language Term) → Opens (Binder E) (is name)
-binder_opens E = both_opens binder_of (One (is name)) _ (is name) (one_opens (is name))
+binder_opens E = both_opens binder_term (One (is name)) _ (is name) (one_opens (is name))
 
-pub params_reads : (m : Reads ParamTerm) (P Q : Language ParamTerm) → IsReader m P Q (λ x. among arg_more) → Opens P (is name) → IsReader (params_read m) (Params P) (Params Q) (λ x. other_than closes)
+pub params_reads : (m : TokenReader ParamTerm) (P Q : Language ParamTerm) → IsReader m P Q (λ x. among arg_more) → Opens P (is name) → IsReader (params_read m) (Params P) (Params Q) (λ x. other_than closes)
 params_reads m P Q im op =
     choice_reads (is name) (both cons m (trailing (is comma_sign) (is name) m)) (nothing []) (Separated (is comma_sign) P) (Separated (is comma_sign) Q) (Nothing []) (Nothing []) (λ x. other_than closes)
     (separated_reads (is comma_sign) (is name) m P Q (λ x. among arg_more) (other_than closes) im op (λ x. next_apart (comma_sign ∷ []) arg_more refl) (λ x. no_close closes arg_more refl) (no_close closes (comma_sign ∷ []) refl) (no_close closes (name ∷ []) refl))
@@ -93,7 +93,7 @@ params_reads m P Q im op =
     (both_opens first_of _ _ (is name) (both_opens cons P _ (is name) op))
     (λ x s rest h k. ap (λ l. starts (is name) (l ++ rest)) h.1 ∙ no_close closes (name ∷ []) refl rest k)
 
-pub binders_reads : (n : Reads BinderTerm) (E F : Language Term) → IsReader n (Binder E) (Binder F) (λ x. among expression_more) → IsReader (binders_read n) (Binders E) (Binders F) (λ x. other_than closes)
+pub binders_reads : (n : TokenReader BinderTerm) (E F : Language Term) → IsReader n (Binder E) (Binder F) (λ x. among expression_more) → IsReader (binders_read n) (Binders E) (Binders F) (λ x. other_than closes)
 binders_reads n E F im = separated_reads (is comma_sign) (is name) n (Binder E) (Binder F) (λ x. among expression_more) (other_than closes) im (binder_opens E) (λ x. next_apart (comma_sign ∷ []) expression_more refl) (λ x. no_close closes expression_more refl) (no_close closes (comma_sign ∷ []) refl) (no_close closes (name ∷ []) refl)
 
 pub some_binders : (F : Language Term) → Some_of F → Some_of (Binders F)
@@ -101,8 +101,8 @@ some_binders F some =
     let t : Token = token (Name []) in
     let u : Token = token (Symbol Assign) in
     let l : List Token = t ∷ u ∷ some.0 in
-    let one : Binder F (binder_of t some.1) l = (t, some.1, t ∷ [], u ∷ some.0, (refl, refl), (u, some.1, u ∷ [], some.0, (refl, refl), some.2, refl, refl), refl, refl) in
-    (l, binder_of t some.1 ∷ [], (binder_of t some.1 ∷ [], None, l, [], (binder_of t some.1, [], l, [], one, refl, refl, sym (append-nil l)), refl, refl, sym (append-nil l)))
+    let one : Binder F (binder_term t some.1) l = (t, some.1, t ∷ [], u ∷ some.0, (refl, refl), (u, some.1, u ∷ [], some.0, (refl, refl), some.2, refl, refl), refl, refl) in
+    (l, binder_term t some.1 ∷ [], (binder_term t some.1 ∷ [], None, l, [], (binder_term t some.1, [], l, [], one, refl, refl, sym (append-nil l)), refl, refl, sym (append-nil l)))
 
 -- the alternatives of a core
 abbrev Other : Language BodyTerm → Language BodyTerm
@@ -112,22 +112,22 @@ abbrev Test : Language Term → Language BodyTerm → Language (Token × (Term �
 Test E B = Both pair_of (One (is if_word)) (Both pair_of (InParentheses E) B)
 
 abbrev Loop : Language (List BinderTerm) → Language BodyTerm → Language CoreTerm
-Loop Ns B = Both loop_of (One (among loop_words)) (Both pair_of (InParentheses Ns) B)
+Loop Ns B = Both loop_term (One (among loop_words)) (Both pair_of (InParentheses Ns) B)
 
 abbrev Call : Language (List ArgTerm) → Language BodyTerm → Language CoreTerm
-Call As B = Both call_of (One (is name)) (Both pair_of (InParentheses As) B)
+Call As B = Both call_term (One (is name)) (Both pair_of (InParentheses As) B)
 
 other_opens : (B : Language BodyTerm) → Opens (Other B) (is else_word)
 other_opens B = both_opens second_of (One (is else_word)) B (is else_word) (one_opens (is else_word))
 
 module _ (E : Language Term) (As : Language (List ArgTerm)) (Ns : Language (List BinderTerm)) (B : Language BodyTerm) where
   loop_opens : Opens (Loop Ns B) (among loop_words)
-  loop_opens = both_opens loop_of (One (among loop_words)) _ (among loop_words) (one_opens (among loop_words))
+  loop_opens = both_opens loop_term (One (among loop_words)) _ (among loop_words) (one_opens (among loop_words))
 
   call_opens : Opens (Call As B) (is name)
-  call_opens = both_opens call_of (One (is name)) _ (is name) (one_opens (is name))
+  call_opens = both_opens call_term (One (is name)) _ (is name) (one_opens (is name))
 
-  if_opens : Opens (BothIf if_of IsNearest (Test E B) (Maybe (Other B))) (is if_word)
+  if_opens : Opens (BothIf if_term IsNearest (Test E B) (Maybe (Other B))) (is if_word)
   if_opens c s rest h = ap (λ l. starts (is if_word) (l ++ rest)) h.8 ∙ ap (starts (is if_word)) (append_assoc h.2 h.3 rest) ∙ both_opens pair_of (One (is if_word)) _ (is if_word) (one_opens (is if_word)) h.0 h.2 (h.3 ++ rest) h.4
 
   loop_or_call_opens : Opens (EitherOf (Loop Ns B) (Call As B)) (among (for_word ∷ intersection_for_word ∷ name ∷ []))
@@ -138,15 +138,15 @@ module _ (E : Language Term) (As : Language (List ArgTerm)) (Ns : Language (List
 
   pub core_opens : Opens (Core E As Ns B) (among firsts_of_core)
   core_opens =
-      either_opens (BothIf if_of IsNearest (Test E B) (Maybe (Other B))) (EitherOf (Loop Ns B) (Call As B)) (among firsts_of_core)
+      either_opens (BothIf if_term IsNearest (Test E B) (Maybe (Other B))) (EitherOf (Loop Ns B) (Call As B)) (among firsts_of_core)
       (λ x s rest h. next_within (if_word ∷ []) firsts_of_core refl (s ++ rest) (if_opens x s rest h))
       (λ x s rest h. next_within (for_word ∷ intersection_for_word ∷ name ∷ []) firsts_of_core refl (s ++ rest) (loop_or_call_opens x s rest h))
 
 abbrev Marks : Language (List MarkTerm)
-Marks = Many (Mapped mark_of (One (among mark_signs)))
+Marks = Many (Mapped mark_term (One (among mark_signs)))
 
-mark_opens : Opens (Mapped mark_of (One (among mark_signs))) (among mark_signs)
-mark_opens = mapped_opens mark_of (One (among mark_signs)) (among mark_signs) (one_opens (among mark_signs))
+mark_opens : Opens (Mapped mark_term (One (among mark_signs))) (among mark_signs)
+mark_opens = mapped_opens mark_term (One (among mark_signs)) (among mark_signs) (one_opens (among mark_signs))
 
 start_many : (ms : List MarkTerm) (p q rest : List Token) → Marks ms p → starts (among firsts_of_core) (q ++ rest) ≡ true → starts (among firsts_of_instance) ((p ++ q) ++ rest) ≡ true
 start_many [] p q rest k e = ap (λ l. starts (among firsts_of_instance) ((l ++ q) ++ rest)) k ∙ next_within firsts_of_core firsts_of_instance refl (q ++ rest) e
@@ -160,8 +160,8 @@ instance_opens E As Ns B i s rest h = ap (λ l. starts (among firsts_of_instance
 
 pub marks_reads : IsReader marks_read Marks Marks (λ x. among mark_signs)
 marks_reads =
-    many_reads (among mark_signs) (mapped mark_of (one (among mark_signs))) (Mapped mark_of (One (among mark_signs))) (Mapped mark_of (One (among mark_signs))) (λ x t. false) (among mark_signs)
-    (mapped_reads mark_of (one (among mark_signs)) (One (among mark_signs)) (One (among mark_signs)) (λ x t. false) (λ x t. false) mark_one (λ x rest h. h)) mark_opens (λ x rest h. never_starts rest) (λ x rest h. never_starts rest) (λ rest h. h)
+    many_reads (among mark_signs) (mapped mark_term (one (among mark_signs))) (Mapped mark_term (One (among mark_signs))) (Mapped mark_term (One (among mark_signs))) (λ x t. false) (among mark_signs)
+    (mapped_reads mark_term (one (among mark_signs)) (One (among mark_signs)) (One (among mark_signs)) (λ x t. false) (λ x t. false) mark_one (λ x rest h. h)) mark_opens (λ x rest h. never_starts rest) (λ x rest h. never_starts rest) (λ rest h. h)
 
 pub some_headed : {A : Type 0} (C : Language BodyTerm) (W : Language A) → Some_of C → Some_of W → Some_of (Both pair_of (InParentheses W) C)
 some_headed C W some_b some =
@@ -173,16 +173,16 @@ some_headed C W some_b some =
 pub some_core : (F : Language Term) (Aw : Language (List ArgTerm)) (Nw : Language (List BinderTerm)) (C : Language BodyTerm) → Some_of Aw → Some_of C → Some_of (Core F Aw Nw C)
 some_core F Aw Nw C some_as some_b =
     let h = some_headed C Aw some_b some_as in
-    (token (Name []) ∷ h.0, call_of (token (Name [])) h.1, inr (inr (token (Name []), h.1, token (Name []) ∷ [], h.0, (refl, refl), h.2, refl, refl)))
+    (token (Name []) ∷ h.0, call_term (token (Name [])) h.1, inr (inr (token (Name []), h.1, token (Name []) ∷ [], h.0, (refl, refl), h.2, refl, refl)))
 
 -- a loop, a core and an instance over what reads the variables of a loop
-abbrev pub loop_over : Reads (List BinderTerm) → Reads BodyTerm → Reads CoreTerm
-loop_over ns b = both loop_of (one (among loop_words)) (both pair_of (in_parentheses ns) b)
+abbrev pub loop_over : TokenReader (List BinderTerm) → TokenReader BodyTerm → TokenReader CoreTerm
+loop_over ns b = both loop_term (one (among loop_words)) (both pair_of (in_parentheses ns) b)
 
-abbrev pub core_over : Reads Term → Reads ArgTerm → Reads (List BinderTerm) → Reads BodyTerm → Reads CoreTerm
+abbrev pub core_over : TokenReader Term → TokenReader ArgTerm → TokenReader (List BinderTerm) → TokenReader BodyTerm → TokenReader CoreTerm
 core_over e a ns b = choice (is if_word) (if_read e b) (choice (among loop_words) (loop_over ns b) (call_read a b))
 
-abbrev pub instance_over : Reads Term → Reads ArgTerm → Reads (List BinderTerm) → Reads BodyTerm → Reads InstanceTerm
+abbrev pub instance_over : TokenReader Term → TokenReader ArgTerm → TokenReader (List BinderTerm) → TokenReader BodyTerm → TokenReader InstanceTerm
 instance_over e a ns b = instance_read (core_over e a ns b)
 
 -- where a name stands alone, an instance lacks its arguments
@@ -190,24 +190,24 @@ rest_mapped : {A B : Type 0} (f : A → B) (q : Read Token SyntaxFault A) → re
 rest_mapped f (Ok p) = refl
 rest_mapped f (Err x) = refl
 
-pub choice_second : {A : Type 0} (test : Token → Bool) (r q : Reads A) (ts : List Token) → starts test ts ≡ false → choice test r q ts ≡ q ts
+pub choice_second : {A : Type 0} (test : Token → Bool) (r q : TokenReader A) (ts : List Token) → starts test ts ≡ false → choice test r q ts ≡ q ts
 choice_second test r q ts e = ap (λ v. cond v (r ts) (q ts)) e
 
-call_moves : (a : Reads ArgTerm) (b : Reads BodyTerm) (t : Token) → is name t ≡ true → rest_of (call_read a b (t ∷ [])) ≡ []
-call_moves a b t h = ap (λ v. rest_of (after (cond v (Ok (t, [])) (Err (fault_of left_out (Some t), t ∷ []))) (λ t ts. after (both pair_of (in_parentheses (args_read a)) b ts) (λ p us. Ok (call_of t p, us))))) h
+call_moves : (a : TokenReader ArgTerm) (b : TokenReader BodyTerm) (t : Token) → is name t ≡ true → rest_of (call_read a b (t ∷ [])) ≡ []
+call_moves a b t h = ap (λ v. rest_of (after (cond v (Ok (t, [])) (Err (fault_of left_out_classes (Some t), t ∷ []))) (λ t ts. after (both pair_of (in_parentheses (args_read a)) b ts) (λ p us. Ok (call_term t p, us))))) h
 
-core_moves : (e : Reads Term) (a : Reads ArgTerm) (ns : Reads (List BinderTerm)) (b : Reads BodyTerm) (t : Token) → is name t ≡ true → rest_of (core_over e a ns b (t ∷ [])) ≡ []
+core_moves : (e : TokenReader Term) (a : TokenReader ArgTerm) (ns : TokenReader (List BinderTerm)) (b : TokenReader BodyTerm) (t : Token) → is name t ≡ true → rest_of (core_over e a ns b (t ∷ [])) ≡ []
 core_moves e a ns b t h =
     ap rest_of (choice_second (is if_word) (if_read e b) (choice (among loop_words) (loop_over ns b) (call_read a b)) (t ∷ []) (next_apart (name ∷ []) (if_word ∷ []) refl (t ∷ []) h))
     ∙ ap rest_of (choice_second (among loop_words) (loop_over ns b) (call_read a b) (t ∷ []) (next_apart (name ∷ []) loop_words refl (t ∷ []) h))
     ∙ call_moves a b t h
 
-instance_moves : (e : Reads Term) (a : Reads ArgTerm) (ns : Reads (List BinderTerm)) (b : Reads BodyTerm) (t : Token) → is name t ≡ true → rest_of (instance_over e a ns b (t ∷ [])) ≡ []
+instance_moves : (e : TokenReader Term) (a : TokenReader ArgTerm) (ns : TokenReader (List BinderTerm)) (b : TokenReader BodyTerm) (t : Token) → is name t ≡ true → rest_of (instance_over e a ns b (t ∷ [])) ≡ []
 instance_moves e a ns b t h =
-    ap (λ q. rest_of (after q (λ ms us. after (core_over e a ns b us) (λ c vs. Ok (instance_of ms c, vs))))) (marks_reads.complete [] [] (t ∷ []) refl (next_apart (name ∷ []) mark_signs refl (t ∷ []) h))
-    ∙ rest_mapped (instance_of []) (core_over e a ns b (t ∷ [])) ∙ core_moves e a ns b t h
+    ap (λ q. rest_of (after q (λ ms us. after (core_over e a ns b us) (λ c vs. Ok (instance_term ms c, vs))))) (marks_reads.complete [] [] (t ∷ []) refl (next_apart (name ∷ []) mark_signs refl (t ∷ []) h))
+    ∙ rest_mapped (instance_term []) (core_over e a ns b (t ∷ [])) ∙ core_moves e a ns b t h
 
-pub statement_moves : (e : Reads Term) (a : Reads ArgTerm) (ns : Reads (List BinderTerm)) (b : Reads BodyTerm) (t : Token) → is name t ≡ true → rest_of (mapped InstanceStatement (instance_over e a ns b) (t ∷ [])) ≡ []
+pub statement_moves : (e : TokenReader Term) (a : TokenReader ArgTerm) (ns : TokenReader (List BinderTerm)) (b : TokenReader BodyTerm) (t : Token) → is name t ≡ true → rest_of (mapped InstanceStatement (instance_over e a ns b) (t ∷ [])) ≡ []
 statement_moves e a ns b t h = rest_mapped InstanceStatement (instance_over e a ns b (t ∷ [])) ∙ instance_moves e a ns b t h
 
 -- no instance begins with a name and an `=`
@@ -231,17 +231,17 @@ pub instance_unlike : (E : Language Term) (As : Language (List ArgTerm)) (Ns : L
 instance_unlike E As Ns B i s rest h = ap (λ l. two (is name) (is assign_sign) (l ++ rest)) h.7 ∙ marks_unlike h.0 h.2 h.3 rest h.4 (core_unlike E As Ns B h.1 h.3 rest h.5)
 
 -- b reads a body
-module _ (b : Reads BodyTerm) (B C : Language BodyTerm) (ib : IsReader b B C body_more) (sb : Stops b body_more) (some_b : Some_of C) where
+module _ (b : TokenReader BodyTerm) (B C : Language BodyTerm) (ib : IsReader b B C body_more) (sb : Stops b body_more) (some_b : Some_of C) where
   -- something in parentheses, and a body
-  pub headed_reads : {A : Type 0} (r : Reads A) (L W : Language A) (more : A → Token → Bool) → IsReader r L W more → Some_of W → ((x : A) (l : List Token) → starts (is close_parenthesis_sign) l ≡ true → starts (more x) l ≡ false)
+  pub headed_reads : {A : Type 0} (r : TokenReader A) (L W : Language A) (more : A → Token → Bool) → IsReader r L W more → Some_of W → ((x : A) (l : List Token) → starts (is close_parenthesis_sign) l ≡ true → starts (more x) l ≡ false)
       → IsReader (both pair_of (in_parentheses r) b) (Both pair_of (InParentheses L) B) (Both pair_of (InParentheses W) C) (λ p. body_more p.1)
   headed_reads r L W more ir some stops =
       both_reads pair_of (in_parentheses r) b (InParentheses L) (InParentheses W) B C (λ x t. false) body_more (λ p. body_more p.1) (in_parentheses_reads r L W more ir some stops) ib some_b (λ x y s rest h k. never_starts (s ++ rest)) (λ x y rest k. k)
 
-  pub headed_stops : {A : Type 0} (r : Reads A) → Stops (both pair_of (in_parentheses r) b) (λ p. body_more p.1)
+  pub headed_stops : {A : Type 0} (r : TokenReader A) → Stops (both pair_of (in_parentheses r) b) (λ p. body_more p.1)
   headed_stops r = both_stops pair_of (in_parentheses r) b body_more (λ p. body_more p.1) sb (λ x y rest h. h)
 
-  abbrev other_read : Reads BodyTerm
+  abbrev other_read : TokenReader BodyTerm
   other_read = both second_of (one (is else_word)) b
 
   other_reads : IsReader (maybe (is else_word) other_read) (Maybe (Other B)) (Maybe (Other C)) (or_first (is else_word) body_more)
@@ -252,9 +252,9 @@ module _ (b : Reads BodyTerm) (B C : Language BodyTerm) (ib : IsReader b B C bod
   other_stops : Stops (maybe (is else_word) other_read) (or_first (is else_word) body_more)
   other_stops = maybe_stops (is else_word) other_read body_more (both_stops second_of (one (is else_word)) b body_more body_more sb (λ x y rest h. h))
 
-  module _ (e : Reads Term) (a : Reads ArgTerm) (ns : Reads (List BinderTerm)) (E F : Language Term) (As Aw : Language (List ArgTerm)) (Ns Nw : Language (List BinderTerm))
+  module _ (e : TokenReader Term) (a : TokenReader ArgTerm) (ns : TokenReader (List BinderTerm)) (E F : Language Term) (As Aw : Language (List ArgTerm)) (Ns Nw : Language (List BinderTerm))
       (ie : IsReader e E F (λ x. among expression_more)) (ias : IsReader (args_read a) As Aw (λ x. other_than closes)) (ins : IsReader ns Ns Nw (λ x. other_than closes)) (some_e : Some_of F) (some_as : Some_of Aw) (some_ns : Some_of Nw) where
-    abbrev test_read : Reads (Token × (Term × BodyTerm))
+    abbrev test_read : TokenReader (Token × (Term × BodyTerm))
     test_read = both pair_of (one (is if_word)) (both pair_of (in_parentheses e) b)
 
     test_reads : IsReader test_read (Test E B) (Test F C) (λ p. body_more p.1.1)
@@ -266,15 +266,15 @@ module _ (b : Reads BodyTerm) (B C : Language BodyTerm) (ib : IsReader b B C bod
     test_stops = both_stops pair_of (one (is if_word)) (both pair_of (in_parentheses e) b) (λ p. body_more p.1) (λ p. body_more p.1.1) (headed_stops e) (λ x y rest h. h)
 
     -- an `else` behind a body that ends open would be that one's
-    follows : (p : Token × (Term × BodyTerm)) (o : Option BodyTerm) (q rest : List Token) → Maybe (Other B) o q → IsNearest p o → starts (core_more (if_of p o)) rest ≡ false → starts (body_more p.1.1) (q ++ rest) ≡ false
+    follows : (p : Token × (Term × BodyTerm)) (o : Option BodyTerm) (q rest : List Token) → Maybe (Other B) o q → IsNearest p o → starts (core_more (if_term p o)) rest ≡ false → starts (body_more p.1.1) (q ++ rest) ≡ false
     follows p None q rest h n k = ap (λ l. starts (body_more p.1.1) (l ++ rest)) h ∙ open_less (ends_open p.1.1) rest k
     follows p (Some y) q rest h n k = ap (λ v. starts (else_open v) (q ++ rest)) n ∙ never_starts (q ++ rest)
 
-    down : (p : Token × (Term × BodyTerm)) (o : Option BodyTerm) (rest : List Token) → starts (core_more (if_of p o)) rest ≡ false → starts (or_first (is else_word) body_more o) rest ≡ false
+    down : (p : Token × (Term × BodyTerm)) (o : Option BodyTerm) (rest : List Token) → starts (core_more (if_term p o)) rest ≡ false → starts (or_first (is else_word) body_more o) rest ≡ false
     down p None rest k = k
     down p (Some y) rest k = k
 
-    up : (p : Token × (Term × BodyTerm)) (o : Option BodyTerm) (rest : List Token) → starts (or_first (is else_word) body_more o) rest ≡ false → starts (core_more (if_of p o)) rest ≡ false
+    up : (p : Token × (Term × BodyTerm)) (o : Option BodyTerm) (rest : List Token) → starts (or_first (is else_word) body_more o) rest ≡ false → starts (core_more (if_term p o)) rest ≡ false
     up p None rest k = k
     up p (Some y) rest k = k
 
@@ -286,15 +286,15 @@ module _ (b : Reads BodyTerm) (B C : Language BodyTerm) (ib : IsReader b B C bod
     fits p None q rest h k = tt
     fits p (Some y) q rest h k = closed (ends_open p.1.1) (q ++ rest) (other_opens C y q rest h) k
 
-    if_reads : IsReader (if_read e b) (BothIf if_of IsNearest (Test E B) (Maybe (Other B))) (BothIf if_of IsNearest (Test F C) (Maybe (Other C))) core_more
+    if_reads : IsReader (if_read e b) (BothIf if_term IsNearest (Test E B) (Maybe (Other B))) (BothIf if_term IsNearest (Test F C) (Maybe (Other C))) core_more
     if_reads =
-        both_if_reads if_of IsNearest test_read (maybe (is else_word) other_read) (Test E B) (Test F C) (Maybe (Other B)) (Maybe (Other C)) (λ p. body_more p.1.1) (λ p. body_more p.1.1) (or_first (is else_word) body_more) core_more
+        both_if_reads if_term IsNearest test_read (maybe (is else_word) other_read) (Test E B) (Test F C) (Maybe (Other B)) (Maybe (Other C)) (λ p. body_more p.1.1) (λ p. body_more p.1.1) (or_first (is else_word) body_more) core_more
         test_reads test_stops other_reads (λ p. ([], None, refl, tt)) follows down fits
 
     if_stops : Stops (if_read e b) core_more
-    if_stops = both_stops if_of test_read (maybe (is else_word) other_read) (or_first (is else_word) body_more) core_more other_stops up
+    if_stops = both_stops if_term test_read (maybe (is else_word) other_read) (or_first (is else_word) body_more) core_more other_stops up
 
-    loop_open : (t : Token) (p : List BinderTerm × BodyTerm) → core_open (loop_of t p) ≡ ends_open p.1
+    loop_open : (t : Token) (p : List BinderTerm × BodyTerm) → core_open (loop_term t p) ≡ ends_open p.1
     loop_open t p = go (is for_word t)
       where
         go : (v : Bool) → core_open (cond v (ForTerm t.place p.0 p.1) (IntersectionForTerm t.place p.0 p.1)) ≡ ends_open p.1
@@ -303,24 +303,24 @@ module _ (b : Reads BodyTerm) (B C : Language BodyTerm) (ib : IsReader b B C bod
 
     loop_reads : IsReader (loop_over ns b) (Loop Ns B) (Loop Nw C) core_more
     loop_reads =
-        then (both pair_of (in_parentheses ns) b) (Both pair_of (InParentheses Ns) B) (Both pair_of (InParentheses Nw) C) (among loop_words) (λ p. body_more p.1) core_more loop_of loop_one
+        then (both pair_of (in_parentheses ns) b) (Both pair_of (InParentheses Ns) B) (Both pair_of (InParentheses Nw) C) (among loop_words) (λ p. body_more p.1) core_more loop_term loop_one
         (headed_reads ns Ns Nw (λ x. other_than closes) ins some_ns (λ x. close_ends closes)) (some_headed C Nw some_b some_ns)
         (λ t y rest h. ap (λ v. starts (else_open v) rest) (sym (loop_open t y)) ∙ h)
 
     loop_stops : Stops (loop_over ns b) core_more
-    loop_stops = both_stops loop_of (one (among loop_words)) (both pair_of (in_parentheses ns) b) (λ p. body_more p.1) core_more (headed_stops ns) (λ t y rest h. ap (λ v. starts (else_open v) rest) (loop_open t y) ∙ h)
+    loop_stops = both_stops loop_term (one (among loop_words)) (both pair_of (in_parentheses ns) b) (λ p. body_more p.1) core_more (headed_stops ns) (λ t y rest h. ap (λ v. starts (else_open v) rest) (loop_open t y) ∙ h)
 
     call_reads : IsReader (call_read a b) (Call As B) (Call Aw C) core_more
     call_reads =
-        then (both pair_of (in_parentheses (args_read a)) b) (Both pair_of (InParentheses As) B) (Both pair_of (InParentheses Aw) C) (is name) (λ p. body_more p.1) core_more call_of name_one
+        then (both pair_of (in_parentheses (args_read a)) b) (Both pair_of (InParentheses As) B) (Both pair_of (InParentheses Aw) C) (is name) (λ p. body_more p.1) core_more call_term name_one
         (headed_reads (args_read a) As Aw (λ x. other_than closes) ias some_as (λ x. close_ends closes)) (some_headed C Aw some_b some_as) (λ t y rest h. h)
 
     call_stops : Stops (call_read a b) core_more
-    call_stops = both_stops call_of (one (is name)) (both pair_of (in_parentheses (args_read a)) b) (λ p. body_more p.1) core_more (headed_stops (args_read a)) (λ t y rest h. h)
+    call_stops = both_stops call_term (one (is name)) (both pair_of (in_parentheses (args_read a)) b) (λ p. body_more p.1) core_more (headed_stops (args_read a)) (λ t y rest h. h)
 
     core_reads : IsReader (core_over e a ns b) (Core E As Ns B) (Core F Aw Nw C) core_more
     core_reads =
-        choice_reads (is if_word) (if_read e b) (choice (among loop_words) (loop_over ns b) (call_read a b)) (BothIf if_of IsNearest (Test E B) (Maybe (Other B))) (BothIf if_of IsNearest (Test F C) (Maybe (Other C))) (EitherOf (Loop Ns B) (Call As B)) (EitherOf (Loop Nw C) (Call Aw C)) core_more
+        choice_reads (is if_word) (if_read e b) (choice (among loop_words) (loop_over ns b) (call_read a b)) (BothIf if_term IsNearest (Test E B) (Maybe (Other B))) (BothIf if_term IsNearest (Test F C) (Maybe (Other C))) (EitherOf (Loop Ns B) (Call As B)) (EitherOf (Loop Nw C) (Call Aw C)) core_more
         if_reads
         (choice_reads (among loop_words) (loop_over ns b) (call_read a b) (Loop Ns B) (Loop Nw C) (Call As B) (Call Aw C) core_more loop_reads call_reads (loop_opens E As Ns B) (λ x s rest h k. next_apart (name ∷ []) loop_words refl (s ++ rest) (call_opens E As Ns B x s rest h)))
         (if_opens E As Ns B)
@@ -329,15 +329,15 @@ module _ (b : Reads BodyTerm) (B C : Language BodyTerm) (ib : IsReader b B C bod
     core_stops : Stops (core_over e a ns b) core_more
     core_stops = choice_stops (is if_word) (if_read e b) (choice (among loop_words) (loop_over ns b) (call_read a b)) core_more if_stops (choice_stops (among loop_words) (loop_over ns b) (call_read a b) core_more loop_stops call_stops)
 
-    instance_core : (ms : List MarkTerm) (c : CoreTerm) → instance_open (instance_of ms c) ≡ core_open c
+    instance_core : (ms : List MarkTerm) (c : CoreTerm) → instance_open (instance_term ms c) ≡ core_open c
     instance_core [] c = refl
     instance_core (m ∷ ms) c = refl
 
     pub instance_reads : IsReader (instance_over e a ns b) (Instance E As Ns B) (Instance F Aw Nw C) instance_more
     instance_reads =
-        both_reads instance_of marks_read (core_over e a ns b) Marks Marks (Core E As Ns B) (Core F Aw Nw C) (λ x. among mark_signs) core_more instance_more marks_reads core_reads (some_core F Aw Nw C some_as some_b)
+        both_reads instance_term marks_read (core_over e a ns b) Marks Marks (Core E As Ns B) (Core F Aw Nw C) (λ x. among mark_signs) core_more instance_more marks_reads core_reads (some_core F Aw Nw C some_as some_b)
         (λ x y s rest h k. next_apart firsts_of_core mark_signs refl (s ++ rest) (core_opens E As Ns B y s rest h))
         (λ x y rest k. ap (λ v. starts (else_open v) rest) (sym (instance_core x y)) ∙ k)
 
     pub instance_stops : Stops (instance_over e a ns b) instance_more
-    instance_stops = both_stops instance_of marks_read (core_over e a ns b) core_more instance_more core_stops (λ x y rest k. ap (λ v. starts (else_open v) rest) (instance_core x y) ∙ k)
+    instance_stops = both_stops instance_term marks_read (core_over e a ns b) core_more instance_more core_stops (λ x y rest k. ap (λ v. starts (else_open v) rest) (instance_core x y) ∙ k)

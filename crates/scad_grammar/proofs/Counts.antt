@@ -5,7 +5,7 @@ use Rattle.scad_ast.specs.Terms.{Term, ArgTerm, BinderTerm, ParamTerm, MarkTerm,
 use Rattle.scad_ast.specs.Counts.{begun_by, begun_in, begun_by_instance, begun_by_core, begun_by_body, begun_by_program}
 use Rattle.scad_grammar.specs.Classes.{open_brace_sign, close_brace_sign, semicolon_sign, name, end, if_word, else_word, for_word, intersection_for_word, module_word, function_word, is, among}
 use Rattle.scad_grammar.specs.Languages.{Language, One, Mapped, Both, BothIf, EitherOf, Nothing, Many, Maybe, Never, Before, first_of, second_of, pair_of}
-use Rattle.scad_grammar.specs.Grammar.{InParentheses, whole, Expr, ArgsIn, ParamsIn, BindersIn, StatementsIn, InstanceIn, Core, Instance, BodyOf, StatementOf, Statement, Body, WholeProgram, if_of, IsNearest, loop_of, call_of, instance_of, block_of, bare_block_of, module_of, function_of}
+use Rattle.scad_grammar.specs.Grammar.{InParentheses, whole, Expr, ArgsIn, ParamsIn, BindersIn, StatementsIn, InstanceIn, Core, Instance, BodyOf, StatementOf, Statement, Body, WholeProgram, if_term, IsNearest, loop_term, call_term, instance_term, block_term, bare_block_term, module_term, function_term}
 
 -- what is written has at most as many as tokens write it
 record Counts {A : Type 0} (count : A → ℕ) (L : Language A) : Type 0 where
@@ -90,18 +90,18 @@ more_than_core core = suc (begun_by_core core)
 abbrev more_than_instance : InstanceTerm → ℕ
 more_than_instance instance = suc (begun_by_instance instance)
 
-if_less : (p : Token × (Term × BodyTerm)) (o : Option BodyTerm) → more_than_core (if_of p o) ≤ suc (begun_by_body p.1.1) + of_maybe begun_by_body o
+if_less : (p : Token × (Term × BodyTerm)) (o : Option BodyTerm) → more_than_core (if_term p o) ≤ suc (begun_by_body p.1.1) + of_maybe begun_by_body o
 if_less p None = omega arith
 if_less p (Some other) = omega arith
 
-loop_less : (t : Token) (p : List BinderTerm × BodyTerm) → more_than_core (loop_of t p) ≤ 1 + of_second begun_by_body p
+loop_less : (t : Token) (p : List BinderTerm × BodyTerm) → more_than_core (loop_term t p) ≤ 1 + of_second begun_by_body p
 loop_less t p = go (is for_word t) refl
   where
-    go : (b : Bool) → is for_word t ≡ b → more_than_core (loop_of t p) ≤ 1 + of_second begun_by_body p
+    go : (b : Bool) → is for_word t ≡ b → more_than_core (loop_term t p) ≤ 1 + of_second begun_by_body p
     go true e = rw e (omega arith)
     go false e = rw e (omega arith)
 
-instance_less : (ms : List MarkTerm) (core : CoreTerm) → more_than_instance (instance_of ms core) ≤ 0 + more_than_core core
+instance_less : (ms : List MarkTerm) (core : CoreTerm) → more_than_instance (instance_term ms core) ≤ 0 + more_than_core core
 instance_less [] core = omega arith
 instance_less (m ∷ ms) core = omega arith
 
@@ -109,34 +109,34 @@ module _ (E : Language Term) (As : Language (List ArgTerm)) (Ns : Language (List
   core_count : Counts more_than_core (Core E As Ns B)
   core_count =
       either_count
-      (both_if_count if_of IsNearest (λ p. suc (begun_by_body p.1.1)) (of_maybe begun_by_body) more_than_core if_less
+      (both_if_count if_term IsNearest (λ p. suc (begun_by_body p.1.1)) (of_maybe begun_by_body) more_than_core if_less
       (both_count pair_of (λ t. 1) (of_second begun_by_body) (λ p. suc (begun_by_body p.1.1)) (λ t p. omega arith) (one_count (is if_word)) (with_body (InParentheses E) B b))
       (maybe_count (both_count second_of none begun_by_body begun_by_body (λ t y. omega arith) (no_count (One (is else_word))) b)))
       (either_count
-      (both_count loop_of (λ t. 1) (of_second begun_by_body) more_than_core loop_less (one_count (among (for_word ∷ intersection_for_word ∷ []))) (with_body (InParentheses Ns) B b))
-      (both_count call_of (λ t. 1) (of_second begun_by_body) more_than_core (λ t p. omega arith) (one_count (is name)) (with_body (InParentheses As) B b)))
+      (both_count loop_term (λ t. 1) (of_second begun_by_body) more_than_core loop_less (one_count (among (for_word ∷ intersection_for_word ∷ []))) (with_body (InParentheses Ns) B b))
+      (both_count call_term (λ t. 1) (of_second begun_by_body) more_than_core (λ t p. omega arith) (one_count (is name)) (with_body (InParentheses As) B b)))
 
   instance_count : Counts more_than_instance (Instance E As Ns B)
-  instance_count = both_count instance_of none more_than_core more_than_instance instance_less (no_count _) core_count
+  instance_count = both_count instance_term none more_than_core more_than_instance instance_less (no_count _) core_count
 
 module _ (I : Language InstanceTerm) (Ss : Language (List StatementTerm)) (i : Counts more_than_instance I) (ss : Counts of_list Ss) where
   body_count : Counts begun_by_body (BodyOf I Ss)
   body_count =
       either_count (mapped_count (λ t. EmptyBody t.place) (λ t. 1) begun_by_body (λ t. omega arith) (one_count (is semicolon_sign)))
-      (either_count (both_count block_of (λ t. 1) of_list begun_by_body (λ t x. omega arith) (one_count (is open_brace_sign)) (braces_count ss))
+      (either_count (both_count block_term (λ t. 1) of_list begun_by_body (λ t x. omega arith) (one_count (is open_brace_sign)) (braces_count ss))
       (mapped_count InstanceBody more_than_instance begun_by_body (λ x. omega arith) i))
 
   statement_count : (X : Language Term) (Ps : Language (List ParamTerm)) (B : Language BodyTerm) → Counts begun_by_body B → Counts begun_by (StatementOf X Ps I Ss B)
   statement_count X Ps B b =
       either_count (mapped_count (λ t. EmptyStatement t.place) none begun_by (λ t. omega arith) (no_count (One (is semicolon_sign))))
-      (either_count (both_count bare_block_of none of_list begun_by (λ t x. omega arith) (no_count (One (is open_brace_sign))) (braces_count ss))
+      (either_count (both_count bare_block_term none of_list begun_by (λ t x. omega arith) (no_count (One (is open_brace_sign))) (braces_count ss))
       (either_count (both_count _ none none begun_by (λ t x. omega arith) (no_count _) (no_count _))
       (either_count (both_count _ none none begun_by (λ t x. omega arith) (no_count _) (no_count _))
       (either_count
-      (both_count module_of (λ t. 1) (λ p. begun_by_body p.1.1) begun_by (λ t p. omega arith) (one_count (is module_word))
+      (both_count module_term (λ t. 1) (λ p. begun_by_body p.1.1) begun_by (λ t p. omega arith) (one_count (is module_word))
       (both_count pair_of none (of_second begun_by_body) (λ p. begun_by_body p.1.1) (λ t p. omega arith) (no_count (One (is name))) (with_body (InParentheses Ps) B b)))
       (either_count
-      (both_count function_of (λ t. 1) (λ p. 1) begun_by (λ t p. omega arith) (one_count (is function_word))
+      (both_count function_term (λ t. 1) (λ p. 1) begun_by (λ t p. omega arith) (one_count (is function_word))
       (both_count pair_of (λ t. 1) none (λ p. 1) (λ t p. omega arith) (one_count (is name)) (no_count _)))
       (mapped_count InstanceStatement more_than_instance begun_by (λ x. omega arith) i))))))
 

@@ -6,9 +6,9 @@ use Rattle.scad_lexer.specs.declared.token.Symbol.TheVariants.{CloseParenthesis,
 use Rattle.scad_ast.specs.Terms.{Term, NumberTerm, TextTerm, TruthTerm, UndefTerm, ChildCountTerm, SpecialTerm, ArgTerm, PositionalTerm}
 use Rattle.scad_grammar.specs.Classes.{numeral, special, text, true_word, false_word, undef_word, child_count, name, open_parenthesis_sign, close_parenthesis_sign, open_bracket_sign, close_bracket_sign, assign_sign, colon_sign, question_sign, minus_sign, plus_sign, times_sign, divide_sign, remainder_sign, less_sign, greater_sign, less_equal_sign, greater_equal_sign, equal_sign, not_equal_sign, and_sign, or_sign, caret_sign, argument_names, among, is, other_than, class_of, number_of, bytes_of}
 use Rattle.scad_grammar.specs.Languages.{Language, One, Mapped, Both, EitherOf, Nothing, Many, Maybe, Never, Before, Behind, second_of, pair_of}
-use Rattle.scad_grammar.specs.Grammar.{InParentheses, Arg, Args, Primary, Bracket, Suffix, Postfix, Unary, Chain, Choice, Detail, whole, outline, ArgsIn, Expr, Operand, levels, chain_of, choice_of, unary_of, postfix_of, given_of, named_of, paren_of, bracket_of, link}
+use Rattle.scad_grammar.specs.Grammar.{InParentheses, Arg, Args, Primary, Bracket, Suffix, Postfix, Unary, Chain, Choice, Detail, whole, outline, ArgsIn, Expr, Operand, levels, chain_term, choice_term, unary_term, postfix_term, given_term, name_term, paren_term, bracket_term, link}
 use Rattle.scad_grammar.specs.Reading.{after, starts, mapped, both, maybe}
-use Rattle.scad_grammar.specs.Faults.{Reads, one, left_out_of_expressions}
+use Rattle.scad_grammar.specs.Faults.{TokenReader, one, left_out_of_expressions}
 use Rattle.scad_grammar.specs.Reads.{firsts_of_primary, firsts_of_expression, given, arg_read, args_read, nested, primary_read, unary_read, chain_read, choice_read, arg_in, expr_read, operand_read}
 use Rattle.scad_grammar.proofs.Readers.{Begins, IsReader, Opens, both_reads, mapped_reads, same_reads, both_opens, either_opens, mapped_opens, one_opens}
 use Rattle.scad_grammar.proofs.Greedy.{or_first, maybe_ends, maybe_reads}
@@ -35,16 +35,16 @@ question_one = one_at (is question_sign) (token (Symbol Question), refl)
 -- what begins an operand, a chain, an expression, an argument
 pub unary_opens : (E : Language Term) (As : Language (List ArgTerm)) (U : Language Term) → Opens (Unary E As U) (among firsts_of_expression)
 unary_opens E As U =
-    either_opens (Both unary_of (One (among unary_signs)) U) (Postfix E As) (among firsts_of_expression)
-    (λ x s rest h. next_within unary_signs firsts_of_expression refl (s ++ rest) (both_opens unary_of (One (among unary_signs)) U (among unary_signs) (one_opens (among unary_signs)) x s rest h))
-    (λ x s rest h. next_within firsts_of_primary firsts_of_expression refl (s ++ rest) (both_opens postfix_of (Primary E As) (Many (Suffix E)) (among firsts_of_primary) (primary_opens E As) x s rest h))
+    either_opens (Both unary_term (One (among unary_signs)) U) (Postfix E As) (among firsts_of_expression)
+    (λ x s rest h. next_within unary_signs firsts_of_expression refl (s ++ rest) (both_opens unary_term (One (among unary_signs)) U (among unary_signs) (one_opens (among unary_signs)) x s rest h))
+    (λ x s rest h. next_within firsts_of_primary firsts_of_expression refl (s ++ rest) (both_opens postfix_term (Primary E As) (Many (Suffix E)) (among firsts_of_primary) (primary_opens E As) x s rest h))
 
 chain_opens : (levels : List (List ℕ)) (X : Language Term) (test : Token → Bool) → Opens X test → Opens (Chain levels X) test
 chain_opens [] X test o = o
-chain_opens (ops ∷ levels) X test o = both_opens chain_of (Chain levels X) (Many (Both link (One (among ops)) (Chain levels X))) test (chain_opens levels X test o)
+chain_opens (ops ∷ levels) X test o = both_opens chain_term (Chain levels X) (Many (Both link (One (among ops)) (Chain levels X))) test (chain_opens levels X test o)
 
 pub choice_opens : (E : Language Term) (As : Language (List ArgTerm)) (U : Language Term) → Opens (Choice E As U) (among firsts_of_expression)
-choice_opens E As U = both_opens choice_of (Chain levels (Unary E As U)) _ (among firsts_of_expression) (chain_opens levels (Unary E As U) (among firsts_of_expression) (unary_opens E As U))
+choice_opens E As U = both_opens choice_term (Chain levels (Unary E As U)) _ (among firsts_of_expression) (chain_opens levels (Unary E As U) (among firsts_of_expression) (unary_opens E As U))
 
 -- the same, or a gap
 abbrev pub open_firsts_of_expression : List ℕ
@@ -59,7 +59,7 @@ expr_opens g (suc d) x s rest h = next_within firsts_of_expression open_firsts_o
 pub arg_opens : (E : Language Term) → Opens E (among open_firsts_of_expression) → Opens (Arg E) (among open_firsts_of_expression)
 arg_opens E o =
     either_opens _ (Mapped PositionalTerm E) (among open_firsts_of_expression)
-    (λ x s rest h. next_within argument_names open_firsts_of_expression refl (s ++ rest) (both_opens given_of (One (among argument_names)) (Behind (is assign_sign) E) (among argument_names) (one_opens (among argument_names)) x s rest h))
+    (λ x s rest h. next_within argument_names open_firsts_of_expression refl (s ++ rest) (both_opens given_term (One (among argument_names)) (Behind (is assign_sign) E) (among argument_names) (one_opens (among argument_names)) x s rest h))
     (mapped_opens PositionalTerm E (among open_firsts_of_expression) o)
 
 -- a numeral alone
@@ -140,16 +140,16 @@ primary_unlike E As =
     (either_unlike _ _ (single_unlike undef_word (λ t. UndefTerm t.place) refl)
     (either_unlike _ _ (single_unlike child_count (λ t. ChildCountTerm t.place) refl)
     (either_unlike _ _ special_unlike
-    (either_unlike _ _ (both_unlike named_of (One (is name)) (Maybe (InParentheses As)) (one_unlike (is name))
+    (either_unlike _ _ (both_unlike name_term (One (is name)) (Maybe (InParentheses As)) (one_unlike (is name))
     (maybe_keeps (InParentheses As) (open_parenthesis_sign ∷ []) refl (both_opens second_of (One (is open_parenthesis_sign)) _ (is open_parenthesis_sign) (one_opens (is open_parenthesis_sign)))))
-    (either_unlike _ _ (opens_unlike _ (open_parenthesis_sign ∷ []) refl (both_opens paren_of (One (is open_parenthesis_sign)) (Before E (is close_parenthesis_sign)) (is open_parenthesis_sign) (one_opens (is open_parenthesis_sign))))
-    (opens_unlike (Bracket E) (open_bracket_sign ∷ []) refl (both_opens bracket_of (One (is open_bracket_sign)) _ (is open_bracket_sign) (one_opens (is open_bracket_sign))))))))))))
+    (either_unlike _ _ (opens_unlike _ (open_parenthesis_sign ∷ []) refl (both_opens paren_term (One (is open_parenthesis_sign)) (Before E (is close_parenthesis_sign)) (is open_parenthesis_sign) (one_opens (is open_parenthesis_sign))))
+    (opens_unlike (Bracket E) (open_bracket_sign ∷ []) refl (both_opens bracket_term (One (is open_bracket_sign)) _ (is open_bracket_sign) (one_opens (is open_bracket_sign))))))))))))
 
 unary_unlike : (E : Language Term) (As : Language (List ArgTerm)) (U : Language Term) → Unlike (Unary E As U)
 unary_unlike E As U =
-    either_unlike (Both unary_of (One (among unary_signs)) U) (Postfix E As)
-    (opens_unlike _ unary_signs refl (both_opens unary_of (One (among unary_signs)) U (among unary_signs) (one_opens (among unary_signs))))
-    (both_unlike postfix_of (Primary E As) (Many (Suffix E)) (primary_unlike E As) (many_keeps (Suffix E) suffix_signs refl (suffix_opens E)))
+    either_unlike (Both unary_term (One (among unary_signs)) U) (Postfix E As)
+    (opens_unlike _ unary_signs refl (both_opens unary_term (One (among unary_signs)) U (among unary_signs) (one_opens (among unary_signs))))
+    (both_unlike postfix_term (Primary E As) (Many (Suffix E)) (primary_unlike E As) (many_keeps (Suffix E) suffix_signs refl (suffix_opens E)))
 
 -- no operator of these levels is an `=`
 abbrev no_assign : List (List ℕ) → Bool
@@ -164,7 +164,7 @@ chain_unlike : (levels : List (List ℕ)) (X : Language Term) → no_assign leve
 chain_unlike [] X n u = u
 chain_unlike (ops ∷ levels) X n u =
     let k = cond_true (apart ops (assign_sign ∷ [])) (no_assign levels) n in
-    both_unlike chain_of (Chain levels X) (Many (Both link (One (among ops)) (Chain levels X))) (chain_unlike levels X k.1 u)
+    both_unlike chain_term (Chain levels X) (Many (Both link (One (among ops)) (Chain levels X))) (chain_unlike levels X k.1 u)
     (many_keeps (Both link (One (among ops)) (Chain levels X)) ops k.0 (both_opens link (One (among ops)) (Chain levels X) (among ops) (one_opens (among ops))))
 
 -- what stands behind a condition
@@ -175,7 +175,7 @@ sides_open : (E : Language Term) → Opens (Sides E) (is question_sign)
 sides_open E = both_opens pair_of (One (is question_sign)) _ (is question_sign) (one_opens (is question_sign))
 
 pub choice_unlike : (E : Language Term) (As : Language (List ArgTerm)) (U : Language Term) → Unlike (Choice E As U)
-choice_unlike E As U = both_unlike choice_of (Chain levels (Unary E As U)) (Maybe (Sides E)) (chain_unlike levels (Unary E As U) refl (unary_unlike E As U)) (maybe_keeps (Sides E) (question_sign ∷ []) refl (sides_open E))
+choice_unlike E As U = both_unlike choice_term (Chain levels (Unary E As U)) (Maybe (Sides E)) (chain_unlike levels (Unary E As U) refl (unary_unlike E As U)) (maybe_keeps (Sides E) (question_sign ∷ []) refl (sides_open E))
 
 -- two tokens and something are a token, and something behind a token
 module _ {A C : Type 0} (f : Token → A → C) (a b : Token → Bool) (L : Language A) where
@@ -188,13 +188,13 @@ module _ {A C : Type 0} (f : Token → A → C) (a b : Token → Bool) (L : Lang
       (h.0, k.0, k.1, k.3, h.4.0, k.4.0, k.5, h.6 ∙ ap (f h.0) k.6, h.7 ∙ ap (λ l. l ++ h.3) h.4.1 ∙ ap (λ l. h.0 ∷ l) (k.7 ∙ ap (λ l. l ++ k.3) k.4.1))
 
 -- an argument is told from a named one by its second token
-module _ (e : Reads Term) (E F : Language Term) (ie : IsReader e E F (λ x. among expression_more)) (alone : (t : Token) → among argument_names t ≡ true → (x : Term) × E x (t ∷ [])) (unlike : Unlike E) where
+module _ (e : TokenReader Term) (E F : Language Term) (ie : IsReader e E F (λ x. among expression_more)) (alone : (t : Token) → among argument_names t ≡ true → (x : Term) × E x (t ∷ [])) (unlike : Unlike E) where
   to_arg : (L : Language Term) (c : ArgTerm) (s : List Token) → Ahead given (among argument_names) (is assign_sign) L (Mapped PositionalTerm L) c s → Arg L c s
-  to_arg L c s (inl h) = inl (two_to given_of (among argument_names) (is assign_sign) L c s h)
+  to_arg L c s (inl h) = inl (two_to given_term (among argument_names) (is assign_sign) L c s h)
   to_arg L c s (inr h) = inr h
 
   from_arg : (L : Language Term) (c : ArgTerm) (s : List Token) → Arg L c s → Ahead given (among argument_names) (is assign_sign) L (Mapped PositionalTerm L) c s
-  from_arg L c s (inl h) = inl (two_from given_of (among argument_names) (is assign_sign) L c s h)
+  from_arg L c s (inl h) = inl (two_from given_term (among argument_names) (is assign_sign) L c s h)
   from_arg L c s (inr h) = inr h
 
   pub arg_reads : IsReader (arg_read e) (Arg E) (Arg F) (λ x. among arg_more)
@@ -230,11 +230,11 @@ abbrev closes : List ℕ
 closes = close_parenthesis_sign ∷ []
 
 -- arguments over an expression
-pub args_over : (a : Reads ArgTerm) (E F : Language Term) → IsReader a (Arg E) (Arg F) (λ x. among arg_more) → Opens E (among open_firsts_of_expression) → IsReader (args_read a) (Args E) (Args F) (λ x. other_than closes)
+pub args_over : (a : TokenReader ArgTerm) (E F : Language Term) → IsReader a (Arg E) (Arg F) (λ x. among arg_more) → Opens E (among open_firsts_of_expression) → IsReader (args_read a) (Args E) (Args F) (λ x. other_than closes)
 args_over a E F ia oe = args_reads a E F arg_more ia (λ x s rest h. next_other open_firsts_of_expression closes refl (s ++ rest) (arg_opens E oe x s rest h)) refl refl
 
 -- an expression over the expressions, arguments and operands one deeper
-module _ (e : Reads Term) (a : Reads ArgTerm) (u : Reads Term) (E F U V : Language Term) (As Aw : Language (List ArgTerm))
+module _ (e : TokenReader Term) (a : TokenReader ArgTerm) (u : TokenReader Term) (E F U V : Language Term) (As Aw : Language (List ArgTerm))
     (ie : IsReader e E F (λ x. among expression_more)) (ias : IsReader (args_read a) As Aw (λ x. other_than closes)) (iu : IsReader u U V (λ x. among operand_more))
     (oe : Opens E (among open_firsts_of_expression)) (some_e : Some_of F) (some_as : Some_of Aw) (some_u : Some_of V) where
   pub operand_reads : IsReader (unary_read e u (primary_read e a)) (Unary E As U) (Unary F Aw V) (λ x. among operand_more)
@@ -265,7 +265,7 @@ module _ (e : Reads Term) (a : Reads ArgTerm) (u : Reads Term) (E F U V : Langua
 
   pub choice_read_reads : IsReader (choice_read e u (primary_read e a)) (Choice E As U) (Choice F Aw V) (λ x. among expression_more)
   choice_read_reads =
-      both_reads choice_of (chain_read levels (unary_read e u (primary_read e a))) (maybe (is question_sign) (both pair_of (one (is question_sign)) (both pair_of e (both second_of (one (is colon_sign)) e))))
+      both_reads choice_term (chain_read levels (unary_read e u (primary_read e a))) (maybe (is question_sign) (both pair_of (one (is question_sign)) (both pair_of e (both second_of (one (is colon_sign)) e))))
       (Chain levels (Unary E As U)) (Chain levels (Unary F Aw V)) (Maybe (Sides E)) (Maybe (Sides F)) (λ x. among chain_more) (or_first (is question_sign) (λ x. among expression_more)) (λ x. among expression_more)
       (chain_reads levels operand_more (unary_read e u (primary_read e a)) (Unary E As U) (Unary F Aw V) refl levels_one operand_reads (zero_token ∷ [], zero_term, zero_unary F Aw V))
       (maybe_reads (is question_sign) (both pair_of (one (is question_sign)) (both pair_of e (both second_of (one (is colon_sign)) e))) (Sides E) (Sides F) (λ x. among expression_more) sides_reads (sides_open E))
@@ -298,10 +298,10 @@ module _ (E : Language Term) (As : Language (List ArgTerm)) (U : Language Term) 
                   | inr h ↦ elim (either_listed (special ∷ []) (name ∷ open_parenthesis_sign ∷ open_bracket_sign ∷ []) (class_of t.kind) h) [
                     | inl a ↦ ([], SpecialTerm t.place (bytes_of t.kind), inr (inr (inr (inr (inr (inr (inl (t, (a, refl), refl))))))))
                     | inr h ↦ elim (either_listed (name ∷ []) (open_parenthesis_sign ∷ open_bracket_sign ∷ []) (class_of t.kind) h) [
-                      | inl a ↦ ([], named_of t None, inr (inr (inr (inr (inr (inr (inr (inl (t, None, t ∷ [], [], (a, refl), refl, refl, refl)))))))))
+                      | inl a ↦ ([], name_term t None, inr (inr (inr (inr (inr (inr (inr (inl (t, None, t ∷ [], [], (a, refl), refl, refl, refl)))))))))
                       | inr h ↦ elim (either_listed (open_parenthesis_sign ∷ []) (open_bracket_sign ∷ []) (class_of t.kind) h) [
-                        | inl a ↦ (zero_token ∷ close ∷ [], paren_of t zero_term, inr (inr (inr (inr (inr (inr (inr (inr (inl (t, zero_term, t ∷ [], zero_token ∷ close ∷ [], (a, refl), (zero_term, close, zero_token ∷ [], close ∷ [], e, (refl, refl), refl, refl), refl, refl))))))))))
-                        | inr a ↦ (close_bracket ∷ [], bracket_of t None, inr (inr (inr (inr (inr (inr (inr (inr (inr (t, None, t ∷ [], close_bracket ∷ [], (a, refl), (None, close_bracket, [], close_bracket ∷ [], refl, (refl, refl), refl, refl), refl, refl))))))))))
+                        | inl a ↦ (zero_token ∷ close ∷ [], paren_term t zero_term, inr (inr (inr (inr (inr (inr (inr (inr (inl (t, zero_term, t ∷ [], zero_token ∷ close ∷ [], (a, refl), (zero_term, close, zero_token ∷ [], close ∷ [], e, (refl, refl), refl, refl), refl, refl))))))))))
+                        | inr a ↦ (close_bracket ∷ [], bracket_term t None, inr (inr (inr (inr (inr (inr (inr (inr (inr (t, None, t ∷ [], close_bracket ∷ [], (a, refl), (None, close_bracket, [], close_bracket ∷ [], refl, (refl, refl), refl, refl), refl, refl))))))))))
                       ]
                     ]
                   ]
@@ -315,7 +315,7 @@ module _ (E : Language Term) (As : Language (List ArgTerm)) (U : Language Term) 
   begins_unary : (t : Token) → among firsts_of_expression t ≡ true → Begins (Unary E As U) (t ∷ [])
   begins_unary t h =
       elim (either_listed unary_signs firsts_of_primary (class_of t.kind) h) [
-        | inl a ↦ (zero_token ∷ [], unary_of t zero_term, inl (t, zero_term, t ∷ [], zero_token ∷ [], (a, refl), u, refl, refl))
+        | inl a ↦ (zero_token ∷ [], unary_term t zero_term, inl (t, zero_term, t ∷ [], zero_token ∷ [], (a, refl), u, refl, refl))
         | inr a ↦ let b = begins_primary t a in (b.0, b.1, alone_unary E As U b.1 (t ∷ b.0) b.2)
       ]
 
@@ -336,7 +336,7 @@ alone_name E As U t h =
     (k.0, alone_choice E As U k.0 (t ∷ []) (alone_unary E As U k.0 (t ∷ []) k.1))
   where
     primary : (is name t ≡ true) ⊎ (is special t ≡ true) → (x : Term) × Primary E As x (t ∷ [])
-    primary (inl h) = (named_of t None, inr (inr (inr (inr (inr (inr (inr (inl (t, None, t ∷ [], [], (h, refl), refl, refl, refl)))))))))
+    primary (inl h) = (name_term t None, inr (inr (inr (inr (inr (inr (inr (inl (t, None, t ∷ [], [], (h, refl), refl, refl, refl)))))))))
     primary (inr h) = (SpecialTerm t.place (bytes_of t.kind), inr (inr (inr (inr (inr (inr (inl (t, (h, refl), refl))))))))
 
 abbrev pub ExprIn : ℕ → Language Term

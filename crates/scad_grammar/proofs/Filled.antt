@@ -7,7 +7,7 @@ use Rattle.scad_lexer.specs.declared.token.Symbol.TheVariants.{Semicolon}
 use Rattle.scad_ast.specs.Terms.{Term, ArgTerm, PositionalTerm, ParamTerm, BinderTerm, StatementTerm, InstanceStatement, InstanceTerm, CoreTerm, BodyTerm, InstanceBody, EmptyBody, UndefTerm}
 use Rattle.scad_grammar.specs.Classes.{numeral, text, true_word, false_word, undef_word, child_count, special, argument_names, open_parenthesis_sign, close_parenthesis_sign, open_bracket_sign, close_bracket_sign, open_brace_sign, close_brace_sign, comma_sign, semicolon_sign, assign_sign, colon_sign, question_sign, dot_sign, minus_sign, plus_sign, not_sign, times_sign, remainder_sign, hash_sign, caret_sign, name, end, if_word, else_word, for_word, intersection_for_word, module_word, function_word, is, among}
 use Rattle.scad_grammar.specs.Languages.{Language, One, Mapped, Both, BothIf, EitherOf, Nothing, Many, Maybe, Behind, Before, Separated, first_of, second_of, pair_of, cons}
-use Rattle.scad_grammar.specs.Grammar.{InParentheses, Rest, range_of, Arg, Args, Param, Params, Binders, Bracket, Primary, Suffix, Unary, Chain, Choice, whole, outline, ArgsIn, ParamsIn, BindersIn, StatementsIn, InstanceIn, Expr, Operand, Core, Instance, BodyOf, StatementOf, Statement, Body, WholeProgram, Outline, levels, chain_of, link, items, if_of, IsNearest, ends_open, instance_open, core_open, instance_of, loop_of, call_of, block_of}
+use Rattle.scad_grammar.specs.Grammar.{InParentheses, Rest, range_rest, Arg, Args, Param, Params, Binders, Bracket, Primary, Suffix, Unary, Chain, Choice, whole, outline, ArgsIn, ParamsIn, BindersIn, StatementsIn, InstanceIn, Expr, Operand, Core, Instance, BodyOf, StatementOf, Statement, Body, WholeProgram, Outline, levels, chain_term, link, items, if_term, IsNearest, ends_open, instance_open, core_open, instance_term, loop_term, call_term, block_term}
 use Rattle.scad_grammar.specs.Depths.{Depths, deeper, one_depth, mapped_depths, both_depths, both_if_depths, either_depths, nothing_depths, of_many, many_depths, maybe_depths, behind_depths, before_depths, separated_depths, parentheses_depths, arg_depths, args_depths, param_depths, params_depths, binders_depths, bracket_depths, primary_depths, suffix_depths, unary_depths, chain_depths, choice_depths, args_in_depths, params_in_depths, binders_in_depths, expr_depths, operand_depths, core_depths, instance_depths, body_of_depths, statement_of_depths, statements_in_depths, instance_in_depths, statement_depths, body_depths, program_depths}
 use Rattle.scad_grammar.proofs.Fronts.{Filled, filled_joined, filled_deeper}
 use Rattle.scad_grammar.proofs.Operands.{token}
@@ -115,12 +115,12 @@ unfolding deeper
 deeper_fills {A} {d} {o} {O} {W} {D} h = record { at = λ y os z. let x = h.at y os z in (x.0, x.1, x.2, filled_deeper d os x.1 (D.of x.0 x.1 x.2) x.3, x.4) }
 
 module _ (d : ℕ) (Oa Wa : Language (Token × (Term × BodyTerm))) (D : Depths Wa) (h : Fills d (λ p. ends_open p.1.1) Oa Wa D) (Ob Wb : Language BodyTerm) (E : Depths Wb) (k : Fills d ends_open Ob Wb E) where
-  if_fill : (p : Token × (Term × BodyTerm)) (o : Option BodyTerm) (u v : List Token) → Oa p u → Maybe Ob o v → IsNearest p o → (c : CoreTerm) (os : List Token) → c ≡ if_of p o → os ≡ u ++ v
-      → Fill d core_open (BothIf if_of IsNearest Wa (Maybe Wb)) (both_if_depths if_of IsNearest D (maybe_depths E)) c os
+  if_fill : (p : Token × (Term × BodyTerm)) (o : Option BodyTerm) (u v : List Token) → Oa p u → Maybe Ob o v → IsNearest p o → (c : CoreTerm) (os : List Token) → c ≡ if_term p o → os ≡ u ++ v
+      → Fill d core_open (BothIf if_term IsNearest Wa (Maybe Wb)) (both_if_depths if_term IsNearest D (maybe_depths E)) c os
   unfolding both_if_depths maybe_depths
   if_fill p None u v hp ho fit c os is e =
       let x = h.at p u hp in (
-        if_of x.0 None,
+        if_term x.0 None,
         x.1 ++ [],
         (x.0, None, x.1, [], x.2, refl, tt, refl, refl),
         subst (λ os. Filled d os (x.1 ++ []) (D.of x.0 x.1 x.2 ++ [])) (sym e) (filled_joined d u x.1 (D.of x.0 x.1 x.2) v [] [] x.3 (subst (λ v. Filled d v [] []) (sym ho) (refl, refl))),
@@ -129,14 +129,14 @@ module _ (d : ℕ) (Oa Wa : Language (Token × (Term × BodyTerm))) (D : Depths 
   if_fill p (Some other) u v hp ho fit c os is e =
       let x = h.at p u hp in
       let y = k.at other v ho in (
-        if_of x.0 (Some y.0),
+        if_term x.0 (Some y.0),
         x.1 ++ y.1,
         (x.0, Some y.0, x.1, y.1, x.2, y.2, x.4 fit, refl, refl),
         subst (λ os. Filled d os (x.1 ++ y.1) (D.of x.0 x.1 x.2 ++ E.of y.0 y.1 y.2)) (sym e) (filled_joined d u x.1 (D.of x.0 x.1 x.2) v y.1 (E.of y.0 y.1 y.2) x.3 y.3),
         λ o. y.4 (ap core_open (sym is) ∙ o),
       )
 
-  if_fills : Fills d core_open (BothIf if_of IsNearest Oa (Maybe Ob)) (BothIf if_of IsNearest Wa (Maybe Wb)) (both_if_depths if_of IsNearest D (maybe_depths E))
+  if_fills : Fills d core_open (BothIf if_term IsNearest Oa (Maybe Ob)) (BothIf if_term IsNearest Wa (Maybe Wb)) (both_if_depths if_term IsNearest D (maybe_depths E))
   if_fills = record { at = λ c os z. if_fill z.0 z.1 z.2 z.3 z.4 z.5 z.6 c os z.7 z.8 }
 
 behind_fills : {A : Type 0} {d : ℕ} (c : ℕ) {o : A → Bool} {O W : Language A} {D : Depths W} → Fills (suc d) o O W D → Fills (suc d) o (Behind (is c) O) (Behind (is c) W) (behind_depths (is c) D)
@@ -159,13 +159,13 @@ nothing_same a = nothing_fills a (Nothing a) (nothing_depths a) (refl, refl) ref
 abbrev Inner : Language Term → Language (Option (Term × Rest))
 Inner E =
     Maybe (Both pair_of E
-    (EitherOf (Behind (is colon_sign) (Both range_of E (Maybe (Behind (is colon_sign) E))))
+    (EitherOf (Behind (is colon_sign) (Both range_rest E (Maybe (Behind (is colon_sign) E))))
     (Mapped items (Both first_of (Many (Behind (is comma_sign) E)) (Maybe (One (is comma_sign)))))))
 
 abbrev inner_depths : {E : Language Term} → Depths E → Depths (Inner E)
 inner_depths e =
     maybe_depths (both_depths pair_of e
-    (either_depths (behind_depths (is colon_sign) (both_depths range_of e (maybe_depths (behind_depths (is colon_sign) e))))
+    (either_depths (behind_depths (is colon_sign) (both_depths range_rest e (maybe_depths (behind_depths (is colon_sign) e))))
     (mapped_depths items (both_depths first_of (many_depths (behind_depths (is comma_sign) e)) (maybe_depths (one_depth (is comma_sign)))))))
 
 module _ (d : ℕ) (O W : Language Term) (D : Depths W) (e : Fills (suc d) closed O W D) where
@@ -187,7 +187,7 @@ module _ (d : ℕ) (O W : Language Term) (D : Depths W) (e : Fills (suc d) close
   inner_fills : Fills (suc d) closed (Inner O) (Inner W) (inner_depths D)
   inner_fills =
       maybe_fills (plain_fills pair_of e
-      (either_fills (behind_fills colon_sign (plain_fills range_of e (maybe_fills (behind_fills colon_sign e))))
+      (either_fills (behind_fills colon_sign (plain_fills range_rest e (maybe_fills (behind_fills colon_sign e))))
       (plain_mapped items (plain_fills first_of (many_fills (behind_fills comma_sign e)) (maybe_fills (is_fills comma_sign))))))
 
 -- a bracket that holds a gap
@@ -214,7 +214,7 @@ module _ (d : ℕ) (O W : Language Term) (D : Depths W) (e : Fills d closed O W 
 
 chain_fills : {d : ℕ} (below : List (List ℕ)) {O W : Language Term} {D : Depths W} → Fills (suc d) closed O W D → Fills (suc d) closed (Chain below O) (Chain below W) (chain_depths below D)
 chain_fills [] h = h
-chain_fills (ops ∷ below) h = plain_fills chain_of (chain_fills below h) (many_fills (plain_fills link (one_fills (among ops)) (chain_fills below h)))
+chain_fills (ops ∷ below) h = plain_fills chain_term (chain_fills below h) (many_fills (plain_fills link (one_fills (among ops)) (chain_fills below h)))
 
 module _ (d : ℕ) (O W : Language Term) (D : Depths W) (e : Fills d closed O W D) (inner : Fills d closed (Inner O) (Inner W) (inner_depths D)) (As Bs : Language (List ArgTerm)) (DA : Depths Bs) (a : Fills d closed As Bs DA) (U V : Language Term) (DU : Depths V) (u : Fills d closed U V DU) where
   primary_fills : Fills (suc d) closed (Primary O As) (Primary W Bs) (primary_depths D DA)
@@ -296,17 +296,17 @@ module _ (d : ℕ) (E E1 : Language Term) (DE : Depths E1) (e : Fills d closed E
       (second_fills pair_of (λ p. ends_open p.1.1) (λ t p. refl) (is_fills if_word) (second_fills pair_of (λ p. ends_open p.1) (λ x y. refl) (parentheses_fills e) (deeper_fills b)))
       _ _ _ (behind_fills else_word (deeper_fills b)))
       (either_fills
-      (second_fills loop_of core_open loop_open (one_fills (among (for_word ∷ intersection_for_word ∷ []))) (second_fills pair_of (λ p. ends_open p.1) (λ x y. refl) (parentheses_fills n) (deeper_fills b)))
-      (second_fills call_of core_open (λ t p. refl) (is_fills name) (second_fills pair_of (λ p. ends_open p.1) (λ x y. refl) (parentheses_fills a) (deeper_fills b))))
+      (second_fills loop_term core_open loop_open (one_fills (among (for_word ∷ intersection_for_word ∷ []))) (second_fills pair_of (λ p. ends_open p.1) (λ x y. refl) (parentheses_fills n) (deeper_fills b)))
+      (second_fills call_term core_open (λ t p. refl) (is_fills name) (second_fills pair_of (λ p. ends_open p.1) (λ x y. refl) (parentheses_fills a) (deeper_fills b))))
 
   instance_fills : Fills (suc d) instance_open (Instance E As Ns B) (Instance E1 A1 N1 B1) (instance_depths DE DA DN DB)
-  instance_fills = second_fills instance_of instance_open same_open (many_fills (plain_mapped _ (one_fills (among (times_sign ∷ remainder_sign ∷ hash_sign ∷ not_sign ∷ []))))) core_fills
+  instance_fills = second_fills instance_term instance_open same_open (many_fills (plain_mapped _ (one_fills (among (times_sign ∷ remainder_sign ∷ hash_sign ∷ not_sign ∷ []))))) core_fills
 
 module _ (d : ℕ) (I I1 : Language InstanceTerm) (DI : Depths I1) (i : Fills (suc d) instance_open I I1 DI) (Ss S1 : Language (List StatementTerm)) (DS : Depths S1) (s : Fills d closed Ss S1 DS) where
   body_of_fills : Fills (suc d) ends_open (BodyOf I Ss) (BodyOf I1 S1) (body_of_depths DI DS)
   body_of_fills =
       either_fills (mapped_fills _ ends_open (λ x y p e. refl) (is_fills semicolon_sign))
-      (either_fills (both_fills block_of ends_open (λ x y z w p q e. refl) (is_fills open_brace_sign) (before_fills close_brace_sign (deeper_fills s)))
+      (either_fills (both_fills block_term ends_open (λ x y z w p q e. refl) (is_fills open_brace_sign) (before_fills close_brace_sign (deeper_fills s)))
       (mapped_fills InstanceBody ends_open (λ x y p e. p e) i))
 
   statement_of_fills : (X X1 : Language Term) (DX : Depths X1) → Fills (suc d) closed X X1 DX → (Ps P1 : Language (List ParamTerm)) (DP : Depths P1) → Fills d closed Ps P1 DP → (B B1 : Language BodyTerm) (DB : Depths B1) → Fills d ends_open B B1 DB

@@ -9,7 +9,7 @@ use Rattle.scad_grammar.specs.declared.SyntaxFault.TheVariants.{Expected, Nested
 use Rattle.scad_grammar.specs.Classes.{numeral, end, among, is, class_of}
 use Rattle.scad_grammar.specs.Languages.{Language, first_of}
 use Rattle.scad_grammar.specs.Reading.{Read, after, many}
-use Rattle.scad_grammar.specs.Faults.{Reads, one, fault_of, left_out, left_out_of_expressions}
+use Rattle.scad_grammar.specs.Faults.{TokenReader, one, fault_of, left_out_classes, left_out_of_expressions}
 use Rattle.scad_grammar.specs.Grammar.{WholeProgram, Outline}
 use Rattle.scad_grammar.specs.StatementReads.{firsts_of_statement, statement_read, program_read}
 use Rattle.scad_grammar.specs.FirstFault.{BeginsSome, BeginsWithin, IsFault, IsFirstFault}
@@ -54,7 +54,7 @@ front_of (t ∷ u) v (y ∷ s) r e l =
     same_head e k = (k.0, ap (λ h. h ∷ s) (sym e) ∙ ap (λ l. t ∷ l) k.1)
 
 -- what a reader has gone beyond begins something
-module _ (r : Reads (List StatementTerm)) (L W : Language (List StatementTerm)) (i : IsReader r L W (λ x t. false)) where
+module _ (r : TokenReader (List StatementTerm)) (L W : Language (List StatementTerm)) (i : IsReader r L W (λ x t. false)) where
   reaches : (ts u v : List Token) → ts ≡ u ++ v → left (r ts) ≤ length v → Begins W u
   reaches ts u v e l = go (r ts) l (i.told ts)
     where
@@ -101,7 +101,7 @@ last_read : (xs : List StatementTerm) (us : List Token) → EndsOnce us → Ends
 last_read xs [] n = elim n [ ]
 last_read xs (t ∷ us) n = go (is end t) refl us n
   where
-    go : (b : Bool) → is end t ≡ b → (us : List Token) → EndsOnce (t ∷ us) → Ends (after (cond b (Ok (t, us)) (Err (fault_of left_out (Some t), t ∷ us))) (λ b vs. Ok (first_of xs b, vs)))
+    go : (b : Bool) → is end t ≡ b → (us : List Token) → EndsOnce (t ∷ us) → Ends (after (cond b (Ok (t, us)) (Err (fault_of left_out_classes (Some t), t ∷ us))) (λ b vs. Ok (first_of xs b, vs)))
     go true e [] n = refl
     go true e (u ∷ us) n = absurd (let f : true ≡ false = sym e ∙ n.0 in cc)
     go false e us n = (inr (inl refl), n)
@@ -160,8 +160,8 @@ module _ (d : ℕ) (s : List Token) (t : Token) (more : List Token) (fault : Syn
   longer : (h : Token) (u : List Token) → h ∷ (u ++ t ∷ more) ≡ t ∷ more → ⊥
   longer h u e = absurd (omega (arith, ap length e, length-append u (t ∷ more)))
 
-  word_fault : fault_of left_out (Some t) ≡ Expected
-  word_fault = ap (λ b. cond b NotInProfile Expected) (classes_apart words left_out refl (class_of t.kind) w)
+  word_fault : fault_of left_out_classes (Some t) ≡ Expected
+  word_fault = ap (λ b. cond b NotInProfile Expected) (classes_apart words left_out_classes refl (class_of t.kind) w)
 
   word_left_out : fault_of left_out_of_expressions (Some t) ≡ NotInProfile
   word_left_out = ap (λ b. cond b NotInProfile Expected) (classes_within words left_out_of_expressions refl (class_of t.kind) w)
@@ -172,60 +172,60 @@ module _ (d : ℕ) (s : List Token) (t : Token) (more : List Token) (fault : Syn
       go : (q : ReadProgram) → q ≡ Err (fault, t ∷ more) → Locked t n more q (program_read d (s ++ n ∷ more)) → Either n
       go q f (before u x a b) = elim (no_both x (u ++ t ∷ more) fault (t ∷ more) q a f) [ ]
       go q f (earlier k h u a b) = elim (longer h u (same_place k fault (h ∷ (u ++ t ∷ more)) (t ∷ more) q a f)) [ ]
-      go q f (everywhere a b) = inl (same_kind fault (fault_of left_out (Some t)) (t ∷ more) (t ∷ more) q f a ∙ word_fault, dead_some d (s ++ n ∷ more) Expected n more s (λ h. cc) b refl)
+      go q f (everywhere a b) = inl (same_kind fault (fault_of left_out_classes (Some t)) (t ∷ more) (t ∷ more) q f a ∙ word_fault, dead_some d (s ++ n ∷ more) Expected n more s (λ h. cc) b refl)
       go q f (of_expressions a b) = inr (same_kind fault (fault_of left_out_of_expressions (Some t)) (t ∷ more) (t ∷ more) q f a ∙ word_left_out, numeral_goes_on d s n more b)
       go q f (beyond (inl l)) = absurd (let less = subst (λ q. left q ≤ length more) f l in omega (arith, less))
       go q f (beyond (inr a)) = absurd (not_deep (same_kind fault Nested (t ∷ more) (t ∷ more) q f a))
 
 -- of what kind it is
 module _ (d : ℕ) (ts s : List Token) (t : Token) (more : List Token) (is_at : ts ≡ s ++ t ∷ more) where
-  listed_out : (b : Bool) → among left_out_of_expressions t ≡ b → among left_out t ≡ false → (k : SyntaxFault) → (k ≡ fault_of left_out (Some t)) ⊎ (k ≡ fault_of left_out_of_expressions (Some t)) → program_read d ts ≡ Err (k, t ∷ more) → k ≢ Nested → IsFault d k s t
+  listed_out : (b : Bool) → among left_out_of_expressions t ≡ b → among left_out_classes t ≡ false → (k : SyntaxFault) → (k ≡ fault_of left_out_classes (Some t)) ⊎ (k ≡ fault_of left_out_of_expressions (Some t)) → program_read d ts ≡ Err (k, t ∷ more) → k ≢ Nested → IsFault d k s t
   listed_out false b a k h e n = plain k h e
     where
-      expected : (k : SyntaxFault) → (k ≡ fault_of left_out (Some t)) ⊎ (k ≡ fault_of left_out_of_expressions (Some t)) → k ≡ Expected
+      expected : (k : SyntaxFault) → (k ≡ fault_of left_out_classes (Some t)) ⊎ (k ≡ fault_of left_out_of_expressions (Some t)) → k ≡ Expected
       expected k (inl h) = h ∙ ap (λ b. cond b NotInProfile Expected) a
       expected k (inr h) = h ∙ ap (λ b. cond b NotInProfile Expected) b
 
-      plain : (k : SyntaxFault) → (k ≡ fault_of left_out (Some t)) ⊎ (k ≡ fault_of left_out_of_expressions (Some t)) → program_read d ts ≡ Err (k, t ∷ more) → IsFault d k s t
+      plain : (k : SyntaxFault) → (k ≡ fault_of left_out_classes (Some t)) ⊎ (k ≡ fault_of left_out_of_expressions (Some t)) → program_read d ts ≡ Err (k, t ∷ more) → IsFault d k s t
       plain k h e =
           let is_expected = expected k h in
           subst (λ k. IsFault d k s t) (sym is_expected)
           (dead_some d ts Expected t more s (λ h. cc) (e ∙ ap (λ k. Err (k, t ∷ more)) is_expected) is_at, λ l. elim l [ inl x ↦ absurd (let f : true ≡ false = sym x ∙ a in cc) | inr x ↦ absurd (let f : true ≡ false = sym x.0 ∙ b in cc) ])
-  listed_out true b a k h e n = go (either_listed words left_out (class_of t.kind) b)
+  listed_out true b a k h e n = go (either_listed words left_out_classes (class_of t.kind) b)
     where
-      go : (among words t ≡ true) ⊎ (among left_out t ≡ true) → IsFault d k s t
+      go : (among words t ≡ true) ⊎ (among left_out_classes t ≡ true) → IsFault d k s t
       go (inr x) = absurd (let f : true ≡ false = sym x ∙ a in cc)
       go (inl w) = kinds k h e n (by_numeral d s t more k (ap (program_read d) (sym is_at) ∙ e) n w)
         where
-          kinds : (k : SyntaxFault) → (k ≡ fault_of left_out (Some t)) ⊎ (k ≡ fault_of left_out_of_expressions (Some t)) → program_read d ts ≡ Err (k, t ∷ more) → k ≢ Nested → ((m : Token) → is numeral m ≡ true → ((k ≡ Expected) × (BeginsSome (s ++ m ∷ []) → ⊥)) ⊎ ((k ≡ NotInProfile) × BeginsSome (s ++ m ∷ []))) → IsFault d k s t
+          kinds : (k : SyntaxFault) → (k ≡ fault_of left_out_classes (Some t)) ⊎ (k ≡ fault_of left_out_of_expressions (Some t)) → program_read d ts ≡ Err (k, t ∷ more) → k ≢ Nested → ((m : Token) → is numeral m ≡ true → ((k ≡ Expected) × (BeginsSome (s ++ m ∷ []) → ⊥)) ⊎ ((k ≡ NotInProfile) × BeginsSome (s ++ m ∷ []))) → IsFault d k s t
           kinds Nested h e n f = absurd (n refl)
           kinds Expected h e n f =
               (dead_some d ts Expected t more s n e is_at, λ l. elim l [ inl x ↦ absurd (let f : true ≡ false = sym x ∙ a in cc) | inr x ↦ elim (f x.1.0 x.1.1) [ inl y ↦ y.1 x.1.2 | inr y ↦ absurd (let z = y.0 in cc) ] ])
           kinds NotInProfile h e n f =
               (dead_some d ts NotInProfile t more s n e is_at, elim (f zero_token refl) [ inl y ↦ absurd (let z = y.0 in cc) | inr y ↦ inr (b, (zero_token, refl, y.1)) ])
 
-  always_out : among left_out t ≡ true → (k : SyntaxFault) → (k ≡ fault_of left_out (Some t)) ⊎ (k ≡ fault_of left_out_of_expressions (Some t)) → program_read d ts ≡ Err (k, t ∷ more) → IsFault d k s t
+  always_out : among left_out_classes t ≡ true → (k : SyntaxFault) → (k ≡ fault_of left_out_classes (Some t)) ⊎ (k ≡ fault_of left_out_of_expressions (Some t)) → program_read d ts ≡ Err (k, t ∷ more) → IsFault d k s t
   always_out a k h e =
       let is_out = out h in
       subst (λ k. IsFault d k s t) (sym is_out) (dead_some d ts NotInProfile t more s (λ h. cc) (e ∙ ap (λ k. Err (k, t ∷ more)) is_out) is_at, inl a)
     where
-      out : (k ≡ fault_of left_out (Some t)) ⊎ (k ≡ fault_of left_out_of_expressions (Some t)) → k ≡ NotInProfile
+      out : (k ≡ fault_of left_out_classes (Some t)) ⊎ (k ≡ fault_of left_out_of_expressions (Some t)) → k ≡ NotInProfile
       out (inl h) = h ∙ ap (λ b. cond b NotInProfile Expected) a
-      out (inr h) = h ∙ ap (λ b. cond b NotInProfile Expected) (classes_within left_out left_out_of_expressions refl (class_of t.kind) a)
+      out (inr h) = h ∙ ap (λ b. cond b NotInProfile Expected) (classes_within left_out_classes left_out_of_expressions refl (class_of t.kind) a)
 
   -- where the rest of the tokens begins something deeper, as readers tell
   is_fault : (k : SyntaxFault) → program_read d ts ≡ Err (k, t ∷ more) → OfKind (k, t ∷ more) → Begins (WholeProgram (suc (suc d))) (s ++ seen k (t ∷ more)) → IsFault d k s t
   is_fault Nested e h b = ((suc (suc d), b.1, b.0, b.2), too_deep d ts s t more e is_at)
   is_fault Expected e (inl h) b = absurd (cc)
-  is_fault Expected e (inr h) b = by_list (among left_out t) refl
+  is_fault Expected e (inr h) b = by_list (among left_out_classes t) refl
     where
-      by_list : (a : Bool) → among left_out t ≡ a → IsFault d Expected s t
+      by_list : (a : Bool) → among left_out_classes t ≡ a → IsFault d Expected s t
       by_list true a = always_out a Expected h e
       by_list false a = listed_out (among left_out_of_expressions t) refl a Expected h e (λ x. cc)
   is_fault NotInProfile e (inl h) b = absurd (cc)
-  is_fault NotInProfile e (inr h) b = by_list (among left_out t) refl
+  is_fault NotInProfile e (inr h) b = by_list (among left_out_classes t) refl
     where
-      by_list : (a : Bool) → among left_out t ≡ a → IsFault d NotInProfile s t
+      by_list : (a : Bool) → among left_out_classes t ≡ a → IsFault d NotInProfile s t
       by_list true a = always_out a NotInProfile h e
       by_list false a = listed_out (among left_out_of_expressions t) refl a NotInProfile h e (λ x. cc)
 

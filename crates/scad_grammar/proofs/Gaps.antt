@@ -4,10 +4,10 @@ use Rattle.scad_lexer.specs.declared.token.Token.{Token}
 use Rattle.scad_ast.specs.Terms.{Term, ArgTerm, BinderTerm, EmptyBody, UndefTerm}
 use Rattle.scad_grammar.specs.declared.SyntaxFault.{SyntaxFault}
 use Rattle.scad_grammar.specs.declared.SyntaxFault.TheVariants.{Expected, Nested, NotInProfile}
-use Rattle.scad_grammar.specs.Classes.{numeral, caret_sign, name, end, assign_sign, comma_sign, open_bracket_sign, listed, among, is, class_of}
+use Rattle.scad_grammar.specs.Classes.{numeral, caret_sign, name, end, assign_sign, comma_sign, open_bracket_sign, is_listed, among, is, class_of}
 use Rattle.scad_grammar.specs.Languages.{first_of, cons}
 use Rattle.scad_grammar.specs.Reading.{Read, after, starts, one_of, mapped, nothing, both, choice, ahead, with_front, many_times, many, trailing_times, trailing}
-use Rattle.scad_grammar.specs.Faults.{Reads, one, first, fault_of, left_out, left_out_of_expressions}
+use Rattle.scad_grammar.specs.Faults.{TokenReader, one, first, fault_of, left_out_classes, left_out_of_expressions}
 use Rattle.scad_grammar.specs.Reads.{head_of, nested, firsts_of_expression, primary_read, arg_in, expr_read, operand_read}
 use Rattle.scad_grammar.specs.StatementReads.{firsts_of_body, firsts_of_statement, binder_read, param_in, binder_in, binders_read, statement_read, body_read, program_read}
 use Rattle.scad_grammar.proofs.Tests.{apart, classes_apart, classes_within}
@@ -23,7 +23,7 @@ pub data Cut {A : Type 0} (q p : Read Token SyntaxFault A) : Type 0 where
   -- a gap is refused, and the outline goes on
   gapped : (at : List Token) → q ≡ Err (NotInProfile, at) → left p ≤ length at → Cut q p
 
-pub record Cuts {A : Type 0} (r q : Reads A) : Type 0 where
+pub record Cuts {A : Type 0} (r q : TokenReader A) : Type 0 where
   pub at : (ts : List Token) → Cut (r ts) (q ts)
   pub shrinks : Shrinks q
 
@@ -40,33 +40,33 @@ cond_cut : {A : Type 0} (b : Bool) (q p r s : Read Token SyntaxFault A) → Cut 
 cond_cut true q p r s h k = h
 cond_cut false q p r s h k = k
 
-self_cut : {A : Type 0} (r : Reads A) → Shrinks r → Cuts r r
+self_cut : {A : Type 0} (r : TokenReader A) → Shrinks r → Cuts r r
 self_cut r h = record { at = λ ts. equal refl; shrinks = h }
 
-mapped_cut : {A B : Type 0} (f : A → B) (r q : Reads A) → Cuts r q → Cuts (mapped f r) (mapped f q)
+mapped_cut : {A B : Type 0} (f : A → B) (r q : TokenReader A) → Cuts r q → Cuts (mapped f r) (mapped f q)
 mapped_cut f r q h = record {
   at = λ ts. after_cut (r ts) (q ts) (λ a us. Ok (f a, us)) (λ a us. Ok (f a, us)) (h.at ts) (λ a us. equal refl) (λ a us. omega arith);
   shrinks = mapped_shrinks f q h.shrinks;
 }
 
-both_cut : {A B C : Type 0} (f : A → B → C) (r q : Reads A) (s p : Reads B) → Cuts r q → Cuts s p → Cuts (both f r s) (both f q p)
+both_cut : {A B C : Type 0} (f : A → B → C) (r q : TokenReader A) (s p : TokenReader B) → Cuts r q → Cuts s p → Cuts (both f r s) (both f q p)
 both_cut f r q s p h k = record {
   at = λ ts. after_cut (r ts) (q ts) (λ a us. after (s us) (λ b vs. Ok (f a b, vs))) (λ a us. after (p us) (λ b vs. Ok (f a b, vs))) (h.at ts)
       (λ a us. after_cut (s us) (p us) (λ b vs. Ok (f a b, vs)) (λ b vs. Ok (f a b, vs)) (k.at us) (λ b vs. equal refl) (λ b vs. omega arith)) (λ a us. (mapped_shrinks (f a) p k.shrinks).at us);
   shrinks = both_shrinks f q p h.shrinks k.shrinks;
 }
 
-choice_cut : {A : Type 0} (test : Token → Bool) (r q s p : Reads A) → Cuts r q → Cuts s p → Cuts (choice test r s) (choice test q p)
+choice_cut : {A : Type 0} (test : Token → Bool) (r q s p : TokenReader A) → Cuts r q → Cuts s p → Cuts (choice test r s) (choice test q p)
 choice_cut test r q s p h k = record { at = λ ts. cond_cut (starts test ts) (r ts) (q ts) (s ts) (p ts) (h.at ts) (k.at ts); shrinks = choice_shrinks test q p h.shrinks k.shrinks }
 
-ahead_at : {A C : Type 0} (f : Token → Token → A → C) (a b : Token → Bool) (r q : Reads A) (s p : Reads C) → Cuts r q → Cuts s p → (ts : List Token) → Cut (ahead f a b r s ts) (ahead f a b q p ts)
+ahead_at : {A C : Type 0} (f : Token → Token → A → C) (a b : Token → Bool) (r q : TokenReader A) (s p : TokenReader C) → Cuts r q → Cuts s p → (ts : List Token) → Cut (ahead f a b r s ts) (ahead f a b q p ts)
 ahead_at f a b r q s p h k [] = k.at []
 ahead_at f a b r q s p h k (t ∷ []) = k.at (t ∷ [])
 ahead_at f a b r q s p h k (t ∷ u ∷ ts) =
     cond_cut (a t && b u) (after (r ts) (λ x us. Ok (f t u x, us))) (after (q ts) (λ x us. Ok (f t u x, us))) (s (t ∷ u ∷ ts)) (p (t ∷ u ∷ ts))
     (after_cut (r ts) (q ts) (λ x us. Ok (f t u x, us)) (λ x us. Ok (f t u x, us)) (h.at ts) (λ x us. equal refl) (λ x us. omega arith)) (k.at (t ∷ u ∷ ts))
 
-ahead_cut : {A C : Type 0} (f : Token → Token → A → C) (cs : List ℕ) (r q : Reads A) (s p : Reads C) → Cuts r q → Cuts s p → Cuts (ahead f (among cs) (is assign_sign) r s) (ahead f (among cs) (is assign_sign) q p)
+ahead_cut : {A C : Type 0} (f : Token → Token → A → C) (cs : List ℕ) (r q : TokenReader A) (s p : TokenReader C) → Cuts r q → Cuts s p → Cuts (ahead f (among cs) (is assign_sign) r s) (ahead f (among cs) (is assign_sign) q p)
 ahead_cut f cs r q s p h k = record { at = ahead_at f (among cs) (is assign_sign) r q s p h k; shrinks = ahead_shrinks f (among cs) (is assign_sign) q p h.shrinks k.shrinks }
 
 front_cut : {A : Type 0} (x : A) (q p : Read Token SyntaxFault (List A)) → Cut q p → Cut (with_front x q) (with_front x p)
@@ -74,7 +74,7 @@ front_cut x q p (equal e) = equal (ap (with_front x) e)
 front_cut x q p (refused j k at a b) = refused j k at (ap (with_front x) a) (ap (with_front x) b)
 front_cut x q p (gapped at a b) = gapped at (ap (with_front x) a) (subst (λ l. length l ≤ length at) (sym (front_rest x p)) b)
 
-times_at : {A : Type 0} (n : ℕ) (test : Token → Bool) (r q : Reads A) → Cuts r q → (ts : List Token) → Cut (many_times n test r ts) (many_times n test q ts)
+times_at : {A : Type 0} (n : ℕ) (test : Token → Bool) (r q : TokenReader A) → Cuts r q → (ts : List Token) → Cut (many_times n test r ts) (many_times n test q ts)
 unfolding many_times
 times_at zero test r q h ts = equal refl
 times_at (suc n) test r q h ts =
@@ -83,11 +83,11 @@ times_at (suc n) test r q h ts =
     (λ x us. subst (λ l. length l ≤ length us) (sym (front_rest x (many_times n test q us))) (times_left n test q h.shrinks us)))
     (equal refl)
 
-many_cut : {A : Type 0} (test : Token → Bool) (r q : Reads A) → Cuts r q → Cuts (many test r) (many test q)
+many_cut : {A : Type 0} (test : Token → Bool) (r q : TokenReader A) → Cuts r q → Cuts (many test r) (many test q)
 unfolding many
 many_cut test r q h = record { at = λ ts. times_at (length ts) test r q h ts; shrinks = many_shrinks test q h.shrinks }
 
-trailing_at : {A : Type 0} (n : ℕ) (mark go : Token → Bool) (r q : Reads A) → Cuts r q → (ts : List Token) → Cut (trailing_times n mark go r ts) (trailing_times n mark go q ts)
+trailing_at : {A : Type 0} (n : ℕ) (mark go : Token → Bool) (r q : TokenReader A) → Cuts r q → (ts : List Token) → Cut (trailing_times n mark go r ts) (trailing_times n mark go q ts)
 unfolding trailing_times
 trailing_at zero mark go r q h ts = equal refl
 trailing_at (suc n) mark go r q h [] = equal refl
@@ -98,17 +98,17 @@ trailing_at (suc n) mark go r q h (t ∷ ts) =
     (λ x us. subst (λ l. length l ≤ length us) (sym (front_rest x (trailing_times n mark go q us))) (trailing_left n mark go q h.shrinks us)))
     (equal refl)) (equal refl)
 
-trailing_cut : {A : Type 0} (mark go : Token → Bool) (r q : Reads A) → Cuts r q → Cuts (trailing mark go r) (trailing mark go q)
+trailing_cut : {A : Type 0} (mark go : Token → Bool) (r q : TokenReader A) → Cuts r q → Cuts (trailing mark go r) (trailing mark go q)
 unfolding trailing
 trailing_cut mark go r q h = record { at = λ ts. trailing_at (length ts) mark go r q h ts; shrinks = trailing_shrinks mark go q h.shrinks }
 
-abbrev Law : (A : Type 0) → Reads A → Reads A → Type 0
+abbrev Law : (A : Type 0) → TokenReader A → TokenReader A → Type 0
 Law A r q = Cuts r q
 
 cutting : Keeps Law Free
 cutting = record {
   nothing_keeps = λ a. self_cut (nothing a) (nothing_shrinks a);
-  one_keeps = λ cs e. self_cut (one (among cs)) (one_shrinks (among cs) (fault_of left_out));
+  one_keeps = λ cs e. self_cut (one (among cs)) (one_shrinks (among cs) (fault_of left_out_classes));
   mapped_keeps = mapped_cut;
   both_keeps = both_cut;
   choice_keeps = λ test r q s p e. choice_cut test r q s p;
@@ -137,7 +137,7 @@ nested_refused {A} begins classes = record { at = at; shrinks = refusal_shrinks 
 gap_shrinks : {A : Type 0} (f : Token → A) (classes : List ℕ) → Shrinks (gap f classes)
 gap_shrinks f classes = mapped_shrinks f (one_of (is caret_sign) (fault_of classes)) (one_shrinks (is caret_sign) (fault_of classes))
 
-module _ {A : Type 0} (begins classes : List ℕ) (f : Token → A) (r : Reads A) (is_r : (ts : List Token) → r ts ≡ cond (starts (among begins) ts) (Err (Nested, ts)) (refusal classes ts)) (not_begun : apart (caret_sign ∷ []) begins ≡ true) (out : listed classes caret_sign ≡ true) where
+module _ {A : Type 0} (begins classes : List ℕ) (f : Token → A) (r : TokenReader A) (is_r : (ts : List Token) → r ts ≡ cond (starts (among begins) ts) (Err (Nested, ts)) (refusal classes ts)) (not_begun : apart (caret_sign ∷ []) begins ≡ true) (out : is_listed classes caret_sign ≡ true) where
   gap_read : (t : Token) (ts : List Token) → is caret_sign t ≡ true → r (t ∷ ts) ≡ Err (NotInProfile, t ∷ ts)
   gap_read t ts e =
       is_r (t ∷ ts) ∙ ap (λ b. cond b (Err (Nested, t ∷ ts)) (Err (fault_of classes (Some t), t ∷ ts))) (classes_apart (caret_sign ∷ []) begins not_begun (class_of t.kind) e)
@@ -164,16 +164,16 @@ module _ {A : Type 0} (begins classes : List ℕ) (f : Token → A) (r : Reads A
   gap_cut : Cuts r (gap f classes)
   gap_cut = record { at = at_gap; shrinks = gap_shrinks f classes }
 
-no_binder : (ts : List Token) → binders_read (nested (name ∷ []) left_out) ts ≡ cond (starts (among (name ∷ [])) ts) (Err (Nested, ts)) (refusal left_out ts)
+no_binder : (ts : List Token) → binders_read (nested (name ∷ []) left_out_classes) ts ≡ cond (starts (among (name ∷ [])) ts) (Err (Nested, ts)) (refusal left_out_classes ts)
 no_binder ts = go (starts (among (name ∷ [])) ts)
   where
-    go : (b : Bool) → after (cond {A = Read Token SyntaxFault BinderTerm} b (Err (Nested, ts)) (Err (fault_of left_out (head_of ts), ts))) (λ x us. after (trailing (is comma_sign) (is name) (nested (name ∷ []) left_out) us) (λ xs vs. Ok (cons x xs, vs))) ≡ cond b (Err (Nested, ts)) (Err (fault_of left_out (head_of ts), ts))
+    go : (b : Bool) → after (cond {A = Read Token SyntaxFault BinderTerm} b (Err (Nested, ts)) (Err (fault_of left_out_classes (head_of ts), ts))) (λ x us. after (trailing (is comma_sign) (is name) (nested (name ∷ []) left_out_classes) us) (λ xs vs. Ok (cons x xs, vs))) ≡ cond b (Err (Nested, ts)) (Err (fault_of left_out_classes (head_of ts), ts))
     go true = refl
     go false = refl
 
-primary_cut : (e f : Reads Term) (a b : Reads ArgTerm) → Cuts e f → Cuts a b → Cuts (primary_read e a) (primary_read f b)
+primary_cut : (e f : TokenReader Term) (a b : TokenReader ArgTerm) → Cuts e f → Cuts a b → Cuts (primary_read e a) (primary_read f b)
 primary_cut =
-    primary_keeps Law Free cutting (λ c f h. self_cut (mapped f (one (is c))) (mapped_shrinks f (one (is c)) (one_shrinks (is c) (fault_of left_out))))
+    primary_keeps Law Free cutting (λ c f h. self_cut (mapped f (one (is c))) (mapped_shrinks f (one (is c)) (one_shrinks (is c) (fault_of left_out_classes))))
     (self_cut (first (is open_bracket_sign)) (one_shrinks (is open_bracket_sign) (fault_of left_out_of_expressions))) (λ r q s p. choice_cut (is numeral) r q s p)
 
 expressions : (d : ℕ) → Cuts (expr_read d) (open_expr d) × Cuts (operand_read d) (open_operand d) × Cuts (arg_in d (expr_read d)) (open_arg d (open_expr d))
@@ -190,16 +190,16 @@ expressions (suc d) =
     (one, unary_keeps Law Free cutting (expr_read d) (open_expr d) k.0 (operand_read d) (open_operand d) _ _ k.1 p, arg_keeps Law Free cutting (expr_read (suc d)) (open_expr (suc d)) one)
 
 params : (d : ℕ) → Cuts (param_in d (expr_read d)) (open_param d (open_expr d))
-params zero = nested_refused (name ∷ []) left_out
+params zero = nested_refused (name ∷ []) left_out_classes
 params (suc d) = param_keeps Law Free cutting (expr_read (suc d)) (open_expr (suc d)) (expressions (suc d)).0
 
 binders : (d : ℕ) → Cuts (binders_read (binder_in d (expr_read d))) (open_binders d (open_expr d))
-binders zero = gap_cut (name ∷ []) left_out (λ t. []) (binders_read (nested (name ∷ []) left_out)) no_binder refl refl
+binders zero = gap_cut (name ∷ []) left_out_classes (λ t. []) (binders_read (nested (name ∷ []) left_out_classes)) no_binder refl refl
 binders (suc d) = binders_keep Law Free cutting (binder_in (suc d) (expr_read (suc d))) (binder_read (open_expr (suc d))) (binder_keeps Law Free cutting (expr_read (suc d)) (open_expr (suc d)) (expressions (suc d)).0)
 
 statements : (d : ℕ) → Cuts (statement_read d) (open_statement d) × Cuts (body_read d) (open_body d)
 unfolding statement_read body_read open_statement open_body
-statements zero = (nested_refused firsts_of_statement left_out, gap_cut firsts_of_body left_out (λ t. EmptyBody t.place) (nested firsts_of_body left_out) (λ ts. refl) refl refl)
+statements zero = (nested_refused firsts_of_statement left_out_classes, gap_cut firsts_of_body left_out_classes (λ t. EmptyBody t.place) (nested firsts_of_body left_out_classes) (λ ts. refl) refl refl)
 statements (suc d) =
     let k = statements d in
     let e = expressions d in
@@ -210,4 +210,4 @@ statements (suc d) =
     )
 
 pub program_cut : (d : ℕ) → Cuts (program_read d) (outline_read d)
-program_cut d = both_cut first_of _ _ (one (is end)) (one (is end)) (many_cut (among firsts_of_statement) (statement_read d) (open_statement d) (statements d).0) (self_cut (one (is end)) (one_shrinks (is end) (fault_of left_out)))
+program_cut d = both_cut first_of _ _ (one (is end)) (one (is end)) (many_cut (among firsts_of_statement) (statement_read d) (open_statement d) (statements d).0) (self_cut (one (is end)) (one_shrinks (is end) (fault_of left_out_classes)))

@@ -2,11 +2,11 @@
 use Rattle.std.proofs.Common.{◌≡◌, ℕ, List, [], ◌∷◌, ◌++◌, Bool, true, false, cond, refl, sym, nat_eq, append-nil}
 use Rattle.scad_lexer.specs.declared.token.Token.{Token}
 use Rattle.scad_ast.specs.Terms.{Term}
-use Rattle.scad_grammar.specs.Classes.{among, listed}
+use Rattle.scad_grammar.specs.Classes.{among, is_listed}
 use Rattle.scad_grammar.specs.Reading.{starts, both, many}
 use Rattle.scad_grammar.specs.Languages.{Language, Both, Many, One}
-use Rattle.scad_grammar.specs.Grammar.{Chain, chain_of, link}
-use Rattle.scad_grammar.specs.Faults.{Reads, one}
+use Rattle.scad_grammar.specs.Grammar.{Chain, chain_term, link}
+use Rattle.scad_grammar.specs.Faults.{TokenReader, one}
 use Rattle.scad_grammar.specs.Reads.{chain_read}
 use Rattle.scad_grammar.proofs.Readers.{IsReader, both_reads, many_reads, many_follows, both_opens, one_opens}
 use Rattle.scad_grammar.proofs.Tests.{OneReads, then, apart, next_apart}
@@ -25,11 +25,11 @@ good_here : (b c : Bool) → cond b c false ≡ true → (b ≡ true) × (c ≡ 
 good_here true c e = (refl, e)
 good_here false c e = absurd (cc)
 
-not_listed : (xs ys : List ℕ) (k : ℕ) → listed (xs ++ ys) k ≡ false → (listed xs k ≡ false) × (listed ys k ≡ false)
+not_listed : (xs ys : List ℕ) (k : ℕ) → is_listed (xs ++ ys) k ≡ false → (is_listed xs k ≡ false) × (is_listed ys k ≡ false)
 not_listed [] ys k e = (refl, e)
-not_listed (x ∷ xs) ys k e = go (nat_eq k x) (listed (xs ++ ys) k) (listed xs k) e (not_listed xs ys k)
+not_listed (x ∷ xs) ys k e = go (nat_eq k x) (is_listed (xs ++ ys) k) (is_listed xs k) e (not_listed xs ys k)
   where
-    go : (b c d : Bool) → cond b true c ≡ false → (c ≡ false → (d ≡ false) × (listed ys k ≡ false)) → (cond b true d ≡ false) × (listed ys k ≡ false)
+    go : (b c d : Bool) → cond b true c ≡ false → (c ≡ false → (d ≡ false) × (is_listed ys k ≡ false)) → (cond b true d ≡ false) × (is_listed ys k ≡ false)
     go true c d e h = absurd (cc)
     go false c d e h = h e
 
@@ -50,14 +50,14 @@ abbrev pub AllOne : List (List ℕ) → Type 0
 AllOne [] = Unit {0}
 AllOne (ops ∷ levels) = OneReads (among ops) × AllOne levels
 
-pub chain_reads : (levels : List (List ℕ)) (more : List ℕ) (u : Reads Term) (U V : Language Term) → good levels more ≡ true → AllOne levels → IsReader u U V (λ x. among more) → (w : List Token) × (y : Term) × V y w
+pub chain_reads : (levels : List (List ℕ)) (more : List ℕ) (u : TokenReader Term) (U V : Language Term) → good levels more ≡ true → AllOne levels → IsReader u U V (λ x. among more) → (w : List Token) × (y : Term) × V y w
     → IsReader (chain_read levels u) (Chain levels U) (Chain levels V) (λ x. among (goes_on levels more))
 chain_reads [] more u U V g o iu some = iu
 chain_reads (ops ∷ levels) more u U V g o iu some =
     let here = good_here (apart ops (goes_on levels more)) (good levels more) g in
     let below = chain_reads levels more u U V here.1 o.1 iu some in
     let item = then (chain_read levels u) (Chain levels U) (Chain levels V) (among ops) (λ x. among (goes_on levels more)) (λ x. among (goes_on levels more)) link o.0 below (some_chain levels V some) (λ t y rest e. e) in
-    both_reads chain_of (chain_read levels u) (many (among ops) (both link (one (among ops)) (chain_read levels u))) (Chain levels U) (Chain levels V) (Many (Both link (One (among ops)) (Chain levels U))) (Many (Both link (One (among ops)) (Chain levels V)))
+    both_reads chain_term (chain_read levels u) (many (among ops) (both link (one (among ops)) (chain_read levels u))) (Chain levels U) (Chain levels V) (Many (Both link (One (among ops)) (Chain levels U))) (Many (Both link (One (among ops)) (Chain levels V)))
     (λ x. among (goes_on levels more)) (λ x. among (ops ++ goes_on levels more)) (λ x. among (ops ++ goes_on levels more))
     below
     (many_reads (among ops) (both link (one (among ops)) (chain_read levels u)) (Both link (One (among ops)) (Chain levels U)) (Both link (One (among ops)) (Chain levels V)) (λ x. among (goes_on levels more)) (among (ops ++ goes_on levels more))

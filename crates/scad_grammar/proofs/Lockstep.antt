@@ -5,24 +5,24 @@ use Rattle.scad_lexer.specs.declared.token.Token.{Token}
 use Rattle.scad_ast.specs.Terms.{Term, NumberTerm, TextTerm, TruthTerm, UndefTerm, ChildCountTerm, SpecialTerm, ArgTerm, ParamTerm, BinderTerm, CoreTerm, StatementTerm, EmptyStatement, InstanceStatement, BodyTerm}
 use Rattle.scad_grammar.specs.declared.SyntaxFault.{SyntaxFault}
 use Rattle.scad_grammar.specs.declared.SyntaxFault.TheVariants.{Expected, Nested, NotInProfile}
-use Rattle.scad_grammar.specs.Classes.{else_word, close_parenthesis_sign, numeral, text, true_word, false_word, undef_word, child_count, special, name, end, if_word, for_word, function_word, module_word, assign_sign, comma_sign, semicolon_sign, open_brace_sign, open_parenthesis_sign, open_bracket_sign, listed, among, is, class_of, number_of, bytes_of}
+use Rattle.scad_grammar.specs.Classes.{else_word, close_parenthesis_sign, numeral, text, true_word, false_word, undef_word, child_count, special, name, end, if_word, for_word, function_word, module_word, assign_sign, comma_sign, semicolon_sign, open_brace_sign, open_parenthesis_sign, open_bracket_sign, is_listed, among, is, class_of, number_of, bytes_of}
 use Rattle.scad_grammar.specs.Languages.{first_of, second_of, pair_of}
-use Rattle.scad_grammar.specs.Grammar.{bare_block_of, bracket_of, loop_of, instance_of, function_of, if_of}
+use Rattle.scad_grammar.specs.Grammar.{bare_block_term, bracket_term, loop_term, instance_term, function_term, if_term}
 use Rattle.scad_grammar.specs.Reading.{Read, after, starts, one_of, mapped, nothing, both, choice, maybe, ahead, with_front, many_times, many, trailing_times, trailing}
-use Rattle.scad_grammar.specs.Faults.{Reads, one, first, fault_of, left_out, left_out_of_expressions}
+use Rattle.scad_grammar.specs.Faults.{TokenReader, one, first, fault_of, left_out_classes, left_out_of_expressions}
 use Rattle.scad_grammar.specs.Reads.{head_of, nested, firsts_of_expression, in_parentheses, name_read, paren_read, primary_read, arg_in, expr_read, operand_read}
-use Rattle.scad_grammar.specs.StatementReads.{mark_signs, loop_words, firsts_of_body, firsts_of_statement, if_read, call_read, module_read, params_read, ended_read, definition_read, assigned, special_read, statement_over, function_read, param_in, binder_in, binders_read, braces_read, instance_in, statement_read, body_read, program_read}
+use Rattle.scad_grammar.specs.StatementReads.{mark_signs, loop_words, firsts_of_body, firsts_of_statement, if_read, call_read, module_read, params_read, ended_read, definition_read, assignment_behind, special_read, statement_over, function_read, param_in, binder_in, binders_read, braces_read, instance_in, statement_read, body_read, program_read}
 use Rattle.scad_grammar.proofs.Tests.{apart, either_listed, classes_apart, classes_within}
 use Rattle.scad_grammar.proofs.Cores.{loop_over, core_over, instance_over, marks_reads, choice_second}
 use Rattle.scad_grammar.proofs.Deeper.{primary_refuses}
 use Rattle.scad_grammar.proofs.Shrinks.{left, Shrinks, after_left, one_shrinks, nothing_shrinks, mapped_shrinks, both_shrinks, choice_shrinks, ahead_shrinks, times_left, many_shrinks, trailing_left, trailing_shrinks, front_rest}
 use Rattle.scad_grammar.proofs.Alike.{words, Steady, Past, Takes, Keeps, arg_keeps, param_keeps, binder_keeps, binders_keep, params_keep, named_keeps, paren_keeps, filled_keeps, unary_keeps, expression_keeps, instance_keeps, body_keeps, statement_keeps}
 
-abbrev Taken : (A : Type 0) → List ℕ → Reads A → Type 0
+abbrev Taken : (A : Type 0) → List ℕ → TokenReader A → Type 0
 Taken A cs r = Takes (among cs) r
 
 -- two tokens of which the first is no name
-no_name : {A C : Type 0} (f : Token → Token → A → C) (cs : List ℕ) (r : Reads A) (s : Reads C) (u : Token) (l : List Token) → among cs u ≡ false → ahead f (among cs) (is assign_sign) r s (u ∷ l) ≡ s (u ∷ l)
+no_name : {A C : Type 0} (f : Token → Token → A → C) (cs : List ℕ) (r : TokenReader A) (s : TokenReader C) (u : Token) (l : List Token) → among cs u ≡ false → ahead f (among cs) (is assign_sign) r s (u ∷ l) ≡ s (u ∷ l)
 no_name f cs r s u [] e = refl
 no_name f cs r s u (v ∷ l) e = ap (λ b. cond (b && is assign_sign v) (after (r l) (λ x us. Ok (f u v x, us))) (s (u ∷ v ∷ l))) e
 
@@ -33,7 +33,7 @@ pub data Locked (t n : Token) (more : List Token) {A : Type 0} (q p : Read Token
   -- both refuse an earlier token
   earlier : (k : SyntaxFault) → (h : Token) → (u : List Token) → q ≡ Err (k, h ∷ (u ++ t ∷ more)) → p ≡ Err (k, h ∷ (u ++ n ∷ more)) → Locked t n more q p
   -- both refuse it
-  everywhere : q ≡ Err (fault_of left_out (Some t), t ∷ more) → p ≡ Err (Expected, n ∷ more) → Locked t n more q p
+  everywhere : q ≡ Err (fault_of left_out_classes (Some t), t ∷ more) → p ≡ Err (Expected, n ∷ more) → Locked t n more q p
   -- the word is refused, and the numeral isn't
   of_expressions : q ≡ Err (fault_of left_out_of_expressions (Some t), t ∷ more) → Past n more p → Locked t n more q p
   -- the word isn't refused
@@ -66,11 +66,11 @@ module _ (t n : Token) (more : List Token) (w : among words t ≡ true) (g : is 
   same_starts test st (h ∷ s) = refl
 
   -- the law of a reader, and of one that has taken a token
-  pub record Lock {A : Type 0} (r : Reads A) : Type 0 where
+  pub record Lock {A : Type 0} (r : TokenReader A) : Type 0 where
     pub at : (s : List Token) → Locked t n more (r (s ++ t ∷ more)) (r (s ++ n ∷ more))
     pub shrinks : Shrinks r
 
-  pub record Begun {A : Type 0} (r : Reads A) : Type 0 where
+  pub record Begun {A : Type 0} (r : TokenReader A) : Type 0 where
     pub at : (h : Token) (s : List Token) → Locked t n more (r (h ∷ (s ++ t ∷ more))) (r (h ∷ (s ++ n ∷ more)))
     pub shrinks : Shrinks r
 
@@ -81,7 +81,7 @@ module _ (t n : Token) (more : List Token) (w : among words t ≡ true) (g : is 
   numeral_not cs e = classes_apart (numeral ∷ []) cs e (class_of n.kind) g
 
   numeral_refused : (cs : List ℕ) → among cs n ≡ false → one (among cs) (n ∷ more) ≡ Err (Expected, n ∷ more)
-  numeral_refused cs e = ap (λ b. cond b (Ok (n, more)) (Err (fault_of left_out (Some n), n ∷ more))) e ∙ ap (λ b. Err (cond b NotInProfile Expected, n ∷ more)) (numeral_not left_out refl)
+  numeral_refused cs e = ap (λ b. cond b (Ok (n, more)) (Err (fault_of left_out_classes (Some n), n ∷ more))) e ∙ ap (λ b. Err (cond b NotInProfile Expected, n ∷ more)) (numeral_not left_out_classes refl)
 
   one_begun : (test : Token → Bool) (fault : Option Token → SyntaxFault) → Begun (one_of test fault)
   one_begun test fault = record { at = at; shrinks = one_shrinks test fault }
@@ -91,42 +91,42 @@ module _ (t n : Token) (more : List Token) (w : among words t ≡ true) (g : is 
 
   -- a token that is no numeral
   one_lock : (cs : List ℕ) → apart (numeral ∷ []) cs ≡ true → Lock (one (among cs))
-  one_lock cs e = record { at = at; shrinks = one_shrinks (among cs) (fault_of left_out) }
+  one_lock cs e = record { at = at; shrinks = one_shrinks (among cs) (fault_of left_out_classes) }
     where
-      first : (b : Bool) → Locked t n more (cond b (Ok (t, more)) (Err (fault_of left_out (Some t), t ∷ more))) (one (among cs) (n ∷ more))
+      first : (b : Bool) → Locked t n more (cond b (Ok (t, more)) (Err (fault_of left_out_classes (Some t), t ∷ more))) (one (among cs) (n ∷ more))
       first true = beyond (inl (omega arith))
       first false = everywhere refl (numeral_refused cs (numeral_not cs e))
 
       at : (s : List Token) → Locked t n more (one (among cs) (s ++ t ∷ more)) (one (among cs) (s ++ n ∷ more))
       at [] = first (among cs t)
-      at (h ∷ s) = (one_begun (among cs) (fault_of left_out)).at h s
+      at (h ∷ s) = (one_begun (among cs) (fault_of left_out_classes)).at h s
 
   nothing_lock : {A : Type 0} (a : A) → Lock (nothing a)
   nothing_lock a = record { at = λ s. before s a refl refl; shrinks = nothing_shrinks a }
 
-  mapped_lock : {A B : Type 0} (f : A → B) (r : Reads A) → Lock r → Lock (mapped f r)
+  mapped_lock : {A B : Type 0} (f : A → B) (r : TokenReader A) → Lock r → Lock (mapped f r)
   mapped_lock f r h = record { at = λ s. after_locked (r (s ++ t ∷ more)) (r (s ++ n ∷ more)) (λ a us. Ok (f a, us)) (h.at s) (λ a u. before u (f a) refl refl) (λ a us. omega arith); shrinks = mapped_shrinks f r h.shrinks }
 
-  behind_locked : {A B C : Type 0} (f : A → B → C) (s : Reads B) → Lock s → (a : A) (u : List Token) → Locked t n more (after (s (u ++ t ∷ more)) (λ b vs. Ok (f a b, vs))) (after (s (u ++ n ∷ more)) (λ b vs. Ok (f a b, vs)))
+  behind_locked : {A B C : Type 0} (f : A → B → C) (s : TokenReader B) → Lock s → (a : A) (u : List Token) → Locked t n more (after (s (u ++ t ∷ more)) (λ b vs. Ok (f a b, vs))) (after (s (u ++ n ∷ more)) (λ b vs. Ok (f a b, vs)))
   behind_locked f s k a u = after_locked (s (u ++ t ∷ more)) (s (u ++ n ∷ more)) (λ b vs. Ok (f a b, vs)) (k.at u) (λ b v. before v (f a b) refl refl) (λ b vs. omega arith)
 
-  behind_left : {A B C : Type 0} (f : A → B → C) (s : Reads B) → Lock s → (a : A) (us : List Token) → left (after (s us) (λ b vs. Ok (f a b, vs))) ≤ length us
+  behind_left : {A B C : Type 0} (f : A → B → C) (s : TokenReader B) → Lock s → (a : A) (us : List Token) → left (after (s us) (λ b vs. Ok (f a b, vs))) ≤ length us
   behind_left f s k a us = (mapped_shrinks (f a) s k.shrinks).at us
 
-  both_lock : {A B C : Type 0} (f : A → B → C) (r : Reads A) (s : Reads B) → Lock r → Lock s → Lock (both f r s)
+  both_lock : {A B C : Type 0} (f : A → B → C) (r : TokenReader A) (s : TokenReader B) → Lock r → Lock s → Lock (both f r s)
   both_lock f r s h k = record {
     at = λ l. after_locked (r (l ++ t ∷ more)) (r (l ++ n ∷ more)) (λ a us. after (s us) (λ b vs. Ok (f a b, vs))) (h.at l) (behind_locked f s k) (behind_left f s k);
     shrinks = both_shrinks f r s h.shrinks k.shrinks;
   }
 
-  choice_lock : {A : Type 0} (test : Token → Bool) (r s : Reads A) → Steady test → Lock r → Lock s → Lock (choice test r s)
+  choice_lock : {A : Type 0} (test : Token → Bool) (r s : TokenReader A) → Steady test → Lock r → Lock s → Lock (choice test r s)
   choice_lock test r s st h k = record {
     at = λ l. cond_locked (starts test (l ++ t ∷ more)) (starts test (l ++ n ∷ more)) (r (l ++ t ∷ more)) (r (l ++ n ∷ more)) (s (l ++ t ∷ more)) (s (l ++ n ∷ more)) (same_starts test st l) (h.at l) (k.at l);
     shrinks = choice_shrinks test r s h.shrinks k.shrinks;
   }
 
   -- a choice by words that are taken
-  taken_lock : {A : Type 0} (cs : List ℕ) (r s : Reads A) → apart (numeral ∷ []) cs ≡ true → Takes (among cs) r → Lock r → Lock s → Lock (choice (among cs) r s)
+  taken_lock : {A : Type 0} (cs : List ℕ) (r s : TokenReader A) → apart (numeral ∷ []) cs ≡ true → Takes (among cs) r → Lock r → Lock s → Lock (choice (among cs) r s)
   taken_lock {A} cs r s e takes h k = record { at = at; shrinks = choice_shrinks (among cs) r s h.shrinks k.shrinks }
     where
       first : (b : Bool) → among cs t ≡ b → Locked t n more (cond b (r (t ∷ more)) (s (t ∷ more))) (choice (among cs) r s (n ∷ more))
@@ -138,14 +138,14 @@ module _ (t n : Token) (more : List Token) (w : among words t ≡ true) (g : is 
       at (x ∷ l) = cond_locked (among cs x) (among cs x) (r (x ∷ (l ++ t ∷ more))) (r (x ∷ (l ++ n ∷ more))) (s (x ∷ (l ++ t ∷ more))) (s (x ∷ (l ++ n ∷ more))) refl (h.at (x ∷ l)) (k.at (x ∷ l))
 
   -- a name and an `=`, neither of which these words and a numeral are
-  second_not : {A C : Type 0} (f : Token → Token → A → C) (cs : List ℕ) (r : Reads A) (s : Reads C) (h u : Token) (l : List Token) → is assign_sign u ≡ false → ahead f (among cs) (is assign_sign) r s (h ∷ u ∷ l) ≡ s (h ∷ u ∷ l)
+  second_not : {A C : Type 0} (f : Token → Token → A → C) (cs : List ℕ) (r : TokenReader A) (s : TokenReader C) (h u : Token) (l : List Token) → is assign_sign u ≡ false → ahead f (among cs) (is assign_sign) r s (h ∷ u ∷ l) ≡ s (h ∷ u ∷ l)
   second_not f cs r s h u l e = go (among cs h)
     where
       go : (b : Bool) → cond (b && is assign_sign u) (after (r l) (λ x us. Ok (f h u x, us))) (s (h ∷ u ∷ l)) ≡ s (h ∷ u ∷ l)
       go true = ap (λ b. cond b (after (r l) (λ x us. Ok (f h u x, us))) (s (h ∷ u ∷ l))) e
       go false = refl
 
-  ahead_lock : {A C : Type 0} (f : Token → Token → A → C) (cs : List ℕ) (r : Reads A) (s : Reads C) → apart (numeral ∷ words) cs ≡ true → Lock r → Lock s → Lock (ahead f (among cs) (is assign_sign) r s)
+  ahead_lock : {A C : Type 0} (f : Token → Token → A → C) (cs : List ℕ) (r : TokenReader A) (s : TokenReader C) → apart (numeral ∷ words) cs ≡ true → Lock r → Lock s → Lock (ahead f (among cs) (is assign_sign) r s)
   ahead_lock f cs r s e h k = record { at = at; shrinks = ahead_shrinks f (among cs) (is assign_sign) r s h.shrinks k.shrinks }
     where
       word_none : among cs t ≡ false
@@ -177,7 +177,7 @@ module _ (t n : Token) (more : List Token) (w : among words t ≡ true) (g : is 
   same_length (h ∷ s) = ap suc (same_length s)
 
   -- with a number of turns
-  times_at : {A : Type 0} (k : ℕ) (test : Token → Bool) (r : Reads A) → Steady test → Lock r → (s : List Token) → Locked t n more (many_times k test r (s ++ t ∷ more)) (many_times k test r (s ++ n ∷ more))
+  times_at : {A : Type 0} (k : ℕ) (test : Token → Bool) (r : TokenReader A) → Steady test → Lock r → (s : List Token) → Locked t n more (many_times k test r (s ++ t ∷ more)) (many_times k test r (s ++ n ∷ more))
   unfolding many_times
   times_at zero test r st h s = before s [] refl refl
   times_at (suc k) test r st h s =
@@ -187,7 +187,7 @@ module _ (t n : Token) (more : List Token) (w : among words t ≡ true) (g : is 
       (λ x us. subst (λ l. length l ≤ length us) (sym (front_rest x (many_times k test r us))) (times_left k test r h.shrinks us)))
       (before s [] refl refl)
 
-  many_lock : {A : Type 0} (test : Token → Bool) (r : Reads A) → Steady test → Lock r → Lock (many test r)
+  many_lock : {A : Type 0} (test : Token → Bool) (r : TokenReader A) → Steady test → Lock r → Lock (many test r)
   unfolding many
   many_lock {A} test r st h = record {
     at = λ s. subst (λ k. Locked t n more (many test r (s ++ t ∷ more)) (many_times k test r (s ++ n ∷ more))) (same_length s) (times_at (length (s ++ t ∷ more)) test r st h s);
@@ -195,7 +195,7 @@ module _ (t n : Token) (more : List Token) (w : among words t ≡ true) (g : is 
   }
 
   -- as long as words stand that are taken
-  taken_times : {A : Type 0} (k : ℕ) (cs : List ℕ) (r : Reads A) → apart (numeral ∷ []) cs ≡ true → Takes (among cs) r → Lock r → (s : List Token) → Locked t n more (many_times k (among cs) r (s ++ t ∷ more)) (many_times k (among cs) r (s ++ n ∷ more))
+  taken_times : {A : Type 0} (k : ℕ) (cs : List ℕ) (r : TokenReader A) → apart (numeral ∷ []) cs ≡ true → Takes (among cs) r → Lock r → (s : List Token) → Locked t n more (many_times k (among cs) r (s ++ t ∷ more)) (many_times k (among cs) r (s ++ n ∷ more))
   unfolding many_times
   taken_times zero cs r e takes h s = before s [] refl refl
   taken_times {A} (suc k) cs r e takes h [] = first (among cs t) refl (λ us. times_left k (among cs) r h.shrinks us)
@@ -210,14 +210,14 @@ module _ (t n : Token) (more : List Token) (w : among words t ≡ true) (g : is 
       (λ y us. subst (λ l. length l ≤ length us) (sym (front_rest y (many_times k (among cs) r us))) (times_left k (among cs) r h.shrinks us)))
       (before (x ∷ s) [] refl refl)
 
-  many_taken : {A : Type 0} (cs : List ℕ) (r : Reads A) → apart (numeral ∷ []) cs ≡ true → Takes (among cs) r → Lock r → Lock (many (among cs) r)
+  many_taken : {A : Type 0} (cs : List ℕ) (r : TokenReader A) → apart (numeral ∷ []) cs ≡ true → Takes (among cs) r → Lock r → Lock (many (among cs) r)
   unfolding many
   many_taken {A} cs r e takes h = record {
     at = λ s. subst (λ k. Locked t n more (many (among cs) r (s ++ t ∷ more)) (many_times k (among cs) r (s ++ n ∷ more))) (same_length s) (taken_times (length (s ++ t ∷ more)) cs r e takes h s);
     shrinks = many_shrinks (among cs) r h.shrinks;
   }
 
-  trailing_at : {A : Type 0} (k : ℕ) (go : Token → Bool) (r : Reads A) → Steady go → Lock r → (s : List Token) → Locked t n more (trailing_times k (is comma_sign) go r (s ++ t ∷ more)) (trailing_times k (is comma_sign) go r (s ++ n ∷ more))
+  trailing_at : {A : Type 0} (k : ℕ) (go : Token → Bool) (r : TokenReader A) → Steady go → Lock r → (s : List Token) → Locked t n more (trailing_times k (is comma_sign) go r (s ++ t ∷ more)) (trailing_times k (is comma_sign) go r (s ++ n ∷ more))
   unfolding trailing_times
   trailing_at zero go r st h s = before s [] refl refl
   trailing_at (suc k) go r st h [] =
@@ -233,18 +233,18 @@ module _ (t n : Token) (more : List Token) (w : among words t ≡ true) (g : is 
       (before s [] refl refl))
       (before (y ∷ s) [] refl refl)
 
-  trailing_lock : {A : Type 0} (go : Token → Bool) (r : Reads A) → Steady go → Lock r → Lock (trailing (is comma_sign) go r)
+  trailing_lock : {A : Type 0} (go : Token → Bool) (r : TokenReader A) → Steady go → Lock r → Lock (trailing (is comma_sign) go r)
   unfolding trailing
   trailing_lock {A} go r st h = record {
     at = λ s. subst (λ k. Locked t n more (trailing (is comma_sign) go r (s ++ t ∷ more)) (trailing_times k (is comma_sign) go r (s ++ n ∷ more))) (same_length s) (trailing_at (length (s ++ t ∷ more)) go r st h s);
     shrinks = trailing_shrinks (is comma_sign) go r h.shrinks;
   }
 
-  abbrev Law : (A : Type 0) → Reads A → Reads A → Type 0
+  abbrev Law : (A : Type 0) → TokenReader A → TokenReader A → Type 0
   Law A r q = Lock r
 
   less_numeral : (cs : List ℕ) → apart (numeral ∷ end ∷ []) cs ≡ true → apart (numeral ∷ []) cs ≡ true
-  less_numeral cs e = go (listed cs numeral) (listed cs end) e
+  less_numeral cs e = go (is_listed cs numeral) (is_listed cs end) e
     where
       go : (a b : Bool) → cond a false (cond b false true) ≡ true → cond a false true ≡ true
       go true b e = absurd (cc)
@@ -265,27 +265,27 @@ module _ (t n : Token) (more : List Token) (w : among words t ≡ true) (g : is 
   }
 
   -- a primary: where it begins, a numeral is read and the word refused
-  begun_of : {A : Type 0} (r : Reads A) → Lock r → Begun r
+  begun_of : {A : Type 0} (r : TokenReader A) → Lock r → Begun r
   begun_of r h = record { at = λ y s. h.at (y ∷ s); shrinks = h.shrinks }
 
   begun_single : (f : Token → Term) (c : ℕ) → Begun (mapped f (one (is c)))
   begun_single f c =
-      let k = one_begun (is c) (fault_of left_out) in
+      let k = one_begun (is c) (fault_of left_out_classes) in
       record { at = λ y s. after_locked (one (is c) (y ∷ (s ++ t ∷ more))) (one (is c) (y ∷ (s ++ n ∷ more))) (λ a us. Ok (f a, us)) (k.at y s) (λ a u. before u (f a) refl refl) (λ a us. omega arith); shrinks = mapped_shrinks f (one (is c)) k.shrinks }
 
-  begun_choice : {A : Type 0} (test : Token → Bool) (r s : Reads A) → Begun r → Begun s → Begun (choice test r s)
+  begun_choice : {A : Type 0} (test : Token → Bool) (r s : TokenReader A) → Begun r → Begun s → Begun (choice test r s)
   begun_choice test r s h k = record {
     at = λ y l. cond_locked (test y) (test y) (r (y ∷ (l ++ t ∷ more))) (r (y ∷ (l ++ n ∷ more))) (s (y ∷ (l ++ t ∷ more))) (s (y ∷ (l ++ n ∷ more))) refl (h.at y l) (k.at y l);
     shrinks = choice_shrinks test r s h.shrinks k.shrinks;
   }
 
-  begun_both : {A B C : Type 0} (f : A → B → C) (r : Reads A) (s : Reads B) → Begun r → Lock s → Begun (both f r s)
+  begun_both : {A B C : Type 0} (f : A → B → C) (r : TokenReader A) (s : TokenReader B) → Begun r → Lock s → Begun (both f r s)
   begun_both f r s h k = record {
     at = λ y l. after_locked (r (y ∷ (l ++ t ∷ more))) (r (y ∷ (l ++ n ∷ more))) (λ a us. after (s us) (λ b vs. Ok (f a b, vs))) (h.at y l) (behind_locked f s k) (behind_left f s k);
     shrinks = both_shrinks f r s h.shrinks k.shrinks;
   }
 
-  module _ (e : Reads Term) (a : Reads ArgTerm) (he : Lock e) (ha : Lock a) where
+  module _ (e : TokenReader Term) (a : TokenReader ArgTerm) (he : Lock e) (ha : Lock a) where
     primary_begun : Begun (primary_read e a)
     primary_begun =
         begun_choice (is numeral) _ _ (begun_single (λ t. NumberTerm t.place (number_of t.kind)) numeral)
@@ -297,7 +297,7 @@ module _ (t n : Token) (more : List Token) (w : among words t ≡ true) (g : is 
         (begun_choice (is special) _ _ (begun_single (λ t. SpecialTerm t.place (bytes_of t.kind)) special)
         (begun_choice (is name) _ _ (begun_of (name_read a) (named_keeps Law Taken lockstep a a ha))
         (begun_choice (is open_parenthesis_sign) _ _ (begun_of (paren_read e) (paren_keeps Law Taken lockstep e e he))
-        (begun_both bracket_of (first (is open_bracket_sign)) _ (one_begun (is open_bracket_sign) (fault_of left_out_of_expressions)) (filled_keeps Law Taken lockstep e e he))))))))))
+        (begun_both bracket_term (first (is open_bracket_sign)) _ (one_begun (is open_bracket_sign) (fault_of left_out_of_expressions)) (filled_keeps Law Taken lockstep e e he))))))))))
 
     numeral_read : primary_read e a (n ∷ more) ≡ Ok (NumberTerm n.place (number_of n.kind), more)
     numeral_read = rw g refl
@@ -323,19 +323,19 @@ module _ (t n : Token) (more : List Token) (w : among words t ≡ true) (g : is 
           go true = omega arith
           go false = omega arith
 
-  nested_everywhere : {A : Type 0} (begins : List ℕ) → apart (numeral ∷ []) begins ≡ true → Lock (nested {A = A} begins left_out)
-  nested_everywhere {A} begins e = record { at = at; shrinks = (nested_begun begins left_out).shrinks }
+  nested_everywhere : {A : Type 0} (begins : List ℕ) → apart (numeral ∷ []) begins ≡ true → Lock (nested {A = A} begins left_out_classes)
+  nested_everywhere {A} begins e = record { at = at; shrinks = (nested_begun begins left_out_classes).shrinks }
     where
-      numeral_here : nested {A = A} begins left_out (n ∷ more) ≡ Err (Expected, n ∷ more)
-      numeral_here = ap (λ b. cond b (Err (Nested, n ∷ more)) (Err (fault_of left_out (Some n), n ∷ more))) (numeral_not begins e) ∙ ap (λ b. Err (cond b NotInProfile Expected, n ∷ more)) (numeral_not left_out refl)
+      numeral_here : nested {A = A} begins left_out_classes (n ∷ more) ≡ Err (Expected, n ∷ more)
+      numeral_here = ap (λ b. cond b (Err (Nested, n ∷ more)) (Err (fault_of left_out_classes (Some n), n ∷ more))) (numeral_not begins e) ∙ ap (λ b. Err (cond b NotInProfile Expected, n ∷ more)) (numeral_not left_out_classes refl)
 
-      first : (b : Bool) → Locked t n more (cond {A = Read Token SyntaxFault A} b (Err (Nested, t ∷ more)) (Err (fault_of left_out (Some t), t ∷ more))) (nested begins left_out (n ∷ more))
+      first : (b : Bool) → Locked t n more (cond {A = Read Token SyntaxFault A} b (Err (Nested, t ∷ more)) (Err (fault_of left_out_classes (Some t), t ∷ more))) (nested begins left_out_classes (n ∷ more))
       first true = beyond (inr refl)
       first false = everywhere refl numeral_here
 
-      at : (s : List Token) → Locked t n more (nested {A = A} begins left_out (s ++ t ∷ more)) (nested begins left_out (s ++ n ∷ more))
+      at : (s : List Token) → Locked t n more (nested {A = A} begins left_out_classes (s ++ t ∷ more)) (nested begins left_out_classes (s ++ n ∷ more))
       at [] = first (among begins t)
-      at (h ∷ s) = (nested_begun begins left_out).at h s
+      at (h ∷ s) = (nested_begun begins left_out_classes).at h s
 
   nested_expression : {A : Type 0} → Lock (nested {A = A} firsts_of_expression left_out_of_expressions)
   nested_expression {A} = record { at = at; shrinks = (nested_begun firsts_of_expression left_out_of_expressions).shrinks }
@@ -367,41 +367,41 @@ module _ (t n : Token) (more : List Token) (w : among words t ≡ true) (g : is 
 
 -- each word of a statement is taken where one may begin
 one_takes : (cs : List ℕ) → Takes (among cs) (one (among cs))
-one_takes cs t more w h = inl (subst (λ q. left q ≤ length more) (sym (ap (λ b. cond b (Ok (t, more)) (Err (fault_of left_out (Some t), t ∷ more))) h)) (omega arith))
+one_takes cs t more w h = inl (subst (λ q. left q ≤ length more) (sym (ap (λ b. cond b (Ok (t, more)) (Err (fault_of left_out_classes (Some t), t ∷ more))) h)) (omega arith))
 
-both_takes : {A B C : Type 0} (f : A → B → C) (test : Token → Bool) (r : Reads A) (s : Reads B) → Takes test r → Shrinks s → Takes test (both f r s)
+both_takes : {A B C : Type 0} (f : A → B → C) (test : Token → Bool) (r : TokenReader A) (s : TokenReader B) → Takes test r → Shrinks s → Takes test (both f r s)
 both_takes f test r s h k t more w e = go (h t more w e)
   where
     go : Past t more (r (t ∷ more)) → Past t more (both f r s (t ∷ more))
     go (inl l) = inl (after_left (length more) (r (t ∷ more)) (λ a us. after (s us) (λ b vs. Ok (f a b, vs))) l (λ a us. (mapped_shrinks (f a) s k).at us))
     go (inr x) = inr (ap (λ r. after r (λ a us. after (s us) (λ b vs. Ok (f a b, vs)))) x)
 
-parentheses_shrink : {A : Type 0} (r : Reads A) → Shrinks r → Shrinks (in_parentheses r)
+parentheses_shrink : {A : Type 0} (r : TokenReader A) → Shrinks r → Shrinks (in_parentheses r)
 parentheses_shrink r h =
-    both_shrinks second_of (one (is open_parenthesis_sign)) (both first_of r (one (is close_parenthesis_sign))) (one_shrinks (is open_parenthesis_sign) (fault_of left_out))
-    (both_shrinks first_of r (one (is close_parenthesis_sign)) h (one_shrinks (is close_parenthesis_sign) (fault_of left_out)))
+    both_shrinks second_of (one (is open_parenthesis_sign)) (both first_of r (one (is close_parenthesis_sign))) (one_shrinks (is open_parenthesis_sign) (fault_of left_out_classes))
+    (both_shrinks first_of r (one (is close_parenthesis_sign)) h (one_shrinks (is close_parenthesis_sign) (fault_of left_out_classes)))
 
-headed_shrinks : {A : Type 0} (r : Reads A) (b : Reads BodyTerm) → Shrinks r → Shrinks b → Shrinks (both pair_of (in_parentheses r) b)
+headed_shrinks : {A : Type 0} (r : TokenReader A) (b : TokenReader BodyTerm) → Shrinks r → Shrinks b → Shrinks (both pair_of (in_parentheses r) b)
 headed_shrinks r b h k = both_shrinks pair_of (in_parentheses r) b (parentheses_shrink r h) k
 
 past_same : {A : Type 0} (t : Token) (more : List Token) (q p : Read Token SyntaxFault A) → q ≡ p → Past t more p → Past t more q
 past_same t more q p e h = subst (λ q. Past t more q) (sym e) h
 
-if_takes : (e : Reads Term) (b : Reads BodyTerm) → Shrinks e → Shrinks b → Takes (among (if_word ∷ [])) (if_read e b)
+if_takes : (e : TokenReader Term) (b : TokenReader BodyTerm) → Shrinks e → Shrinks b → Takes (among (if_word ∷ [])) (if_read e b)
 if_takes e b h k =
-    both_takes if_of (among (if_word ∷ [])) (both pair_of (one (is if_word)) (both pair_of (in_parentheses e) b)) (maybe (is else_word) (both second_of (one (is else_word)) b))
+    both_takes if_term (among (if_word ∷ [])) (both pair_of (one (is if_word)) (both pair_of (in_parentheses e) b)) (maybe (is else_word) (both second_of (one (is else_word)) b))
     (both_takes pair_of (among (if_word ∷ [])) (one (is if_word)) (both pair_of (in_parentheses e) b) (one_takes (if_word ∷ [])) (headed_shrinks e b h k))
-    (choice_shrinks (is else_word) (mapped Some (both second_of (one (is else_word)) b)) (nothing None) (mapped_shrinks Some _ (both_shrinks second_of (one (is else_word)) b (one_shrinks (is else_word) (fault_of left_out)) k)) (nothing_shrinks None))
+    (choice_shrinks (is else_word) (mapped Some (both second_of (one (is else_word)) b)) (nothing None) (mapped_shrinks Some _ (both_shrinks second_of (one (is else_word)) b (one_shrinks (is else_word) (fault_of left_out_classes)) k)) (nothing_shrinks None))
 
-loop_takes : (ns : Reads (List BinderTerm)) (b : Reads BodyTerm) → Shrinks ns → Shrinks b → Takes (among loop_words) (loop_over ns b)
-loop_takes ns b h k = both_takes loop_of (among loop_words) (one (among loop_words)) (both pair_of (in_parentheses ns) b) (one_takes loop_words) (headed_shrinks ns b h k)
+loop_takes : (ns : TokenReader (List BinderTerm)) (b : TokenReader BodyTerm) → Shrinks ns → Shrinks b → Takes (among loop_words) (loop_over ns b)
+loop_takes ns b h k = both_takes loop_term (among loop_words) (one (among loop_words)) (both pair_of (in_parentheses ns) b) (one_takes loop_words) (headed_shrinks ns b h k)
 
-function_takes : (x : Reads Term) (m : Reads ParamTerm) → Shrinks x → Shrinks (params_read m) → Takes (among (function_word ∷ [])) (function_read x m)
+function_takes : (x : TokenReader Term) (m : TokenReader ParamTerm) → Shrinks x → Shrinks (params_read m) → Takes (among (function_word ∷ [])) (function_read x m)
 function_takes x m h k =
-    both_takes function_of (among (function_word ∷ [])) (one (is function_word)) _ (one_takes (function_word ∷ []))
-    (both_shrinks pair_of (one (is name)) _ (one_shrinks (is name) (fault_of left_out))
+    both_takes function_term (among (function_word ∷ [])) (one (is function_word)) _ (one_takes (function_word ∷ []))
+    (both_shrinks pair_of (one (is name)) _ (one_shrinks (is name) (fault_of left_out_classes))
     (both_shrinks pair_of (in_parentheses (params_read m)) _ (parentheses_shrink (params_read m) k)
-    (both_shrinks second_of (one (is assign_sign)) (ended_read x) (one_shrinks (is assign_sign) (fault_of left_out)) (both_shrinks first_of x (one (is semicolon_sign)) h (one_shrinks (is semicolon_sign) (fault_of left_out))))))
+    (both_shrinks second_of (one (is assign_sign)) (ended_read x) (one_shrinks (is assign_sign) (fault_of left_out_classes)) (both_shrinks first_of x (one (is semicolon_sign)) h (one_shrinks (is semicolon_sign) (fault_of left_out_classes))))))
 
 nested_takes : {A : Type 0} (begins classes : List ℕ) → Takes (among begins) (nested {A = A} begins classes)
 nested_takes begins classes t more w h = inr (ap (λ b. cond b (Err (Nested, t ∷ more)) (Err (fault_of classes (Some t), t ∷ more))) h)
@@ -417,7 +417,7 @@ no_other_word t w a b c =
       ]
     ]
 
-module _ (e : Reads Term) (a : Reads ArgTerm) (ns : Reads (List BinderTerm)) (b : Reads BodyTerm) (x : Reads Term) (m : Reads ParamTerm) (s : Reads StatementTerm)
+module _ (e : TokenReader Term) (a : TokenReader ArgTerm) (ns : TokenReader (List BinderTerm)) (b : TokenReader BodyTerm) (x : TokenReader Term) (m : TokenReader ParamTerm) (s : TokenReader StatementTerm)
     (by_if : Takes (among (if_word ∷ [])) (if_read e b)) (by_loop : Takes (among loop_words) (loop_over ns b)) (by_function : Takes (among (function_word ∷ [])) (function_read x m)) where
   core_past : (t : Token) (more : List Token) → among words t ≡ true → is function_word t ≡ false → Past t more (core_over e a ns b (t ∷ more))
   core_past t more w f = go (is if_word t) (among loop_words t) refl refl
@@ -429,14 +429,14 @@ module _ (e : Reads Term) (a : Reads ArgTerm) (ns : Reads (List BinderTerm)) (b 
 
   instance_past : (t : Token) (more : List Token) → among words t ≡ true → is function_word t ≡ false → Past t more (mapped InstanceStatement (instance_over e a ns b) (t ∷ more))
   instance_past t more w f =
-      past_same t more (mapped InstanceStatement (instance_over e a ns b) (t ∷ more)) (after (after (core_over e a ns b (t ∷ more)) (λ c us. Ok (instance_of [] c, us))) (λ i us. Ok (InstanceStatement i, us)))
-      (ap (λ q. after (after q (λ ms us. after (core_over e a ns b us) (λ c vs. Ok (instance_of ms c, vs)))) (λ i us. Ok (InstanceStatement i, us))) (marks_reads.complete [] [] (t ∷ more) refl (classes_apart words mark_signs refl (class_of t.kind) w)))
+      past_same t more (mapped InstanceStatement (instance_over e a ns b) (t ∷ more)) (after (after (core_over e a ns b (t ∷ more)) (λ c us. Ok (instance_term [] c, us))) (λ i us. Ok (InstanceStatement i, us)))
+      (ap (λ q. after (after q (λ ms us. after (core_over e a ns b us) (λ c vs. Ok (instance_term ms c, vs)))) (λ i us. Ok (InstanceStatement i, us))) (marks_reads.complete [] [] (t ∷ more) refl (classes_apart words mark_signs refl (class_of t.kind) w)))
       (go (core_over e a ns b (t ∷ more)) (core_past t more w f))
     where
-      go : (q : Read Token SyntaxFault CoreTerm) → Past t more q → Past t more (after (after q (λ c us. Ok (instance_of [] c, us))) (λ i us. Ok (InstanceStatement i, us)))
+      go : (q : Read Token SyntaxFault CoreTerm) → Past t more q → Past t more (after (after q (λ c us. Ok (instance_term [] c, us))) (λ i us. Ok (InstanceStatement i, us)))
       go (Ok p) (inl l) = inl l
       go (Err p) (inl l) = inl l
-      go q (inr l) = inr (ap (λ q. after (after q (λ c us. Ok (instance_of [] c, us))) (λ i us. Ok (InstanceStatement i, us))) l)
+      go q (inr l) = inr (ap (λ q. after (after q (λ c us. Ok (instance_term [] c, us))) (λ i us. Ok (InstanceStatement i, us))) l)
 
   definition_past : (t : Token) (more : List Token) → among words t ≡ true → Past t more (definition_read x m b (instance_over e a ns b) (t ∷ more))
   definition_past t more w =
@@ -450,22 +450,22 @@ module _ (e : Reads Term) (a : Reads ArgTerm) (ns : Reads (List BinderTerm)) (b 
   statement_takes : Takes (among firsts_of_statement) (statement_over x m s b (instance_over e a ns b))
   statement_takes t more w h =
       past_same t more (statement_over x m s b (instance_over e a ns b) (t ∷ more)) (definition_read x m b (instance_over e a ns b) (t ∷ more))
-      (choice_second (is semicolon_sign) (mapped (λ t. EmptyStatement t.place) (one (is semicolon_sign))) (choice (is open_brace_sign) (both bare_block_of (one (is open_brace_sign)) (braces_read s)) (choice (is special) (special_read x) (ahead assigned (is name) (is assign_sign) (ended_read x) (definition_read x m b (instance_over e a ns b))))) (t ∷ more) (classes_apart words (semicolon_sign ∷ []) refl (class_of t.kind) w)
-      ∙ choice_second (is open_brace_sign) (both bare_block_of (one (is open_brace_sign)) (braces_read s)) (choice (is special) (special_read x) (ahead assigned (is name) (is assign_sign) (ended_read x) (definition_read x m b (instance_over e a ns b)))) (t ∷ more) (classes_apart words (open_brace_sign ∷ []) refl (class_of t.kind) w)
-      ∙ choice_second (is special) (special_read x) (ahead assigned (is name) (is assign_sign) (ended_read x) (definition_read x m b (instance_over e a ns b))) (t ∷ more) (classes_apart words (special ∷ []) refl (class_of t.kind) w)
-      ∙ no_name assigned (name ∷ []) (ended_read x) (definition_read x m b (instance_over e a ns b)) t more (classes_apart words (name ∷ []) refl (class_of t.kind) w))
+      (choice_second (is semicolon_sign) (mapped (λ t. EmptyStatement t.place) (one (is semicolon_sign))) (choice (is open_brace_sign) (both bare_block_term (one (is open_brace_sign)) (braces_read s)) (choice (is special) (special_read x) (ahead assignment_behind (is name) (is assign_sign) (ended_read x) (definition_read x m b (instance_over e a ns b))))) (t ∷ more) (classes_apart words (semicolon_sign ∷ []) refl (class_of t.kind) w)
+      ∙ choice_second (is open_brace_sign) (both bare_block_term (one (is open_brace_sign)) (braces_read s)) (choice (is special) (special_read x) (ahead assignment_behind (is name) (is assign_sign) (ended_read x) (definition_read x m b (instance_over e a ns b)))) (t ∷ more) (classes_apart words (open_brace_sign ∷ []) refl (class_of t.kind) w)
+      ∙ choice_second (is special) (special_read x) (ahead assignment_behind (is name) (is assign_sign) (ended_read x) (definition_read x m b (instance_over e a ns b))) (t ∷ more) (classes_apart words (special ∷ []) refl (class_of t.kind) w)
+      ∙ no_name assignment_behind (name ∷ []) (ended_read x) (definition_read x m b (instance_over e a ns b)) t more (classes_apart words (name ∷ []) refl (class_of t.kind) w))
       (definition_past t more w)
 
 module _ (t n : Token) (more : List Token) (w : among words t ≡ true) (g : is numeral n ≡ true) where
-  abbrev Held : {A : Type 0} → Reads A → Type 0
+  abbrev Held : {A : Type 0} → TokenReader A → Type 0
   Held r = Lock t n more w g r
 
-  abbrev Laws : (A : Type 0) → Reads A → Reads A → Type 0
+  abbrev Laws : (A : Type 0) → TokenReader A → TokenReader A → Type 0
   Laws A r q = Held r
 
   lock_statements : (d : ℕ) → Held (statement_read d) × Held (body_read d) × Takes (among firsts_of_statement) (statement_read d)
   unfolding statement_read body_read
-  lock_statements zero = (nested_everywhere t n more w g firsts_of_statement refl, nested_everywhere t n more w g firsts_of_body refl, nested_takes firsts_of_statement left_out)
+  lock_statements zero = (nested_everywhere t n more w g firsts_of_statement refl, nested_everywhere t n more w g firsts_of_body refl, nested_takes firsts_of_statement left_out_classes)
   lock_statements (suc d) =
       let k = lock_statements d in
       let e = expressions t n more w g d in

@@ -8,9 +8,9 @@ use Rattle.scad_lexer.specs.declared.token.Symbol.TheVariants.{OpenBracket, Clos
 use Rattle.scad_ast.specs.Terms.{Term}
 use Rattle.scad_grammar.specs.Classes.{name, open_parenthesis_sign, open_bracket_sign, close_bracket_sign, dot_sign, plus_sign, minus_sign, not_sign, among, is}
 use Rattle.scad_grammar.specs.Languages.{Language, One, Both, EitherOf, Many, Before, first_of}
-use Rattle.scad_grammar.specs.Grammar.{Suffix, index_of, member_of, postfix_of, unary_of}
+use Rattle.scad_grammar.specs.Grammar.{Suffix, index_term, member_term, postfix_term, unary_term}
 use Rattle.scad_grammar.specs.Reading.{starts, both, many}
-use Rattle.scad_grammar.specs.Faults.{Reads, one}
+use Rattle.scad_grammar.specs.Faults.{TokenReader, one}
 use Rattle.scad_grammar.specs.Reads.{firsts_of_primary, suffix_read, postfix_read, unary_read}
 use Rattle.scad_grammar.proofs.Readers.{IsReader, Opens, both_reads, choice_reads, many_reads, many_follows, both_opens, either_opens, one_opens, never_starts}
 use Rattle.scad_grammar.proofs.Tests.{OneReads, one_at, then, next_apart, next_within, next_less}
@@ -49,10 +49,10 @@ unary_signs = minus_sign ∷ plus_sign ∷ not_sign ∷ []
 pub suffix_opens : (E : Language Term) → Opens (Suffix E) (among suffix_signs)
 suffix_opens E =
     either_opens _ _ (among suffix_signs)
-    (both_opens index_of (One (is open_bracket_sign)) _ _ (λ x s rest h. next_within (open_bracket_sign ∷ []) suffix_signs refl (s ++ rest) (one_opens (is open_bracket_sign) x s rest h)))
-    (both_opens member_of (One (is dot_sign)) _ _ (λ x s rest h. next_within (dot_sign ∷ []) suffix_signs refl (s ++ rest) (one_opens (is dot_sign) x s rest h)))
+    (both_opens index_term (One (is open_bracket_sign)) _ _ (λ x s rest h. next_within (open_bracket_sign ∷ []) suffix_signs refl (s ++ rest) (one_opens (is open_bracket_sign) x s rest h)))
+    (both_opens member_term (One (is dot_sign)) _ _ (λ x s rest h. next_within (dot_sign ∷ []) suffix_signs refl (s ++ rest) (one_opens (is dot_sign) x s rest h)))
 
-module _ (e : Reads Term) (E F : Language Term) (more : List ℕ) (ie : IsReader e E F (λ x. among more)) (closes : (t : Token) (s rest : List Token) → One (is close_bracket_sign) t s → starts (among more) (s ++ rest) ≡ false)
+module _ (e : TokenReader Term) (E F : Language Term) (more : List ℕ) (ie : IsReader e E F (λ x. among more)) (closes : (t : Token) (s rest : List Token) → One (is close_bracket_sign) t s → starts (among more) (s ++ rest) ≡ false)
     (some_e : (w : List Token) × (y : Term) × F y w) where
   closed : IsReader (both first_of e (one (is close_bracket_sign))) (Before E (is close_bracket_sign)) (Before F (is close_bracket_sign)) (λ x t. false)
   closed =
@@ -64,34 +64,34 @@ module _ (e : Reads Term) (E F : Language Term) (more : List ℕ) (ie : IsReader
 
   pub suffix_reads : IsReader (suffix_read e) (Suffix E) (Suffix F) (λ x t. false)
   suffix_reads =
-      choice_reads (is open_bracket_sign) (both index_of (one (is open_bracket_sign)) (both first_of e (one (is close_bracket_sign)))) (both member_of (one (is dot_sign)) (one (is name)))
-      (Both index_of (One (is open_bracket_sign)) (Before E (is close_bracket_sign))) (Both index_of (One (is open_bracket_sign)) (Before F (is close_bracket_sign)))
-      (Both member_of (One (is dot_sign)) (One (is name))) (Both member_of (One (is dot_sign)) (One (is name))) (λ x t. false)
-      (then (both first_of e (one (is close_bracket_sign))) (Before E (is close_bracket_sign)) (Before F (is close_bracket_sign)) (is open_bracket_sign) (λ x t. false) (λ x t. false) index_of open_bracket_one closed some_closed (λ t y rest h. h))
-      (then (one (is name)) (One (is name)) (One (is name)) (is dot_sign) (λ x t. false) (λ x t. false) member_of dot_one name_one (token (Name []) ∷ [], token (Name []), (refl, refl)) (λ t y rest h. h))
-      (both_opens index_of (One (is open_bracket_sign)) _ _ (one_opens (is open_bracket_sign)))
-      (λ x s rest h k. next_apart (dot_sign ∷ []) (open_bracket_sign ∷ []) refl (s ++ rest) (both_opens member_of (One (is dot_sign)) _ _ (one_opens (is dot_sign)) x s rest h))
+      choice_reads (is open_bracket_sign) (both index_term (one (is open_bracket_sign)) (both first_of e (one (is close_bracket_sign)))) (both member_term (one (is dot_sign)) (one (is name)))
+      (Both index_term (One (is open_bracket_sign)) (Before E (is close_bracket_sign))) (Both index_term (One (is open_bracket_sign)) (Before F (is close_bracket_sign)))
+      (Both member_term (One (is dot_sign)) (One (is name))) (Both member_term (One (is dot_sign)) (One (is name))) (λ x t. false)
+      (then (both first_of e (one (is close_bracket_sign))) (Before E (is close_bracket_sign)) (Before F (is close_bracket_sign)) (is open_bracket_sign) (λ x t. false) (λ x t. false) index_term open_bracket_one closed some_closed (λ t y rest h. h))
+      (then (one (is name)) (One (is name)) (One (is name)) (is dot_sign) (λ x t. false) (λ x t. false) member_term dot_one name_one (token (Name []) ∷ [], token (Name []), (refl, refl)) (λ t y rest h. h))
+      (both_opens index_term (One (is open_bracket_sign)) _ _ (one_opens (is open_bracket_sign)))
+      (λ x s rest h k. next_apart (dot_sign ∷ []) (open_bracket_sign ∷ []) refl (s ++ rest) (both_opens member_term (One (is dot_sign)) _ _ (one_opens (is dot_sign)) x s rest h))
 
   suffixes_reads : IsReader (many (among suffix_signs) (suffix_read e)) (Many (Suffix E)) (Many (Suffix F)) (λ x. among operand_more)
   suffixes_reads = many_reads (among suffix_signs) (suffix_read e) (Suffix E) (Suffix F) (λ x t. false) (among operand_more) suffix_reads (suffix_opens E) (λ x rest h. never_starts rest) (λ x rest h. never_starts rest) (next_less suffix_signs operand_more refl)
 
   -- p is a primary
-  module _ (p : Reads Term) (P Q : Language Term) (ip : IsReader p P Q (λ x. among (open_parenthesis_sign ∷ []))) where
-    pub postfix_reads : IsReader (postfix_read e p) (Both postfix_of P (Many (Suffix E))) (Both postfix_of Q (Many (Suffix F))) (λ x. among operand_more)
+  module _ (p : TokenReader Term) (P Q : Language Term) (ip : IsReader p P Q (λ x. among (open_parenthesis_sign ∷ []))) where
+    pub postfix_reads : IsReader (postfix_read e p) (Both postfix_term P (Many (Suffix E))) (Both postfix_term Q (Many (Suffix F))) (λ x. among operand_more)
     postfix_reads =
-        both_reads postfix_of p (many (among suffix_signs) (suffix_read e)) P Q (Many (Suffix E)) (Many (Suffix F)) (λ x. among (open_parenthesis_sign ∷ [])) (λ x. among operand_more) (λ x. among operand_more) ip suffixes_reads
+        both_reads postfix_term p (many (among suffix_signs) (suffix_read e)) P Q (Many (Suffix E)) (Many (Suffix F)) (λ x. among (open_parenthesis_sign ∷ [])) (λ x. among operand_more) (λ x. among operand_more) ip suffixes_reads
         ([], [], refl)
         (λ x. many_follows (Suffix E) (among suffix_signs) (among (open_parenthesis_sign ∷ [])) (among operand_more) (suffix_opens E) (next_apart suffix_signs (open_parenthesis_sign ∷ []) refl) (next_less (open_parenthesis_sign ∷ []) operand_more refl))
         (λ x y rest h. h)
 
     -- u is an operand one deeper
-    module _ (u : Reads Term) (U V : Language Term) (iu : IsReader u U V (λ x. among operand_more)) (some_u : (w : List Token) × (y : Term) × V y w)
+    module _ (u : TokenReader Term) (U V : Language Term) (iu : IsReader u U V (λ x. among operand_more)) (some_u : (w : List Token) × (y : Term) × V y w)
         (starts_p : Opens P (among firsts_of_primary)) where
-      pub unary_reads : IsReader (unary_read e u p) (EitherOf (Both unary_of (One (among unary_signs)) U) (Both postfix_of P (Many (Suffix E)))) (EitherOf (Both unary_of (One (among unary_signs)) V) (Both postfix_of Q (Many (Suffix F)))) (λ x. among operand_more)
+      pub unary_reads : IsReader (unary_read e u p) (EitherOf (Both unary_term (One (among unary_signs)) U) (Both postfix_term P (Many (Suffix E)))) (EitherOf (Both unary_term (One (among unary_signs)) V) (Both postfix_term Q (Many (Suffix F)))) (λ x. among operand_more)
       unary_reads =
-          choice_reads (among unary_signs) (both unary_of (one (among unary_signs)) u) (postfix_read e p)
-          (Both unary_of (One (among unary_signs)) U) (Both unary_of (One (among unary_signs)) V) (Both postfix_of P (Many (Suffix E))) (Both postfix_of Q (Many (Suffix F))) (λ x. among operand_more)
-          (then u U V (among unary_signs) (λ x. among operand_more) (λ x. among operand_more) unary_of unary_one iu some_u (λ t y rest h. h))
+          choice_reads (among unary_signs) (both unary_term (one (among unary_signs)) u) (postfix_read e p)
+          (Both unary_term (One (among unary_signs)) U) (Both unary_term (One (among unary_signs)) V) (Both postfix_term P (Many (Suffix E))) (Both postfix_term Q (Many (Suffix F))) (λ x. among operand_more)
+          (then u U V (among unary_signs) (λ x. among operand_more) (λ x. among operand_more) unary_term unary_one iu some_u (λ t y rest h. h))
           postfix_reads
-          (both_opens unary_of (One (among unary_signs)) U (among unary_signs) (one_opens (among unary_signs)))
-          (λ x s rest h k. next_apart firsts_of_primary unary_signs refl (s ++ rest) (both_opens postfix_of P (Many (Suffix E)) (among firsts_of_primary) starts_p x s rest h))
+          (both_opens unary_term (One (among unary_signs)) U (among unary_signs) (one_opens (among unary_signs)))
+          (λ x s rest h k. next_apart firsts_of_primary unary_signs refl (s ++ rest) (both_opens postfix_term P (Many (Suffix E)) (among firsts_of_primary) starts_p x s rest h))

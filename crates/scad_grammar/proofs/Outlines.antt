@@ -8,7 +8,7 @@ use Rattle.scad_grammar.specs.Classes.{caret_sign, name, end, close_parenthesis_
 use Rattle.scad_grammar.specs.Languages.{One, Nothing, Many, first_of}
 use Rattle.scad_grammar.specs.Grammar.{outline, TooDeep, Expr, Operand, Statement, Body, Outline, Param}
 use Rattle.scad_grammar.specs.Reading.{starts, one_of, mapped, both, many, many_times}
-use Rattle.scad_grammar.specs.Faults.{Reads, one, fault_of, left_out, left_out_of_expressions}
+use Rattle.scad_grammar.specs.Faults.{TokenReader, one, fault_of, left_out_classes, left_out_of_expressions}
 use Rattle.scad_grammar.specs.Reads.{head_of, arg_read, args_read, primary_read, unary_read, choice_read}
 use Rattle.scad_grammar.specs.StatementReads.{firsts_of_statement, param_read, binder_read, params_read, binders_read, statement_over, body_over}
 use Rattle.scad_grammar.proofs.Readers.{same_reads, SameHead, Told, IsReader, same_start, plain_seen, seen, one_reads, mapped_reads, never_starts}
@@ -22,48 +22,48 @@ use Rattle.scad_grammar.proofs.Cores.{body_more, instance_more, instance_over, i
 use Rattle.scad_grammar.proofs.Statements.{InstanceAt, BindersAt, ParamsAt, StatementsAt, statements_more, end_one, some_body, some_params_at, some_binders_at, some_statements, instance_depth_opens, statement_at_opens, statements_reads, statement_reads, body_reads, body_stops}
 
 -- nothing is read: the next token is refused
-abbrev pub refusal : {A : Type 0} → List ℕ → Reads A
+abbrev pub refusal : {A : Type 0} → List ℕ → TokenReader A
 refusal classes ts = Err (fault_of classes (head_of ts), ts)
 
 -- a gap
-abbrev pub gap : {A : Type 0} → (Token → A) → List ℕ → Reads A
+abbrev pub gap : {A : Type 0} → (Token → A) → List ℕ → TokenReader A
 gap f classes = mapped f (one_of (is caret_sign) (fault_of classes))
 
 -- what outlines are read by; each as deep as the program's reader of its name
-abbrev pub open_arg : ℕ → Reads Term → Reads ArgTerm
+abbrev pub open_arg : ℕ → TokenReader Term → TokenReader ArgTerm
 open_arg zero e = refusal left_out_of_expressions
 open_arg (suc d) e = arg_read e
 
-abbrev pub open_param : ℕ → Reads Term → Reads ParamTerm
-open_param zero e = refusal left_out
+abbrev pub open_param : ℕ → TokenReader Term → TokenReader ParamTerm
+open_param zero e = refusal left_out_classes
 open_param (suc d) e = param_read e
 
-abbrev pub open_binders : ℕ → Reads Term → Reads (List BinderTerm)
-open_binders zero e = gap (λ t. []) left_out
+abbrev pub open_binders : ℕ → TokenReader Term → TokenReader (List BinderTerm)
+open_binders zero e = gap (λ t. []) left_out_classes
 open_binders (suc d) e = binders_read (binder_read e)
 
 unfoldable mutual
-  pub open_expr : ℕ → Reads Term
+  pub open_expr : ℕ → TokenReader Term
   open_expr zero = gap (λ t. UndefTerm t.place) left_out_of_expressions
   open_expr (suc d) = choice_read (open_expr d) (open_operand d) (primary_read (open_expr d) (open_arg d (open_expr d)))
 
-  pub open_operand : ℕ → Reads Term
+  pub open_operand : ℕ → TokenReader Term
   open_operand zero = gap (λ t. UndefTerm t.place) left_out_of_expressions
   open_operand (suc d) = unary_read (open_expr d) (open_operand d) (primary_read (open_expr d) (open_arg d (open_expr d)))
 
-abbrev pub open_instance : ℕ → Reads BodyTerm → Reads InstanceTerm
+abbrev pub open_instance : ℕ → TokenReader BodyTerm → TokenReader InstanceTerm
 open_instance d b = instance_over (open_expr d) (open_arg d (open_expr d)) (open_binders d (open_expr d)) b
 
 unfoldable mutual
-  pub open_statement : ℕ → Reads StatementTerm
-  open_statement zero = refusal left_out
+  pub open_statement : ℕ → TokenReader StatementTerm
+  open_statement zero = refusal left_out_classes
   open_statement (suc d) = statement_over (open_expr (suc d)) (open_param d (open_expr d)) (open_statement d) (open_body d) (open_instance d (open_body d))
 
-  pub open_body : ℕ → Reads BodyTerm
-  open_body zero = gap (λ t. EmptyBody t.place) left_out
+  pub open_body : ℕ → TokenReader BodyTerm
+  open_body zero = gap (λ t. EmptyBody t.place) left_out_classes
   open_body (suc d) = body_over (open_statement d) (open_instance d (open_body d))
 
-abbrev pub outline_read : ℕ → Reads (List StatementTerm)
+abbrev pub outline_read : ℕ → TokenReader (List StatementTerm)
 outline_read d = both first_of (many (among firsts_of_statement) (open_statement d)) (one (is end))
 
 -- a gap is read
@@ -80,7 +80,7 @@ same_first (t ∷ ts) [] h = elim h [ ]
 same_first (t ∷ ts) (u ∷ us) h = ap Some h
 
 -- a list that may have nothing, and whose items are refused
-module _ {A : Type 0} (classes : List ℕ) (test : Token → Bool) (stop : Token → Bool) (r : Reads (List A)) (is_r : (ts : List Token) → r ts ≡ cond (starts test ts) (refusal classes ts) (Ok ([], ts)))
+module _ {A : Type 0} (classes : List ℕ) (test : Token → Bool) (stop : Token → Bool) (r : TokenReader (List A)) (is_r : (ts : List Token) → r ts ≡ cond (starts test ts) (refusal classes ts) (Ok ([], ts)))
     (stops : (rest : List Token) → starts stop rest ≡ false → starts test rest ≡ false) where
   refused : (ts : List Token) → starts test ts ≡ true → r ts ≡ refusal classes ts
   refused ts e = is_r ts ∙ ap (λ b. cond b (refusal classes ts) (Ok ([], ts))) e
@@ -147,12 +147,12 @@ open_reads (suc d) =
     )
 
 open_params_reads : (d : ℕ) → IsReader (params_read (open_param d (open_expr d))) (ParamsAt outline d) (ParamsAt outline d) (λ x. other_than closes)
-open_params_reads zero = nothing_fits left_out (is name) (other_than closes) (params_read (refusal left_out)) (λ ts. refl) (no_close closes (name ∷ []) refl)
+open_params_reads zero = nothing_fits left_out_classes (is name) (other_than closes) (params_read (refusal left_out_classes)) (λ ts. refl) (no_close closes (name ∷ []) refl)
 open_params_reads (suc d) =
     params_reads (param_read (open_expr (suc d))) (Param (Expr outline (suc d))) (Param (Expr outline (suc d))) (param_reads (open_expr (suc d)) (Expr outline (suc d)) (Expr outline (suc d)) (open_reads (suc d)).0 (some_outline (suc d))) (param_opens (Expr outline (suc d)))
 
 open_binders_reads : (d : ℕ) → IsReader (open_binders d (open_expr d)) (BindersAt outline d) (BindersAt outline d) (λ x. other_than closes)
-open_binders_reads zero = gap_reads (λ t. []) left_out (λ x. other_than closes)
+open_binders_reads zero = gap_reads (λ t. []) left_out_classes (λ x. other_than closes)
 open_binders_reads (suc d) =
     binders_reads (binder_read (open_expr (suc d))) (Expr outline (suc d)) (Expr outline (suc d)) (binder_reads (open_expr (suc d)) (Expr outline (suc d)) (Expr outline (suc d)) (open_reads (suc d)).0 (some_outline (suc d)))
 
@@ -170,9 +170,9 @@ open_instance_stops d ib sb =
 open_statement_reads : (d : ℕ) → IsReader (many (among firsts_of_statement) (open_statement d)) (StatementsAt outline d) (StatementsAt outline d) (λ xs. among statements_more) × IsReader (open_body d) (Body outline d) (Body outline d) body_more × Stops (open_body d) body_more
 unfolding Statement Body open_statement open_body
 open_statement_reads zero = (
-  nothing_fits left_out (among firsts_of_statement) (among statements_more) (many (among firsts_of_statement) (refusal left_out)) (many_refused left_out (among firsts_of_statement)) (next_less firsts_of_statement statements_more refl),
-  gap_reads (λ t. EmptyBody t.place) left_out body_more,
-  mapped_stops (λ t. EmptyBody t.place) (one_of (is caret_sign) (fault_of left_out)) (λ x t. false) body_more (λ ts x rest h. never_starts rest) (λ x rest h. never_starts rest),
+  nothing_fits left_out_classes (among firsts_of_statement) (among statements_more) (many (among firsts_of_statement) (refusal left_out_classes)) (many_refused left_out_classes (among firsts_of_statement)) (next_less firsts_of_statement statements_more refl),
+  gap_reads (λ t. EmptyBody t.place) left_out_classes body_more,
+  mapped_stops (λ t. EmptyBody t.place) (one_of (is caret_sign) (fault_of left_out_classes)) (λ x t. false) body_more (λ ts x rest h. never_starts rest) (λ x rest h. never_starts rest),
 )
 open_statement_reads (suc d) =
     let below = open_statement_reads d in

@@ -7,9 +7,9 @@ use Rattle.scad_lexer.specs.declared.token.Symbol.TheVariants.{OpenParenthesis, 
 use Rattle.scad_ast.specs.Terms.{Term, NumberTerm, TextTerm, TruthTerm, UndefTerm, ChildCountTerm, SpecialTerm, ArgTerm}
 use Rattle.scad_grammar.specs.Classes.{numeral, text, true_word, false_word, undef_word, child_count, special, name, open_parenthesis_sign, close_parenthesis_sign, open_bracket_sign, close_bracket_sign, comma_sign, colon_sign, among, is, other_than, number_of, bytes_of}
 use Rattle.scad_grammar.specs.Languages.{Language, One, Mapped, Both, EitherOf, Nothing, Many, Maybe, Before, Behind, Separated, first_of, second_of, pair_of, cons}
-use Rattle.scad_grammar.specs.Grammar.{InParentheses, Arg, Args, Primary, Bracket, Rest, items, bracket_of, range_of, named_of, paren_of}
+use Rattle.scad_grammar.specs.Grammar.{InParentheses, Arg, Args, Primary, Bracket, Rest, items, bracket_term, range_rest, name_term, paren_term}
 use Rattle.scad_grammar.specs.Reading.{starts, mapped, nothing, both, choice, maybe, trailing}
-use Rattle.scad_grammar.specs.Faults.{Reads, one, first}
+use Rattle.scad_grammar.specs.Faults.{TokenReader, one, first}
 use Rattle.scad_grammar.specs.Reads.{firsts_of_primary, args_read, in_parentheses, range_read, rest_read, bracket_read, name_read, paren_read, primary_read}
 use Rattle.scad_grammar.proofs.Readers.{IsReader, Opens, both_reads, choice_reads, mapped_reads, more_reads, nothing_reads, both_opens, either_opens, mapped_opens, one_opens, never_starts}
 use Rattle.scad_grammar.proofs.Greedy.{or_first, maybe_ends, maybe_reads}
@@ -33,13 +33,13 @@ pub some_before : {A : Type 0} (L : Language A) (c : ℕ) (t : Token) → is c t
 some_before L c t h s = (s.0 ++ t ∷ [], s.1, (s.1, t, s.0, t ∷ [], s.2, (h, refl), refl, refl))
 
 -- something before a token that doesn't go on it
-pub before_reads : {A : Type 0} (r : Reads A) (L W : Language A) (c : ℕ) (more : A → Token → Bool) → OneReads (is c) → (t : Token) → is c t ≡ true → IsReader r L W more
+pub before_reads : {A : Type 0} (r : TokenReader A) (L W : Language A) (c : ℕ) (more : A → Token → Bool) → OneReads (is c) → (t : Token) → is c t ≡ true → IsReader r L W more
     → ((x : A) (l : List Token) → starts (is c) l ≡ true → starts (more x) l ≡ false) → IsReader (both first_of r (one (is c))) (Before L (is c)) (Before W (is c)) (λ x t. false)
 before_reads r L W c more ic t h ir stops =
     both_reads first_of r (one (is c)) L W (One (is c)) (One (is c)) more (λ x t. false) (λ x t. false) ir ic (t ∷ [], t, (h, refl)) (λ x u s rest o k. stops x (s ++ rest) (one_opens (is c) u s rest o)) (λ x u rest k. k)
 
 -- something in parentheses
-pub in_parentheses_reads : {A : Type 0} (r : Reads A) (L W : Language A) (more : A → Token → Bool) → IsReader r L W more → Some_of W → ((x : A) (l : List Token) → starts (is close_parenthesis_sign) l ≡ true → starts (more x) l ≡ false)
+pub in_parentheses_reads : {A : Type 0} (r : TokenReader A) (L W : Language A) (more : A → Token → Bool) → IsReader r L W more → Some_of W → ((x : A) (l : List Token) → starts (is close_parenthesis_sign) l ≡ true → starts (more x) l ≡ false)
     → IsReader (in_parentheses r) (InParentheses L) (InParentheses W) (λ x t. false)
 in_parentheses_reads r L W more ir some stops =
     then (both first_of r (one (is close_parenthesis_sign))) (Before L (is close_parenthesis_sign)) (Before W (is close_parenthesis_sign)) (is open_parenthesis_sign) (λ x t. false) (λ x t. false) second_of open_parenthesis_one
@@ -47,7 +47,7 @@ in_parentheses_reads r L W more ir some stops =
     (some_before W close_parenthesis_sign (token (Symbol CloseParenthesis)) refl some) (λ t y rest h. h)
 
 -- one alternative of a single token, before others
-single_reads : (c : ℕ) (cs : List ℕ) (f : Token → Term) → OneReads (is c) → (r : Reads Term) (L W : Language Term) (more : Term → Token → Bool) → IsReader r L W more → Opens L (among cs) → apart cs (c ∷ []) ≡ true
+single_reads : (c : ℕ) (cs : List ℕ) (f : Token → Term) → OneReads (is c) → (r : TokenReader Term) (L W : Language Term) (more : Term → Token → Bool) → IsReader r L W more → Opens L (among cs) → apart cs (c ∷ []) ≡ true
     → IsReader (choice (is c) (mapped f (one (is c))) r) (EitherOf (Mapped f (One (is c))) L) (EitherOf (Mapped f (One (is c))) W) more
 single_reads c cs f ic r L W more ir opens a =
     choice_reads (is c) (mapped f (one (is c))) r (Mapped f (One (is c))) (Mapped f (One (is c))) L W more
@@ -87,10 +87,10 @@ abbrev text_firsts : List ℕ
 text_firsts = text ∷ true_firsts
 
 abbrev NameForm : Language (List ArgTerm) → Language Term
-NameForm As = Both named_of (One (is name)) (Maybe (InParentheses As))
+NameForm As = Both name_term (One (is name)) (Maybe (InParentheses As))
 
 abbrev ParenForm : Language Term → Language Term
-ParenForm E = Both paren_of (One (is open_parenthesis_sign)) (Before E (is close_parenthesis_sign))
+ParenForm E = Both paren_term (One (is open_parenthesis_sign)) (Before E (is close_parenthesis_sign))
 
 -- the alternatives of a primary from each one on
 abbrev FromParen : Language Term → Language Term
@@ -118,18 +118,18 @@ abbrev FromText : Language Term → Language (List ArgTerm) → Language Term
 FromText E As = EitherOf (Mapped (λ t. TextTerm t.place (bytes_of t.kind)) (One (is text))) (FromTrue E As)
 
 bracket_opens : (E : Language Term) → Opens (Bracket E) (among bracket_firsts)
-bracket_opens E = both_opens bracket_of (One (is open_bracket_sign)) _ (is open_bracket_sign) (one_opens (is open_bracket_sign))
+bracket_opens E = both_opens bracket_term (One (is open_bracket_sign)) _ (is open_bracket_sign) (one_opens (is open_bracket_sign))
 
 from_paren_opens : (E : Language Term) → Opens (FromParen E) (among paren_firsts)
 from_paren_opens E =
     either_opens (ParenForm E) (Bracket E) (among paren_firsts)
-    (λ x s rest h. next_within (open_parenthesis_sign ∷ []) paren_firsts refl (s ++ rest) (both_opens paren_of (One (is open_parenthesis_sign)) _ (is open_parenthesis_sign) (one_opens (is open_parenthesis_sign)) x s rest h))
+    (λ x s rest h. next_within (open_parenthesis_sign ∷ []) paren_firsts refl (s ++ rest) (both_opens paren_term (One (is open_parenthesis_sign)) _ (is open_parenthesis_sign) (one_opens (is open_parenthesis_sign)) x s rest h))
     (λ x s rest h. next_within bracket_firsts paren_firsts refl (s ++ rest) (bracket_opens E x s rest h))
 
 from_name_opens : (E : Language Term) (As : Language (List ArgTerm)) → Opens (FromName E As) (among name_firsts)
 from_name_opens E As =
     either_opens (NameForm As) (FromParen E) (among name_firsts)
-    (λ x s rest h. next_within (name ∷ []) name_firsts refl (s ++ rest) (both_opens named_of (One (is name)) _ (is name) (one_opens (is name)) x s rest h))
+    (λ x s rest h. next_within (name ∷ []) name_firsts refl (s ++ rest) (both_opens name_term (One (is name)) _ (is name) (one_opens (is name)) x s rest h))
     (λ x s rest h. next_within paren_firsts name_firsts refl (s ++ rest) (from_paren_opens E x s rest h))
 
 from_special_opens : (E : Language Term) (As : Language (List ArgTerm)) → Opens (FromSpecial E As) (among special_firsts)
@@ -157,7 +157,7 @@ abbrev closes : List ℕ
 closes = close_parenthesis_sign ∷ []
 
 -- a reads an argument, and more_arg may go on it
-module _ (a : Reads ArgTerm) (E F : Language Term) (more_arg : List ℕ) (ia : IsReader a (Arg E) (Arg F) (λ x. among more_arg)) (oa : Opens (Arg E) (other_than (close_parenthesis_sign ∷ [])))
+module _ (a : TokenReader ArgTerm) (E F : Language Term) (more_arg : List ℕ) (ia : IsReader a (Arg E) (Arg F) (λ x. among more_arg)) (oa : Opens (Arg E) (other_than (close_parenthesis_sign ∷ [])))
     (no_parenthesis_arg : apart (close_parenthesis_sign ∷ []) more_arg ≡ true) (no_comma_arg : apart (comma_sign ∷ []) more_arg ≡ true) where
   pub args_reads : IsReader (args_read a) (Args E) (Args F) (λ x. other_than closes)
   args_reads =
@@ -169,13 +169,13 @@ module _ (a : Reads ArgTerm) (E F : Language Term) (more_arg : List ℕ) (ia : I
       (λ x s rest h k. ap (λ l. starts (other_than closes) (l ++ rest)) h.1 ∙ k)
 
 -- E and F hold expressions one deeper, As and Aw arguments; more may go on an expression
-module _ (e : Reads Term) (a : Reads ArgTerm) (E F : Language Term) (As Aw : Language (List ArgTerm)) (more : List ℕ) (ie : IsReader e E F (λ x. among more)) (ias : IsReader (args_read a) As Aw (λ x. other_than closes))
+module _ (e : TokenReader Term) (a : TokenReader ArgTerm) (E F : Language Term) (As Aw : Language (List ArgTerm)) (more : List ℕ) (ie : IsReader e E F (λ x. among more)) (ias : IsReader (args_read a) As Aw (λ x. other_than closes))
     (oe : Opens E (other_than (close_bracket_sign ∷ []))) (some_e : Some_of F) (some_as : Some_of Aw)
     (no_parenthesis : apart (close_parenthesis_sign ∷ []) more ≡ true) (no_bracket : apart (close_bracket_sign ∷ []) more ≡ true) (no_comma : apart (comma_sign ∷ []) more ≡ true) (no_colon : apart (colon_sign ∷ []) more ≡ true) where
-  range_reads : IsReader (range_read e) (Behind (is colon_sign) (Both range_of E (Maybe (Behind (is colon_sign) E)))) (Behind (is colon_sign) (Both range_of F (Maybe (Behind (is colon_sign) F)))) (λ x. other_than (close_bracket_sign ∷ []))
+  range_reads : IsReader (range_read e) (Behind (is colon_sign) (Both range_rest E (Maybe (Behind (is colon_sign) E)))) (Behind (is colon_sign) (Both range_rest F (Maybe (Behind (is colon_sign) F)))) (λ x. other_than (close_bracket_sign ∷ []))
   range_reads =
-      then (both range_of e (maybe (is colon_sign) (both second_of (one (is colon_sign)) e))) (Both range_of E (Maybe (Behind (is colon_sign) E))) (Both range_of F (Maybe (Behind (is colon_sign) F))) (is colon_sign) (λ x. other_than (close_bracket_sign ∷ [])) (λ x. other_than (close_bracket_sign ∷ [])) second_of colon_one
-      (both_reads range_of e (maybe (is colon_sign) (both second_of (one (is colon_sign)) e)) E F (Maybe (Behind (is colon_sign) E)) (Maybe (Behind (is colon_sign) F)) (λ x. among more) (or_first (is colon_sign) (λ x. among more)) (λ x. other_than (close_bracket_sign ∷ []))
+      then (both range_rest e (maybe (is colon_sign) (both second_of (one (is colon_sign)) e))) (Both range_rest E (Maybe (Behind (is colon_sign) E))) (Both range_rest F (Maybe (Behind (is colon_sign) F))) (is colon_sign) (λ x. other_than (close_bracket_sign ∷ [])) (λ x. other_than (close_bracket_sign ∷ [])) second_of colon_one
+      (both_reads range_rest e (maybe (is colon_sign) (both second_of (one (is colon_sign)) e)) E F (Maybe (Behind (is colon_sign) E)) (Maybe (Behind (is colon_sign) F)) (λ x. among more) (or_first (is colon_sign) (λ x. among more)) (λ x. other_than (close_bracket_sign ∷ []))
       ie
       (maybe_reads (is colon_sign) (both second_of (one (is colon_sign)) e) (Behind (is colon_sign) E) (Behind (is colon_sign) F) (λ x. among more)
       (then e E F (is colon_sign) (λ x. among more) (λ x. among more) second_of colon_one ie some_e (λ t y rest h. h))
@@ -183,7 +183,7 @@ module _ (e : Reads Term) (a : Reads ArgTerm) (E F : Language Term) (As Aw : Lan
       ([], None, refl)
       (λ x y s rest h k. follows y s rest h k)
       (λ x y rest k. maybe_ends (is colon_sign) (λ x. among more) y rest (no_close (close_bracket_sign ∷ []) (colon_sign ∷ []) refl rest k) (λ x. no_close (close_bracket_sign ∷ []) more no_bracket rest k)))
-      (some_e.0, range_of some_e.1 None, (some_e.1, None, some_e.0, [], some_e.2, refl, refl, sym (append-nil some_e.0)))
+      (some_e.0, range_rest some_e.1 None, (some_e.1, None, some_e.0, [], some_e.2, refl, refl, sym (append-nil some_e.0)))
       (λ t y rest h. h)
     where
       follows : (y : Option Term) (s rest : List Token) → Maybe (Behind (is colon_sign) E) y s → starts (other_than (close_bracket_sign ∷ [])) rest ≡ false → starts (among more) (s ++ rest) ≡ false
@@ -194,7 +194,7 @@ module _ (e : Reads Term) (a : Reads ArgTerm) (E F : Language Term) (As Aw : Lan
   brackets = close_bracket_sign ∷ []
 
   abbrev RangeRest : Language Term → Language Rest
-  RangeRest E = Behind (is colon_sign) (Both range_of E (Maybe (Behind (is colon_sign) E)))
+  RangeRest E = Behind (is colon_sign) (Both range_rest E (Maybe (Behind (is colon_sign) E)))
 
   abbrev ItemsRest : Language Term → Language Rest
   ItemsRest E = Mapped items (Both first_of (Many (Behind (is comma_sign) E)) (Maybe (One (is comma_sign))))
@@ -245,7 +245,7 @@ module _ (e : Reads Term) (a : Reads ArgTerm) (E F : Language Term) (As Aw : Lan
 
   bracket_reads : IsReader (bracket_read e) (Bracket E) (Bracket F) (λ x t. false)
   bracket_reads =
-      both_reads bracket_of (first (is open_bracket_sign)) (both first_of (maybe (other_than brackets) (both pair_of e (rest_read e))) (one (is close_bracket_sign)))
+      both_reads bracket_term (first (is open_bracket_sign)) (both first_of (maybe (other_than brackets) (both pair_of e (rest_read e))) (one (is close_bracket_sign)))
       (One (is open_bracket_sign)) (One (is open_bracket_sign)) (Before (Maybe (Filled E)) (is close_bracket_sign)) (Before (Maybe (Filled F)) (is close_bracket_sign)) (λ x t. false) (λ x t. false) (λ x t. false)
       (first_at (is open_bracket_sign) (token (Symbol OpenBracket), refl))
       (before_reads (maybe (other_than brackets) (both pair_of e (rest_read e))) (Maybe (Filled E)) (Maybe (Filled F)) close_bracket_sign (λ x. other_than brackets) close_bracket_one (token (Symbol CloseBracket)) refl maybe_filled (λ x. close_ends brackets))
@@ -257,7 +257,7 @@ module _ (e : Reads Term) (a : Reads ArgTerm) (E F : Language Term) (As Aw : Lan
 
   name_reads : IsReader (name_read a) (NameForm As) (NameForm Aw) paren_more
   name_reads =
-      then (maybe (is open_parenthesis_sign) (in_parentheses (args_read a))) (Maybe (InParentheses As)) (Maybe (InParentheses Aw)) (is name) (or_first (is open_parenthesis_sign) (λ x t. false)) paren_more named_of name_one
+      then (maybe (is open_parenthesis_sign) (in_parentheses (args_read a))) (Maybe (InParentheses As)) (Maybe (InParentheses Aw)) (is name) (or_first (is open_parenthesis_sign) (λ x t. false)) paren_more name_term name_one
       (maybe_reads (is open_parenthesis_sign) (in_parentheses (args_read a)) (InParentheses As) (InParentheses Aw) (λ x t. false)
       (in_parentheses_reads (args_read a) As Aw (λ x. other_than closes) ias some_as (λ x. close_ends closes))
       (both_opens second_of (One (is open_parenthesis_sign)) _ (is open_parenthesis_sign) (one_opens (is open_parenthesis_sign))))
@@ -266,7 +266,7 @@ module _ (e : Reads Term) (a : Reads ArgTerm) (E F : Language Term) (As Aw : Lan
 
   paren_reads : IsReader (paren_read e) (ParenForm E) (ParenForm F) paren_more
   paren_reads =
-      then (both first_of e (one (is close_parenthesis_sign))) (Before E (is close_parenthesis_sign)) (Before F (is close_parenthesis_sign)) (is open_parenthesis_sign) (λ x t. false) paren_more paren_of open_parenthesis_one
+      then (both first_of e (one (is close_parenthesis_sign))) (Before E (is close_parenthesis_sign)) (Before F (is close_parenthesis_sign)) (is open_parenthesis_sign) (λ x t. false) paren_more paren_term open_parenthesis_one
       (before_reads e E F close_parenthesis_sign (λ x. among more) close_parenthesis_one (token (Symbol CloseParenthesis)) refl ie (λ x. next_apart closes more no_parenthesis))
       (some_before F close_parenthesis_sign (token (Symbol CloseParenthesis)) refl some_e) (λ t y rest h. never_starts rest)
 
@@ -274,13 +274,13 @@ module _ (e : Reads Term) (a : Reads ArgTerm) (E F : Language Term) (As Aw : Lan
   from_paren =
       choice_reads (is open_parenthesis_sign) (paren_read e) (bracket_read e) (ParenForm E) (ParenForm F) (Bracket E) (Bracket F) paren_more paren_reads
       (more_reads (bracket_read e) (Bracket E) (Bracket F) (λ x t. false) paren_more bracket_reads (λ x rest h. never_starts rest))
-      (both_opens paren_of (One (is open_parenthesis_sign)) _ (is open_parenthesis_sign) (one_opens (is open_parenthesis_sign)))
+      (both_opens paren_term (One (is open_parenthesis_sign)) _ (is open_parenthesis_sign) (one_opens (is open_parenthesis_sign)))
       (λ x s rest h k. next_apart bracket_firsts (open_parenthesis_sign ∷ []) refl (s ++ rest) (bracket_opens E x s rest h))
 
   from_name : IsReader (choice (is name) (name_read a) (choice (is open_parenthesis_sign) (paren_read e) (bracket_read e))) (FromName E As) (FromName F Aw) paren_more
   from_name =
       choice_reads (is name) (name_read a) (choice (is open_parenthesis_sign) (paren_read e) (bracket_read e)) (NameForm As) (NameForm Aw) (FromParen E) (FromParen F) paren_more name_reads from_paren
-      (both_opens named_of (One (is name)) _ (is name) (one_opens (is name)))
+      (both_opens name_term (One (is name)) _ (is name) (one_opens (is name)))
       (λ x s rest h k. next_apart paren_firsts (name ∷ []) refl (s ++ rest) (from_paren_opens E x s rest h))
 
   pub primary_reads : IsReader (primary_read e a) (Primary E As) (Primary F Aw) paren_more

@@ -10,9 +10,9 @@ use Rattle.std.specs.Str.{bytes_eq}
 use Rattle.scad_ast.specs.Terms.{Term, ArgTerm}
 use Rattle.scad_grammar.specs.declared.SyntaxFault.{SyntaxFault}
 use Rattle.scad_grammar.specs.declared.SyntaxFault.TheVariants.{Nested}
-use Rattle.scad_grammar.specs.Classes.{numeral, name, special, child_count, end, assign_sign, comma_sign, open_bracket_sign, listed, among, is, class_of}
+use Rattle.scad_grammar.specs.Classes.{numeral, name, special, child_count, end, assign_sign, comma_sign, open_bracket_sign, is_listed, among, is, class_of}
 use Rattle.scad_grammar.specs.Reading.{Read, after, starts, one_of, mapped, both, choice, ahead, with_front, many_times, many, trailing_times, trailing}
-use Rattle.scad_grammar.specs.Faults.{Reads, one, fault_of, left_out, left_out_of_expressions}
+use Rattle.scad_grammar.specs.Faults.{TokenReader, one, fault_of, left_out_classes, left_out_of_expressions}
 use Rattle.scad_grammar.specs.Reads.{head_of, nested, firsts_of_expression, primary_read, arg_in, expr_read, operand_read}
 use Rattle.scad_grammar.specs.StatementReads.{firsts_of_body, firsts_of_statement, param_in, binder_in, binders_read, instance_in, statement_read, body_read}
 use Rattle.scad_grammar.proofs.Tests.{apart, classes_apart}
@@ -26,12 +26,12 @@ EndsOnce (t ∷ []) = is end t ≡ true
 EndsOnce (t ∷ u ∷ us) = (is end t ≡ false) × EndsOnce (u ∷ us)
 
 -- the end's class is its own
-end_class : (k : TokenKind) → listed (end ∷ []) (class_of k) ≡ is_end k
+end_class : (k : TokenKind) → is_listed (end ∷ []) (class_of k) ≡ is_end k
 end_class (Numeral n) = refl
 end_class (Name bytes) = refl
 end_class (Special bytes) = go (bytes_eq bytes (codes "children"))
   where
-    go : (b : Bool) → listed (end ∷ []) (cond b child_count special) ≡ false
+    go : (b : Bool) → is_listed (end ∷ []) (cond b child_count special) ≡ false
     go true = refl
     go false = refl
 end_class (Text bytes) = refl
@@ -89,14 +89,14 @@ ends_once_is (t ∷ u ∷ us) e = let k = both_are (is_end t.kind) (ends_once (u
 
 -- want of depth, or the fault of what is left out, everywhere or of expressions
 abbrev pub OfKind : SyntaxFault × List Token → Type 0
-OfKind e = (e.0 ≡ Nested) ⊎ ((e.0 ≡ fault_of left_out (head_of e.1)) ⊎ (e.0 ≡ fault_of left_out_of_expressions (head_of e.1)))
+OfKind e = (e.0 ≡ Nested) ⊎ ((e.0 ≡ fault_of left_out_classes (head_of e.1)) ⊎ (e.0 ≡ fault_of left_out_of_expressions (head_of e.1)))
 
 -- the end is left where it stands
 abbrev pub Fair : {A : Type 0} → List Token → Read Token SyntaxFault A → Type 0
 Fair ts (Ok p) = EndsOnce ts → EndsOnce p.1
 Fair ts (Err e) = OfKind e × (EndsOnce ts → EndsOnce e.1)
 
-pub record Regular {A : Type 0} (r : Reads A) : Type 0 where
+pub record Regular {A : Type 0} (r : TokenReader A) : Type 0 where
   pub at : (ts : List Token) → Fair ts (r ts)
 
 from : {A : Type 0} (ts us : List Token) (q : Read Token SyntaxFault A) → (EndsOnce ts → EndsOnce us) → Fair us q → Fair ts q
@@ -125,12 +125,12 @@ no_end cs a t h = go (is end t) refl
 
 -- the fault of a class of forms that are left out
 abbrev IsOfKind : List ℕ → Type 0
-IsOfKind classes = (t : Option Token) → (fault_of classes t ≡ fault_of left_out t) ⊎ (fault_of classes t ≡ fault_of left_out_of_expressions t)
+IsOfKind classes = (t : Option Token) → (fault_of classes t ≡ fault_of left_out_classes t) ⊎ (fault_of classes t ≡ fault_of left_out_of_expressions t)
 
 kind_of : (classes : List ℕ) → IsOfKind classes → (ts : List Token) → OfKind (fault_of classes (head_of ts), ts)
 kind_of classes k ts = inr (k (head_of ts))
 
-everywhere : IsOfKind left_out
+everywhere : IsOfKind left_out_classes
 everywhere t = inl refl
 
 in_expressions : IsOfKind left_out_of_expressions
@@ -144,16 +144,16 @@ one_fair cs classes a k (t ∷ ts) = go (among cs t) refl
     go true e = behind t ts (no_end cs a t e)
     go false e = (kind_of classes k (t ∷ ts), λ e. e)
 
-mapped_fair : {A B : Type 0} (f : A → B) (r q : Reads A) → Regular r → Regular (mapped f r)
+mapped_fair : {A B : Type 0} (f : A → B) (r q : TokenReader A) → Regular r → Regular (mapped f r)
 mapped_fair f r q h = record { at = λ ts. after_fair ts (r ts) (λ a us. Ok (f a, us)) (h.at ts) (λ a us e. e) }
 
-both_fair : {A B C : Type 0} (f : A → B → C) (r q : Reads A) (s p : Reads B) → Regular r → Regular s → Regular (both f r s)
+both_fair : {A B C : Type 0} (f : A → B → C) (r q : TokenReader A) (s p : TokenReader B) → Regular r → Regular s → Regular (both f r s)
 both_fair f r q s p h k = record { at = λ ts. after_fair ts (r ts) (λ a us. after (s us) (λ b vs. Ok (f a b, vs))) (h.at ts) (λ a us. after_fair us (s us) (λ b vs. Ok (f a b, vs)) (k.at us) (λ b vs e. e)) }
 
-choice_fair : {A : Type 0} (test : Token → Bool) (r q s p : Reads A) → Regular r → Regular s → Regular (choice test r s)
+choice_fair : {A : Type 0} (test : Token → Bool) (r q s p : TokenReader A) → Regular r → Regular s → Regular (choice test r s)
 choice_fair test r q s p h k = record { at = λ ts. cond_fair ts (starts test ts) (r ts) (s ts) (h.at ts) (k.at ts) }
 
-ahead_at : {A C : Type 0} (f : Token → Token → A → C) (cs : List ℕ) (r : Reads A) (s : Reads C) → apart (end ∷ []) cs ≡ true → Regular r → Regular s → (ts : List Token) → Fair ts (ahead f (among cs) (is assign_sign) r s ts)
+ahead_at : {A C : Type 0} (f : Token → Token → A → C) (cs : List ℕ) (r : TokenReader A) (s : TokenReader C) → apart (end ∷ []) cs ≡ true → Regular r → Regular s → (ts : List Token) → Fair ts (ahead f (among cs) (is assign_sign) r s ts)
 ahead_at f cs r s a h k [] = k.at []
 ahead_at f cs r s a h k (t ∷ []) = k.at (t ∷ [])
 ahead_at f cs r s a h k (t ∷ u ∷ ts) = go (among cs t && is assign_sign u) refl
@@ -168,18 +168,18 @@ front_fair : {A : Type 0} (x : A) (ts : List Token) (q : Read Token SyntaxFault 
 front_fair x ts (Ok p) h = h
 front_fair x ts (Err e) h = h
 
-times_fair : {A : Type 0} (n : ℕ) (test : Token → Bool) (r : Reads A) → Regular r → (ts : List Token) → Fair ts (many_times n test r ts)
+times_fair : {A : Type 0} (n : ℕ) (test : Token → Bool) (r : TokenReader A) → Regular r → (ts : List Token) → Fair ts (many_times n test r ts)
 unfolding many_times
 times_fair zero test r h ts = λ e. e
 times_fair (suc n) test r h ts =
     cond_fair ts (starts test ts) (after (r ts) (λ x us. with_front x (many_times n test r us))) (Ok ([], ts))
     (after_fair ts (r ts) (λ x us. with_front x (many_times n test r us)) (h.at ts) (λ x us. front_fair x us (many_times n test r us) (times_fair n test r h us))) (λ e. e)
 
-pub many_fair : {A : Type 0} (test : Token → Bool) (r : Reads A) → Regular r → Regular (many test r)
+pub many_fair : {A : Type 0} (test : Token → Bool) (r : TokenReader A) → Regular r → Regular (many test r)
 unfolding many
 many_fair test r h = record { at = λ ts. times_fair (length ts) test r h ts }
 
-trailing_at : {A : Type 0} (n : ℕ) (go : Token → Bool) (r : Reads A) → Regular r → (ts : List Token) → Fair ts (trailing_times n (is comma_sign) go r ts)
+trailing_at : {A : Type 0} (n : ℕ) (go : Token → Bool) (r : TokenReader A) → Regular r → (ts : List Token) → Fair ts (trailing_times n (is comma_sign) go r ts)
 unfolding trailing_times
 trailing_at zero go r h ts = λ e. e
 trailing_at (suc n) go r h [] = λ e. e
@@ -192,18 +192,18 @@ trailing_at {A} (suc n) go r h (t ∷ ts) = step (is comma_sign t) refl (trailin
         (after_fair ts (r ts) (λ x us. with_front x (trailing_times n (is comma_sign) go r us)) (h.at ts) (λ x us. front_fair x us (trailing_times n (is comma_sign) go r us) (k us))) (λ e. e))
     step false e k = λ e. e
 
-trailing_fair : {A : Type 0} (go : Token → Bool) (r : Reads A) → Regular r → Regular (trailing (is comma_sign) go r)
+trailing_fair : {A : Type 0} (go : Token → Bool) (r : TokenReader A) → Regular r → Regular (trailing (is comma_sign) go r)
 unfolding trailing
 trailing_fair go r h = record { at = λ ts. trailing_at (length ts) go r h ts }
 
 nested_fair : {A : Type 0} (begins classes : List ℕ) → IsOfKind classes → Regular (nested {A = A} begins classes)
 nested_fair {A} begins classes k = record { at = λ ts. cond_fair ts (starts (among begins) ts) (Err (Nested, ts)) (Err (fault_of classes (head_of ts), ts)) (inl refl, λ e. e) (kind_of classes k ts, λ e. e) }
 
-abbrev Law : (A : Type 0) → Reads A → Reads A → Type 0
+abbrev Law : (A : Type 0) → TokenReader A → TokenReader A → Type 0
 Law A r q = Regular r
 
 less_end : (cs : List ℕ) → apart (numeral ∷ end ∷ []) cs ≡ true → apart (end ∷ []) cs ≡ true
-less_end cs e = go (listed cs numeral) (listed cs end) e
+less_end cs e = go (is_listed cs numeral) (is_listed cs end) e
   where
     go : (a b : Bool) → cond a false (cond b false true) ≡ true → cond b false true ≡ true
     go true b e = absurd (cc)
@@ -212,7 +212,7 @@ less_end cs e = go (listed cs numeral) (listed cs end) e
 fairness : Keeps Law Free
 fairness = record {
   nothing_keeps = λ a. record { at = λ ts e. e };
-  one_keeps = λ cs e. record { at = one_fair cs left_out (less_end cs e) everywhere };
+  one_keeps = λ cs e. record { at = one_fair cs left_out_classes (less_end cs e) everywhere };
   mapped_keeps = mapped_fair;
   both_keeps = both_fair;
   choice_keeps = λ test r q s p e. choice_fair test r q s p;
@@ -223,9 +223,9 @@ fairness = record {
   trailing_keeps = λ go r q e. trailing_fair go r;
 }
 
-primary_fair : (e : Reads Term) (a : Reads ArgTerm) → Regular e → Regular a → Regular (primary_read e a)
+primary_fair : (e : TokenReader Term) (a : TokenReader ArgTerm) → Regular e → Regular a → Regular (primary_read e a)
 primary_fair e a =
-    primary_keeps Law Free fairness (λ c f h. mapped_fair f (one (is c)) (one (is c)) (record { at = one_fair (c ∷ []) left_out h everywhere }))
+    primary_keeps Law Free fairness (λ c f h. mapped_fair f (one (is c)) (one (is c)) (record { at = one_fair (c ∷ []) left_out_classes h everywhere }))
     (record { at = one_fair (open_bracket_sign ∷ []) left_out_of_expressions refl in_expressions }) (λ r q s p. choice_fair (is numeral) r q s p) e e a a
 
 expressions : (d : ℕ) → Regular (expr_read d) × Regular (operand_read d) × Regular (arg_in d (expr_read d))
@@ -238,16 +238,16 @@ expressions (suc d) =
     (one, unary_keeps Law Free fairness (expr_read d) (expr_read d) k.0 (operand_read d) (operand_read d) (primary_read (expr_read d) (arg_in d (expr_read d))) (primary_read (expr_read d) (arg_in d (expr_read d))) k.1 p, arg_keeps Law Free fairness (expr_read (suc d)) (expr_read (suc d)) one)
 
 params : (d : ℕ) → Regular (param_in d (expr_read d))
-params zero = nested_fair (name ∷ []) left_out everywhere
+params zero = nested_fair (name ∷ []) left_out_classes everywhere
 params (suc d) = param_keeps Law Free fairness (expr_read (suc d)) (expr_read (suc d)) (expressions (suc d)).0
 
 binders : (d : ℕ) → Regular (binder_in d (expr_read d))
-binders zero = nested_fair (name ∷ []) left_out everywhere
+binders zero = nested_fair (name ∷ []) left_out_classes everywhere
 binders (suc d) = binder_keeps Law Free fairness (expr_read (suc d)) (expr_read (suc d)) (expressions (suc d)).0
 
 pub regular_statements : (d : ℕ) → Regular (statement_read d) × Regular (body_read d)
 unfolding statement_read body_read
-regular_statements zero = (nested_fair firsts_of_statement left_out everywhere, nested_fair firsts_of_body left_out everywhere)
+regular_statements zero = (nested_fair firsts_of_statement left_out_classes everywhere, nested_fair firsts_of_body left_out_classes everywhere)
 regular_statements (suc d) =
     let k = regular_statements d in
     let e = expressions d in

@@ -3,7 +3,7 @@ use Rattle.std.proofs.Common.{◌≡◌, List, [], ◌∷◌, ◌++◌, Bool, tr
 use Rattle.scad_lexer.specs.declared.token.Token.{Token}
 use Rattle.scad_grammar.specs.Languages.{Language, One, Both, Many, Maybe, Behind, Separated, cons, first_of}
 use Rattle.scad_grammar.specs.Reading.{starts, both, trailing}
-use Rattle.scad_grammar.specs.Faults.{Reads}
+use Rattle.scad_grammar.specs.Faults.{TokenReader}
 use Rattle.scad_grammar.proofs.Readers.{IsReader, Opens, both_reads, same_reads}
 use Rattle.scad_grammar.proofs.Trailing.{Trailing, trailing_reads}
 
@@ -42,7 +42,7 @@ module _ {A : Type 0} (mark : Token → Bool) (L : Language A) where
       subst_item : (y : A) (l : List Token) → L y l → x ≡ y → L x l
       subst_item y l a e = subst (λ x. L x l) (sym e) a
 
-module _ {A : Type 0} (mark go : Token → Bool) (r : Reads A) (L W : Language A) (more : A → Token → Bool) (wide : Token → Bool) (ir : IsReader r L W more)
+module _ {A : Type 0} (mark go : Token → Bool) (r : TokenReader A) (L W : Language A) (more : A → Token → Bool) (wide : Token → Bool) (ir : IsReader r L W more)
     (first : Opens L go)
     (apart : (x : A) (rest : List Token) → starts mark rest ≡ true → starts (more x) rest ≡ false)
     (no_more : (x : A) (rest : List Token) → starts wide rest ≡ false → starts (more x) rest ≡ false)

@@ -8,7 +8,7 @@ use Rattle.scad_lexer.specs.declared.token.Symbol.TheVariants.{Caret}
 use Rattle.scad_ast.specs.Terms.{Term, ArgTerm, PositionalTerm, ParamTerm, BinderTerm, MarkTerm, StatementTerm, InstanceStatement, InstanceTerm, CoreTerm, BodyTerm, InstanceBody, EmptyBody, UndefTerm}
 use Rattle.scad_grammar.specs.Classes.{numeral, text, true_word, false_word, undef_word, child_count, special, argument_names, open_parenthesis_sign, close_parenthesis_sign, open_bracket_sign, close_bracket_sign, open_brace_sign, close_brace_sign, comma_sign, semicolon_sign, assign_sign, colon_sign, question_sign, dot_sign, minus_sign, plus_sign, not_sign, times_sign, remainder_sign, hash_sign, caret_sign, name, end, if_word, else_word, for_word, intersection_for_word, module_word, function_word, class_of, is, among}
 use Rattle.scad_grammar.specs.Languages.{Language, One, Mapped, Both, BothIf, EitherOf, Nothing, Many, Maybe, Never, Behind, Before, Separated, first_of, second_of, pair_of, cons}
-use Rattle.scad_grammar.specs.Grammar.{InParentheses, Arg, Args, Param, Params, Binder, Binders, Bracket, Primary, Suffix, Unary, Chain, Choice, whole, outline, ArgsIn, ParamsIn, BindersIn, StatementsIn, InstanceIn, Expr, Operand, Core, Instance, BodyOf, StatementOf, Statement, Body, WholeProgram, Outline, levels, chain_of, link, items, if_of, IsNearest, ends_open, instance_open, core_open, instance_of, loop_of, call_of, block_of}
+use Rattle.scad_grammar.specs.Grammar.{InParentheses, Arg, Args, Param, Params, Binder, Binders, Bracket, Primary, Suffix, Unary, Chain, Choice, whole, outline, ArgsIn, ParamsIn, BindersIn, StatementsIn, InstanceIn, Expr, Operand, Core, Instance, BodyOf, StatementOf, Statement, Body, WholeProgram, Outline, levels, chain_term, link, items, if_term, IsNearest, ends_open, instance_open, core_open, instance_term, loop_term, call_term, block_term}
 use Rattle.scad_grammar.specs.Depths.{Depths, deeper, one_depth, mapped_depths, both_depths, both_if_depths, of_either, either_depths, nothing_depths, of_many, many_depths, of_maybe, maybe_depths, never_depths, behind_depths, before_depths, separated_depths, parentheses_depths, arg_depths, args_depths, param_depths, params_depths, binders_depths, bracket_depths, primary_depths, suffix_depths, unary_depths, chain_depths, choice_depths, args_in_depths, params_in_depths, binders_in_depths, expr_depths, operand_depths, core_depths, instance_depths, body_of_depths, statement_of_depths, statements_in_depths, instance_in_depths, statement_depths, body_depths, program_depths, AllBelow}
 use Rattle.scad_grammar.specs.Reading.{starts}
 use Rattle.scad_grammar.specs.StatementReads.{firsts_of_statement, firsts_of_instance}
@@ -197,13 +197,13 @@ deeper_shows {A} {d} {o} {L} {W} {O} {D} h = record {
 -- an `if` with or without an `else`
 module _ (d : ℕ) (La Wa Oa : Language (Token × (Term × BodyTerm))) (D : Depths La) (h : Shows d (λ p. ends_open p.1.1) La D Wa Oa) (Lb Wb Ob : Language BodyTerm) (E : Depths Lb) (k : Shows d ends_open Lb E Wb Ob) where
   abbrev Outlines : Language CoreTerm
-  Outlines = BothIf if_of IsNearest Oa (Maybe Ob)
+  Outlines = BothIf if_term IsNearest Oa (Maybe Ob)
 
-  if_shown : (p : Token × (Term × BodyTerm)) (o : Option BodyTerm) (u v : List Token) (hp : La p u) (ho : Maybe Lb o v) → IsNearest p o → (c : CoreTerm) (s : List Token) → c ≡ if_of p o → s ≡ u ++ v
+  if_shown : (p : Token × (Term × BodyTerm)) (o : Option BodyTerm) (u v : List Token) (hp : La p u) (ho : Maybe Lb o v) → IsNearest p o → (c : CoreTerm) (s : List Token) → c ≡ if_term p o → s ≡ u ++ v
       → Shown d core_open Outlines c s (D.of p u hp ++ of_maybe Lb E o v ho)
   if_shown p None u v hp ho fit c s is e =
       let y = h.shown p u hp in (
-        if_of y.0 None,
+        if_term y.0 None,
         y.1 ++ [],
         (y.0, None, y.1, [], y.2, refl, tt, refl, refl),
         subst (λ s. Front d s (D.of p u hp ++ []) (y.1 ++ [])) (sym e) (front_joined d u (D.of p u hp) y.1 v [] [] y.3 (subst (λ v. Front d v [] []) (sym ho) refl)),
@@ -212,14 +212,14 @@ module _ (d : ℕ) (La Wa Oa : Language (Token × (Term × BodyTerm))) (D : Dept
   if_shown p (Some other) u v hp ho fit c s is e =
       let y = h.shown p u hp in
       let z = k.shown other v ho in (
-        if_of y.0 (Some z.0),
+        if_term y.0 (Some z.0),
         y.1 ++ z.1,
         (y.0, Some z.0, y.1, z.1, y.2, z.2, y.4 fit, refl, refl),
         subst (λ s. Front d s (D.of p u hp ++ E.of other v ho) (y.1 ++ z.1)) (sym e) (front_joined d u (D.of p u hp) y.1 v (E.of other v ho) z.1 y.3 z.3),
         λ o. z.4 (ap core_open (sym is) ∙ o),
       )
 
-  if_shows : Shows d core_open (BothIf if_of IsNearest La (Maybe Lb)) (both_if_depths if_of IsNearest D (maybe_depths E)) (BothIf if_of IsNearest Wa (Maybe Wb)) Outlines
+  if_shows : Shows d core_open (BothIf if_term IsNearest La (Maybe Lb)) (both_if_depths if_term IsNearest D (maybe_depths E)) (BothIf if_term IsNearest Wa (Maybe Wb)) Outlines
   unfolding both_if_depths maybe_depths
   if_shows = record {
     count = λ c s x. joined_length x.2 x.3 s (D.of x.0 x.2 x.4) (of_maybe Lb E x.1 x.3 x.5) (h.count x.0 x.2 x.4) (maybe_count d ends_open Lb Wb Ob E k x.1 x.3 x.5) x.8;
@@ -287,7 +287,7 @@ chain_shows : {d : ℕ} (below : List (List ℕ)) → operators below ≡ true �
 chain_shows [] a h = h
 chain_shows (ops ∷ below) a h =
     let parts = both_parts (apart ops (caret_sign ∷ [])) (operators below) a in
-    plain_shows chain_of (chain_shows below parts.1 h) (many_shows (plain_shows link (one_shows ops parts.0) (chain_shows below parts.1 h)))
+    plain_shows chain_term (chain_shows below parts.1 h) (many_shows (plain_shows link (one_shows ops parts.0) (chain_shows below parts.1 h)))
 
 module _ (d : ℕ) (L W O : Language Term) (D : Depths L) (e : Shows d closed L D W O) (As Bs Cs : Language (List ArgTerm)) (DA : Depths As) (a : Shows d closed As DA Bs Cs) (U V X : Language Term) (DU : Depths U) (u : Shows d closed U DU V X) where
   primary_shows : Shows (suc d) closed (Primary L As) (primary_depths D DA) (Primary W Bs) (Primary O Cs)
@@ -425,14 +425,14 @@ expr_shows zero d = no_expr d
 expr_shows (suc k) zero = zero_expr k (next_expr k zero (expr_shows k zero))
 expr_shows (suc k) (suc d) = next_expr k d (expr_shows k d)
 
-pub loop_open : (t : Token) (p : List BinderTerm × BodyTerm) → core_open (loop_of t p) ≡ ends_open p.1
+pub loop_open : (t : Token) (p : List BinderTerm × BodyTerm) → core_open (loop_term t p) ≡ ends_open p.1
 loop_open t p = go (is for_word t) refl
   where
-    go : (b : Bool) → is for_word t ≡ b → core_open (loop_of t p) ≡ ends_open p.1
+    go : (b : Bool) → is for_word t ≡ b → core_open (loop_term t p) ≡ ends_open p.1
     go true e = rw e refl
     go false e = rw e refl
 
-pub same_open : (ms : List MarkTerm) (core : CoreTerm) → instance_open (instance_of ms core) ≡ core_open core
+pub same_open : (ms : List MarkTerm) (core : CoreTerm) → instance_open (instance_term ms core) ≡ core_open core
 same_open [] core = refl
 same_open (m ∷ ms) core = refl
 
@@ -444,17 +444,17 @@ module _ (d : ℕ) (E E1 E2 : Language Term) (DE : Depths E) (e : Shows d closed
       (second_shows pair_of (λ p. ends_open p.1.1) (λ t p. refl) (is_shows if_word refl) (second_shows pair_of (λ p. ends_open p.1) (λ x y. refl) (parentheses_shows e) (deeper_shows b)))
       _ _ _ _ (behind_shows else_word refl (deeper_shows b)))
       (either_shows
-      (second_shows loop_of core_open loop_open (one_shows (for_word ∷ intersection_for_word ∷ []) refl) (second_shows pair_of (λ p. ends_open p.1) (λ x y. refl) (parentheses_shows n) (deeper_shows b)))
-      (second_shows call_of core_open (λ t p. refl) (is_shows name refl) (second_shows pair_of (λ p. ends_open p.1) (λ x y. refl) (parentheses_shows a) (deeper_shows b))))
+      (second_shows loop_term core_open loop_open (one_shows (for_word ∷ intersection_for_word ∷ []) refl) (second_shows pair_of (λ p. ends_open p.1) (λ x y. refl) (parentheses_shows n) (deeper_shows b)))
+      (second_shows call_term core_open (λ t p. refl) (is_shows name refl) (second_shows pair_of (λ p. ends_open p.1) (λ x y. refl) (parentheses_shows a) (deeper_shows b))))
 
   instance_shows : Shows (suc d) instance_open (Instance E As Ns B) (instance_depths DE DA DN DB) (Instance E1 A1 N1 B1) (Instance E2 A2 N2 B2)
-  instance_shows = second_shows instance_of instance_open same_open (many_shows (plain_mapped _ (one_shows (times_sign ∷ remainder_sign ∷ hash_sign ∷ not_sign ∷ []) refl))) core_shows
+  instance_shows = second_shows instance_term instance_open same_open (many_shows (plain_mapped _ (one_shows (times_sign ∷ remainder_sign ∷ hash_sign ∷ not_sign ∷ []) refl))) core_shows
 
 module _ (d : ℕ) (I I1 I2 : Language InstanceTerm) (DI : Depths I) (i : Shows (suc d) instance_open I DI I1 I2) (Ss S1 S2 : Language (List StatementTerm)) (DS : Depths Ss) (s : Shows d closed Ss DS S1 S2) where
   body_of_shows : Shows (suc d) ends_open (BodyOf I Ss) (body_of_depths DI DS) (BodyOf I1 S1) (BodyOf I2 S2)
   body_of_shows =
       either_shows (mapped_shows _ ends_open (λ x y p e. refl) (is_shows semicolon_sign refl))
-      (either_shows (both_shows block_of ends_open (λ x y z w p q e. refl) (is_shows open_brace_sign refl) (before_shows close_brace_sign refl (deeper_shows s)))
+      (either_shows (both_shows block_term ends_open (λ x y z w p q e. refl) (is_shows open_brace_sign refl) (before_shows close_brace_sign refl (deeper_shows s)))
       (mapped_shows InstanceBody ends_open (λ x y p e. p e) i))
 
   statement_of_shows : (X X1 X2 : Language Term) (DX : Depths X) → Shows (suc d) closed X DX X1 X2 → (Ps P1 P2 : Language (List ParamTerm)) (DP : Depths Ps) → Shows d closed Ps DP P1 P2 → (B B1 B2 : Language BodyTerm) (DB : Depths B) → Shows d ends_open B DB B1 B2
@@ -502,7 +502,7 @@ next_body k d b =
 
 body_of_some : (I : Language InstanceTerm) (Ss : Language (List StatementTerm)) → Opens I (among firsts_of_instance) → (x : BodyTerm) → BodyOf I Ss x [] → ⊥
 body_of_some I Ss opens x (inl h) = not_empty (Mapped (λ t. EmptyBody t.place) (One (is semicolon_sign))) (is semicolon_sign) (mapped_opens (λ t. EmptyBody t.place) (One (is semicolon_sign)) (is semicolon_sign) (one_opens (is semicolon_sign))) x h
-body_of_some I Ss opens x (inr (inl h)) = not_empty (Both block_of (One (is open_brace_sign)) (Before Ss (is close_brace_sign))) (is open_brace_sign) (both_opens block_of (One (is open_brace_sign)) (Before Ss (is close_brace_sign)) (is open_brace_sign) (one_opens (is open_brace_sign))) x h
+body_of_some I Ss opens x (inr (inl h)) = not_empty (Both block_term (One (is open_brace_sign)) (Before Ss (is close_brace_sign))) (is open_brace_sign) (both_opens block_term (One (is open_brace_sign)) (Before Ss (is close_brace_sign)) (is open_brace_sign) (one_opens (is open_brace_sign))) x h
 body_of_some I Ss opens x (inr (inr h)) = not_empty (Mapped InstanceBody I) (among firsts_of_instance) (mapped_opens InstanceBody I (among firsts_of_instance) opens) x h
 
 body_some : (k : ℕ) (x : BodyTerm) → Body whole (suc k) x [] → ⊥

@@ -7,13 +7,13 @@ use Rattle.scad_lexer.specs.declared.token.Symbol.TheVariants.{OpenParenthesis, 
 use Rattle.scad_ast.specs.Terms.{Term, ArgTerm, ParamTerm, BinderTerm, StatementTerm, EmptyStatement, BlockStatement, AssignmentTerm, SpecialAssignmentTerm, ModuleTerm, FunctionTerm, InstanceStatement, InstanceTerm, BodyTerm, EmptyBody, InstanceBody}
 use Rattle.scad_grammar.specs.Classes.{name, special, end, module_word, function_word, if_word, else_word, for_word, intersection_for_word, close_parenthesis_sign, open_brace_sign, close_brace_sign, semicolon_sign, assign_sign, among, is, other_than, class_of}
 use Rattle.scad_grammar.specs.Languages.{Language, One, Mapped, Both, EitherOf, Nothing, Many, Never, Behind, Before, second_of, pair_of}
-use Rattle.scad_grammar.specs.Grammar.{binder_of, param_of, mark_of, if_of, loop_of, call_of, instance_of, Binders, InParentheses, Param, Params, Binder, Core, Instance, BodyOf, StatementOf, Detail, whole, BindersIn, ParamsIn, StatementsIn, InstanceIn, Expr, Statement, Body, WholeProgram, block_of, bare_block_of, assignment_of, special_assignment_of, module_of, function_of, ends_open, instance_open}
+use Rattle.scad_grammar.specs.Grammar.{binder_term, param_term, mark_term, if_term, loop_term, call_term, instance_term, Binders, InParentheses, Param, Params, Binder, Core, Instance, BodyOf, StatementOf, Detail, whole, BindersIn, ParamsIn, StatementsIn, InstanceIn, Expr, Statement, Body, WholeProgram, block_term, bare_block_term, assignment_term, special_assignment_term, module_term, function_term, ends_open, instance_open}
 use Rattle.scad_grammar.specs.Reading.{Read, starts, mapped, both, choice, ahead, many}
 use Rattle.scad_grammar.specs.declared.SyntaxFault.{SyntaxFault}
-use Rattle.scad_grammar.specs.Faults.{Reads, one, fault_of, left_out}
+use Rattle.scad_grammar.specs.Faults.{TokenReader, one, fault_of, left_out_classes}
 use Rattle.scad_grammar.specs.declared.SyntaxFault.TheVariants.{Nested}
 use Rattle.scad_grammar.specs.Reads.{nested, head_of, in_parentheses, arg_in, expr_read}
-use Rattle.scad_grammar.specs.StatementReads.{mark_signs, loop_words, firsts_of_core, firsts_of_instance, firsts_of_body, firsts_of_statement, param_read, binder_read, params_read, binders_read, braces_read, body_over, module_read, ended_read, function_read, definition_read, assigned, special_read, statement_over, param_in, binder_in, instance_in, statement_read, body_read, program_read}
+use Rattle.scad_grammar.specs.StatementReads.{mark_signs, loop_words, firsts_of_core, firsts_of_instance, firsts_of_body, firsts_of_statement, param_read, binder_read, params_read, binders_read, braces_read, body_over, module_read, ended_read, function_read, definition_read, assignment_behind, special_read, statement_over, param_in, binder_in, instance_in, statement_read, body_read, program_read}
 use Rattle.scad_grammar.proofs.Readers.{IsReader, Opens, Begins, both_reads, choice_reads, mapped_reads, same_reads, many_reads, both_opens, either_opens, mapped_opens, one_opens, never_starts}
 use Rattle.scad_grammar.proofs.Greedy.{Stops, both_stops, mapped_stops, choice_stops}
 use Rattle.scad_grammar.proofs.Ahead.{Ahead, two, rest_of, ahead_reads}
@@ -73,19 +73,19 @@ abbrev Braces : Language (List StatementTerm) → Language (List StatementTerm)
 Braces Ss = Before Ss (is close_brace_sign)
 
 abbrev ModuleForm : Language (List ParamTerm) → Language BodyTerm → Language StatementTerm
-ModuleForm Ps B = Both module_of (One (is module_word)) (Both pair_of (One (is name)) (Both pair_of (InParentheses Ps) B))
+ModuleForm Ps B = Both module_term (One (is module_word)) (Both pair_of (One (is name)) (Both pair_of (InParentheses Ps) B))
 
 abbrev FunctionForm : Language Term → Language (List ParamTerm) → Language StatementTerm
-FunctionForm X Ps = Both function_of (One (is function_word)) (Both pair_of (One (is name)) (Both pair_of (InParentheses Ps) (Behind (is assign_sign) (Ended X))))
+FunctionForm X Ps = Both function_term (One (is function_word)) (Both pair_of (One (is name)) (Both pair_of (InParentheses Ps) (Behind (is assign_sign) (Ended X))))
 
 abbrev Definition : Language Term → Language (List ParamTerm) → Language BodyTerm → Language InstanceTerm → Language StatementTerm
 Definition X Ps B I = EitherOf (ModuleForm Ps B) (EitherOf (FunctionForm X Ps) (Mapped InstanceStatement I))
 
 abbrev Assigned : Language Term → Language StatementTerm
-Assigned X = Both assignment_of (One (is name)) (Behind (is assign_sign) (Ended X))
+Assigned X = Both assignment_term (One (is name)) (Behind (is assign_sign) (Ended X))
 
 abbrev SpecialAssigned : Language Term → Language StatementTerm
-SpecialAssigned X = Both special_assignment_of (One (is special)) (Behind (is assign_sign) (Ended X))
+SpecialAssigned X = Both special_assignment_term (One (is special)) (Behind (is assign_sign) (Ended X))
 
 -- parameters in parentheses, and something behind them
 abbrev Signed : {A : Type 0} → Language (List ParamTerm) → Language A → Language (List ParamTerm × A)
@@ -102,10 +102,10 @@ some_called : {A : Type 0} (W : Language A) → Some_of W → Some_of (Both pair
 some_called W some = (token (Name []) ∷ some.0, (token (Name []), some.1), (token (Name []), some.1, token (Name []) ∷ [], some.0, (refl, refl), some.2, refl, refl))
 
 module_opens : (Ps : Language (List ParamTerm)) (B : Language BodyTerm) → Opens (ModuleForm Ps B) (is module_word)
-module_opens Ps B = both_opens module_of (One (is module_word)) _ (is module_word) (one_opens (is module_word))
+module_opens Ps B = both_opens module_term (One (is module_word)) _ (is module_word) (one_opens (is module_word))
 
 function_opens : (X : Language Term) (Ps : Language (List ParamTerm)) → Opens (FunctionForm X Ps) (is function_word)
-function_opens X Ps = both_opens function_of (One (is function_word)) _ (is function_word) (one_opens (is function_word))
+function_opens X Ps = both_opens function_term (One (is function_word)) _ (is function_word) (one_opens (is function_word))
 
 abbrev bare_firsts : List ℕ
 bare_firsts = name ∷ module_word ∷ function_word ∷ firsts_of_instance
@@ -121,14 +121,14 @@ definition_opens X Ps B I o =
 named_opens : (X : Language Term) (Ps : Language (List ParamTerm)) (B : Language BodyTerm) (I : Language InstanceTerm) → Opens I (among firsts_of_instance) → Opens (EitherOf (Assigned X) (Definition X Ps B I)) (among bare_firsts)
 named_opens X Ps B I o =
     either_opens (Assigned X) (Definition X Ps B I) (among bare_firsts)
-    (λ x s rest h. next_within (name ∷ []) bare_firsts refl (s ++ rest) (both_opens assignment_of (One (is name)) _ (is name) (one_opens (is name)) x s rest h))
+    (λ x s rest h. next_within (name ∷ []) bare_firsts refl (s ++ rest) (both_opens assignment_term (One (is name)) _ (is name) (one_opens (is name)) x s rest h))
     (definition_opens X Ps B I o)
 
 special_opens : (X : Language Term) → Opens (SpecialAssigned X) (is special)
-special_opens X = both_opens special_assignment_of (One (is special)) (Behind (is assign_sign) (Ended X)) (is special) (one_opens (is special))
+special_opens X = both_opens special_assignment_term (One (is special)) (Behind (is assign_sign) (Ended X)) (is special) (one_opens (is special))
 
 abbrev BareBlock : Language (List StatementTerm) → Language StatementTerm
-BareBlock Ss = Both bare_block_of (One (is open_brace_sign)) (Braces Ss)
+BareBlock Ss = Both bare_block_term (One (is open_brace_sign)) (Braces Ss)
 
 abbrev Empty : Language StatementTerm
 Empty = Mapped (λ t. EmptyStatement t.place) (One (is semicolon_sign))
@@ -137,7 +137,7 @@ empty_opens : Opens Empty (is semicolon_sign)
 empty_opens = mapped_opens (λ t. EmptyStatement t.place) (One (is semicolon_sign)) (is semicolon_sign) (one_opens (is semicolon_sign))
 
 bare_opens : (Ss : Language (List StatementTerm)) → Opens (BareBlock Ss) (is open_brace_sign)
-bare_opens Ss = both_opens bare_block_of (One (is open_brace_sign)) (Braces Ss) (is open_brace_sign) (one_opens (is open_brace_sign))
+bare_opens Ss = both_opens bare_block_term (One (is open_brace_sign)) (Braces Ss) (is open_brace_sign) (one_opens (is open_brace_sign))
 
 -- an assignment or a definition
 abbrev Valued : Language Term → Language (List ParamTerm) → Language BodyTerm → Language InstanceTerm → Language StatementTerm
@@ -182,13 +182,13 @@ pub statement_depth_opens : (d : ℕ) → Opens (Statement whole d) (among first
 statement_depth_opens = statement_at_opens whole
 
 -- s reads a statement
-pub statements_reads : (s : Reads StatementTerm) (S R : Language StatementTerm) → IsReader s S R statement_more → Opens S (among firsts_of_statement) → IsReader (many (among firsts_of_statement) s) (Many S) (Many R) (λ xs. among statements_more)
+pub statements_reads : (s : TokenReader StatementTerm) (S R : Language StatementTerm) → IsReader s S R statement_more → Opens S (among firsts_of_statement) → IsReader (many (among firsts_of_statement) s) (Many S) (Many R) (λ xs. among statements_more)
 statements_reads s S R is_s os =
     many_reads (among firsts_of_statement) s S R statement_more (among statements_more) is_s os (λ x. not_else (statement_open x) firsts_of_statement refl)
     (λ x rest h. open_less (statement_open x) rest (next_less (else_word ∷ []) statements_more refl rest h)) (next_less firsts_of_statement statements_more refl)
 
 -- as many as there are
-module _ (s : Reads StatementTerm) (Ss Sw : Language (List StatementTerm)) (iss : IsReader (many (among firsts_of_statement) s) Ss Sw (λ xs. among statements_more)) (some_ss : Some_of Sw) where
+module _ (s : TokenReader StatementTerm) (Ss Sw : Language (List StatementTerm)) (iss : IsReader (many (among firsts_of_statement) s) Ss Sw (λ xs. among statements_more)) (some_ss : Some_of Sw) where
   braces_reads : IsReader (braces_read s) (Braces Ss) (Braces Sw) (λ x t. false)
   braces_reads = before_reads (many (among firsts_of_statement) s) Ss Sw close_brace_sign (λ xs. among statements_more) close_brace_one (token (Symbol CloseBrace)) refl iss (λ x. next_apart (close_brace_sign ∷ []) statements_more refl)
 
@@ -196,43 +196,43 @@ module _ (s : Reads StatementTerm) (Ss Sw : Language (List StatementTerm)) (iss 
   some_braces = some_before Sw close_brace_sign (token (Symbol CloseBrace)) refl some_ss
 
   -- i reads an instance
-  module _ (i : Reads InstanceTerm) (I J : Language InstanceTerm) (ii : IsReader i I J instance_more) (si : Stops i instance_more) (oi : Opens I (among firsts_of_instance)) where
+  module _ (i : TokenReader InstanceTerm) (I J : Language InstanceTerm) (ii : IsReader i I J instance_more) (si : Stops i instance_more) (oi : Opens I (among firsts_of_instance)) where
     abbrev EmptyOne : Language BodyTerm
     EmptyOne = Mapped (λ t. EmptyBody t.place) (One (is semicolon_sign))
 
     abbrev BlockOne : Language (List StatementTerm) → Language BodyTerm
-    BlockOne Ss = Both block_of (One (is open_brace_sign)) (Braces Ss)
+    BlockOne Ss = Both block_term (One (is open_brace_sign)) (Braces Ss)
 
     instance_body_opens : Opens (EitherOf (BlockOne Ss) (Mapped InstanceBody I)) (among (open_brace_sign ∷ firsts_of_instance))
     instance_body_opens =
         either_opens (BlockOne Ss) (Mapped InstanceBody I) (among (open_brace_sign ∷ firsts_of_instance))
-        (λ x s rest h. next_within (open_brace_sign ∷ []) (open_brace_sign ∷ firsts_of_instance) refl (s ++ rest) (both_opens block_of (One (is open_brace_sign)) (Braces Ss) (is open_brace_sign) (one_opens (is open_brace_sign)) x s rest h))
+        (λ x s rest h. next_within (open_brace_sign ∷ []) (open_brace_sign ∷ firsts_of_instance) refl (s ++ rest) (both_opens block_term (One (is open_brace_sign)) (Braces Ss) (is open_brace_sign) (one_opens (is open_brace_sign)) x s rest h))
         (λ x s rest h. next_within firsts_of_instance (open_brace_sign ∷ firsts_of_instance) refl (s ++ rest) (mapped_opens InstanceBody I (among firsts_of_instance) oi x s rest h))
 
-    block_reads : IsReader (both block_of (one (is open_brace_sign)) (braces_read s)) (BlockOne Ss) (BlockOne Sw) body_more
-    block_reads = then (braces_read s) (Braces Ss) (Braces Sw) (is open_brace_sign) (λ x t. false) body_more block_of open_brace_one braces_reads some_braces (λ t y rest h. h)
+    block_reads : IsReader (both block_term (one (is open_brace_sign)) (braces_read s)) (BlockOne Ss) (BlockOne Sw) body_more
+    block_reads = then (braces_read s) (Braces Ss) (Braces Sw) (is open_brace_sign) (λ x t. false) body_more block_term open_brace_one braces_reads some_braces (λ t y rest h. h)
 
     pub body_reads : IsReader (body_over s i) (EitherOf EmptyOne (EitherOf (BlockOne Ss) (Mapped InstanceBody I))) (EitherOf EmptyOne (EitherOf (BlockOne Sw) (Mapped InstanceBody J))) body_more
     body_reads =
-        choice_reads (is semicolon_sign) (mapped (λ t. EmptyBody t.place) (one (is semicolon_sign))) (choice (is open_brace_sign) (both block_of (one (is open_brace_sign)) (braces_read s)) (mapped InstanceBody i)) EmptyOne EmptyOne (EitherOf (BlockOne Ss) (Mapped InstanceBody I)) (EitherOf (BlockOne Sw) (Mapped InstanceBody J)) body_more
+        choice_reads (is semicolon_sign) (mapped (λ t. EmptyBody t.place) (one (is semicolon_sign))) (choice (is open_brace_sign) (both block_term (one (is open_brace_sign)) (braces_read s)) (mapped InstanceBody i)) EmptyOne EmptyOne (EitherOf (BlockOne Ss) (Mapped InstanceBody I)) (EitherOf (BlockOne Sw) (Mapped InstanceBody J)) body_more
         (mapped_reads (λ t. EmptyBody t.place) (one (is semicolon_sign)) (One (is semicolon_sign)) (One (is semicolon_sign)) (λ x t. false) body_more semicolon_one (λ x rest h. never_starts rest))
-        (choice_reads (is open_brace_sign) (both block_of (one (is open_brace_sign)) (braces_read s)) (mapped InstanceBody i) (BlockOne Ss) (BlockOne Sw) (Mapped InstanceBody I) (Mapped InstanceBody J) body_more block_reads
+        (choice_reads (is open_brace_sign) (both block_term (one (is open_brace_sign)) (braces_read s)) (mapped InstanceBody i) (BlockOne Ss) (BlockOne Sw) (Mapped InstanceBody I) (Mapped InstanceBody J) body_more block_reads
         (mapped_reads InstanceBody i I J instance_more body_more ii (λ x rest h. h))
-        (both_opens block_of (One (is open_brace_sign)) (Braces Ss) (is open_brace_sign) (one_opens (is open_brace_sign)))
+        (both_opens block_term (One (is open_brace_sign)) (Braces Ss) (is open_brace_sign) (one_opens (is open_brace_sign)))
         (λ x s rest h k. next_apart firsts_of_instance (open_brace_sign ∷ []) refl (s ++ rest) (mapped_opens InstanceBody I (among firsts_of_instance) oi x s rest h)))
         (mapped_opens (λ t. EmptyBody t.place) (One (is semicolon_sign)) (is semicolon_sign) (one_opens (is semicolon_sign)))
         (λ x s rest h k. next_apart (open_brace_sign ∷ firsts_of_instance) (semicolon_sign ∷ []) refl (s ++ rest) (instance_body_opens x s rest h))
 
     pub body_stops : Stops (body_over s i) body_more
     body_stops =
-        choice_stops (is semicolon_sign) (mapped (λ t. EmptyBody t.place) (one (is semicolon_sign))) (choice (is open_brace_sign) (both block_of (one (is open_brace_sign)) (braces_read s)) (mapped InstanceBody i)) body_more
+        choice_stops (is semicolon_sign) (mapped (λ t. EmptyBody t.place) (one (is semicolon_sign))) (choice (is open_brace_sign) (both block_term (one (is open_brace_sign)) (braces_read s)) (mapped InstanceBody i)) body_more
         (mapped_stops (λ t. EmptyBody t.place) (one (is semicolon_sign)) (λ x t. false) body_more (λ ts x rest h. never_starts rest) (λ x rest h. h))
-        (choice_stops (is open_brace_sign) (both block_of (one (is open_brace_sign)) (braces_read s)) (mapped InstanceBody i) body_more
-        (both_stops block_of (one (is open_brace_sign)) (braces_read s) (λ x t. false) body_more (λ ts x rest h. never_starts rest) (λ t y rest h. h))
+        (choice_stops (is open_brace_sign) (both block_term (one (is open_brace_sign)) (braces_read s)) (mapped InstanceBody i) body_more
+        (both_stops block_term (one (is open_brace_sign)) (braces_read s) (λ x t. false) body_more (λ ts x rest h. never_starts rest) (λ t y rest h. h))
         (mapped_stops InstanceBody i instance_more body_more si (λ x rest h. h)))
 
     -- x reads an expression, m a parameter and b a body
-    module _ (x : Reads Term) (m : Reads ParamTerm) (b : Reads BodyTerm) (X Y : Language Term) (Ps Pw : Language (List ParamTerm)) (B C : Language BodyTerm)
+    module _ (x : TokenReader Term) (m : TokenReader ParamTerm) (b : TokenReader BodyTerm) (X Y : Language Term) (Ps Pw : Language (List ParamTerm)) (B C : Language BodyTerm)
         (ix : IsReader x X Y (λ x. among expression_more)) (ips : IsReader (params_read m) Ps Pw (λ x. other_than closes)) (some_ps : Some_of Pw) (ib : IsReader b B C body_more) (sb : Stops b body_more) (some_x : Some_of Y) (some_b : Some_of C)
         (unlike : (c : InstanceTerm) (s rest : List Token) → I c s → two (is name) (is assign_sign) (s ++ rest) ≡ false) (moves : (t : Token) → is name t ≡ true → rest_of (mapped InstanceStatement i (t ∷ [])) ≡ []) where
       ended_reads : IsReader (ended_read x) (Ended X) (Ended Y) (λ x t. false)
@@ -250,21 +250,21 @@ module _ (s : Reads StatementTerm) (Ss Sw : Language (List StatementTerm)) (iss 
       in_reads : IsReader (in_parentheses (params_read m)) (InParentheses Ps) (InParentheses Pw) (λ x t. false)
       in_reads = in_parentheses_reads (params_read m) Ps Pw (λ x. other_than closes) ips some_ps (λ x. close_ends closes)
 
-      signed_reads : {A : Type 0} (r : Reads A) (L W : Language A) (more : A → Token → Bool) → IsReader r L W more → Some_of W → IsReader (both pair_of (in_parentheses (params_read m)) r) (Signed Ps L) (Signed Pw W) (λ p. more p.1)
+      signed_reads : {A : Type 0} (r : TokenReader A) (L W : Language A) (more : A → Token → Bool) → IsReader r L W more → Some_of W → IsReader (both pair_of (in_parentheses (params_read m)) r) (Signed Ps L) (Signed Pw W) (λ p. more p.1)
       signed_reads r L W more ir some = both_reads pair_of (in_parentheses (params_read m)) r (InParentheses Ps) (InParentheses Pw) L W (λ x t. false) more (λ p. more p.1) in_reads ir some (λ x y s rest h k. never_starts (s ++ rest)) (λ x y rest h. h)
 
-      called_reads : {A : Type 0} (r : Reads A) (L W : Language A) (more : A → Token → Bool) → IsReader r L W more → Some_of W → IsReader (both pair_of (one (is name)) r) (Both pair_of (One (is name)) L) (Both pair_of (One (is name)) W) (λ p. more p.1)
+      called_reads : {A : Type 0} (r : TokenReader A) (L W : Language A) (more : A → Token → Bool) → IsReader r L W more → Some_of W → IsReader (both pair_of (one (is name)) r) (Both pair_of (One (is name)) L) (Both pair_of (One (is name)) W) (λ p. more p.1)
       called_reads r L W more ir some = then r L W (is name) more (λ p. more p.1) pair_of name_one ir some (λ t y rest h. h)
 
       module_reads : IsReader (module_read m b) (ModuleForm Ps B) (ModuleForm Pw C) statement_more
       module_reads =
-          then (both pair_of (one (is name)) (both pair_of (in_parentheses (params_read m)) b)) (Both pair_of (One (is name)) (Signed Ps B)) (Both pair_of (One (is name)) (Signed Pw C)) (is module_word) (λ p. body_more p.1.1) statement_more module_of module_one
+          then (both pair_of (one (is name)) (both pair_of (in_parentheses (params_read m)) b)) (Both pair_of (One (is name)) (Signed Ps B)) (Both pair_of (One (is name)) (Signed Pw C)) (is module_word) (λ p. body_more p.1.1) statement_more module_term module_one
           (called_reads (both pair_of (in_parentheses (params_read m)) b) (Signed Ps B) (Signed Pw C) (λ p. body_more p.1) (signed_reads b B C body_more ib some_b) (some_signed Pw C some_ps some_b))
           (some_called (Signed Pw C) (some_signed Pw C some_ps some_b)) (λ t y rest h. h)
 
       function_reads : IsReader (function_read x m) (FunctionForm X Ps) (FunctionForm Y Pw) statement_more
       function_reads =
-          then (both pair_of (one (is name)) (both pair_of (in_parentheses (params_read m)) (both second_of (one (is assign_sign)) (ended_read x)))) (Both pair_of (One (is name)) (Signed Ps (Behind (is assign_sign) (Ended X)))) (Both pair_of (One (is name)) (Signed Pw (Behind (is assign_sign) (Ended Y)))) (is function_word) (λ p t. false) statement_more function_of function_one
+          then (both pair_of (one (is name)) (both pair_of (in_parentheses (params_read m)) (both second_of (one (is assign_sign)) (ended_read x)))) (Both pair_of (One (is name)) (Signed Ps (Behind (is assign_sign) (Ended X)))) (Both pair_of (One (is name)) (Signed Pw (Behind (is assign_sign) (Ended Y)))) (is function_word) (λ p t. false) statement_more function_term function_one
           (called_reads (both pair_of (in_parentheses (params_read m)) (both second_of (one (is assign_sign)) (ended_read x))) (Signed Ps (Behind (is assign_sign) (Ended X))) (Signed Pw (Behind (is assign_sign) (Ended Y))) (λ p t. false)
           (signed_reads (both second_of (one (is assign_sign)) (ended_read x)) (Behind (is assign_sign) (Ended X)) (Behind (is assign_sign) (Ended Y)) (λ x t. false) valued_reads some_valued) (some_signed Pw (Behind (is assign_sign) (Ended Y)) some_ps some_valued))
           (some_called (Signed Pw (Behind (is assign_sign) (Ended Y))) (some_signed Pw (Behind (is assign_sign) (Ended Y)) some_ps some_valued)) (λ t y rest h. h)
@@ -299,40 +299,40 @@ module _ (s : Reads StatementTerm) (Ss Sw : Language (List StatementTerm)) (iss 
           ∙ ap rest_of (choice_second (is function_word) (function_read x m) (mapped InstanceStatement i) (t ∷ []) (next_apart (name ∷ []) (function_word ∷ []) refl (t ∷ []) h))
           ∙ moves t h
 
-      named_to : (Z : Language Term) (D : Language StatementTerm) (c : StatementTerm) (s : List Token) → Ahead assigned (is name) (is assign_sign) (Ended Z) D c s → EitherOf (Assigned Z) D c s
-      named_to Z D c s (inl h) = inl (two_to assignment_of (is name) (is assign_sign) (Ended Z) c s h)
+      named_to : (Z : Language Term) (D : Language StatementTerm) (c : StatementTerm) (s : List Token) → Ahead assignment_behind (is name) (is assign_sign) (Ended Z) D c s → EitherOf (Assigned Z) D c s
+      named_to Z D c s (inl h) = inl (two_to assignment_term (is name) (is assign_sign) (Ended Z) c s h)
       named_to Z D c s (inr h) = inr h
 
-      named_from : (Z : Language Term) (D : Language StatementTerm) (c : StatementTerm) (s : List Token) → EitherOf (Assigned Z) D c s → Ahead assigned (is name) (is assign_sign) (Ended Z) D c s
-      named_from Z D c s (inl h) = inl (two_from assignment_of (is name) (is assign_sign) (Ended Z) c s h)
+      named_from : (Z : Language Term) (D : Language StatementTerm) (c : StatementTerm) (s : List Token) → EitherOf (Assigned Z) D c s → Ahead assignment_behind (is name) (is assign_sign) (Ended Z) D c s
+      named_from Z D c s (inl h) = inl (two_from assignment_term (is name) (is assign_sign) (Ended Z) c s h)
       named_from Z D c s (inr h) = inr h
 
-      named_reads : IsReader (ahead assigned (is name) (is assign_sign) (ended_read x) (definition_read x m b i)) (EitherOf (Assigned X) (Definition X Ps B I)) (EitherOf (Assigned Y) (Definition Y Pw C J)) statement_more
+      named_reads : IsReader (ahead assignment_behind (is name) (is assign_sign) (ended_read x) (definition_read x m b i)) (EitherOf (Assigned X) (Definition X Ps B I)) (EitherOf (Assigned Y) (Definition Y Pw C J)) statement_more
       named_reads =
-          same_reads (ahead assigned (is name) (is assign_sign) (ended_read x) (definition_read x m b i)) (Ahead assigned (is name) (is assign_sign) (Ended X) (Definition X Ps B I)) (Ahead assigned (is name) (is assign_sign) (Ended Y) (Definition Y Pw C J)) (EitherOf (Assigned X) (Definition X Ps B I)) (EitherOf (Assigned Y) (Definition Y Pw C J)) statement_more
-          (ahead_reads assigned (is name) (is assign_sign) (ended_read x) (definition_read x m b i) (Ended X) (Ended Y) (Definition X Ps B I) (Definition Y Pw C J) (λ x t. false) statement_more ended_reads definition_reads
+          same_reads (ahead assignment_behind (is name) (is assign_sign) (ended_read x) (definition_read x m b i)) (Ahead assignment_behind (is name) (is assign_sign) (Ended X) (Definition X Ps B I)) (Ahead assignment_behind (is name) (is assign_sign) (Ended Y) (Definition Y Pw C J)) (EitherOf (Assigned X) (Definition X Ps B I)) (EitherOf (Assigned Y) (Definition Y Pw C J)) statement_more
+          (ahead_reads assignment_behind (is name) (is assign_sign) (ended_read x) (definition_read x m b i) (Ended X) (Ended Y) (Definition X Ps B I) (Definition Y Pw C J) (λ x t. false) statement_more ended_reads definition_reads
           (λ t u x rest h. h) definition_moves (λ c s rest h k. definition_unlike c s rest h))
           (named_to X (Definition X Ps B I)) (named_from X (Definition X Ps B I)) (named_to Y (Definition Y Pw C J))
 
       special_reads : IsReader (special_read x) (SpecialAssigned X) (SpecialAssigned Y) statement_more
       special_reads =
-          then (both second_of (one (is assign_sign)) (ended_read x)) (Behind (is assign_sign) (Ended X)) (Behind (is assign_sign) (Ended Y)) (is special) (λ x t. false) statement_more special_assignment_of special_one valued_reads some_valued (λ t y rest h. h)
+          then (both second_of (one (is assign_sign)) (ended_read x)) (Behind (is assign_sign) (Ended X)) (Behind (is assign_sign) (Ended Y)) (is special) (λ x t. false) statement_more special_assignment_term special_one valued_reads some_valued (λ t y rest h. h)
 
-      assigned_reads : IsReader (choice (is special) (special_read x) (ahead assigned (is name) (is assign_sign) (ended_read x) (definition_read x m b i))) (Valued X Ps B I) (Valued Y Pw C J) statement_more
+      assigned_reads : IsReader (choice (is special) (special_read x) (ahead assignment_behind (is name) (is assign_sign) (ended_read x) (definition_read x m b i))) (Valued X Ps B I) (Valued Y Pw C J) statement_more
       assigned_reads =
-          choice_reads (is special) (special_read x) (ahead assigned (is name) (is assign_sign) (ended_read x) (definition_read x m b i)) (SpecialAssigned X) (SpecialAssigned Y) (EitherOf (Assigned X) (Definition X Ps B I)) (EitherOf (Assigned Y) (Definition Y Pw C J)) statement_more
+          choice_reads (is special) (special_read x) (ahead assignment_behind (is name) (is assign_sign) (ended_read x) (definition_read x m b i)) (SpecialAssigned X) (SpecialAssigned Y) (EitherOf (Assigned X) (Definition X Ps B I)) (EitherOf (Assigned Y) (Definition Y Pw C J)) statement_more
           special_reads named_reads (special_opens X)
           (λ x s rest h k. next_apart bare_firsts (special ∷ []) refl (s ++ rest) (named_opens X Ps B I oi x s rest h))
 
-      bare_reads : IsReader (both bare_block_of (one (is open_brace_sign)) (braces_read s)) (BareBlock Ss) (BareBlock Sw) statement_more
-      bare_reads = then (braces_read s) (Braces Ss) (Braces Sw) (is open_brace_sign) (λ x t. false) statement_more bare_block_of open_brace_one braces_reads some_braces (λ t y rest h. h)
+      bare_reads : IsReader (both bare_block_term (one (is open_brace_sign)) (braces_read s)) (BareBlock Ss) (BareBlock Sw) statement_more
+      bare_reads = then (braces_read s) (Braces Ss) (Braces Sw) (is open_brace_sign) (λ x t. false) statement_more bare_block_term open_brace_one braces_reads some_braces (λ t y rest h. h)
 
       pub statement_reads : IsReader (statement_over x m s b i) (EitherOf Empty (EitherOf (BareBlock Ss) (Valued X Ps B I))) (EitherOf Empty (EitherOf (BareBlock Sw) (Valued Y Pw C J))) statement_more
       statement_reads =
-          choice_reads (is semicolon_sign) (mapped (λ t. EmptyStatement t.place) (one (is semicolon_sign))) (choice (is open_brace_sign) (both bare_block_of (one (is open_brace_sign)) (braces_read s)) (choice (is special) (special_read x) (ahead assigned (is name) (is assign_sign) (ended_read x) (definition_read x m b i))))
+          choice_reads (is semicolon_sign) (mapped (λ t. EmptyStatement t.place) (one (is semicolon_sign))) (choice (is open_brace_sign) (both bare_block_term (one (is open_brace_sign)) (braces_read s)) (choice (is special) (special_read x) (ahead assignment_behind (is name) (is assign_sign) (ended_read x) (definition_read x m b i))))
           Empty Empty (EitherOf (BareBlock Ss) (Valued X Ps B I)) (EitherOf (BareBlock Sw) (Valued Y Pw C J)) statement_more
           (mapped_reads (λ t. EmptyStatement t.place) (one (is semicolon_sign)) (One (is semicolon_sign)) (One (is semicolon_sign)) (λ x t. false) statement_more semicolon_one (λ x rest h. h))
-          (choice_reads (is open_brace_sign) (both bare_block_of (one (is open_brace_sign)) (braces_read s)) (choice (is special) (special_read x) (ahead assigned (is name) (is assign_sign) (ended_read x) (definition_read x m b i))) (BareBlock Ss) (BareBlock Sw) (Valued X Ps B I) (Valued Y Pw C J) statement_more
+          (choice_reads (is open_brace_sign) (both bare_block_term (one (is open_brace_sign)) (braces_read s)) (choice (is special) (special_read x) (ahead assignment_behind (is name) (is assign_sign) (ended_read x) (definition_read x m b i))) (BareBlock Ss) (BareBlock Sw) (Valued X Ps B I) (Valued Y Pw C J) statement_more
           bare_reads assigned_reads (bare_opens Ss)
           (λ x s rest h k. next_apart valued_firsts (open_brace_sign ∷ []) refl (s ++ rest) (valued_opens X Ps B I oi x s rest h)))
           empty_opens
@@ -344,18 +344,18 @@ module _ (E : Language Term) (As : Language (List ArgTerm)) (Ns : Language (List
   begins_core t h =
       elim (either_listed (if_word ∷ []) (for_word ∷ intersection_for_word ∷ name ∷ []) (class_of t.kind) h) [
         | inl a ↦ let k = some_headed B E some_b some_e in
-            (k.0, if_of (t, k.1) None, inl ((t, k.1), None, t ∷ k.0, [], (t, k.1, t ∷ [], k.0, (a, refl), k.2, refl, refl), refl, tt, refl, sym (append-nil (t ∷ k.0))))
+            (k.0, if_term (t, k.1) None, inl ((t, k.1), None, t ∷ k.0, [], (t, k.1, t ∷ [], k.0, (a, refl), k.2, refl, refl), refl, tt, refl, sym (append-nil (t ∷ k.0))))
         | inr h ↦ elim (either_listed loop_words (name ∷ []) (class_of t.kind) h) [
-          | inl a ↦ let k = some_headed B Ns some_b some_ns in (k.0, loop_of t k.1, inr (inl (t, k.1, t ∷ [], k.0, (a, refl), k.2, refl, refl)))
-          | inr a ↦ let k = some_headed B As some_b some_as in (k.0, call_of t k.1, inr (inr (t, k.1, t ∷ [], k.0, (a, refl), k.2, refl, refl)))
+          | inl a ↦ let k = some_headed B Ns some_b some_ns in (k.0, loop_term t k.1, inr (inl (t, k.1, t ∷ [], k.0, (a, refl), k.2, refl, refl)))
+          | inr a ↦ let k = some_headed B As some_b some_as in (k.0, call_term t k.1, inr (inr (t, k.1, t ∷ [], k.0, (a, refl), k.2, refl, refl)))
         ]
       ]
 
   pub begins_instance : (t : Token) → among firsts_of_instance t ≡ true → Begins (Instance E As Ns B) (t ∷ [])
   begins_instance t h =
       elim (either_listed mark_signs firsts_of_core (class_of t.kind) h) [
-        | inl a ↦ let k = some_core E As Ns B some_as some_b in (k.0, instance_of (mark_of t ∷ []) k.1, (mark_of t ∷ [], k.1, t ∷ [], k.0, (t ∷ [], [], (t, (a, refl), refl), refl, refl), k.2, refl, refl))
-        | inr a ↦ let k = begins_core t a in (k.0, instance_of [] k.1, ([], k.1, [], t ∷ k.0, refl, k.2, refl, refl))
+        | inl a ↦ let k = some_core E As Ns B some_as some_b in (k.0, instance_term (mark_term t ∷ []) k.1, (mark_term t ∷ [], k.1, t ∷ [], k.0, (t ∷ [], [], (t, (a, refl), refl), refl, refl), k.2, refl, refl))
+        | inr a ↦ let k = begins_core t a in (k.0, instance_term [] k.1, ([], k.1, [], t ∷ k.0, refl, k.2, refl, refl))
       ]
 
   module _ (Ss : Language (List StatementTerm)) (some_ss : Some_of Ss) where
@@ -367,7 +367,7 @@ module _ (E : Language Term) (As : Language (List ArgTerm)) (Ns : Language (List
         elim (either_listed (semicolon_sign ∷ []) (open_brace_sign ∷ firsts_of_instance) (class_of t.kind) h) [
           | inl a ↦ ([], EmptyBody t.place, inl (t, (a, refl), refl))
           | inr h ↦ elim (either_listed (open_brace_sign ∷ []) firsts_of_instance (class_of t.kind) h) [
-            | inl a ↦ (braces.0, block_of t braces.1, inr (inl (t, braces.1, t ∷ [], braces.0, (a, refl), braces.2, refl, refl)))
+            | inl a ↦ (braces.0, block_term t braces.1, inr (inl (t, braces.1, t ∷ [], braces.0, (a, refl), braces.2, refl, refl)))
             | inr a ↦ let k = begins_instance t a in (k.0, InstanceBody k.1, inr (inr (k.1, k.2, refl)))
           ]
         ]
@@ -381,15 +381,15 @@ module _ (E : Language Term) (As : Language (List ArgTerm)) (Ns : Language (List
       pub begins_statement : (t : Token) → among firsts_of_statement t ≡ true → Begins (StatementOf X Ps (Instance E As Ns B) Ss B) (t ∷ [])
       begins_statement t h =
           elim (either_listed (module_word ∷ []) (function_word ∷ special ∷ firsts_of_body) (class_of t.kind) h) [
-            | inl a ↦ let k = some_called (Signed Ps B) (some_signed Ps B some_ps some_b) in (k.0, module_of t k.1, inr (inr (inr (inr (inl (t, k.1, t ∷ [], k.0, (a, refl), k.2, refl, refl))))))
+            | inl a ↦ let k = some_called (Signed Ps B) (some_signed Ps B some_ps some_b) in (k.0, module_term t k.1, inr (inr (inr (inr (inl (t, k.1, t ∷ [], k.0, (a, refl), k.2, refl, refl))))))
             | inr h ↦ elim (either_listed (function_word ∷ []) (special ∷ firsts_of_body) (class_of t.kind) h) [
-              | inl a ↦ let k = some_called (Signed Ps (Behind (is assign_sign) (Ended X))) (some_signed Ps (Behind (is assign_sign) (Ended X)) some_ps some_value) in (k.0, function_of t k.1, inr (inr (inr (inr (inr (inl (t, k.1, t ∷ [], k.0, (a, refl), k.2, refl, refl)))))))
+              | inl a ↦ let k = some_called (Signed Ps (Behind (is assign_sign) (Ended X))) (some_signed Ps (Behind (is assign_sign) (Ended X)) some_ps some_value) in (k.0, function_term t k.1, inr (inr (inr (inr (inr (inl (t, k.1, t ∷ [], k.0, (a, refl), k.2, refl, refl)))))))
               | inr h ↦ elim (either_listed (special ∷ []) firsts_of_body (class_of t.kind) h) [
-                | inl a ↦ (some_value.0, special_assignment_of t some_value.1, inr (inr (inl (t, some_value.1, t ∷ [], some_value.0, (a, refl), some_value.2, refl, refl))))
+                | inl a ↦ (some_value.0, special_assignment_term t some_value.1, inr (inr (inl (t, some_value.1, t ∷ [], some_value.0, (a, refl), some_value.2, refl, refl))))
                 | inr h ↦ elim (either_listed (semicolon_sign ∷ []) (open_brace_sign ∷ firsts_of_instance) (class_of t.kind) h) [
                   | inl a ↦ ([], EmptyStatement t.place, inl (t, (a, refl), refl))
                   | inr h ↦ elim (either_listed (open_brace_sign ∷ []) firsts_of_instance (class_of t.kind) h) [
-                    | inl a ↦ (braces.0, bare_block_of t braces.1, inr (inl (t, braces.1, t ∷ [], braces.0, (a, refl), braces.2, refl, refl)))
+                    | inl a ↦ (braces.0, bare_block_term t braces.1, inr (inl (t, braces.1, t ∷ [], braces.0, (a, refl), braces.2, refl, refl)))
                     | inr a ↦ let k = begins_instance t a in (k.0, InstanceStatement k.1, inr (inr (inr (inr (inr (inr (k.1, k.2, refl)))))))
                   ]
                 ]
@@ -430,17 +430,17 @@ some_statements g zero = ([], [], (refl, refl))
 some_statements g (suc d) = ([], [], refl)
 
 -- where no parameter, variable or statement fits any more
-no_params : (Q : Language (List ParamTerm)) → IsReader (params_read (nested (name ∷ []) left_out)) (Params Never) Q (λ x. other_than closes) → IsReader (params_read (nested (name ∷ []) left_out)) (Nothing []) Q (λ x. other_than closes)
-no_params Q i = same_reads (params_read (nested (name ∷ []) left_out)) (Params Never) Q (Nothing []) Q (λ x. other_than closes) i none (λ x s h. inr h) (λ x s h. h)
+no_params : (Q : Language (List ParamTerm)) → IsReader (params_read (nested (name ∷ []) left_out_classes)) (Params Never) Q (λ x. other_than closes) → IsReader (params_read (nested (name ∷ []) left_out_classes)) (Nothing []) Q (λ x. other_than closes)
+no_params Q i = same_reads (params_read (nested (name ∷ []) left_out_classes)) (Params Never) Q (Nothing []) Q (λ x. other_than closes) i none (λ x s h. inr h) (λ x s h. h)
   where
     none : (x : List ParamTerm) (s : List Token) → Params Never x s → Nothing [] x s
     none x s (inl h) = elim h.4.4 [ ]
     none x s (inr h) = h
 
-no_binders : (Q : Language (List BinderTerm)) → IsReader (binders_read (nested (name ∷ []) left_out)) (Binders Never) Q (λ x. other_than closes) → IsReader (binders_read (nested (name ∷ []) left_out)) Never Q (λ x. other_than closes)
-no_binders Q i = same_reads (binders_read (nested (name ∷ []) left_out)) (Binders Never) Q Never Q (λ x. other_than closes) i (λ x s h. elim h.4.4.5.5 [ ]) (λ x s h. elim h [ ]) (λ x s h. h)
+no_binders : (Q : Language (List BinderTerm)) → IsReader (binders_read (nested (name ∷ []) left_out_classes)) (Binders Never) Q (λ x. other_than closes) → IsReader (binders_read (nested (name ∷ []) left_out_classes)) Never Q (λ x. other_than closes)
+no_binders Q i = same_reads (binders_read (nested (name ∷ []) left_out_classes)) (Binders Never) Q Never Q (λ x. other_than closes) i (λ x s h. elim h.4.4.5.5 [ ]) (λ x s h. elim h [ ]) (λ x s h. h)
 
-no_statements : (r : Reads StatementTerm) (Q : Language (List StatementTerm)) → IsReader (many (among firsts_of_statement) r) (Many Never) Q (λ xs. among statements_more) → IsReader (many (among firsts_of_statement) r) (Nothing []) Q (λ xs. among statements_more)
+no_statements : (r : TokenReader StatementTerm) (Q : Language (List StatementTerm)) → IsReader (many (among firsts_of_statement) r) (Many Never) Q (λ xs. among statements_more) → IsReader (many (among firsts_of_statement) r) (Nothing []) Q (λ xs. among statements_more)
 no_statements r Q i = same_reads (many (among firsts_of_statement) r) (Many Never) Q (Nothing []) Q (λ xs. among statements_more) i none some (λ x s h. h)
   where
     none : (x : List StatementTerm) (s : List Token) → Many Never x s → Nothing [] x s
@@ -451,7 +451,7 @@ no_statements r Q i = same_reads (many (among firsts_of_statement) r) (Many Neve
     some [] s h = h.1
     some (x ∷ xs) s h = absurd (let e = h.0 in cc)
 
-statements_in_reads : (d : ℕ) (s : Reads StatementTerm) (R : Language StatementTerm) → IsReader s (Statement whole d) R statement_more → IsReader (many (among firsts_of_statement) s) (StatementsAt whole d) (Many R) (λ xs. among statements_more)
+statements_in_reads : (d : ℕ) (s : TokenReader StatementTerm) (R : Language StatementTerm) → IsReader s (Statement whole d) R statement_more → IsReader (many (among firsts_of_statement) s) (StatementsAt whole d) (Many R) (λ xs. among statements_more)
 unfolding Statement Body
 statements_in_reads zero s R i = no_statements s (Many R) (statements_reads s (Statement whole zero) R i (statement_at_opens whole zero))
 statements_in_reads (suc d) s R i = statements_reads s (Statement whole (suc d)) R i (statement_at_opens whole (suc d))
@@ -459,31 +459,31 @@ statements_in_reads (suc d) s R i = statements_reads s (Statement whole (suc d))
 params_in_reads : (d : ℕ) → IsReader (params_read (param_in d (expr_read d))) (ParamsAt whole d) (ParamsAt whole (suc (suc d))) (λ x. other_than closes)
 params_in_reads zero =
     no_params (ParamsAt whole 2)
-    (params_reads (nested (name ∷ []) left_out) Never (Param (ExprIn 2))
-    (nested_reads (name ∷ []) left_out Never (Param (ExprIn 2)) (λ x. among arg_more) (λ x s h. h)
-    (λ t h. ([], param_of t None, (t, None, t ∷ [], [], (h, refl), refl, refl, refl)))
-    (token (Name []) ∷ [], param_of (token (Name [])) None, (token (Name []), None, token (Name []) ∷ [], [], (refl, refl), refl, refl, refl))) (λ x s rest h. elim h [ ]))
+    (params_reads (nested (name ∷ []) left_out_classes) Never (Param (ExprIn 2))
+    (nested_reads (name ∷ []) left_out_classes Never (Param (ExprIn 2)) (λ x. among arg_more) (λ x s h. h)
+    (λ t h. ([], param_term t None, (t, None, t ∷ [], [], (h, refl), refl, refl, refl)))
+    (token (Name []) ∷ [], param_term (token (Name [])) None, (token (Name []), None, token (Name []) ∷ [], [], (refl, refl), refl, refl, refl))) (λ x s rest h. elim h [ ]))
 params_in_reads (suc d) = params_reads (param_read (expr_read (suc d))) (Param (ExprIn (suc d))) (Param (ExprIn (suc (suc (suc d))))) (param_reads (expr_read (suc d)) (ExprIn (suc d)) (ExprIn (suc (suc (suc d)))) (depth_reads (suc d)).0 (some_expr whole (suc (suc d)))) (param_opens (ExprIn (suc d)))
 
 begun_binder : (F : Language Term) → Some_of F → (t : Token) → is name t ≡ true → Begins (Binder F) (t ∷ [])
 begun_binder F some t h =
     let u : Token = token (Symbol Assign) in
-    (u ∷ some.0, binder_of t some.1, (t, some.1, t ∷ [], u ∷ some.0, (h, refl), (u, some.1, u ∷ [], some.0, (refl, refl), some.2, refl, refl), refl, refl))
+    (u ∷ some.0, binder_term t some.1, (t, some.1, t ∷ [], u ∷ some.0, (h, refl), (u, some.1, u ∷ [], some.0, (refl, refl), some.2, refl, refl), refl, refl))
 
 binders_in_reads : (d : ℕ) → IsReader (binders_read (binder_in d (expr_read d))) (BindersAt whole d) (BindersAt whole (suc (suc d))) (λ x. other_than closes)
 binders_in_reads zero =
     let k = begun_binder (ExprIn 2) (some_expr whole 1) (token (Name [])) refl in
     no_binders (BindersAt whole 2)
-    (binders_reads (nested (name ∷ []) left_out) Never (ExprIn 2)
-    (nested_reads (name ∷ []) left_out (Binder Never) (Binder (ExprIn 2)) (λ x. among expression_more) (λ x s h. h.5.5) (begun_binder (ExprIn 2) (some_expr whole 1)) (token (Name []) ∷ k.0, k.1, k.2)))
+    (binders_reads (nested (name ∷ []) left_out_classes) Never (ExprIn 2)
+    (nested_reads (name ∷ []) left_out_classes (Binder Never) (Binder (ExprIn 2)) (λ x. among expression_more) (λ x s h. h.5.5) (begun_binder (ExprIn 2) (some_expr whole 1)) (token (Name []) ∷ k.0, k.1, k.2)))
 binders_in_reads (suc d) = binders_reads (binder_read (expr_read (suc d))) (ExprIn (suc d)) (ExprIn (suc (suc (suc d)))) (binder_reads (expr_read (suc d)) (ExprIn (suc d)) (ExprIn (suc (suc (suc d)))) (depth_reads (suc d)).0 (some_expr whole (suc (suc d))))
 
-instance_in_reads : (d : ℕ) (b : Reads BodyTerm) (B C : Language BodyTerm) → IsReader b B C body_more → Stops b body_more → Some_of C → IsReader (instance_in d b) (InstanceIn whole d B) (InstanceIn whole (suc (suc d)) C) instance_more
+instance_in_reads : (d : ℕ) (b : TokenReader BodyTerm) (B C : Language BodyTerm) → IsReader b B C body_more → Stops b body_more → Some_of C → IsReader (instance_in d b) (InstanceIn whole d B) (InstanceIn whole (suc (suc d)) C) instance_more
 instance_in_reads d b B C ib sb some =
     instance_reads b B C ib sb some (expr_read d) (arg_in d (expr_read d)) (binders_read (binder_in d (expr_read d))) (ExprIn d) (ExprIn (suc (suc d))) (ArgsAt whole d) (ArgsAt whole (suc (suc d))) (BindersAt whole d) (BindersAt whole (suc (suc d)))
     (depth_reads d).0 (depth_reads d).2 (binders_in_reads d) (some_expr whole (suc d)) (some_args whole (suc (suc d))) (some_binders_at whole (suc d))
 
-instance_in_stops : (d : ℕ) (b : Reads BodyTerm) (B C : Language BodyTerm) → IsReader b B C body_more → Stops b body_more → Some_of C → Stops (instance_in d b) instance_more
+instance_in_stops : (d : ℕ) (b : TokenReader BodyTerm) (B C : Language BodyTerm) → IsReader b B C body_more → Stops b body_more → Some_of C → Stops (instance_in d b) instance_more
 instance_in_stops d b B C ib sb some =
     instance_stops b B C ib sb some (expr_read d) (arg_in d (expr_read d)) (binders_read (binder_in d (expr_read d))) (ExprIn d) (ExprIn (suc (suc d))) (ArgsAt whole d) (ArgsAt whole (suc (suc d))) (BindersAt whole d) (BindersAt whole (suc (suc d)))
     (depth_reads d).0 (depth_reads d).2 (binders_in_reads d) (some_expr whole (suc d)) (some_args whole (suc (suc d))) (some_binders_at whole (suc d))
@@ -492,17 +492,17 @@ instance_in_stops d b B C ib sb some =
 pub statement_depth_reads : (d : ℕ) → IsReader (statement_read d) (Statement whole d) (Statement whole (suc (suc d))) statement_more × IsReader (body_read d) (Body whole d) (Body whole (suc (suc d))) body_more × Stops (body_read d) body_more
 unfolding Statement Body statement_read body_read
 statement_depth_reads zero = (
-  nested_reads firsts_of_statement left_out Never (Statement whole 2) statement_more (λ x s h. h)
+  nested_reads firsts_of_statement left_out_classes Never (Statement whole 2) statement_more (λ x s h. h)
       (begins_statement (ExprIn 1) (ArgsAt whole 1) (BindersAt whole 1) (Body whole 1) (some_expr whole 0) (some_args whole 1) (some_binders_at whole 0) (some_body whole 0) (StatementsAt whole 1) (some_statements whole 1) (ExprIn 2) (ParamsAt whole 1) (some_expr whole 1) (some_params_at whole 1)) (some_statement whole 1),
-  nested_reads firsts_of_body left_out Never (Body whole 2) body_more (λ x s h. h)
+  nested_reads firsts_of_body left_out_classes Never (Body whole 2) body_more (λ x s h. h)
       (begins_body (ExprIn 1) (ArgsAt whole 1) (BindersAt whole 1) (Body whole 1) (some_expr whole 0) (some_args whole 1) (some_binders_at whole 0) (some_body whole 0) (StatementsAt whole 1) (some_statements whole 1)) (some_body whole 1),
   nested_stops,
 )
   where
-    nested_stops : Stops (nested {A = BodyTerm} firsts_of_body left_out) body_more
+    nested_stops : Stops (nested {A = BodyTerm} firsts_of_body left_out_classes) body_more
     nested_stops ts x rest e = never (starts (among firsts_of_body) ts) e
       where
-        never : (v : Bool) → cond {A = Read Token SyntaxFault BodyTerm} v (Err (Nested, ts)) (Err (fault_of left_out (head_of ts), ts)) ≡ Ok (x, rest) → starts (body_more x) rest ≡ false
+        never : (v : Bool) → cond {A = Read Token SyntaxFault BodyTerm} v (Err (Nested, ts)) (Err (fault_of left_out_classes (head_of ts), ts)) ≡ Ok (x, rest) → starts (body_more x) rest ≡ false
         never true e = absurd (cc)
         never false e = absurd (cc)
 statement_depth_reads (suc d) =

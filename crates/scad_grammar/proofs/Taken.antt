@@ -3,7 +3,7 @@ use Rattle.std.proofs.Common.{◌≡◌, ℕ, suc, List, [], ◌∷◌, ◌++◌
 use Rattle.scad_lexer.specs.declared.token.Token.{Token}
 use Rattle.scad_ast.specs.Terms.{Term, NumberTerm, TextTerm, TruthTerm, UndefTerm, ChildCountTerm, SpecialTerm, NameTerm, CallTerm, ParenTerm, ListTerm, RangeTerm, SteppedRangeTerm, PostfixTerm, UnaryTerm, ChainTerm, ChoiceTerm, Terms, no_terms, and_term, ArgTerms, no_args, and_named, and_special, and_positional, SuffixTerms, no_suffixes, and_index, and_member, LinkTerms, no_links, and_link, LinkTerm, SuffixTerm, IndexTerm, MemberTerm, ArgTerm, NamedTerm, SpecialArgTerm, PositionalTerm, terms_from, links_from, suffixes_from, args_from, ParamTerm, PlainTerm, DefaultTerm, BinderTerm, MarkTerm, StatementTerm, EmptyStatement, BlockStatement, AssignmentTerm, SpecialAssignmentTerm, ModuleTerm, FunctionTerm, InstanceStatement, StatementTerms, no_statements, and_statement, InstanceTerm, AnInstance, CoreTerm, IfTerm, IfElseTerm, ForTerm, IntersectionForTerm, ModuleCallTerm, BodyTerm, EmptyBody, BlockBody, InstanceBody, statements_from}
 use Rattle.scad_grammar.specs.Classes.{comma_sign, for_word, special, is}
-use Rattle.scad_grammar.specs.Grammar.{Rest, items, range, stepped, chain_of, choice_of, postfix_of, named_of, bracket_of, given_of, param_of, instance_of, loop_of, if_of}
+use Rattle.scad_grammar.specs.Grammar.{Rest, items, range, stepped_range, chain_term, choice_term, postfix_term, name_term, bracket_term, given_term, param_term, instance_term, loop_term, if_term}
 
 -- the depths of the first tokens, and what stands behind them
 abbrev pub Taken : Type 0
@@ -114,13 +114,13 @@ argument (PositionalTerm x) = term x
 abbrev pub rest_taken : Rest → Takes
 rest_taken (items xs) = and_then (each (more term) xs) last_comma
 rest_taken (range to) = and_then one (term to)
-rest_taken (stepped step to) = and_then one (and_then (term step) (and_then one (term to)))
+rest_taken (stepped_range step to) = and_then one (and_then (term step) (and_then one (term to)))
 
 -- behind the colon of a range
 abbrev pub range_taken : Rest → Takes
 range_taken (items xs) = none
 range_taken (range to) = term to
-range_taken (stepped step to) = and_then (term step) (and_then one (term to))
+range_taken (stepped_range step to) = and_then (term step) (and_then one (term to))
 
 abbrev pub parameter : ParamTerm → Takes
 parameter (PlainTerm at called) = one
@@ -221,61 +221,61 @@ statements_taken [] ts = refl
 statements_taken (s ∷ ss) ts = same_front (statement s) (statements (statements_from ss)) (each statement ss) (statements_taken ss) ts
 
 -- of what productions make
-pub chain_taken : (x : Term) (ls : List LinkTerm) (ts : List Token) → term (chain_of x ls) ts ≡ and_then (term x) (each link_taken ls) ts
+pub chain_taken : (x : Term) (ls : List LinkTerm) (ts : List Token) → term (chain_term x ls) ts ≡ and_then (term x) (each link_taken ls) ts
 chain_taken x [] ts = then_none (term x) ts
 chain_taken x (l ∷ ls) ts = same_front (term x) (links (links_from (l ∷ ls))) (each link_taken (l ∷ ls)) (links_taken (l ∷ ls)) ts
 
-pub postfix_taken : (x : Term) (ss : List SuffixTerm) (ts : List Token) → term (postfix_of x ss) ts ≡ and_then (term x) (each suffix_taken ss) ts
+pub postfix_taken : (x : Term) (ss : List SuffixTerm) (ts : List Token) → term (postfix_term x ss) ts ≡ and_then (term x) (each suffix_taken ss) ts
 postfix_taken x [] ts = then_none (term x) ts
 postfix_taken x (s ∷ ss) ts = same_front (term x) (suffixes (suffixes_from (s ∷ ss))) (each suffix_taken (s ∷ ss)) (suffixes_taken (s ∷ ss)) ts
 
 abbrev pub sides : Token × (Term × Term) → Takes
 sides p = and_then one (and_then (deep (term p.1.0)) (and_then one (deep (term p.1.1))))
 
-pub choice_taken : (x : Term) (o : Option (Token × (Term × Term))) (ts : List Token) → term (choice_of x o) ts ≡ and_then (term x) (perhaps sides o) ts
+pub choice_taken : (x : Term) (o : Option (Token × (Term × Term))) (ts : List Token) → term (choice_term x o) ts ≡ and_then (term x) (perhaps sides o) ts
 choice_taken x None ts = then_none (term x) ts
 choice_taken x (Some p) ts = refl
 
-pub named_taken : (t : Token) (o : Option (List ArgTerm)) (ts : List Token) → term (named_of t o) ts ≡ and_then one (perhaps (λ xs. in_pair (separated argument xs)) o) ts
+pub named_taken : (t : Token) (o : Option (List ArgTerm)) (ts : List Token) → term (name_term t o) ts ≡ and_then one (perhaps (λ xs. in_pair (separated argument xs)) o) ts
 named_taken t None ts = refl
 named_taken t (Some xs) ts = same_front one (in_pair (arguments (args_from xs))) (in_pair (separated argument xs)) (same_pair (arguments (args_from xs)) (separated argument xs) (arguments_taken xs)) ts
 
 abbrev pub inner_taken : Option (Term × Rest) → Takes
 inner_taken = perhaps (λ p. and_then (term p.0) (rest_taken p.1))
 
-pub bracket_taken : (t : Token) (o : Option (Term × Rest)) (ts : List Token) → term (bracket_of t o) ts ≡ in_pair (inner_taken o) ts
+pub bracket_taken : (t : Token) (o : Option (Term × Rest)) (ts : List Token) → term (bracket_term t o) ts ≡ in_pair (inner_taken o) ts
 bracket_taken t None ts = refl
 bracket_taken t (Some (x, items xs)) ts =
     same_pair (listed_terms (terms_from (x ∷ xs))) (and_then (term x) (and_then (each (more term) xs) last_comma))
     (same_front (term x) (more_terms (terms_from xs)) (and_then (each (more term) xs) last_comma) (terms_taken xs)) ts
 bracket_taken t (Some (x, range to)) ts = refl
-bracket_taken t (Some (x, stepped step to)) ts = refl
+bracket_taken t (Some (x, stepped_range step to)) ts = refl
 
-pub given_taken : (t : Token) (x : Term) (ts : List Token) → argument (given_of t x) ts ≡ and_then one (and_then one (term x)) ts
+pub given_taken : (t : Token) (x : Term) (ts : List Token) → argument (given_term t x) ts ≡ and_then one (and_then one (term x)) ts
 given_taken t x ts = go (is special t) refl
   where
-    go : (b : Bool) → is special t ≡ b → argument (given_of t x) ts ≡ and_then one (and_then one (term x)) ts
+    go : (b : Bool) → is special t ≡ b → argument (given_term t x) ts ≡ and_then one (and_then one (term x)) ts
     go true e = rw e refl
     go false e = rw e refl
 
-pub parameter_taken : (t : Token) (o : Option Term) (ts : List Token) → parameter (param_of t o) ts ≡ and_then one (perhaps (λ x. and_then one (term x)) o) ts
+pub parameter_taken : (t : Token) (o : Option Term) (ts : List Token) → parameter (param_term t o) ts ≡ and_then one (perhaps (λ x. and_then one (term x)) o) ts
 parameter_taken t None ts = refl
 parameter_taken t (Some x) ts = refl
 
-pub instance_taken : (ms : List MarkTerm) (c : CoreTerm) (ts : List Token) → instance (instance_of ms c) ts ≡ and_then (each (λ m. one) ms) (core c) ts
+pub instance_taken : (ms : List MarkTerm) (c : CoreTerm) (ts : List Token) → instance (instance_term ms c) ts ≡ and_then (each (λ m. one) ms) (core c) ts
 instance_taken [] c ts = refl
 instance_taken (m ∷ ms) c ts = refl
 
 abbrev pub tested : Token × (Term × BodyTerm) → Takes
 tested p = and_then one (and_then (in_pair (term p.1.0)) (deep (body p.1.1)))
 
-pub if_taken : (p : Token × (Term × BodyTerm)) (o : Option BodyTerm) (ts : List Token) → core (if_of p o) ts ≡ and_then (tested p) (perhaps (λ b. and_then one (deep (body b))) o) ts
+pub if_taken : (p : Token × (Term × BodyTerm)) (o : Option BodyTerm) (ts : List Token) → core (if_term p o) ts ≡ and_then (tested p) (perhaps (λ b. and_then one (deep (body b))) o) ts
 if_taken p None ts = then_none (tested p) ts
 if_taken p (Some b) ts = refl
 
-pub loop_taken : (t : Token) (p : List BinderTerm × BodyTerm) (ts : List Token) → core (loop_of t p) ts ≡ and_then one (and_then (in_pair (separated binder p.0)) (deep (body p.1))) ts
+pub loop_taken : (t : Token) (p : List BinderTerm × BodyTerm) (ts : List Token) → core (loop_term t p) ts ≡ and_then one (and_then (in_pair (separated binder p.0)) (deep (body p.1))) ts
 loop_taken t p ts = go (is for_word t) refl
   where
-    go : (b : Bool) → is for_word t ≡ b → core (loop_of t p) ts ≡ and_then one (and_then (in_pair (separated binder p.0)) (deep (body p.1))) ts
+    go : (b : Bool) → is for_word t ≡ b → core (loop_term t p) ts ≡ and_then one (and_then (in_pair (separated binder p.0)) (deep (body p.1))) ts
     go true e = rw e refl
     go false e = rw e refl

@@ -4,7 +4,7 @@ use Rattle.scad_lexer.specs.declared.token.Token.{Token}
 use Rattle.scad_ast.specs.Terms.{Term, ArgTerm, PositionalTerm, ParamTerm, BinderTerm, StatementTerm, InstanceStatement, InstanceTerm, BodyTerm, InstanceBody, statements_from}
 use Rattle.scad_grammar.specs.Classes.{numeral, text, true_word, false_word, undef_word, child_count, special, open_parenthesis_sign, close_parenthesis_sign, open_bracket_sign, close_bracket_sign, open_brace_sign, close_brace_sign, comma_sign, semicolon_sign, assign_sign, colon_sign, question_sign, dot_sign, name, end, if_word, else_word, for_word, intersection_for_word, module_word, function_word, class_of, is, among}
 use Rattle.scad_grammar.specs.Languages.{Language, One, Mapped, Both, BothIf, EitherOf, Nothing, Many, Maybe, Never, Behind, Before, Separated, first_of, second_of, pair_of, cons}
-use Rattle.scad_grammar.specs.Grammar.{InParentheses, items, range_of, Arg, Args, Param, Params, Binders, Bracket, Primary, Suffix, Unary, Chain, Choice, whole, ArgsIn, ParamsIn, BindersIn, StatementsIn, InstanceIn, Expr, Operand, Core, Instance, BodyOf, StatementOf, Statement, Body, WholeProgram, levels, link, chain_of, choice_of, unary_of, postfix_of, index_of, member_of, named_of, paren_of, bracket_of, given_of, param_of, binder_of, if_of, IsNearest, instance_of, loop_of, call_of, block_of, bare_block_of, assignment_of, special_assignment_of, module_of, function_of}
+use Rattle.scad_grammar.specs.Grammar.{InParentheses, items, range_rest, Arg, Args, Param, Params, Binders, Bracket, Primary, Suffix, Unary, Chain, Choice, whole, ArgsIn, ParamsIn, BindersIn, StatementsIn, InstanceIn, Expr, Operand, Core, Instance, BodyOf, StatementOf, Statement, Body, WholeProgram, levels, link, chain_term, choice_term, unary_term, postfix_term, index_term, member_term, name_term, paren_term, bracket_term, given_term, param_term, binder_term, if_term, IsNearest, instance_term, loop_term, call_term, block_term, bare_block_term, assignment_term, special_assignment_term, module_term, function_term}
 use Rattle.scad_grammar.specs.Reading.{starts}
 use Rattle.scad_grammar.specs.Depths.{Depths, deeper, one_depth, mapped_depths, both_depths, both_if_depths, of_either, either_depths, nothing_depths, of_many, many_depths, of_maybe, maybe_depths, never_depths, behind_depths, before_depths, separated_depths, parentheses_depths, arg_depths, args_depths, param_depths, params_depths, binders_depths, bracket_depths, primary_depths, suffix_depths, unary_depths, chain_depths, choice_depths, args_in_depths, params_in_depths, binders_in_depths, expr_depths, operand_depths, core_depths, instance_depths, body_of_depths, statement_of_depths, statements_in_depths, instance_in_depths, statement_depths, body_depths, program_depths, HasDepths}
 use Rattle.scad_grammar.proofs.Tests.{apart, classes_apart}
@@ -52,12 +52,12 @@ any_walks : {A B C : Type 0} (f : A → B → C) (wa : A → Takes) (wb : B → 
 any_walks f wa wb wc same h k = both_walks f wa wb wc (λ a b p q ts x y. same a b ts) (λ b q r x n. tt) h k
 
 if_walks : (wa : Token × (Term × BodyTerm) → Takes) (wb : Option BodyTerm → Takes) {La : Language (Token × (Term × BodyTerm))} {Lb : Language (Option BodyTerm)} {D : Depths La} {E : Depths Lb}
-    → ((a : Token × (Term × BodyTerm)) (b : Option BodyTerm) (ts : List Token) → core (if_of a b) ts ≡ and_then (wa a) (wb b) ts)
-    → Walks wa any La D → Walks wb any Lb E → Walks core any (BothIf if_of IsNearest La Lb) (both_if_depths if_of IsNearest D E)
+    → ((a : Token × (Term × BodyTerm)) (b : Option BodyTerm) (ts : List Token) → core (if_term a b) ts ≡ and_then (wa a) (wb b) ts)
+    → Walks wa any La D → Walks wb any Lb E → Walks core any (BothIf if_term IsNearest La Lb) (both_if_depths if_term IsNearest D E)
 unfolding both_if_depths
 if_walks wa wb {La} {Lb} {D} {E} same h k = record {
   at = λ c s x r n.
-      ap (λ c. core c (s ++ r)) x.7 ∙ ap (λ s. core (if_of x.0 x.1) (s ++ r)) x.8 ∙ ap (core (if_of x.0 x.1)) (append_assoc x.2 x.3 r)
+      ap (λ c. core c (s ++ r)) x.7 ∙ ap (λ s. core (if_term x.0 x.1) (s ++ r)) x.8 ∙ ap (core (if_term x.0 x.1)) (append_assoc x.2 x.3 r)
       ∙ same x.0 x.1 (x.2 ++ (x.3 ++ r))
       ∙ joined (wa x.0) (wb x.1) (x.2 ++ (x.3 ++ r)) (x.3 ++ r) r (D.of x.0 x.2 x.4) (E.of x.1 x.3 x.5) (h.at x.0 x.2 x.4 (x.3 ++ r) tt) (k.at x.1 x.3 x.5 r tt);
 }
@@ -140,35 +140,35 @@ unfolding nothing_depths
 no_items w = record { at = λ x s h r n. ap (λ x. separated w x (s ++ r)) h.0 ∙ ap (λ s. separated w [] (s ++ r)) h.1 ∙ no_comma_there r n }
 
 -- behind the first expression of a bracket
-of_range : (x : Term) (o : Option Term) (ts : List Token) → range_taken (range_of x o) ts ≡ and_then (term x) (perhaps (λ y. and_then one (term y)) o) ts
+of_range : (x : Term) (o : Option Term) (ts : List Token) → range_taken (range_rest x o) ts ≡ and_then (term x) (perhaps (λ y. and_then one (term y)) o) ts
 of_range x None ts = ap (λ (l : List ℕ). (l, (term x ts).1)) (sym (append-nil (term x ts).0))
 of_range x (Some y) ts = refl
 
-colon_first : (x : Term) (o : Option Term) (ts : List Token) → rest_taken (range_of x o) ts ≡ and_then one (range_taken (range_of x o)) ts
+colon_first : (x : Term) (o : Option Term) (ts : List Token) → rest_taken (range_rest x o) ts ≡ and_then one (range_taken (range_rest x o)) ts
 colon_first x None ts = refl
 colon_first x (Some y) ts = refl
 
 module _ (L : Language Term) (D : Depths L) (e : Walks term any L D) where
   arg_walks : Walks argument any (Arg L) (arg_depths D)
-  arg_walks = either_walks (any_walks given_of (λ t. one) (λ x. and_then one (term x)) argument given_taken (one_walks _) (behind_walks assign_sign e)) (mapped_walks PositionalTerm argument (λ x ts. refl) e)
+  arg_walks = either_walks (any_walks given_term (λ t. one) (λ x. and_then one (term x)) argument given_taken (one_walks _) (behind_walks assign_sign e)) (mapped_walks PositionalTerm argument (λ x ts. refl) e)
 
   args_walks : Walks (separated argument) no_comma (Args L) (args_depths D)
   args_walks = either_walks (separated_walks arg_walks) (no_items argument)
 
   param_walks : Walks parameter any (Param L) (param_depths D)
-  param_walks = any_walks param_of (λ t. one) (perhaps (λ x. and_then one (term x))) parameter parameter_taken (one_walks (is name)) (maybe_walks (behind_walks assign_sign e))
+  param_walks = any_walks param_term (λ t. one) (perhaps (λ x. and_then one (term x))) parameter parameter_taken (one_walks (is name)) (maybe_walks (behind_walks assign_sign e))
 
   params_walks : Walks (separated parameter) no_comma (Params (Param L)) (params_depths (param_depths D))
   params_walks = either_walks (separated_walks param_walks) (no_items parameter)
 
   binders_walks : Walks (separated binder) no_comma (Binders L) (binders_depths D)
-  binders_walks = separated_walks (any_walks binder_of (λ t. one) (λ x. and_then one (term x)) binder (λ t x ts. refl) (one_walks (is name)) (behind_walks assign_sign e))
+  binders_walks = separated_walks (any_walks binder_term (λ t. one) (λ x. and_then one (term x)) binder (λ t x ts. refl) (one_walks (is name)) (behind_walks assign_sign e))
 
-  range_walks : Walks rest_taken no_comma (Behind (is colon_sign) (Both range_of L (Maybe (Behind (is colon_sign) L)))) (behind_depths (is colon_sign) (both_depths range_of D (maybe_depths (behind_depths (is colon_sign) D))))
+  range_walks : Walks rest_taken no_comma (Behind (is colon_sign) (Both range_rest L (Maybe (Behind (is colon_sign) L)))) (behind_depths (is colon_sign) (both_depths range_rest D (maybe_depths (behind_depths (is colon_sign) D))))
   range_walks =
       weaker (both_walks second_of (λ t. one) range_taken rest_taken
       (λ t b p q ts x y. subst (λ b. rest_taken b ts ≡ and_then one (range_taken b) ts) (sym y.6) (colon_first y.0 y.1 ts)) (λ b q r x n. tt) (one_walks (is colon_sign))
-      (any_walks range_of term (perhaps (λ y. and_then one (term y))) range_taken of_range e (maybe_walks (behind_walks colon_sign e))))
+      (any_walks range_rest term (perhaps (λ y. and_then one (term y))) range_taken of_range e (maybe_walks (behind_walks colon_sign e))))
 
   items_walks : Walks rest_taken no_comma (Mapped items (Both first_of (Many (Behind (is comma_sign) L)) (Maybe (One (is comma_sign))))) (mapped_depths items (both_depths first_of (many_depths (behind_depths (is comma_sign) D)) (maybe_depths (one_depth (is comma_sign)))))
   items_walks =
@@ -177,19 +177,19 @@ module _ (L : Language Term) (D : Depths L) (e : Walks term any L D) where
 
   bracket_walks : Walks term any (Bracket L) (bracket_depths D)
   bracket_walks =
-      any_walks bracket_of (λ t. one) (λ o. and_then (deep (inner_taken o)) one) term bracket_taken (one_walks (is open_bracket_sign))
+      any_walks bracket_term (λ t. one) (λ o. and_then (deep (inner_taken o)) one) term bracket_taken (one_walks (is open_bracket_sign))
       (ended_walks close_bracket_sign (closing close_bracket_sign refl)
       (deep_walks (maybe_walks (any_walks pair_of term rest_taken (λ p. and_then (term p.0) (rest_taken p.1)) (λ a b ts. refl) e (either_walks range_walks items_walks)))))
 
   suffix_walks : Walks suffix_taken any (Suffix L) (suffix_depths D)
   suffix_walks =
-      either_walks (any_walks index_of (λ t. one) (λ x. and_then (deep (term x)) one) suffix_taken (λ t x ts. refl) (one_walks (is open_bracket_sign)) (before_walks close_bracket_sign (deep_walks e)))
-      (any_walks member_of (λ t. one) (λ t. one) suffix_taken (λ t u ts. refl) (one_walks (is dot_sign)) (one_walks (is name)))
+      either_walks (any_walks index_term (λ t. one) (λ x. and_then (deep (term x)) one) suffix_taken (λ t x ts. refl) (one_walks (is open_bracket_sign)) (before_walks close_bracket_sign (deep_walks e)))
+      (any_walks member_term (λ t. one) (λ t. one) suffix_taken (λ t u ts. refl) (one_walks (is dot_sign)) (one_walks (is name)))
 
   chain_walks : (below : List (List ℕ)) → Walks term any (Chain below L) (chain_depths below D)
   chain_walks [] = e
   chain_walks (ops ∷ below) =
-      any_walks chain_of term (each link_taken) term chain_taken (chain_walks below)
+      any_walks chain_term term (each link_taken) term chain_taken (chain_walks below)
       (many_walks (any_walks link (λ t. one) term link_taken (λ t x ts. refl) (one_walks (among ops)) (chain_walks below)))
 
 one_of_term : (f : Token → Term) (c : ℕ) → ((t : Token) (ts : List Token) → term (f t) ts ≡ one ts) → Walks term any (Mapped f (One (is c))) (mapped_depths f (one_depth (is c)))
@@ -203,17 +203,17 @@ module _ (L : Language Term) (D : Depths L) (e : Walks term any L D) (As : Langu
   primary_walks =
       either_walks (one_of_term _ numeral (λ t ts. refl)) (either_walks (one_of_term _ text (λ t ts. refl)) (either_walks (one_of_term _ true_word (λ t ts. refl)) (either_walks (one_of_term _ false_word (λ t ts. refl))
       (either_walks (one_of_term _ undef_word (λ t ts. refl)) (either_walks (one_of_term _ child_count (λ t ts. refl)) (either_walks (one_of_term _ special (λ t ts. refl))
-      (either_walks (any_walks named_of (λ t. one) (perhaps (λ xs. in_pair (separated argument xs))) term named_taken (one_walks (is name)) (maybe_walks (list_walks a)))
-      (either_walks (any_walks paren_of (λ t. one) (λ x. and_then (deep (term x)) one) term (λ t x ts. refl) (one_walks (is open_parenthesis_sign)) (before_walks close_parenthesis_sign (deep_walks e))) (bracket_walks L D e)))))))))
+      (either_walks (any_walks name_term (λ t. one) (perhaps (λ xs. in_pair (separated argument xs))) term named_taken (one_walks (is name)) (maybe_walks (list_walks a)))
+      (either_walks (any_walks paren_term (λ t. one) (λ x. and_then (deep (term x)) one) term (λ t x ts. refl) (one_walks (is open_parenthesis_sign)) (before_walks close_parenthesis_sign (deep_walks e))) (bracket_walks L D e)))))))))
 
   unary_walks : Walks term any (Unary L As U) (unary_depths D DA DU)
   unary_walks =
-      either_walks (any_walks unary_of (λ t. one) (λ x. deep (term x)) term (λ t x ts. refl) (one_walks _) (deep_walks u))
-      (any_walks postfix_of term (each suffix_taken) term postfix_taken primary_walks (many_walks (suffix_walks L D e)))
+      either_walks (any_walks unary_term (λ t. one) (λ x. deep (term x)) term (λ t x ts. refl) (one_walks _) (deep_walks u))
+      (any_walks postfix_term term (each suffix_taken) term postfix_taken primary_walks (many_walks (suffix_walks L D e)))
 
   choice_walks : Walks term any (Choice L As U) (choice_depths D DA DU)
   choice_walks =
-      any_walks choice_of term (perhaps sides) term choice_taken (chain_walks (Unary L As U) (unary_depths D DA DU) unary_walks levels)
+      any_walks choice_term term (perhaps sides) term choice_taken (chain_walks (Unary L As U) (unary_depths D DA DU) unary_walks levels)
       (maybe_walks (any_walks pair_of (λ t. one) sides_of sides (λ t q ts. refl) (one_walks (is question_sign))
       (any_walks pair_of (λ x. deep (term x)) (λ y. and_then one (deep (term y))) sides_of (λ x y ts. refl) (deep_walks e) (behind_walks colon_sign (deep_walks e)))))
 
@@ -260,13 +260,13 @@ module _ (E : Language Term) (DE : Depths E) (e : Walks term any E DE) (As : Lan
       (any_walks pair_of (λ t. one) (with_body term) tested (λ t p ts. refl) (one_walks (is if_word)) (any_walks pair_of (λ x. in_pair (term x)) (λ y. deep (body y)) (with_body term) (λ x y ts. refl) (parentheses_walks e) (deep_walks b)))
       (maybe_walks (behind_walks else_word (deep_walks b))))
       (either_walks
-      (any_walks loop_of (λ t. one) (with_body (separated binder)) core loop_taken (one_walks (among (for_word ∷ intersection_for_word ∷ [])))
+      (any_walks loop_term (λ t. one) (with_body (separated binder)) core loop_taken (one_walks (among (for_word ∷ intersection_for_word ∷ [])))
       (any_walks pair_of (λ x. in_pair (separated binder x)) (λ y. deep (body y)) (with_body (separated binder)) (λ x y ts. refl) (list_walks n) (deep_walks b)))
-      (any_walks call_of (λ t. one) (with_body (separated argument)) core (λ t p ts. refl) (one_walks (is name))
+      (any_walks call_term (λ t. one) (with_body (separated argument)) core (λ t p ts. refl) (one_walks (is name))
       (any_walks pair_of (λ x. in_pair (separated argument x)) (λ y. deep (body y)) (with_body (separated argument)) (λ x y ts. refl) (list_walks a) (deep_walks b))))
 
   instance_walks : Walks instance any (Instance E As Ns B) (instance_depths DE DA DN DB)
-  instance_walks = any_walks instance_of (each (λ m. one)) core instance instance_taken (many_walks (mapped_walks _ (λ m. one) (λ t ts. refl) (one_walks _))) core_walks
+  instance_walks = any_walks instance_term (each (λ m. one)) core instance instance_taken (many_walks (mapped_walks _ (λ m. one) (λ t ts. refl) (one_walks _))) core_walks
 
 same_braces : (ss : List StatementTerm) (ts : List Token) → in_pair (statements (statements_from ss)) ts ≡ in_pair (each statement ss) ts
 same_braces ss = same_pair (statements (statements_from ss)) (each statement ss) (statements_taken ss)
@@ -284,22 +284,22 @@ module _ (I : Language InstanceTerm) (DI : Depths I) (i : Walks instance any I D
   body_of_walks : Walks body any (BodyOf I Ss) (body_of_depths DI DS)
   body_of_walks =
       either_walks (mapped_walks _ body (λ t ts. refl) (one_walks (is semicolon_sign)))
-      (either_walks (any_walks block_of (λ t. one) (λ x. and_then (deep (each statement x)) one) body (λ t x ts. same_braces x ts) (one_walks (is open_brace_sign)) (before_walks close_brace_sign (deep_walks s)))
+      (either_walks (any_walks block_term (λ t. one) (λ x. and_then (deep (each statement x)) one) body (λ t x ts. same_braces x ts) (one_walks (is open_brace_sign)) (before_walks close_brace_sign (deep_walks s)))
       (mapped_walks InstanceBody body (λ x ts. refl) i))
 
   statement_of_walks : (X : Language Term) (DX : Depths X) → Walks term any X DX → (Ps : Language (List ParamTerm)) (DP : Depths Ps) → Walks (separated parameter) no_comma Ps DP → (B : Language BodyTerm) (DB : Depths B) → Walks body any B DB
       → Walks statement any (StatementOf X Ps I Ss B) (statement_of_depths DX DP DI DS DB)
   statement_of_walks X DX x Ps DP p B DB b =
       either_walks (mapped_walks _ statement (λ t ts. refl) (one_walks (is semicolon_sign)))
-      (either_walks (any_walks bare_block_of (λ t. one) (λ y. and_then (deep (each statement y)) one) statement (λ t y ts. same_braces y ts) (one_walks (is open_brace_sign)) (before_walks close_brace_sign (deep_walks s)))
-      (either_walks (any_walks special_assignment_of (λ t. one) value_ended statement (λ t y ts. refl) (one_walks (is special)) (behind_walks assign_sign (before_walks semicolon_sign x)))
-      (either_walks (any_walks assignment_of (λ t. one) value_ended statement (λ t y ts. refl) (one_walks (is name)) (behind_walks assign_sign (before_walks semicolon_sign x)))
+      (either_walks (any_walks bare_block_term (λ t. one) (λ y. and_then (deep (each statement y)) one) statement (λ t y ts. same_braces y ts) (one_walks (is open_brace_sign)) (before_walks close_brace_sign (deep_walks s)))
+      (either_walks (any_walks special_assignment_term (λ t. one) value_ended statement (λ t y ts. refl) (one_walks (is special)) (behind_walks assign_sign (before_walks semicolon_sign x)))
+      (either_walks (any_walks assignment_term (λ t. one) value_ended statement (λ t y ts. refl) (one_walks (is name)) (behind_walks assign_sign (before_walks semicolon_sign x)))
       (either_walks
-      (any_walks module_of (λ t. one) module_taken statement (λ t q ts. refl) (one_walks (is module_word))
+      (any_walks module_term (λ t. one) module_taken statement (λ t q ts. refl) (one_walks (is module_word))
       (any_walks pair_of (λ t. one) (with_body (separated parameter)) module_taken (λ t q ts. refl) (one_walks (is name))
       (any_walks pair_of (λ y. in_pair (separated parameter y)) (λ y. deep (body y)) (with_body (separated parameter)) (λ y z ts. refl) (list_walks p) (deep_walks b))))
       (either_walks
-      (any_walks function_of (λ t. one) function_taken statement (λ t q ts. refl) (one_walks (is function_word))
+      (any_walks function_term (λ t. one) function_taken statement (λ t q ts. refl) (one_walks (is function_word))
       (any_walks pair_of (λ t. one) (λ q. and_then (in_pair (separated parameter q.0)) (value_ended q.1)) function_taken (λ t q ts. refl) (one_walks (is name))
       (any_walks pair_of (λ y. in_pair (separated parameter y)) value_ended (λ q. and_then (in_pair (separated parameter q.0)) (value_ended q.1)) (λ y z ts. refl) (list_walks p) (behind_walks assign_sign (before_walks semicolon_sign x)))))
       (mapped_walks InstanceStatement statement (λ y ts. refl) i))))))

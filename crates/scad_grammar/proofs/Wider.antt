@@ -4,7 +4,7 @@ use Rattle.scad_lexer.specs.declared.token.Token.{Token}
 use Rattle.scad_ast.specs.Terms.{Term, ArgTerm, StatementTerm, InstanceStatement, InstanceTerm, ParamTerm, BinderTerm, BodyTerm, InstanceBody, PositionalTerm}
 use Rattle.scad_grammar.specs.Classes.{open_parenthesis_sign, close_parenthesis_sign, close_bracket_sign, open_brace_sign, close_brace_sign, comma_sign, semicolon_sign, assign_sign, colon_sign, question_sign, open_bracket_sign, name, end, if_word, else_word, is, among}
 use Rattle.scad_grammar.specs.Languages.{Language, One, Mapped, Both, BothIf, EitherOf, Nothing, Many, Maybe, Never, Behind, Before, Separated, first_of, second_of, pair_of, cons}
-use Rattle.scad_grammar.specs.Grammar.{InParentheses, Arg, Args, Param, Params, Binders, Bracket, Primary, Suffix, Unary, Chain, Choice, Detail, whole, outline, ArgsIn, ParamsIn, BindersIn, StatementsIn, InstanceIn, Expr, Operand, Instance, BodyOf, StatementOf, Statement, Body, ProgramIn, WholeProgram, Outline, levels, link, chain_of, items, if_of, IsNearest}
+use Rattle.scad_grammar.specs.Grammar.{InParentheses, Arg, Args, Param, Params, Binders, Bracket, Primary, Suffix, Unary, Chain, Choice, Detail, whole, outline, ArgsIn, ParamsIn, BindersIn, StatementsIn, InstanceIn, Expr, Operand, Instance, BodyOf, StatementOf, Statement, Body, ProgramIn, WholeProgram, Outline, levels, link, chain_term, items, if_term, IsNearest}
 
 record Within {A : Type 0} (L M : Language A) : Type 0 where
   at : (x : A) (s : List Token) → L x s → M x s
@@ -89,7 +89,7 @@ module _ (E F U V : Language Term) (As Bs : Language (List ArgTerm)) (e : Within
 
   chain_within : (below : List (List ℕ)) {X Y : Language Term} → Within X Y → Within (Chain below X) (Chain below Y)
   chain_within [] h = h
-  chain_within (ops ∷ below) h = both_within chain_of (chain_within below h) (many_within (both_within link (same_within (One (among ops))) (chain_within below h)))
+  chain_within (ops ∷ below) h = both_within chain_term (chain_within below h) (many_within (both_within link (same_within (One (among ops))) (chain_within below h)))
 
   choice_within : Within (Choice E As U) (Choice F Bs V)
   choice_within = both_within _ (chain_within levels unary_within) (maybe_within (both_within pair_of (same_within (One (is question_sign))) (both_within pair_of e (behind_within (is colon_sign) e))))
@@ -97,7 +97,7 @@ module _ (E F U V : Language Term) (As Bs : Language (List ArgTerm)) (e : Within
 instance_within : (E F : Language Term) (As Bs : Language (List ArgTerm)) (Ns Ms : Language (List BinderTerm)) (B C : Language BodyTerm) → Within E F → Within As Bs → Within Ns Ms → Within B C → Within (Instance E As Ns B) (Instance F Bs Ms C)
 instance_within E F As Bs Ns Ms B C e a n b =
     both_within _ (same_within _)
-    (either_within (both_if_within if_of IsNearest (both_within pair_of (same_within (One (is if_word))) (both_within pair_of (parentheses_within e) b)) (maybe_within (behind_within (is else_word) b)))
+    (either_within (both_if_within if_term IsNearest (both_within pair_of (same_within (One (is if_word))) (both_within pair_of (parentheses_within e) b)) (maybe_within (behind_within (is else_word) b)))
     (either_within (both_within _ (same_within _) (both_within pair_of (parentheses_within n) b))
     (both_within _ (same_within _) (both_within pair_of (parentheses_within a) b))))
 

@@ -211,13 +211,13 @@ class_of (SymbolToken symbol) = symbol_class symbol
 class_of End = end
 
 -- the class is one of these
-abbrev pub listed : List ℕ → ℕ → Bool
-listed [] wanted = false
-listed (known ∷ others) wanted = cond (nat_eq wanted known) true (listed others wanted)
+abbrev pub is_listed : List ℕ → ℕ → Bool
+is_listed [] wanted = false
+is_listed (known ∷ others) wanted = cond (nat_eq wanted known) true (is_listed others wanted)
 
 -- a token of one of these classes
 abbrev pub among : List ℕ → Token → Bool
-among classes token = listed classes (class_of token.kind)
+among classes token = is_listed classes (class_of token.kind)
 
 -- a token of this class
 abbrev pub is : ℕ → Token → Bool

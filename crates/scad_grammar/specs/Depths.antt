@@ -7,7 +7,7 @@ use Rattle.scad_lexer.specs.declared.token.Token.{Token}
 use Rattle.scad_ast.specs.Terms.{Term, ArgTerm, PositionalTerm, ParamTerm, BinderTerm, StatementTerm, InstanceStatement, InstanceTerm, BodyTerm, InstanceBody}
 use Rattle.scad_grammar.specs.Classes.{open_parenthesis_sign, close_parenthesis_sign, open_bracket_sign, close_bracket_sign, open_brace_sign, close_brace_sign, comma_sign, semicolon_sign, assign_sign, colon_sign, question_sign, dot_sign, name, end, if_word, else_word, module_word, function_word, is, among}
 use Rattle.scad_grammar.specs.Languages.{Language, One, Mapped, Both, BothIf, EitherOf, Nothing, Many, Maybe, Never, Behind, Before, Separated, first_of, second_of, pair_of, cons}
-use Rattle.scad_grammar.specs.Grammar.{InParentheses, Arg, Args, Param, Params, Binders, Bracket, Primary, Suffix, Unary, Chain, Choice, whole, ArgsIn, ParamsIn, BindersIn, StatementsIn, InstanceIn, Expr, Operand, Core, Instance, BodyOf, StatementOf, Statement, Body, WholeProgram, levels, chain_of, link, items, if_of, IsNearest}
+use Rattle.scad_grammar.specs.Grammar.{InParentheses, Arg, Args, Param, Params, Binders, Bracket, Primary, Suffix, Unary, Chain, Choice, whole, ArgsIn, ParamsIn, BindersIn, StatementsIn, InstanceIn, Expr, Operand, Core, Instance, BodyOf, StatementOf, Statement, Body, WholeProgram, levels, chain_term, link, items, if_term, IsNearest}
 
 -- the depths of the tokens with which a thing is written, in their order, by how it is written
 pub record Depths {A : Type 0} (L : Language A) : Type 0 where
@@ -122,7 +122,7 @@ unary_depths expression args operand =
 abbrev pub chain_depths : (below : List (List ℕ)) {X : Language Term} → Depths X → Depths (Chain below X)
 chain_depths [] operand = operand
 chain_depths (ops ∷ below) operand =
-    both_depths chain_of (chain_depths below operand) (many_depths (both_depths link (one_depth (among ops)) (chain_depths below operand)))
+    both_depths chain_term (chain_depths below operand) (many_depths (both_depths link (one_depth (among ops)) (chain_depths below operand)))
 
 abbrev pub choice_depths : {E : Language Term} {As : Language (List ArgTerm)} {U : Language Term} → Depths E → Depths As → Depths U → Depths (Choice E As U)
 choice_depths expression args operand =
@@ -158,7 +158,7 @@ unfoldable mutual
 abbrev pub core_depths : {E : Language Term} {As : Language (List ArgTerm)} {Ns : Language (List BinderTerm)} {B : Language BodyTerm} → Depths E → Depths As → Depths Ns → Depths B → Depths (Core E As Ns B)
 core_depths expression args binders body =
     either_depths
-    (both_if_depths if_of IsNearest (both_depths pair_of (one_depth (is if_word)) (both_depths pair_of (parentheses_depths expression) (deeper body)))
+    (both_if_depths if_term IsNearest (both_depths pair_of (one_depth (is if_word)) (both_depths pair_of (parentheses_depths expression) (deeper body)))
     (maybe_depths (behind_depths (is else_word) (deeper body))))
     (either_depths (both_depths _ (one_depth _) (both_depths pair_of (parentheses_depths binders) (deeper body)))
     (both_depths _ (one_depth (is name)) (both_depths pair_of (parentheses_depths args) (deeper body))))

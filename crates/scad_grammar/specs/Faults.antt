@@ -7,12 +7,12 @@ use Rattle.scad_grammar.specs.Classes.{special, for_word, if_word, function_word
 use Rattle.scad_grammar.specs.Reading.{Reader, one_of}
 
 -- forms that this profile leaves out wherever no program goes on with them
-abbrev pub left_out : List ℕ
-left_out = use_word ∷ include_word ∷ let_word ∷ each_word ∷ caret_sign ∷ special ∷ []
+abbrev pub left_out_classes : List ℕ
+left_out_classes = use_word ∷ include_word ∷ let_word ∷ each_word ∷ caret_sign ∷ special ∷ []
 
 -- the same in the place of an expression
 abbrev pub left_out_of_expressions : List ℕ
-left_out_of_expressions = for_word ∷ if_word ∷ function_word ∷ left_out
+left_out_of_expressions = for_word ∷ if_word ∷ function_word ∷ left_out_classes
 
 -- the fault of a token, or of the end of all tokens, where those of these classes are left out
 abbrev pub fault_of : List ℕ → Option Token → SyntaxFault
@@ -20,13 +20,13 @@ fault_of classes None = Expected
 fault_of classes (Some token) = cond (among classes token) NotInProfile Expected
 
 -- reads tokens from their front
-abbrev pub Reads : Type 0 → Type 0
-Reads A = Reader Token SyntaxFault A
+abbrev pub TokenReader : Type 0 → Type 0
+TokenReader A = Reader Token SyntaxFault A
 
 -- one token of these
-abbrev pub one : (Token → Bool) → Reads Token
-one test = one_of test (fault_of left_out)
+abbrev pub one : (Token → Bool) → TokenReader Token
+one test = one_of test (fault_of left_out_classes)
 
 -- one token of these, where an expression may begin
-abbrev pub first : (Token → Bool) → Reads Token
+abbrev pub first : (Token → Bool) → TokenReader Token
 first test = one_of test (fault_of left_out_of_expressions)

@@ -5,7 +5,7 @@ use Rattle.scad_ast.specs.Terms.{StatementTerm}
 use Rattle.scad_grammar.specs.declared.SyntaxFault.{SyntaxFault}
 use Rattle.scad_grammar.specs.declared.SyntaxFault.TheVariants.{Expected, Nested, NotInProfile}
 use Rattle.scad_grammar.specs.Classes.{numeral, among, is}
-use Rattle.scad_grammar.specs.Faults.{left_out, left_out_of_expressions}
+use Rattle.scad_grammar.specs.Faults.{left_out_classes, left_out_of_expressions}
 use Rattle.scad_grammar.specs.Grammar.{WholeProgram, Outline}
 
 -- some program, however deep, begins with these tokens
@@ -23,7 +23,7 @@ BeforeExpression tokens = (next : Token) × (is numeral next ≡ true) × Begins
 
 -- behind these tokens, this one is of a form that the profile leaves out
 abbrev pub IsLeftOut : List Token → Token → Type 0
-IsLeftOut tokens token = (among left_out token ≡ true) ⊎ ((among left_out_of_expressions token ≡ true) × BeforeExpression tokens)
+IsLeftOut tokens token = (among left_out_classes token ≡ true) ⊎ ((among left_out_of_expressions token ≡ true) × BeforeExpression tokens)
 
 -- Behind these tokens, this one is such a fault. Expected and NotInProfile: no program goes on with it, and it is
 -- of a form that isn't left out, or is. Nested: programs go on with it, but only such in which it is too deep.

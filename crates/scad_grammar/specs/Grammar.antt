@@ -39,98 +39,98 @@ abbrev pub link : Token → Term → LinkTerm
 link token right = record { op = binary_at (class_of token.kind); at = token.place; right = right }
 
 -- a chain of one is what it has; operators of one level group to the left
-abbrev pub chain_of : Term → List LinkTerm → Term
-chain_of x [] = x
-chain_of x (operator ∷ operators) = ChainTerm (place_of x) x (links_from (operator ∷ operators))
+abbrev pub chain_term : Term → List LinkTerm → Term
+chain_term x [] = x
+chain_term x (operator ∷ operators) = ChainTerm (place_of x) x (links_from (operator ∷ operators))
 
 -- a choice, where a `?` follows
-abbrev pub choice_of : Term → Option (Token × (Term × Term)) → Term
-choice_of x None = x
-choice_of x (Some parts) = ChoiceTerm (place_of x) x parts.0.place parts.1.0 parts.1.1
+abbrev pub choice_term : Term → Option (Token × (Term × Term)) → Term
+choice_term x None = x
+choice_term x (Some parts) = ChoiceTerm (place_of x) x parts.0.place parts.1.0 parts.1.1
 
 -- an operator before its operand
-abbrev pub unary_of : Token → Term → Term
-unary_of token operand = UnaryTerm token.place (unary_at (class_of token.kind)) operand
+abbrev pub unary_term : Token → Term → Term
+unary_term token operand = UnaryTerm token.place (unary_at (class_of token.kind)) operand
 
 -- an expression with what stands behind it, if something does
-abbrev pub postfix_of : Term → List SuffixTerm → Term
-postfix_of x [] = x
-postfix_of x (suffix ∷ suffixes) = PostfixTerm (place_of x) x (suffixes_from (suffix ∷ suffixes))
+abbrev pub postfix_term : Term → List SuffixTerm → Term
+postfix_term x [] = x
+postfix_term x (suffix ∷ suffixes) = PostfixTerm (place_of x) x (suffixes_from (suffix ∷ suffixes))
 
 -- an index, at the place of its `[`
-abbrev pub index_of : Token → Term → SuffixTerm
-index_of token index = IndexTerm token.place index
+abbrev pub index_term : Token → Term → SuffixTerm
+index_term token index = IndexTerm token.place index
 
 -- a member, at the place of its `.`
-abbrev pub member_of : Token → Token → SuffixTerm
-member_of dot named = MemberTerm dot.place (bytes_of named.kind) named.place
+abbrev pub member_term : Token → Token → SuffixTerm
+member_term dot named = MemberTerm dot.place (bytes_of named.kind) named.place
 
 -- a name, or a call where arguments follow
-abbrev pub named_of : Token → Option (List ArgTerm) → Term
-named_of token None = NameTerm token.place (bytes_of token.kind)
-named_of token (Some args) = CallTerm token.place (bytes_of token.kind) (args_from args)
+abbrev pub name_term : Token → Option (List ArgTerm) → Term
+name_term token None = NameTerm token.place (bytes_of token.kind)
+name_term token (Some args) = CallTerm token.place (bytes_of token.kind) (args_from args)
 
 -- what stands in parentheses
-abbrev pub paren_of : Token → Term → Term
-paren_of token inner = ParenTerm token.place inner
+abbrev pub paren_term : Token → Term → Term
+paren_term token inner = ParenTerm token.place inner
 
 -- what a bracket holds behind its first expression: more items, or the rest of a range
 pub data Rest : Type 0 where
   items : (more : List Term) → Rest
   range : (to : Term) → Rest
-  stepped : (step to : Term) → Rest
+  stepped_range : (step to : Term) → Rest
 
 -- a list or a range, by what stands behind its first expression
-abbrev pub filled_of : Token → Term → Rest → Term
-filled_of token first (items more) = ListTerm token.place (terms_from (first ∷ more))
-filled_of token first (range to) = RangeTerm token.place first to
-filled_of token first (stepped step to) = SteppedRangeTerm token.place first step to
+abbrev pub filled_term : Token → Term → Rest → Term
+filled_term token first (items more) = ListTerm token.place (terms_from (first ∷ more))
+filled_term token first (range to) = RangeTerm token.place first to
+filled_term token first (stepped_range step to) = SteppedRangeTerm token.place first step to
 
 -- the same, or the empty list
-abbrev pub bracket_of : Token → Option (Term × Rest) → Term
-bracket_of token None = ListTerm token.place (terms_from [])
-bracket_of token (Some parts) = filled_of token parts.0 parts.1
+abbrev pub bracket_term : Token → Option (Term × Rest) → Term
+bracket_term token None = ListTerm token.place (terms_from [])
+bracket_term token (Some parts) = filled_term token parts.0 parts.1
 
 -- the rest of a range: up to the next expression, or by it as a step up to one more
-abbrev pub range_of : Term → Option Term → Rest
-range_of next None = range next
-range_of next (Some to) = stepped next to
+abbrev pub range_rest : Term → Option Term → Rest
+range_rest next None = range next
+range_rest next (Some to) = stepped_range next to
 
 -- arguments, parameters and variables of loops
 
 -- an argument with a name or a special name
-abbrev pub given_of : Token → Term → ArgTerm
-given_of token value = cond (is special token) (SpecialArgTerm token.place (bytes_of token.kind) value) (NamedTerm token.place (bytes_of token.kind) value)
+abbrev pub given_term : Token → Term → ArgTerm
+given_term token value = cond (is special token) (SpecialArgTerm token.place (bytes_of token.kind) value) (NamedTerm token.place (bytes_of token.kind) value)
 
 -- SPECIAL is a special name other than `$children`.
 -- arg = NAME "=" expr | SPECIAL "=" expr | expr
 abbrev pub Arg : Language Term → Language ArgTerm
-Arg E = EitherOf (Both given_of (One (among argument_names)) (Behind (is assign_sign) E)) (Mapped PositionalTerm E)
+Arg E = EitherOf (Both given_term (One (among argument_names)) (Behind (is assign_sign) E)) (Mapped PositionalTerm E)
 
 -- args = [ arg { "," arg } [","] ]
 abbrev pub Args : Language Term → Language (List ArgTerm)
 Args E = EitherOf (Separated (is comma_sign) (Arg E)) (Nothing [])
 
 -- a parameter, with its default where one follows
-abbrev pub param_of : Token → Option Term → ParamTerm
-param_of token None = PlainTerm token.place (bytes_of token.kind)
-param_of token (Some default) = DefaultTerm token.place (bytes_of token.kind) default
+abbrev pub param_term : Token → Option Term → ParamTerm
+param_term token None = PlainTerm token.place (bytes_of token.kind)
+param_term token (Some default) = DefaultTerm token.place (bytes_of token.kind) default
 
 -- param = NAME [ "=" expr ]
 abbrev pub Param : Language Term → Language ParamTerm
-Param E = Both param_of (One (is name)) (Maybe (Behind (is assign_sign) E))
+Param E = Both param_term (One (is name)) (Maybe (Behind (is assign_sign) E))
 
 -- params = [ param { "," param } [","] ], over what a parameter is
 abbrev pub Params : Language ParamTerm → Language (List ParamTerm)
 Params P = EitherOf (Separated (is comma_sign) P) (Nothing [])
 
 -- a variable of a loop, with what it goes over
-abbrev pub binder_of : Token → Term → BinderTerm
-binder_of token over = record { at = token.place; name = bytes_of token.kind; values = over }
+abbrev pub binder_term : Token → Term → BinderTerm
+binder_term token over = record { at = token.place; name = bytes_of token.kind; values = over }
 
 -- binder = NAME "=" expr
 abbrev pub Binder : Language Term → Language BinderTerm
-Binder E = Both binder_of (One (is name)) (Behind (is assign_sign) E)
+Binder E = Both binder_term (One (is name)) (Behind (is assign_sign) E)
 
 -- binder { "," binder } [","]
 abbrev pub Binders : Language Term → Language (List BinderTerm)
@@ -141,10 +141,10 @@ Binders E = Separated (is comma_sign) (Binder E)
 -- "[" "]" | "[" expr { "," expr } [","] "]" | "[" expr ":" expr [ ":" expr ] "]"
 abbrev pub Bracket : Language Term → Language Term
 Bracket E =
-    Both bracket_of (One (is open_bracket_sign))
+    Both bracket_term (One (is open_bracket_sign))
     (Before
     (Maybe (Both pair_of E
-    (EitherOf (Behind (is colon_sign) (Both range_of E (Maybe (Behind (is colon_sign) E))))
+    (EitherOf (Behind (is colon_sign) (Both range_rest E (Maybe (Behind (is colon_sign) E))))
     (Mapped items (Both first_of (Many (Behind (is comma_sign) E)) (Maybe (One (is comma_sign))))))))
     (is close_bracket_sign))
 
@@ -158,28 +158,28 @@ Primary E As =
     (EitherOf (Mapped (λ token. UndefTerm token.place) (One (is undef_word)))
     (EitherOf (Mapped (λ token. ChildCountTerm token.place) (One (is child_count)))
     (EitherOf (Mapped (λ token. SpecialTerm token.place (bytes_of token.kind)) (One (is special)))
-    (EitherOf (Both named_of (One (is name)) (Maybe (InParentheses As)))
-    (EitherOf (Both paren_of (One (is open_parenthesis_sign)) (Before E (is close_parenthesis_sign)))
+    (EitherOf (Both name_term (One (is name)) (Maybe (InParentheses As)))
+    (EitherOf (Both paren_term (One (is open_parenthesis_sign)) (Before E (is close_parenthesis_sign)))
     (Bracket E)))))))))
 
 -- suffix = "[" expr "]" | "." NAME
 abbrev pub Suffix : Language Term → Language SuffixTerm
 Suffix E =
-    EitherOf (Both index_of (One (is open_bracket_sign)) (Before E (is close_bracket_sign)))
-    (Both member_of (One (is dot_sign)) (One (is name)))
+    EitherOf (Both index_term (One (is open_bracket_sign)) (Before E (is close_bracket_sign)))
+    (Both member_term (One (is dot_sign)) (One (is name)))
 
 -- postfix = primary { suffix }
 abbrev pub Postfix : Language Term → Language (List ArgTerm) → Language Term
-Postfix E As = Both postfix_of (Primary E As) (Many (Suffix E))
+Postfix E As = Both postfix_term (Primary E As) (Many (Suffix E))
 
 -- unary = ("-" | "+" | "!") unary | postfix
 abbrev pub Unary : Language Term → Language (List ArgTerm) → Language Term → Language Term
-Unary E As U = EitherOf (Both unary_of (One (among (minus_sign ∷ plus_sign ∷ not_sign ∷ []))) U) (Postfix E As)
+Unary E As U = EitherOf (Both unary_term (One (among (minus_sign ∷ plus_sign ∷ not_sign ∷ []))) U) (Postfix E As)
 
 -- a chain of the operators of some levels, the loosest first
 abbrev pub Chain : List (List ℕ) → Language Term → Language Term
 Chain [] X = X
-Chain (ops ∷ levels) X = Both chain_of (Chain levels X) (Many (Both link (One (among ops)) (Chain levels X)))
+Chain (ops ∷ levels) X = Both chain_term (Chain levels X) (Many (Both link (One (among ops)) (Chain levels X)))
 
 -- or, and, equal, order, sum, product
 abbrev pub levels : List (List ℕ)
@@ -190,7 +190,7 @@ levels =
 
 -- expr = or [ "?" expr ":" expr ]
 abbrev pub Choice : Language Term → Language (List ArgTerm) → Language Term → Language Term
-Choice E As U = Both choice_of (Chain levels (Unary E As U)) (Maybe (Both pair_of (One (is question_sign)) (Both pair_of E (Behind (is colon_sign) E))))
+Choice E As U = Both choice_term (Chain levels (Unary E As U)) (Maybe (Both pair_of (One (is question_sign)) (Both pair_of E (Behind (is colon_sign) E))))
 
 -- A program is written whole, or in outline. Before its first gap an outline shows nothing that is too deep: what may
 -- be missing is missing there, and a gap stands for what may not.
@@ -231,13 +231,13 @@ unfoldable mutual
 -- Ss statements and B a body
 
 -- a modifier with its place
-abbrev pub mark_of : Token → MarkTerm
-mark_of token = record { at = token.place; modifier = modifier_at (class_of token.kind) }
+abbrev pub mark_term : Token → MarkTerm
+mark_term token = record { at = token.place; modifier = modifier_at (class_of token.kind) }
 
 -- an instance, at the place of its first modifier, if it has some
-abbrev pub instance_of : List MarkTerm → CoreTerm → InstanceTerm
-instance_of [] core = AnInstance (place_of_core core) [] core
-instance_of (mark ∷ marks) core = AnInstance mark.at (mark ∷ marks) core
+abbrev pub instance_term : List MarkTerm → CoreTerm → InstanceTerm
+instance_term [] core = AnInstance (place_of_core core) [] core
+instance_term (mark ∷ marks) core = AnInstance mark.at (mark ∷ marks) core
 
 -- an `else` behind this body would be its own, and so behind an instance and what stands behind its modifiers
 abbrev mutual
@@ -262,59 +262,59 @@ IsNearest parts None = Unit {0}
 IsNearest parts (Some other) = ends_open parts.1.1 ≡ false
 
 -- a choice of a body, with an `else` where one follows
-abbrev pub if_of : (Token × (Term × BodyTerm)) → Option BodyTerm → CoreTerm
-if_of parts None = IfTerm parts.0.place parts.1.0 parts.1.1
-if_of parts (Some other) = IfElseTerm parts.0.place parts.1.0 parts.1.1 other
+abbrev pub if_term : (Token × (Term × BodyTerm)) → Option BodyTerm → CoreTerm
+if_term parts None = IfTerm parts.0.place parts.1.0 parts.1.1
+if_term parts (Some other) = IfElseTerm parts.0.place parts.1.0 parts.1.1 other
 
 -- a loop, by its word
-abbrev pub loop_of : Token → (List BinderTerm × BodyTerm) → CoreTerm
-loop_of token parts = cond (is for_word token) (ForTerm token.place parts.0 parts.1) (IntersectionForTerm token.place parts.0 parts.1)
+abbrev pub loop_term : Token → (List BinderTerm × BodyTerm) → CoreTerm
+loop_term token parts = cond (is for_word token) (ForTerm token.place parts.0 parts.1) (IntersectionForTerm token.place parts.0 parts.1)
 
 -- a call of a module
-abbrev pub call_of : Token → (List ArgTerm × BodyTerm) → CoreTerm
-call_of token parts = ModuleCallTerm token.place (bytes_of token.kind) parts.0 parts.1
+abbrev pub call_term : Token → (List ArgTerm × BodyTerm) → CoreTerm
+call_term token parts = ModuleCallTerm token.place (bytes_of token.kind) parts.0 parts.1
 
 -- core = "if" "(" expr ")" body [ "else" body ] | ("for" | "intersection_for") "(" binders ")" body | NAME "(" args ")" body
 abbrev pub Core : Language Term → Language (List ArgTerm) → Language (List BinderTerm) → Language BodyTerm → Language CoreTerm
 Core E As Ns B =
-    EitherOf (BothIf if_of IsNearest (Both pair_of (One (is if_word)) (Both pair_of (InParentheses E) B)) (Maybe (Behind (is else_word) B)))
-    (EitherOf (Both loop_of (One (among (for_word ∷ intersection_for_word ∷ []))) (Both pair_of (InParentheses Ns) B))
-    (Both call_of (One (is name)) (Both pair_of (InParentheses As) B)))
+    EitherOf (BothIf if_term IsNearest (Both pair_of (One (is if_word)) (Both pair_of (InParentheses E) B)) (Maybe (Behind (is else_word) B)))
+    (EitherOf (Both loop_term (One (among (for_word ∷ intersection_for_word ∷ []))) (Both pair_of (InParentheses Ns) B))
+    (Both call_term (One (is name)) (Both pair_of (InParentheses As) B)))
 
 -- instance = { "*" | "%" | "#" | "!" } core
 abbrev pub Instance : Language Term → Language (List ArgTerm) → Language (List BinderTerm) → Language BodyTerm → Language InstanceTerm
-Instance E As Ns B = Both instance_of (Many (Mapped mark_of (One (among (times_sign ∷ remainder_sign ∷ hash_sign ∷ not_sign ∷ []))))) (Core E As Ns B)
+Instance E As Ns B = Both instance_term (Many (Mapped mark_term (One (among (times_sign ∷ remainder_sign ∷ hash_sign ∷ not_sign ∷ []))))) (Core E As Ns B)
 
 -- a body of statements in braces
-abbrev pub block_of : Token → List StatementTerm → BodyTerm
-block_of token statements = BlockBody token.place (statements_from statements)
+abbrev pub block_term : Token → List StatementTerm → BodyTerm
+block_term token statements = BlockBody token.place (statements_from statements)
 
 -- body = ";" | "{" { statement } "}" | instance
 abbrev pub BodyOf : Language InstanceTerm → Language (List StatementTerm) → Language BodyTerm
 BodyOf I Ss =
     EitherOf (Mapped (λ token. EmptyBody token.place) (One (is semicolon_sign)))
-    (EitherOf (Both block_of (One (is open_brace_sign)) (Before Ss (is close_brace_sign)))
+    (EitherOf (Both block_term (One (is open_brace_sign)) (Before Ss (is close_brace_sign)))
     (Mapped InstanceBody I))
 
 -- a bare block
-abbrev pub bare_block_of : Token → List StatementTerm → StatementTerm
-bare_block_of token statements = BlockStatement token.place (statements_from statements)
+abbrev pub bare_block_term : Token → List StatementTerm → StatementTerm
+bare_block_term token statements = BlockStatement token.place (statements_from statements)
 
 -- an assignment to a name
-abbrev pub assignment_of : Token → Term → StatementTerm
-assignment_of token value = AssignmentTerm token.place (bytes_of token.kind) value
+abbrev pub assignment_term : Token → Term → StatementTerm
+assignment_term token value = AssignmentTerm token.place (bytes_of token.kind) value
 
 -- an assignment to a special name
-abbrev pub special_assignment_of : Token → Term → StatementTerm
-special_assignment_of token value = SpecialAssignmentTerm token.place (bytes_of token.kind) value
+abbrev pub special_assignment_term : Token → Term → StatementTerm
+special_assignment_term token value = SpecialAssignmentTerm token.place (bytes_of token.kind) value
 
 -- a definition of a module, at the place of its word
-abbrev pub module_of : Token → (Token × (List ParamTerm × BodyTerm)) → StatementTerm
-module_of token parts = ModuleTerm token.place (bytes_of parts.0.kind) parts.0.place parts.1.0 parts.1.1
+abbrev pub module_term : Token → (Token × (List ParamTerm × BodyTerm)) → StatementTerm
+module_term token parts = ModuleTerm token.place (bytes_of parts.0.kind) parts.0.place parts.1.0 parts.1.1
 
 -- a definition of a function, at the place of its word
-abbrev pub function_of : Token → (Token × (List ParamTerm × Term)) → StatementTerm
-function_of token parts = FunctionTerm token.place (bytes_of parts.0.kind) parts.0.place parts.1.0 parts.1.1
+abbrev pub function_term : Token → (Token × (List ParamTerm × Term)) → StatementTerm
+function_term token parts = FunctionTerm token.place (bytes_of parts.0.kind) parts.0.place parts.1.0 parts.1.1
 
 -- statement = ";" | "{" { statement } "}" | SPECIAL "=" expr ";" | NAME "=" expr ";" | "module" NAME "(" params ")" body
 --           | "function" NAME "(" params ")" "=" expr ";" | instance
@@ -322,11 +322,11 @@ function_of token parts = FunctionTerm token.place (bytes_of parts.0.kind) parts
 abbrev pub StatementOf : Language Term → Language (List ParamTerm) → Language InstanceTerm → Language (List StatementTerm) → Language BodyTerm → Language StatementTerm
 StatementOf X Ps I Ss B =
     EitherOf (Mapped (λ token. EmptyStatement token.place) (One (is semicolon_sign)))
-    (EitherOf (Both bare_block_of (One (is open_brace_sign)) (Before Ss (is close_brace_sign)))
-    (EitherOf (Both special_assignment_of (One (is special)) (Behind (is assign_sign) (Before X (is semicolon_sign))))
-    (EitherOf (Both assignment_of (One (is name)) (Behind (is assign_sign) (Before X (is semicolon_sign))))
-    (EitherOf (Both module_of (One (is module_word)) (Both pair_of (One (is name)) (Both pair_of (InParentheses Ps) B)))
-    (EitherOf (Both function_of (One (is function_word)) (Both pair_of (One (is name)) (Both pair_of (InParentheses Ps) (Behind (is assign_sign) (Before X (is semicolon_sign))))))
+    (EitherOf (Both bare_block_term (One (is open_brace_sign)) (Before Ss (is close_brace_sign)))
+    (EitherOf (Both special_assignment_term (One (is special)) (Behind (is assign_sign) (Before X (is semicolon_sign))))
+    (EitherOf (Both assignment_term (One (is name)) (Behind (is assign_sign) (Before X (is semicolon_sign))))
+    (EitherOf (Both module_term (One (is module_word)) (Both pair_of (One (is name)) (Both pair_of (InParentheses Ps) B)))
+    (EitherOf (Both function_term (One (is function_word)) (Both pair_of (One (is name)) (Both pair_of (InParentheses Ps) (Behind (is assign_sign) (Before X (is semicolon_sign))))))
     (Mapped InstanceStatement I))))))
 
 -- statements whose tokens are less deep than so much; S is a statement as deep

@@ -8,7 +8,7 @@ use Rattle.scad_ast.specs.Terms.{StatementTerm}
 use Rattle.scad_grammar.specs.declared.SyntaxFault.{SyntaxFault}
 use Rattle.scad_grammar.specs.declared.SyntaxFault.TheVariants.{Expected, NotInProfile}
 use Rattle.scad_grammar.specs.Classes.{among}
-use Rattle.scad_grammar.specs.Faults.{fault_of, left_out}
+use Rattle.scad_grammar.specs.Faults.{fault_of, left_out_classes}
 use Rattle.scad_grammar.specs.FirstFault.{BeginsSome, IsFault, IsFirstFault}
 use Rattle.scad_grammar.specs.Grammar.{WholeProgram}
 use Rattle.scad_grammar.specs.Reading.{Read, after, starts}
@@ -73,16 +73,16 @@ dead d x s t h b =
 
 -- and the next token is the first fault
 fault_behind : (d : ℕ) (x : List StatementTerm) (s : List Token) (t : Token) → WholeProgram d x s
-    → (b : Bool) → among left_out t ≡ b → IsFault d (cond b NotInProfile Expected) s t
+    → (b : Bool) → among left_out_classes t ≡ b → IsFault d (cond b NotInProfile Expected) s t
 fault_behind d x s t h true e = (dead d x s t h, inl e)
 fault_behind d x s t h false e =
     (dead d x s t h, λ l. elim l [ inl a ↦ absurd (let f : true ≡ false = sym a ∙ e in cc) | inr a ↦ dead d x s a.1.0 h a.1.2 ])
 
 behind : (d : ℕ) (x : List StatementTerm) (s : List Token) (t : Token) (more : List Token) → WholeProgram d x s
-    → IsFirstFault d (s ++ t ∷ more) (fault_of left_out (Some t)) (t ∷ more)
+    → IsFirstFault d (s ++ t ∷ more) (fault_of left_out_classes (Some t)) (t ∷ more)
 behind d x s t more h =
     let all : WholeProgram d x (s ++ []) = subst (WholeProgram d x) (sym (append-nil s)) h in
-    (s, t, more, refl, refl, ((d, x, [], all), x, [], is_outline d x (s ++ []) all), fault_behind d x s t h (among left_out t) refl)
+    (s, t, more, refl, refl, ((d, x, [], all), x, [], is_outline d x (s ++ []) all), fault_behind d x s t h (among left_out_classes t) refl)
 
 -- a fault before the first end is the same whatever stands behind that end
 same_front : (at r : List Token) (t : Token) (more : List Token) → at ≡ t ∷ more → SameHead at (at ++ r)
@@ -111,7 +111,7 @@ of_program d x s [] h =
     inl (x, subst (WholeProgram d x) (sym (append-nil s)) h, ap (λ (q : ReadProgram). after q nothing_behind) (complete_over d x s [] h))
 of_program d x s (t ∷ more) h =
     inr (
-      fault_of left_out (Some t),
+      fault_of left_out_classes (Some t),
       t ∷ more,
       behind d x s t more h,
       ap (λ (q : ReadProgram). after q nothing_behind) (complete_over d x s (t ∷ more) h),
@@ -159,13 +159,13 @@ looks_ahead d k s t us vs e = go (program_read d (s ++ t ∷ us)) e ((program_re
         → whole_read d (s ++ t ∷ vs) ≡ Err (k, t ∷ vs)
     go (Ok (y, [])) e h = absurd (cc)
     go (Ok (y, u ∷ ws)) e h =
-        let g : ◌≡◌ {A = ReadProgram} (Err (fault_of left_out (Some u), u ∷ ws)) (Err (k, t ∷ us)) = e in
-        let pair : ◌≡◌ {A = SyntaxFault × List Token} (fault_of left_out (Some u), u ∷ ws) (k, t ∷ us) = cc in
+        let g : ◌≡◌ {A = ReadProgram} (Err (fault_of left_out_classes (Some u), u ∷ ws)) (Err (k, t ∷ us)) = e in
+        let pair : ◌≡◌ {A = SyntaxFault × List Token} (fault_of left_out_classes (Some u), u ∷ ws) (k, t ∷ us) = cc in
         let tail : u ∷ ws ≡ t ∷ us = ap (λ (p : SyntaxFault × List Token). p.1) pair in
         let head = same (u ∷ ws) tail in
         ap (λ l. whole_read d (l ++ t ∷ vs)) (sym (front h.0 (u ∷ ws) h.1 tail))
         ∙ ap (λ (q : ReadProgram). after q nothing_behind) (h.3 (t ∷ vs) head)
-        ∙ ap (λ k. Err (k, t ∷ vs)) (ap (λ u. fault_of left_out (Some u)) (sym head) ∙ ap (λ (p : SyntaxFault × List Token). p.0) pair)
+        ∙ ap (λ k. Err (k, t ∷ vs)) (ap (λ u. fault_of left_out_classes (Some u)) (sym head) ∙ ap (λ (p : SyntaxFault × List Token). p.0) pair)
     go (Err y) e h =
         let g : ◌≡◌ {A = ReadProgram} (Err y) (Err (k, t ∷ us)) = e in
         let pair : ◌≡◌ {A = SyntaxFault × List Token} y (k, t ∷ us) = cc in

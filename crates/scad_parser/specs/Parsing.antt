@@ -14,7 +14,7 @@ use Rattle.scad_ast.specs.ProgramView.{program_of}
 use Rattle.scad_grammar.specs.declared.SyntaxFault.{SyntaxFault}
 use Rattle.scad_grammar.specs.declared.SyntaxFault.TheVariants.{Expected, Nested, NotInProfile}
 use Rattle.scad_grammar.specs.FirstFault.{IsFirstFault}
-use Rattle.scad_grammar.specs.Faults.{Reads, fault_of, left_out}
+use Rattle.scad_grammar.specs.Faults.{TokenReader, fault_of, left_out_classes}
 use Rattle.scad_grammar.specs.Reading.{Read, after}
 use Rattle.scad_grammar.specs.StatementReads.{program_read}
 
@@ -62,12 +62,12 @@ ends (token ∷ []) = is_end token.kind
 ends (token ∷ next ∷ tokens) = ends (next ∷ tokens)
 
 -- nothing stands behind what was read
-abbrev pub nothing_behind : {A : Type 0} → A → Reads A
+abbrev pub nothing_behind : {A : Type 0} → A → TokenReader A
 nothing_behind x [] = Ok (x, [])
-nothing_behind x (token ∷ tokens) = Err (fault_of left_out (Some token), token ∷ tokens)
+nothing_behind x (token ∷ tokens) = Err (fault_of left_out_classes (Some token), token ∷ tokens)
 
 -- a program and its end, and nothing behind it
-abbrev pub whole_read : ℕ → Reads (List StatementTerm)
+abbrev pub whole_read : ℕ → TokenReader (List StatementTerm)
 whole_read depth tokens = after (program_read depth tokens) nothing_behind
 
 -- the answer is what a reader of the grammar reads, unless memory ran out

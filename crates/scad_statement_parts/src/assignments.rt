@@ -1,6 +1,6 @@
 ghost use Rattle.scad_ast.specs.ExprView.{term_of};
 ghost use Rattle.scad_ast.specs.StatementView.{statement_of};
-ghost use Rattle.scad_grammar.specs.Grammar.{assignment_of};
+ghost use Rattle.scad_grammar.specs.Grammar.{assignment_term};
 ghost use Rattle.scad_grammar.specs.Reading.{mapped};
 ghost use Rattle.scad_grammar.specs.Reads.{expr_read};
 ghost use Rattle.scad_grammar.specs.StatementReads.{ended_read, special_read};
@@ -20,7 +20,7 @@ pub fn assignment<'a>(
     tokens: &'a [Token],
     depth: u32,
 ) -> Parsed<'a, Statement>
-    ensures value { Gives (λ p. (statement_of p.0, p.1.now)) result (mapped (assignment_of name.now) (ended_read (expr_read depth)) tokens.now) }
+    ensures value { Gives (λ p. (statement_of p.0, p.1.now)) result (mapped (assignment_term name.now) (ended_read (expr_read depth)) tokens.now) }
 {
     let bytes = bytes(alloc, &name.kind)?;
     let (value, rest) = ended(alloc, tokens, depth)?;

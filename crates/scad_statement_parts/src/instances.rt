@@ -1,7 +1,7 @@
 ghost use Rattle.std.specs.Prelude.{◌≡◌};
 ghost use Rattle.scad_ast.specs.ExprView.{term_of};
 ghost use Rattle.scad_ast.specs.StatementView.{instance_of, core_of, mark_of, marks_of};
-ghost use Rattle.scad_grammar.specs.Grammar.{mark_of as mark_of_token, instance_of as instance_of_marks};
+ghost use Rattle.scad_grammar.specs.Grammar.{mark_term, instance_term};
 ghost use Rattle.scad_grammar.specs.Reads.{expr_read, in_parentheses};
 ghost use Rattle.scad_grammar.specs.StatementReads.{marks_read};
 ghost use Rattle.scad_tokens.specs.Views.{Gives};
@@ -27,7 +27,7 @@ pub fn marks<'a>(alloc: Global, tokens: &'a [Token]) -> Parsed<'a, PlacedModifie
 
 // A modifier.
 fn mark(token: &Token) -> PlacedModifier
-    ensures { mark_of result ≡ mark_of_token token.now }
+    ensures { mark_of result ≡ mark_term token.now }
 {
     PlacedModifier {
         place: token.place,
@@ -37,7 +37,7 @@ fn mark(token: &Token) -> PlacedModifier
 
 /// An instance, by its modifiers and its core.
 pub fn instance_from(marks: PlacedModifiers, core: Core) -> Instance
-    ensures { instance_of result ≡ instance_of_marks (marks_of marks) (core_of core) }
+    ensures { instance_of result ≡ instance_term (marks_of marks) (core_of core) }
 {
     let place = match marks.items.first() {
         Some(mark) => mark.place,

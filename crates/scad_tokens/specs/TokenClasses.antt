@@ -4,7 +4,7 @@ use Rattle.scad_grammar.specs.Classes.{numeral, name, child_count, special, argu
 use Rattle.scad_grammar.specs.Grammar.{levels}
 use Rattle.scad_grammar.specs.Reads.{firsts_of_expression}
 use Rattle.scad_grammar.specs.StatementReads.{mark_signs, loop_words, firsts_of_statement, firsts_of_body}
-use Rattle.scad_grammar.specs.Faults.{left_out, left_out_of_expressions}
+use Rattle.scad_grammar.specs.Faults.{left_out_classes, left_out_of_expressions}
 use Rattle.scad_tokens.specs.declared.class.Level.{Level}
 use Rattle.scad_tokens.specs.declared.class.Level.TheVariants.{Or, And, Equal, Order, Sum, Product}
 use Rattle.scad_tokens.specs.declared.class.TokenClass.{TokenClass}
@@ -94,5 +94,5 @@ classes_of LoopWord = loop_words
 classes_of Expression = firsts_of_expression
 classes_of Statement = firsts_of_statement
 classes_of Body = firsts_of_body
-classes_of LeftOut = left_out
+classes_of LeftOut = left_out_classes
 classes_of LeftOutOfExpressions = left_out_of_expressions

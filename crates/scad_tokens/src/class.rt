@@ -1,6 +1,6 @@
 ghost use Rattle.std.specs.Prelude.{◌≡◌, cond};
-ghost use Rattle.scad_grammar.specs.Classes.{class_of, listed, symbol_class, reserved_class, numeral, name, text, child_count, special};
-ghost use Rattle.scad_grammar.specs.Faults.{left_out};
+ghost use Rattle.scad_grammar.specs.Classes.{class_of, is_listed, symbol_class, reserved_class, numeral, name, text, child_count, special};
+ghost use Rattle.scad_grammar.specs.Faults.{left_out_classes};
 ghost use Rattle.scad_grammar.specs.StatementReads.{mark_signs, firsts_of_core};
 ghost use Rattle.scad_tokens.specs.TokenClasses.{classes_of, operators_at, tighter_levels, looser_than, binary_signs, unary_signs, continuations};
 
@@ -47,7 +47,7 @@ impl Level {
 
     // Whether the symbol is an operator of this level.
     fn has(self, symbol: Symbol) -> bool
-        ensures { result ≡ listed (operators_at self) (symbol_class symbol) }
+        ensures { result ≡ is_listed (operators_at self) (symbol_class symbol) }
     {
         match self {
             Level::Or => matches!(symbol, Symbol::Or),
@@ -106,7 +106,7 @@ impl TokenClass {
     /// Whether a token is of this class.
     #[inline(always)]
     pub fn has(self, kind: &TokenKind) -> bool
-        ensures { result ≡ listed (classes_of self) (class_of kind.now) }
+        ensures { result ≡ is_listed (classes_of self) (class_of kind.now) }
     {
         match kind {
             TokenKind::Symbol(symbol) => self.has_symbol(*symbol),
@@ -120,7 +120,7 @@ impl TokenClass {
     }
 
     fn has_name(self) -> bool
-        ensures { result ≡ listed (classes_of self) name }
+        ensures { result ≡ is_listed (classes_of self) name }
     {
         matches!(
             self,
@@ -134,7 +134,7 @@ impl TokenClass {
     }
 
     fn has_numeral(self) -> bool
-        ensures { result ≡ listed (classes_of self) numeral }
+        ensures { result ≡ is_listed (classes_of self) numeral }
     {
         matches!(
             self,
@@ -143,7 +143,7 @@ impl TokenClass {
     }
 
     fn has_text(self) -> bool
-        ensures { result ≡ listed (classes_of self) text }
+        ensures { result ≡ is_listed (classes_of self) text }
     {
         matches!(
             self,
@@ -152,7 +152,7 @@ impl TokenClass {
     }
 
     fn has_symbol(self, symbol: Symbol) -> bool
-        ensures { result ≡ listed (classes_of self) (symbol_class symbol) }
+        ensures { result ≡ is_listed (classes_of self) (symbol_class symbol) }
     {
         match self {
             TokenClass::Sign(wanted) => symbol == wanted,
@@ -177,7 +177,7 @@ impl TokenClass {
     }
 
     fn has_word(self, word: Reserved) -> bool
-        ensures { result ≡ listed (classes_of self) (reserved_class word) }
+        ensures { result ≡ is_listed (classes_of self) (reserved_class word) }
     {
         match self {
             TokenClass::Word(wanted) => word == wanted,
@@ -199,7 +199,7 @@ impl TokenClass {
     }
 
     fn has_special(self, is_child_count: bool) -> bool
-        ensures { result ≡ listed (classes_of self) (cond is_child_count child_count special) }
+        ensures { result ≡ is_listed (classes_of self) (cond is_child_count child_count special) }
     {
         match self {
             TokenClass::Literal | TokenClass::Atom | TokenClass::Expression => true,
@@ -214,7 +214,7 @@ impl TokenClass {
 }
 
 fn is_continuation(symbol: Symbol) -> bool
-    ensures { result ≡ listed continuations (symbol_class symbol) }
+    ensures { result ≡ is_listed continuations (symbol_class symbol) }
 {
     is_binary(symbol)
         || matches!(
@@ -224,7 +224,7 @@ fn is_continuation(symbol: Symbol) -> bool
 }
 
 fn is_binary(symbol: Symbol) -> bool
-    ensures { result ≡ listed binary_signs (symbol_class symbol) }
+    ensures { result ≡ is_listed binary_signs (symbol_class symbol) }
 {
     matches!(
         symbol,
@@ -245,13 +245,13 @@ fn is_binary(symbol: Symbol) -> bool
 }
 
 fn is_unary(symbol: Symbol) -> bool
-    ensures { result ≡ listed unary_signs (symbol_class symbol) }
+    ensures { result ≡ is_listed unary_signs (symbol_class symbol) }
 {
     matches!(symbol, Symbol::Minus | Symbol::Plus | Symbol::Not)
 }
 
 fn is_mark(symbol: Symbol) -> bool
-    ensures { result ≡ listed mark_signs (symbol_class symbol) }
+    ensures { result ≡ is_listed mark_signs (symbol_class symbol) }
 {
     matches!(
         symbol,
@@ -260,7 +260,7 @@ fn is_mark(symbol: Symbol) -> bool
 }
 
 fn begins_core(word: Reserved) -> bool
-    ensures { result ≡ listed firsts_of_core (reserved_class word) }
+    ensures { result ≡ is_listed firsts_of_core (reserved_class word) }
 {
     matches!(
         word,
@@ -269,7 +269,7 @@ fn begins_core(word: Reserved) -> bool
 }
 
 fn is_left_out(word: Reserved) -> bool
-    ensures { result ≡ listed left_out (reserved_class word) }
+    ensures { result ≡ is_listed left_out_classes (reserved_class word) }
 {
     matches!(
         word,

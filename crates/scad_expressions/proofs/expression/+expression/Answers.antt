@@ -11,7 +11,7 @@ use Rattle.scad_ast.specs.Terms.{Term, PositionalTerm}
 use Rattle.scad_ast.specs.ExprView.{term_of, terms_of, link_of, suffix_of, arg_of, args_of}
 use Rattle.scad_grammar.specs.declared.SyntaxFault.{SyntaxFault}
 use Rattle.scad_grammar.specs.Classes.{close_bracket_sign, close_parenthesis_sign, among, is, other_than}
-use Rattle.scad_grammar.specs.Grammar.{levels, unary_of, index_of, paren_of, bracket_of, filled_of, given_of, Rest}
+use Rattle.scad_grammar.specs.Grammar.{levels, unary_term, index_term, paren_term, bracket_term, filled_term, given_term, Rest}
 use Rattle.scad_grammar.specs.Languages.{pair_of}
 use Rattle.scad_grammar.specs.Reading.{Read, after, both, maybe, with_front}
 use Rattle.scad_grammar.specs.Reads.{expr_read, operand_read, arg_in, args_read, suffix_read, rest_read, chain_read, choice_read, in_parentheses}
@@ -33,7 +33,7 @@ use Rattle.scad_expressions.proofs.expression.+expression.Goals as goal
 use Rattle.scad_expressions.proofs.expression.+expression.Goals.{climb_below-then-begins+in_ok-chained, climb_below-else-begins}
 
 bracket_filled : (bracket : Token) (first : Term) (q : Read Token SyntaxFault Rest)
-    → after (after (after q (λ more us. Ok (pair_of first more, us))) (λ p us. Ok (Some p, us))) (λ p us. Ok (bracket_of bracket p, us)) ≡ after q (λ more us. Ok (filled_of bracket first more, us))
+    → after (after (after q (λ more us. Ok (pair_of first more, us))) (λ p us. Ok (Some p, us))) (λ p us. Ok (bracket_term bracket p, us)) ≡ after q (λ more us. Ok (filled_term bracket first more, us))
 bracket_filled bracket first (Ok p) = refl
 bracket_filled bracket first (Err e) = refl
 
@@ -266,7 +266,7 @@ arg-returns t c = record {
       let made = c.in_ok-bytes-2.ensures.ok in
       let value = rw made.1 at c.expr-2.ensures.value in
       arg_given c.args.depth c.args.tokens.now c.in-Some.name.now c.in-Some.rest.now c.if-depth-eq0.false c.in-Some.ensures.some
-      ∙ ap (λ (q : Read Token SyntaxFault Term). after q (λ x us. Ok (given_of c.in-Some.name.now x, us))) value
+      ∙ ap (λ (q : Read Token SyntaxFault Term). after q (λ x us. Ok (given_term c.in-Some.name.now x, us))) value
       ∙ ap (λ x. Ok (x, c.in_ok-bytes-2.rest.now)) (sym c.given.ensures);
 }
 
@@ -323,14 +323,14 @@ paren-returns-in_err-inner t c = record {
   value =
       let read = closed_gives term_of (is close_parenthesis_sign) c.expr.result c.closed.result _ c.expr.ensures.value c.closed.ensures in
       rw c.in_ok-open.ensures.value
-      (made_stops (λ (b : Box Expr). term_of b.value) term_of (paren_of c.in_ok-open.open.now) c.from_residual-in_err-inner.result c.in_err-inner.field-0.0 _
+      (made_stops (λ (b : Box Expr). term_of b.value) term_of (paren_term c.in_ok-open.open.now) c.from_residual-in_err-inner.result c.in_err-inner.field-0.0 _
       (boxed_gives term_of c.closed.result (Err c.in_err-inner.field-0.0) _ read c.in_err-inner.ensures) c.from_residual-in_err-inner.ensures.1);
 }
 
 pub signed-returns-in_err-of : goal.signed-returns-in_err-of
 signed-returns-in_err-of t c = record {
   value =
-      made_stops (λ (b : Box Expr). term_of b.value) term_of (unary_of c.args.operator.now) c.from_residual.result c.in_err-of.field-0.0 _
+      made_stops (λ (b : Box Expr). term_of b.value) term_of (unary_term c.args.operator.now) c.from_residual.result c.in_err-of.field-0.0 _
       (boxed_gives term_of c.operand.result (Err c.in_err-of.field-0.0) _ c.operand.ensures.value c.in_err-of.ensures) c.from_residual.ensures.1;
 }
 
@@ -375,7 +375,7 @@ suffix-returns-in_err-index t c = record {
   value =
       let some = c.in-Some.ensures.some in
       rw (some.0, some.1)
-      (made_stops term_of suffix_of (index_of c.in-Some.open.now) c.from_residual.result c.in_err-index.field-0.0 _
+      (made_stops term_of suffix_of (index_term c.in-Some.open.now) c.from_residual.result c.in_err-index.field-0.0 _
       (closed_gives term_of (is close_bracket_sign) c.expr.result (Err c.in_err-index.field-0.0) _ c.expr.ensures.value c.in_err-index.ensures) c.from_residual.ensures.1);
 }
 
@@ -425,7 +425,7 @@ suffix-returns-in-Some t c = record {
       let some = c.in-Some.ensures.some in
       let read = closed_gives term_of (is close_bracket_sign) c.expr.result (Ok (c.in_ok-index.index, c.in_ok-index.rest)) _ c.expr.ensures.value c.in_ok-index.ensures in
       rw (some.0, some.1)
-      (ap (λ (q : Read Token SyntaxFault Term). after q (λ x us. Ok (index_of c.in-Some.open.now x, us))) read
+      (ap (λ (q : Read Token SyntaxFault Term). after q (λ x us. Ok (index_term c.in-Some.open.now x, us))) read
       ∙ ap (λ x. Ok (x, c.in_ok-index.rest.now)) (sym (index_made c.in-Some.open.now.place c.in_ok-index.index)));
 }
 
@@ -448,7 +448,7 @@ paren-returns t c = record {
   value =
       let read = closed_gives term_of (is close_parenthesis_sign) c.expr.result c.closed.result _ c.expr.ensures.value c.closed.ensures in
       let inner = boxed_gives term_of c.closed.result (Ok (c.in_ok-inner.inner, c.in_ok-inner.rest)) _ read c.in_ok-inner.ensures in
-      rw c.in_ok-open.ensures.value (ap (λ (q : Read Token SyntaxFault Term). after q (λ x us. Ok (paren_of c.in_ok-open.open.now x, us))) inner
+      rw c.in_ok-open.ensures.value (ap (λ (q : Read Token SyntaxFault Term). after q (λ x us. Ok (paren_term c.in_ok-open.open.now x, us))) inner
       ∙ ap (λ x. Ok (x, c.in_ok-inner.rest.now)) (sym (paren_made c.in_ok-open.open.now.place c.in_ok-inner.inner)));
 }
 
@@ -456,7 +456,7 @@ pub bracket-returns : goal.bracket-returns
 bracket-returns t c = record {
   value =
       let inside = maybe (other_than (close_bracket_sign ∷ [])) (both pair_of (expr_read c.args.depth) (rest_read (expr_read c.args.depth))) c.in_ok-open.rest.now in
-      same_read term_of c.closed.result _ _ (rw c.in_ok-open.ensures.value (sym (closed_made (is close_bracket_sign) (bracket_of c.in_ok-open.open.now) inside)))
+      same_read term_of c.closed.result _ _ (rw c.in_ok-open.ensures.value (sym (closed_made (is close_bracket_sign) (bracket_term c.in_ok-open.open.now) inside)))
       (closed_gives term_of (is close_bracket_sign) c.inside.result c.closed.result _ c.inside.ensures.value c.closed.ensures);
 }
 
@@ -484,7 +484,7 @@ arg-returns-in_err-bytes-2 t c = record {
   value =
       let read = rw c.in_err-bytes-2.ensures.err at c.expr-2.ensures.value in
       same_read arg_of c.from_residual-in_err-bytes-2.result _ _ (arg_given c.args.depth c.args.tokens.now c.in-Some.name.now c.in-Some.rest.now c.if-depth-eq0.false c.in-Some.ensures.some)
-      (made_stops term_of arg_of (given_of c.in-Some.name.now) c.from_residual-in_err-bytes-2.result c.in_err-bytes-2.field-0.0 _ read c.from_residual-in_err-bytes-2.ensures.1);
+      (made_stops term_of arg_of (given_term c.in-Some.name.now) c.from_residual-in_err-bytes-2.result c.in_err-bytes-2.field-0.0 _ read c.from_residual-in_err-bytes-2.ensures.1);
 }
 
 pub arg-returns-in_err-value : goal.arg-returns-in_err-value

@@ -3,7 +3,7 @@ use Rattle.std.proofs.lemmas.List.{map-append}
 use Rattle.std.proofs.lemmas.Result.{err_from_is_err_and}
 use Rattle.scad_ast.specs.StatementView.{statement_of, statements_of, core_of, body_of}
 use Rattle.scad_grammar.specs.Classes.{name, special, semicolon_sign, open_brace_sign, close_brace_sign, among, is}
-use Rattle.scad_grammar.specs.Grammar.{assignment_of}
+use Rattle.scad_grammar.specs.Grammar.{assignment_term}
 use Rattle.scad_grammar.specs.Reading.{starts}
 use Rattle.scad_grammar.specs.Reads.{expr_read}
 use Rattle.scad_grammar.specs.StatementReads.{firsts_of_statement, param_in, body_read, instance_in, ended_read, definition_read}
@@ -68,7 +68,7 @@ statement_over-returns-in-Some-assigned t c = record {
       let second : starts (is open_brace_sign) c.args.tokens.now ≡ false = search rules in
       let third : starts (is special) c.args.tokens.now ≡ false = search rules in
       same_read statement_of c.assignment.result _ _
-      (rw (first, second, third) (assigned_ahead assignment_of (name ∷ []) (ended_read (expr_read c.args.depth)) other c.args.tokens.now c.in-Some-assigned.name.now c.in-Some-assigned.rest.now c.in-Some-assigned.ensures.some))
+      (rw (first, second, third) (assigned_ahead assignment_term (name ∷ []) (ended_read (expr_read c.args.depth)) other c.args.tokens.now c.in-Some-assigned.name.now c.in-Some-assigned.rest.now c.in-Some-assigned.ensures.some))
       c.assignment.ensures.value;
 }
 
@@ -81,6 +81,6 @@ statement_over-returns-in_default-assigned t c = record {
       let second : starts (is open_brace_sign) c.args.tokens.now ≡ false = search rules in
       let third : starts (is special) c.args.tokens.now ≡ false = search rules in
       same_read statement_of c.definition.result _ _
-      (rw (first, second, third) (none_ahead assignment_of (name ∷ []) (ended_read (expr_read c.args.depth)) other c.args.tokens.now c.in_default-assigned.ensures.none))
+      (rw (first, second, third) (none_ahead assignment_term (name ∷ []) (ended_read (expr_read c.args.depth)) other c.args.tokens.now c.in_default-assigned.ensures.none))
       c.definition.ensures.value;
 }

@@ -4,7 +4,7 @@ use Rattle.scad_lexer.specs.declared.token.Token.{Token}
 use Rattle.scad_ast.specs.StatementView.{mark_of, marks_of}
 use Rattle.scad_grammar.specs.declared.SyntaxFault.{SyntaxFault}
 use Rattle.scad_grammar.specs.Classes.{among}
-use Rattle.scad_grammar.specs.Grammar.{mark_of as mark_of_token}
+use Rattle.scad_grammar.specs.Grammar.{mark_term}
 use Rattle.scad_grammar.specs.Reading.{Read, after}
 use Rattle.scad_grammar.specs.StatementReads.{mark_signs}
 use Rattle.scad_grammar.proofs.Readers.{loop_more, loop_end}
@@ -16,13 +16,13 @@ use Rattle.scad_statement_parts.proofs.instances.marks.Goals as goal
 pub marks-preserved : goal.marks-preserved
 marks-preserved c =
     let some = c.in-Some.ensures.some in
-    let read = ap (λ (q : Read Token SyntaxFault Token). after q (λ t us. Ok (mark_of_token t, us))) some.1 ∙ ap (λ m. Ok (m, c.in-Some.after.now)) (sym c.mark.ensures) in
+    let read = ap (λ (q : Read Token SyntaxFault Token). after q (λ t us. Ok (mark_term t, us))) some.1 ∙ ap (λ m. Ok (m, c.in-Some.after.now)) (sym c.mark.ensures) in
     rw (c.in_ok-push.ensures.items, map-append) (loop_more _ _ _ _ _ c.marks.invariant (many_more (among mark_signs) _ mark_strict c.marks.rest.now (mark_of c.mark.result) c.in-Some.after.now some.0 read))
 
 pub marks-smaller : goal.marks-smaller
 marks-smaller c =
-    let read = ap (λ (q : Read Token SyntaxFault Token). after q (λ t us. Ok (mark_of_token t, us))) c.in-Some.ensures.some.1 in
-    mark_strict c.marks.rest.now (mark_of_token c.in-Some.token.now) c.in-Some.after.now read
+    let read = ap (λ (q : Read Token SyntaxFault Token). after q (λ t us. Ok (mark_term t, us))) c.in-Some.ensures.some.1 in
+    mark_strict c.marks.rest.now (mark_term c.in-Some.token.now) c.in-Some.after.now read
 
 pub returns : goal.returns
 returns c = record { value = loop_end _ _ _ _ c.marks.invariant (many_end (among mark_signs) _ mark_strict c.marks.rest.now c.in_default.ensures.none) }
