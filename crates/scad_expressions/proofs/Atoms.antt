@@ -11,7 +11,7 @@ use Rattle.scad_grammar.specs.Reading.{Read, after, starts, choice}
 use Rattle.scad_grammar.specs.Reads.{suffix_read, unary_read, chain_read, paren_read, bracket_read, name_read, primary_read, choice_read}
 use Rattle.scad_tokens.specs.declared.class.Level.{Level}
 use Rattle.scad_expressions.specs.Climbing.{climb_read}
-use Rattle.scad_tokens.specs.TokenClasses.{joined, binary_signs, unary_signs, suffix_signs, literals, atoms, continuations, operators_at, levels_below}
+use Rattle.scad_tokens.specs.TokenClasses.{classes_of_levels, binary_signs, unary_signs, suffix_signs, literals, atoms, continuations, operators_at, levels_below}
 use Rattle.scad_tokens.specs.Views.{has_lone_atom, atom_of}
 use Rattle.scad_expressions.proofs.Given.{both_hold}
 use Rattle.scad_expressions.proofs.Climbs.{chain_climbs, climbs_none, many_none, starts_apart, none_at, none_below}
@@ -147,7 +147,7 @@ module _ (e w : TokenReader Term) (a : TokenReader ArgTerm) (t : Token) (us : Li
   atom_is_operand =
       rw (unsigned t atom, atom_read e a t us atom (no_arguments us ends), many_none (among suffix_signs) (suffix_read e) us (no_suffix us ends)) refl
 
-  atom_is_chain : (ls : List (List ℕ)) → ((vs : List Token) → starts (among binary_signs) vs ≡ false → starts (among (joined ls)) vs ≡ false)
+  atom_is_chain : (ls : List (List ℕ)) → ((vs : List Token) → starts (among binary_signs) vs ≡ false → starts (among (classes_of_levels ls)) vs ≡ false)
       → chain_read ls (unary_read e w (primary_read e a)) (t ∷ us) ≡ Ok (atom_of t, us)
   atom_is_chain ls none =
       chain_climbs ls (unary_read e w (primary_read e a)) (t ∷ us)

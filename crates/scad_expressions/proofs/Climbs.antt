@@ -11,7 +11,7 @@ use Rattle.scad_grammar.specs.Reads.{chain_read}
 use Rattle.scad_tokens.specs.declared.class.Level.{Level}
 use Rattle.scad_tokens.specs.declared.class.Level.TheVariants.{Or, And, Equal, Order, Sum, Product}
 use Rattle.scad_expressions.specs.Climbing.{climb_read}
-use Rattle.scad_tokens.specs.TokenClasses.{joined, binary_signs, operators_at, looser_than, levels_below, levels_at, tighter_levels}
+use Rattle.scad_tokens.specs.TokenClasses.{classes_of_levels, binary_signs, operators_at, looser_than, levels_below, levels_at, tighter_levels}
 use Rattle.scad_expressions.proofs.Levels.{same_level, looser_step}
 
 one_by_one : {A B C : Type 0} (q : Read Token SyntaxFault A) (f : A → TokenReader B) (g : B → TokenReader C)
@@ -61,19 +61,19 @@ starts_apart xs ys (t ∷ ts) e = listed_apart xs ys (class_of t.kind) e
 
 -- no operator of these levels stands here
 pub climbs_none : (ls : List (List ℕ)) (u : TokenReader Term) (x : Term) (ts : List Token)
-    → starts (among (joined ls)) ts ≡ false → climb_read ls u x ts ≡ Ok (x, ts)
+    → starts (among (classes_of_levels ls)) ts ≡ false → climb_read ls u x ts ≡ Ok (x, ts)
 climbs_none [] u x ts e = refl
 climbs_none (ops ∷ ls) u x ts e =
-    let p = starts_apart ops (joined ls) ts e in
+    let p = starts_apart ops (classes_of_levels ls) ts e in
     rw (climbs_none ls u x ts p.1, many_none (among ops) (both link (one (among ops)) (chain_read ls u)) ts p.0) refl
 
 -- no operator of a level and of those that bind more tightly, where there is none at all
 pub none_below : (ops : List ℕ) (ls : List (List ℕ)) (ts : List Token)
-    → starts (among (joined (ops ∷ ls))) ts ≡ false → starts (among (joined ls)) ts ≡ false
-none_below ops ls ts e = (starts_apart ops (joined ls) ts e).1
+    → starts (among (classes_of_levels (ops ∷ ls))) ts ≡ false → starts (among (classes_of_levels ls)) ts ≡ false
+none_below ops ls ts e = (starts_apart ops (classes_of_levels ls) ts e).1
 
 pub none_at : (level : Level) (ts : List Token) → starts (among binary_signs) ts ≡ false
-    → starts (among (joined (levels_at level))) ts ≡ false
+    → starts (among (classes_of_levels (levels_at level))) ts ≡ false
 none_at Or ts e = e
 none_at And ts e = none_below (operators_at Or) (levels_at And) ts e
 none_at Equal ts e = none_below (operators_at And) (levels_at Equal) ts (none_below (operators_at Or) (levels_at And) ts e)

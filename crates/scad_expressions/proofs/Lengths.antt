@@ -19,7 +19,7 @@ use Rattle.scad_grammar.proofs.Statements.{statement_depth_reads, statement_dept
 use Rattle.scad_tokens.specs.declared.class.Level.{Level}
 use Rattle.scad_tokens.specs.declared.next.Stopped.{Stopped}
 use Rattle.scad_tokens.specs.TokenClasses.{operators_at, levels_below}
-use Rattle.scad_tokens.specs.Views.{Gives}
+use Rattle.scad_tokens.specs.Views.{GivesRead}
 use Rattle.scad_expressions.proofs.Loops.{Shorter, Strictly}
 
 shorter : {A : Type 0} (r : TokenReader A) → Shrinks r → Shorter r
@@ -27,7 +27,7 @@ shorter r h ts x us e = omega (arith, h.at ts, ap left e)
 
 -- what gives what such a reader reads
 pub given_shorter : {A X : Type 0} (view : A → X) (r : TokenReader X) → Shorter r → (ts : List Token) (given : Result (A × Bor (List Token)) Stopped)
-    → Gives (λ (p : A × Bor (List Token)). (view p.0, p.1.now)) given (r ts) → IfOk given (λ p. length p.1.now ≤ length ts)
+    → GivesRead (λ (p : A × Bor (List Token)). (view p.0, p.1.now)) given (r ts) → IfOk given (λ p. length p.1.now ≤ length ts)
 given_shorter view r h ts (Ok p) g = h ts (view p.0) p.1.now g
 given_shorter view r h ts (Err s) g = tt
 

@@ -16,13 +16,13 @@ use Rattle.scad_grammar.specs.Reading.{Read, after}
 use Rattle.scad_grammar.specs.Reads.{in_parentheses}
 use Rattle.scad_tokens.specs.declared.next.Stopped.{Stopped}
 use Rattle.scad_tokens.specs.declared.next.Stopped.TheVariants.{Fault, NoMemory}
-use Rattle.scad_tokens.specs.Views.{Gives, plain, closed_by, IsClosed, IsBoxed}
+use Rattle.scad_tokens.specs.Views.{GivesRead, plain, closed_by, IsClosed, IsBoxed}
 
 -- a fault of a part is one of the whole
 abbrev GoesOn : {A X : Type 0} → (A → X) → {B Y : Type 0} → (B → Y) → Type 0
 GoesOn {A} {X} item {B} {Y} list =
     (s : Stopped) (q : Read Token SyntaxFault X) (r : Read Token SyntaxFault Y) → ((x : SyntaxFault × List Token) → q ≡ Err x → r ≡ Err x)
-    → Gives (λ (p : A × Bor (List Token)). (item p.0, p.1.now)) (Err s) q → Gives (λ (p : B × Bor (List Token)). (list p.0, p.1.now)) (Err s) r
+    → GivesRead (λ (p : A × Bor (List Token)). (item p.0, p.1.now)) (Err s) q → GivesRead (λ (p : B × Bor (List Token)). (list p.0, p.1.now)) (Err s) r
 
 goes_on : {A X B Y : Type 0} (item : A → X) (list : B → Y) → GoesOn item list
 goes_on item list (Fault fault at) q r h e = h (fault, at.now) e
@@ -30,47 +30,47 @@ goes_on item list NoMemory q r h e = tt
 
 -- the same of what a `?` returns
 pub stops : {A X B Y : Type 0} (item : A → X) (whole : B → Y) (given : Result (B × Bor (List Token)) Stopped) (s : Stopped) (q : Read Token SyntaxFault X) (r : Read Token SyntaxFault Y)
-    → ((x : SyntaxFault × List Token) → q ≡ Err x → r ≡ Err x) → Gives (λ (p : A × Bor (List Token)). (item p.0, p.1.now)) (Err s) q → IsErrAnd given (λ y. y ≡ s)
-    → Gives (λ (p : B × Bor (List Token)). (whole p.0, p.1.now)) given r
+    → ((x : SyntaxFault × List Token) → q ≡ Err x → r ≡ Err x) → GivesRead (λ (p : A × Bor (List Token)). (item p.0, p.1.now)) (Err s) q → IsErrAnd given (λ y. y ≡ s)
+    → GivesRead (λ (p : B × Bor (List Token)). (whole p.0, p.1.now)) given r
 stops item whole (Ok p) s q r h g e = absurd e
 stops item whole (Err y) s q r h g e = rw e (goes_on item whole s q r h g)
 
 -- what is given by one reader is given by another that reads the same
 pub same_read : {A X : Type 0} (item : A → X) (given : Result (A × Bor (List Token)) Stopped) (q r : Read Token SyntaxFault X) → q ≡ r
-    → Gives (λ (p : A × Bor (List Token)). (item p.0, p.1.now)) given r → Gives (λ (p : A × Bor (List Token)). (item p.0, p.1.now)) given q
+    → GivesRead (λ (p : A × Bor (List Token)). (item p.0, p.1.now)) given r → GivesRead (λ (p : A × Bor (List Token)). (item p.0, p.1.now)) given q
 same_read item given q r e g = rw e g
 
 -- the same where the whole is made of that part alone
 pub made_stops : {A X B Y : Type 0} (item : A → X) (whole : B → Y) (make : X → Y) (given : Result (B × Bor (List Token)) Stopped) (s : Stopped) (q : Read Token SyntaxFault X)
-    → Gives (λ (p : A × Bor (List Token)). (item p.0, p.1.now)) (Err s) q → IsErrAnd given (λ y. y ≡ s)
-    → Gives (λ (p : B × Bor (List Token)). (whole p.0, p.1.now)) given (after q (λ x us. Ok (make x, us)))
+    → GivesRead (λ (p : A × Bor (List Token)). (item p.0, p.1.now)) (Err s) q → IsErrAnd given (λ y. y ≡ s)
+    → GivesRead (λ (p : B × Bor (List Token)). (whole p.0, p.1.now)) given (after q (λ x us. Ok (make x, us)))
 made_stops {A} {X} item whole make given s q g e = stops item whole given s q (after q (λ x us. Ok (make x, us))) (λ x h. ap (λ (p : Read Token SyntaxFault X). after p (λ y us. Ok (make y, us))) h) g e
 
 -- what is read with something that was read before it
 pub with_gives : {A B X Y : Type 0} (item : B → X) (whole : A → B → Y) (before : A) (read : Result (B × Bor (List Token)) Stopped) (given : Result ((A × B) × Bor (List Token)) Stopped)
     (q : Read Token SyntaxFault X) (r : Read Token SyntaxFault Y)
     → ((x : B) (us : List Token) → q ≡ Ok (item x, us) → r ≡ Ok (whole before x, us)) → ((e : SyntaxFault × List Token) → q ≡ Err e → r ≡ Err e)
-    → Gives (λ (p : B × Bor (List Token)). (item p.0, p.1.now)) read q
+    → GivesRead (λ (p : B × Bor (List Token)). (item p.0, p.1.now)) read q
     → IfOk given (λ p. (p.0.0 ≡ before) × (read ≡ Ok (p.0.1, p.1))) → IfErr given (λ s. read ≡ Err s)
-    → Gives (λ (p : (A × B) × Bor (List Token)). (whole p.0.0 p.0.1, p.1.now)) given r
+    → GivesRead (λ (p : (A × B) × Bor (List Token)). (whole p.0.0 p.0.1, p.1.now)) given r
 with_gives {A} {B} {X} {Y} item whole before read (Ok p) q r more stop g ok err =
-    let told = subst (λ (s : Result (B × Bor (List Token)) Stopped). Gives (λ (p : B × Bor (List Token)). (item p.0, p.1.now)) s q) ok.1 g in
+    let told = subst (λ (s : Result (B × Bor (List Token)) Stopped). GivesRead (λ (p : B × Bor (List Token)). (item p.0, p.1.now)) s q) ok.1 g in
     more p.0.1 p.1.now told ∙ ap (λ (a : A). Ok (whole a p.0.1, p.1.now)) (sym ok.0)
 with_gives {A} {B} {X} {Y} item whole before read (Err (Fault fault at)) q r more stop g ok err =
-    stop (fault, at.now) (subst (λ (s : Result (B × Bor (List Token)) Stopped). Gives (λ (p : B × Bor (List Token)). (item p.0, p.1.now)) s q) err g)
+    stop (fault, at.now) (subst (λ (s : Result (B × Bor (List Token)) Stopped). GivesRead (λ (p : B × Bor (List Token)). (item p.0, p.1.now)) s q) err g)
 with_gives item whole before read (Err NoMemory) q r more stop g ok err = tt
 
 -- what is read in a box
 pub boxed_gives : {A X : Type 0} (item : A → X) (read : Result (A × Bor (List Token)) Stopped) (given : Result (Box A × Bor (List Token)) Stopped) (q : Read Token SyntaxFault X)
-    → Gives (λ (p : A × Bor (List Token)). (item p.0, p.1.now)) read q → IsBoxed read given
-    → Gives (λ (p : Box A × Bor (List Token)). (item p.0.value, p.1.now)) given q
-boxed_gives {A} {X} item read (Ok p) q g h = subst (λ (s : Result (A × Bor (List Token)) Stopped). Gives (λ (p : A × Bor (List Token)). (item p.0, p.1.now)) s q) h g
-boxed_gives {A} {X} item read (Err (Fault fault at)) q g h = subst (λ (s : Result (A × Bor (List Token)) Stopped). Gives (λ (p : A × Bor (List Token)). (item p.0, p.1.now)) s q) h g
+    → GivesRead (λ (p : A × Bor (List Token)). (item p.0, p.1.now)) read q → IsBoxed read given
+    → GivesRead (λ (p : Box A × Bor (List Token)). (item p.0.value, p.1.now)) given q
+boxed_gives {A} {X} item read (Ok p) q g h = subst (λ (s : Result (A × Bor (List Token)) Stopped). GivesRead (λ (p : A × Bor (List Token)). (item p.0, p.1.now)) s q) h g
+boxed_gives {A} {X} item read (Err (Fault fault at)) q g h = subst (λ (s : Result (A × Bor (List Token)) Stopped). GivesRead (λ (p : A × Bor (List Token)). (item p.0, p.1.now)) s q) h g
 boxed_gives item read (Err NoMemory) q g h = tt
 
 -- what is read with a sign behind it
 kept : {A X : Type 0} (item : A → X) (x : A) (q : Read Token SyntaxFault Token) (given : Result (A × Bor (List Token)) Stopped)
-    → Gives plain given (after q (λ close us. Ok (x, us))) → Gives (λ (p : A × Bor (List Token)). (item p.0, p.1.now)) given (after q (λ close us. Ok (item x, us)))
+    → GivesRead plain given (after q (λ close us. Ok (x, us))) → GivesRead (λ (p : A × Bor (List Token)). (item p.0, p.1.now)) given (after q (λ close us. Ok (item x, us)))
 kept {A} {X} item x (Ok c) (Ok p) g = ap (λ (r : Read Token SyntaxFault A). after r (λ y us. Ok (item y, us))) g
 kept {A} {X} item x (Ok c) (Err (Fault fault at)) g = ap (λ (r : Read Token SyntaxFault A). after r (λ y us. Ok (item y, us))) g
 kept {A} {X} item x (Err e) (Ok p) g = ap (λ (r : Read Token SyntaxFault A). after r (λ y us. Ok (item y, us))) g
@@ -78,8 +78,8 @@ kept {A} {X} item x (Err e) (Err (Fault fault at)) g = ap (λ (r : Read Token Sy
 kept item x q (Err NoMemory) g = tt
 
 pub closed_gives : {A X : Type 0} (item : A → X) (test : Token → Bool) (read given : Result (A × Bor (List Token)) Stopped) (q : Read Token SyntaxFault X)
-    → Gives (λ (p : A × Bor (List Token)). (item p.0, p.1.now)) read q → IsClosed test read given
-    → Gives (λ (p : A × Bor (List Token)). (item p.0, p.1.now)) given (closed_by test q)
+    → GivesRead (λ (p : A × Bor (List Token)). (item p.0, p.1.now)) read q → IsClosed test read given
+    → GivesRead (λ (p : A × Bor (List Token)). (item p.0, p.1.now)) given (closed_by test q)
 closed_gives item test (Ok p) given q g h = rw g (kept item p.0 (one test p.1.now) given h)
 closed_gives item test (Err (Fault fault at)) given q g h = rw (h, g) refl
 closed_gives item test (Err NoMemory) given q g h = rw h tt
@@ -107,7 +107,7 @@ parenthesized {X} r ts t us e =
 
 -- where memory ran out, nothing is said of what was to be read
 pub memory_ran_out : {A X : Type 0} (item : A → X) (given : Result (A × Bor (List Token)) Stopped) (q : Read Token SyntaxFault X) → IsErrAnd given (λ s. s ≡ NoMemory)
-    → Gives (λ (p : A × Bor (List Token)). (item p.0, p.1.now)) given q
+    → GivesRead (λ (p : A × Bor (List Token)). (item p.0, p.1.now)) given q
 memory_ran_out item (Ok p) q h = absurd h
 memory_ran_out item (Err (Fault fault at)) q h = absurd (cc)
 memory_ran_out item (Err NoMemory) q h = tt

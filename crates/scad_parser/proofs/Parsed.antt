@@ -16,7 +16,7 @@ use Rattle.scad_grammar.specs.Reading.{after}
 use Rattle.scad_grammar.proofs.Counts.{few_begun}
 use Rattle.scad_grammar.proofs.FirstFaults.{no_fault}
 use Rattle.scad_grammar.proofs.Programs.{complete_at}
-use Rattle.scad_parser.specs.Parsing.{ends, nothing_behind, whole_read, kind_of, place_at, IsStopOf, StandsAtToken, AnswersProgram, AnswersFault, IsRead}
+use Rattle.scad_parser.specs.Parsing.{ends, nothing_behind, whole_read, kind_of, place_at, IsSyntaxStop, StandsAtToken, AnswersProgram, AnswersFault, IsRead}
 use Rattle.scad_parser.proofs.Whole.{ReadProgram, verdict, whole_found, only_whole}
 
 module _ (d : ℕ) (ts : List Token) where
@@ -51,7 +51,7 @@ module _ (d : ℕ) (ts : List Token) where
       (h.3 ∙ ap (λ (p : SyntaxFault × List Token). kind_of p.0) pair, h.4 ∙ ap (λ (p : SyntaxFault × List Token). place_at p.1) pair)
   only (Err NoMemory) h k at g = tt
 
-  pub fault : (r : Result Program Stop) → ends ts ≡ true → IsRead r (whole_read d ts) → IfErr r (λ stop. IsStopOf d ts stop)
+  pub fault : (r : Result Program Stop) → ends ts ≡ true → IsRead r (whole_read d ts) → IfErr r (λ stop. IsSyntaxStop d ts stop)
   fault (Ok p) e h = tt
   fault (Err (Fault f)) e h = elim (verdict d ts e) [
     | inl p ↦ absurd (let both : ◌≡◌ {A = ReadProgram} (Err (h.0, h.1)) (Ok (p.0, [])) = sym h.2 ∙ p.2 in cc)
@@ -59,7 +59,7 @@ module _ (d : ℕ) (ts : List Token) where
   ]
   fault (Err NoMemory) e h = tt
 
-  pub stands : (r : Result Program Stop) → IfErr r (λ stop. IsStopOf d ts stop) → IfErr r (λ stop. StandsAtToken ts stop)
+  pub stands : (r : Result Program Stop) → IfErr r (λ stop. IsSyntaxStop d ts stop) → IfErr r (λ stop. StandsAtToken ts stop)
   stands (Ok p) h = tt
   stands (Err (Fault f)) h =
       let first = h.2 in

@@ -30,13 +30,13 @@ place_at [] = record { line = 1; column = 1 }
 place_at (token ∷ tokens) = token.place
 
 -- the first fault of these tokens, no token of which may be as deep as the number, with the place of its token
-abbrev pub HasFault : ℕ → List Token → FaultIn → Type 0
-HasFault depth tokens found = (fault : SyntaxFault) × (at : List Token) × IsFirstFault depth tokens fault at × (found.kind ≡ kind_of fault) × (found.place ≡ place_at at)
+abbrev pub HasSyntaxFault : ℕ → List Token → FaultIn → Type 0
+HasSyntaxFault depth tokens found = (fault : SyntaxFault) × (at : List Token) × IsFirstFault depth tokens fault at × (found.kind ≡ kind_of fault) × (found.place ≡ place_at at)
 
 -- the stop is that fault, unless memory ran out
-abbrev pub IsStopOf : ℕ → List Token → Stop → Type 0
-IsStopOf depth tokens (Fault fault) = HasFault depth tokens fault
-IsStopOf depth tokens NoMemory = Unit {0}
+abbrev pub IsSyntaxStop : ℕ → List Token → Stop → Type 0
+IsSyntaxStop depth tokens (Fault fault) = HasSyntaxFault depth tokens fault
+IsSyntaxStop depth tokens NoMemory = Unit {0}
 
 -- a fault stands at one of the tokens, which may be the end; want of memory has no place
 abbrev pub StandsAtToken : List Token → Stop → Type 0

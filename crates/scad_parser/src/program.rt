@@ -8,8 +8,8 @@ ghost use Rattle.scad_ast.specs.StatementView.{statements_of};
 ghost use Rattle.scad_grammar.specs.declared.SyntaxFault.{SyntaxFault};
 ghost use Rattle.scad_grammar.specs.Grammar.{too_deep, WholeProgram};
 ghost use Rattle.scad_grammar.specs.FirstFault.{IsFirstFault};
-ghost use Rattle.scad_parser.specs.Parsing.{ends, whole_read, IsStopOf, StandsAtToken, AnswersProgram, AnswersFault, IsRead, kind_of, place_at};
-ghost use Rattle.scad_tokens.specs.Views.{Gives};
+ghost use Rattle.scad_parser.specs.Parsing.{ends, whole_read, IsSyntaxStop, StandsAtToken, AnswersProgram, AnswersFault, IsRead, kind_of, place_at};
+ghost use Rattle.scad_tokens.specs.Views.{GivesRead};
 
 use crate::statement::statements;
 use scad_ast::{Program, Statements};
@@ -31,7 +31,7 @@ pub fn parse(alloc: Global, tokens: &[Token]) -> Result<Program, Stop>
     // The program that the tokens write is given, unless memory runs out.
     ensures program { (x : List StatementTerm) → WholeProgram too_deep x tokens.now → AnswersProgram result x }
     // A fault of tokens that end with an end is their first one, at its token's place.
-    ensures fault { ends tokens.now ≡ true → IfErr result (λ stop. IsStopOf too_deep tokens.now stop) }
+    ensures fault { ends tokens.now ≡ true → IfErr result (λ stop. IsSyntaxStop too_deep tokens.now stop) }
     // The place of such a fault is that of one of the tokens, which may be the end.
     ensures place { ends tokens.now ≡ true → IfErr result (λ stop. StandsAtToken tokens.now stop) }
     // The tokens' first fault is given, unless memory runs out.
@@ -61,7 +61,7 @@ fn read_program(alloc: Global, tokens: &[Token]) -> Result<Program, Stop>
 
 // A program's statements and its end, behind which nothing stands.
 fn program<'a>(alloc: Global, tokens: &'a [Token]) -> Parsed<'a, Statements>
-    ensures { Gives (λ p. (statements_of p.0, p.1.now)) result (whole_read too_deep tokens.now) }
+    ensures { GivesRead (λ p. (statements_of p.0, p.1.now)) result (whole_read too_deep tokens.now) }
 {
     let (statements, rest) = statements(alloc, tokens, TOO_DEEP)?;
     let (_, rest) = take(TokenClass::End, rest)?;

@@ -5,7 +5,7 @@ ghost use Rattle.scad_grammar.specs.Faults.{one};
 ghost use Rattle.scad_grammar.specs.Reading.{both, many};
 ghost use Rattle.scad_grammar.specs.Reads.{expr_read, arg_in};
 ghost use Rattle.scad_grammar.specs.StatementReads.{firsts_of_statement, param_in, binder_in, if_read, loop_read, call_read, core_read, instance_in, braces_read, body_read, body_over, module_read, definition_read, statement_over, statement_read};
-ghost use Rattle.scad_tokens.specs.Views.{Gives};
+ghost use Rattle.scad_tokens.specs.Views.{GivesRead};
 
 use scad_ast::{Body, Core, Instance, Statement, Statements};
 use scad_expressions::arguments;
@@ -22,7 +22,7 @@ use std::alloc::Global;
 /// A statement whose tokens are less deep than so much.
 #[cycle(statement)]
 pub fn statement<'a>(alloc: Global, tokens: &'a [Token], depth: u32) -> Parsed<'a, Statement>
-    ensures value { Gives (λ p. (statement_of p.0, p.1.now)) result (statement_read depth tokens.now) }
+    ensures value { GivesRead (λ p. (statement_of p.0, p.1.now)) result (statement_read depth tokens.now) }
 {
     if depth == 0 {
         return Err(too_deep(TokenClass::Statement, TokenClass::LeftOut, tokens));
@@ -38,7 +38,7 @@ fn statement_over<'a>(
     depth: u32,
     inner: u32,
 ) -> Parsed<'a, Statement>
-    ensures value { Gives (λ p. (statement_of p.0, p.1.now)) result (statement_over (expr_read depth) (param_in inner (expr_read inner)) (statement_read inner) (body_read inner) (instance_in inner (body_read inner)) tokens.now) }
+    ensures value { GivesRead (λ p. (statement_of p.0, p.1.now)) result (statement_over (expr_read depth) (param_in inner (expr_read inner)) (statement_read inner) (body_read inner) (instance_in inner (body_read inner)) tokens.now) }
 {
     if let Some((end, rest)) = TokenClass::Sign(Symbol::Semicolon).split_first(tokens) {
         Ok((Statement::Empty(end.place), rest))
@@ -57,7 +57,7 @@ fn statement_over<'a>(
 // Statements and the brace that closes them.
 #[cycle(statement)]
 fn braces<'a>(alloc: Global, tokens: &'a [Token], depth: u32) -> Parsed<'a, Statements>
-    ensures value { Gives (λ p. (statements_of p.0, p.1.now)) result (braces_read (statement_read depth) tokens.now) }
+    ensures value { GivesRead (λ p. (statements_of p.0, p.1.now)) result (braces_read (statement_read depth) tokens.now) }
 {
     closed(statements(alloc, tokens, depth), Symbol::CloseBrace)
 }
@@ -65,7 +65,7 @@ fn braces<'a>(alloc: Global, tokens: &'a [Token], depth: u32) -> Parsed<'a, Stat
 /// Statements, as long as one may begin.
 #[cycle(statement)]
 pub fn statements<'a>(alloc: Global, tokens: &'a [Token], depth: u32) -> Parsed<'a, Statements>
-    ensures value { Gives (λ p. (statements_of p.0, p.1.now)) result (many (among firsts_of_statement) (statement_read depth) tokens.now) }
+    ensures value { GivesRead (λ p. (statements_of p.0, p.1.now)) result (many (among firsts_of_statement) (statement_read depth) tokens.now) }
 {
     let mut items = Vec::new(alloc);
     let mut rest = tokens;
@@ -86,7 +86,7 @@ fn definition<'a>(
     depth: u32,
     inner: u32,
 ) -> Parsed<'a, Statement>
-    ensures value { Gives (λ p. (statement_of p.0, p.1.now)) result (definition_read (expr_read depth) (param_in inner (expr_read inner)) (body_read inner) (instance_in inner (body_read inner)) tokens.now) }
+    ensures value { GivesRead (λ p. (statement_of p.0, p.1.now)) result (definition_read (expr_read depth) (param_in inner (expr_read inner)) (body_read inner) (instance_in inner (body_read inner)) tokens.now) }
 {
     if TokenClass::Word(Reserved::Module).begins(tokens) {
         module(alloc, tokens, inner)
@@ -102,7 +102,7 @@ fn definition<'a>(
 #[cycle(statement)]
 #[inline(never)]
 fn module<'a>(alloc: Global, tokens: &'a [Token], depth: u32) -> Parsed<'a, Statement>
-    ensures value { Gives (λ p. (statement_of p.0, p.1.now)) result (module_read (param_in depth (expr_read depth)) (body_read depth) tokens.now) }
+    ensures value { GivesRead (λ p. (statement_of p.0, p.1.now)) result (module_read (param_in depth (expr_read depth)) (body_read depth) tokens.now) }
 {
     let (word, rest) = take(TokenClass::Word(Reserved::Module), tokens)?;
     let (name, rest) = take(TokenClass::Name, rest)?;
@@ -118,7 +118,7 @@ fn module<'a>(alloc: Global, tokens: &'a [Token], depth: u32) -> Parsed<'a, Stat
 // An instance over what is less deep than so much.
 #[cycle(statement)]
 fn instance<'a>(alloc: Global, tokens: &'a [Token], depth: u32) -> Parsed<'a, Instance>
-    ensures value { Gives (λ p. (instance_of p.0, p.1.now)) result (instance_in depth (body_read depth) tokens.now) }
+    ensures value { GivesRead (λ p. (instance_of p.0, p.1.now)) result (instance_in depth (body_read depth) tokens.now) }
 {
     let (marks, rest) = marks(alloc, tokens)?;
     let ((marks, core), rest) = with(marks, core(alloc, rest, depth))?;
@@ -128,7 +128,7 @@ fn instance<'a>(alloc: Global, tokens: &'a [Token], depth: u32) -> Parsed<'a, In
 // An instance without its modifiers, over what is less deep than so much.
 #[cycle(statement)]
 fn core<'a>(alloc: Global, tokens: &'a [Token], depth: u32) -> Parsed<'a, Core>
-    ensures value { Gives (λ p. (core_of p.0, p.1.now)) result (core_read (expr_read depth) (arg_in depth (expr_read depth)) (binder_in depth (expr_read depth)) (body_read depth) tokens.now) }
+    ensures value { GivesRead (λ p. (core_of p.0, p.1.now)) result (core_read (expr_read depth) (arg_in depth (expr_read depth)) (binder_in depth (expr_read depth)) (body_read depth) tokens.now) }
 {
     if TokenClass::Word(Reserved::If).begins(tokens) {
         branch(alloc, tokens, depth)
@@ -143,7 +143,7 @@ fn core<'a>(alloc: Global, tokens: &'a [Token], depth: u32) -> Parsed<'a, Core>
 #[cycle(statement)]
 #[inline(never)]
 fn branch<'a>(alloc: Global, tokens: &'a [Token], depth: u32) -> Parsed<'a, Core>
-    ensures value { Gives (λ p. (core_of p.0, p.1.now)) result (if_read (expr_read depth) (body_read depth) tokens.now) }
+    ensures value { GivesRead (λ p. (core_of p.0, p.1.now)) result (if_read (expr_read depth) (body_read depth) tokens.now) }
 {
     let (word, rest) = take(TokenClass::Word(Reserved::If), tokens)?;
     let (test, rest) = condition(alloc, rest, depth)?;
@@ -159,7 +159,7 @@ fn branch<'a>(alloc: Global, tokens: &'a [Token], depth: u32) -> Parsed<'a, Core
 #[cycle(statement)]
 #[inline(always)]
 fn otherwise<'a>(alloc: Global, tokens: &'a [Token], depth: u32) -> Parsed<'a, Box<Body>>
-    ensures value { Gives (λ p. (body_of p.0.value, p.1.now)) result (both second_of (one (is else_word)) (body_read depth) tokens.now) }
+    ensures value { GivesRead (λ p. (body_of p.0.value, p.1.now)) result (both second_of (one (is else_word)) (body_read depth) tokens.now) }
 {
     let (_, rest) = take(TokenClass::Word(Reserved::Else), tokens)?;
     boxed_body(alloc, rest, depth)
@@ -169,7 +169,7 @@ fn otherwise<'a>(alloc: Global, tokens: &'a [Token], depth: u32) -> Parsed<'a, B
 #[cycle(statement)]
 #[inline(always)]
 fn boxed_body<'a>(alloc: Global, tokens: &'a [Token], depth: u32) -> Parsed<'a, Box<Body>>
-    ensures value { Gives (λ p. (body_of p.0.value, p.1.now)) result (body_read depth tokens.now) }
+    ensures value { GivesRead (λ p. (body_of p.0.value, p.1.now)) result (body_read depth tokens.now) }
 {
     boxed(alloc, body(alloc, tokens, depth))
 }
@@ -178,7 +178,7 @@ fn boxed_body<'a>(alloc: Global, tokens: &'a [Token], depth: u32) -> Parsed<'a, 
 #[cycle(statement)]
 #[inline(never)]
 fn repetition<'a>(alloc: Global, tokens: &'a [Token], depth: u32) -> Parsed<'a, Core>
-    ensures value { Gives (λ p. (core_of p.0, p.1.now)) result (loop_read (binder_in depth (expr_read depth)) (body_read depth) tokens.now) }
+    ensures value { GivesRead (λ p. (core_of p.0, p.1.now)) result (loop_read (binder_in depth (expr_read depth)) (body_read depth) tokens.now) }
 {
     let (word, rest) = take(TokenClass::LoopWord, tokens)?;
     let (binders, rest) = binders(alloc, rest, depth)?;
@@ -193,7 +193,7 @@ fn repetition<'a>(alloc: Global, tokens: &'a [Token], depth: u32) -> Parsed<'a, 
 // A call of a module.
 #[cycle(statement)]
 fn call<'a>(alloc: Global, tokens: &'a [Token], depth: u32) -> Parsed<'a, Core>
-    ensures value { Gives (λ p. (core_of p.0, p.1.now)) result (call_read (arg_in depth (expr_read depth)) (body_read depth) tokens.now) }
+    ensures value { GivesRead (λ p. (core_of p.0, p.1.now)) result (call_read (arg_in depth (expr_read depth)) (body_read depth) tokens.now) }
 {
     let (name, rest) = take(TokenClass::Name, tokens)?;
     let bytes = bytes(alloc, &name.kind)?;
@@ -205,7 +205,7 @@ fn call<'a>(alloc: Global, tokens: &'a [Token], depth: u32) -> Parsed<'a, Core>
 // A body whose tokens are less deep than so much.
 #[cycle(statement)]
 fn body<'a>(alloc: Global, tokens: &'a [Token], depth: u32) -> Parsed<'a, Body>
-    ensures value { Gives (λ p. (body_of p.0, p.1.now)) result (body_read depth tokens.now) }
+    ensures value { GivesRead (λ p. (body_of p.0, p.1.now)) result (body_read depth tokens.now) }
 {
     if depth == 0 {
         return Err(too_deep(TokenClass::Body, TokenClass::LeftOut, tokens));
@@ -216,7 +216,7 @@ fn body<'a>(alloc: Global, tokens: &'a [Token], depth: u32) -> Parsed<'a, Body>
 // A body over what is less deep than so much.
 #[cycle(statement)]
 fn body_over<'a>(alloc: Global, tokens: &'a [Token], depth: u32) -> Parsed<'a, Body>
-    ensures value { Gives (λ p. (body_of p.0, p.1.now)) result (body_over (statement_read depth) (instance_in depth (body_read depth)) tokens.now) }
+    ensures value { GivesRead (λ p. (body_of p.0, p.1.now)) result (body_over (statement_read depth) (instance_in depth (body_read depth)) tokens.now) }
 {
     if let Some((end, rest)) = TokenClass::Sign(Symbol::Semicolon).split_first(tokens) {
         Ok((Body::Semicolon(end.place), rest))

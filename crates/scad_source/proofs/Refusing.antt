@@ -6,10 +6,10 @@ use Rattle.scad_lexer.specs.declared.token.Token.{Token}
 use Rattle.scad_lexer.specs.Tokens.{Lexes, GivesTokens}
 use Rattle.scad_ast.specs.declared.program.Program.{Program}
 use Rattle.scad_grammar.specs.Grammar.{too_deep}
-use Rattle.scad_parser.specs.Parsing.{ends, IsStopOf}
+use Rattle.scad_parser.specs.Parsing.{ends, IsSyntaxStop}
 use Rattle.scad_source.specs.Sources.{RefusesText, IsMadeOfTokens, IsMadeOf}
 
-refused : (source : List ℕ) (tokens : List Token) (why : Stop) → Lexes source (GivesTokens tokens) → IsStopOf too_deep tokens why → RefusesText source why
+refused : (source : List ℕ) (tokens : List Token) (why : Stop) → Lexes source (GivesTokens tokens) → IsSyntaxStop too_deep tokens why → RefusesText source why
 refused source tokens (Fault fault) lexes stops = inr (tokens, lexes, stops)
 refused source tokens NoMemory lexes stops = tt
 

@@ -9,7 +9,7 @@ use Rattle.scad_ast.specs.declared.program.Program.{Program}
 use Rattle.scad_ast.specs.ProgramView.{program_of}
 use Rattle.scad_ast.specs.Terms.{StatementTerm}
 use Rattle.scad_grammar.specs.Grammar.{too_deep, WholeProgram}
-use Rattle.scad_parser.specs.Parsing.{ends, IsStopOf, HasFault as HasSyntaxFault}
+use Rattle.scad_parser.specs.Parsing.{ends, IsSyntaxStop, HasSyntaxFault}
 
 -- the source's tokens are the program's, at most 64 deep
 abbrev pub Writes : List ℕ → List StatementTerm → Type 0
@@ -31,7 +31,7 @@ RefusesText source stop.NoMemory = Unit {0}
 abbrev pub IsMadeOfTokens : {T : Type 0} → (Program → Result T Stop → Type 0) → List Token → Result T Stop → Type 0
 IsMadeOfTokens makes tokens result =
     ((program : Program) × WholeProgram too_deep (program_of program) tokens × makes program result)
-    ⊎ ((why : Stop) × (ends tokens ≡ true → IsStopOf too_deep tokens why) × (result ≡ Err why))
+    ⊎ ((why : Stop) × (ends tokens ≡ true → IsSyntaxStop too_deep tokens why) × (result ≡ Err why))
 
 -- what came of a source: something that may be made of the program that it writes, or why it is refused
 abbrev pub IsMadeOf : {T : Type 0} → (Program → Result T Stop → Type 0) → List ℕ → Result T Stop → Type 0

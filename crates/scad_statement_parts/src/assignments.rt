@@ -4,7 +4,7 @@ ghost use Rattle.scad_grammar.specs.Grammar.{assignment_term};
 ghost use Rattle.scad_grammar.specs.Reading.{mapped};
 ghost use Rattle.scad_grammar.specs.Reads.{expr_read};
 ghost use Rattle.scad_grammar.specs.StatementReads.{ended_read, special_read};
-ghost use Rattle.scad_tokens.specs.Views.{Gives};
+ghost use Rattle.scad_tokens.specs.Views.{GivesRead};
 
 use scad_ast::{Expr, Statement};
 use scad_expressions::expr;
@@ -20,7 +20,7 @@ pub fn assignment<'a>(
     tokens: &'a [Token],
     depth: u32,
 ) -> Parsed<'a, Statement>
-    ensures value { Gives (λ p. (statement_of p.0, p.1.now)) result (mapped (assignment_term name.now) (ended_read (expr_read depth)) tokens.now) }
+    ensures value { GivesRead (λ p. (statement_of p.0, p.1.now)) result (mapped (assignment_term name.now) (ended_read (expr_read depth)) tokens.now) }
 {
     let bytes = bytes(alloc, &name.kind)?;
     let (value, rest) = ended(alloc, tokens, depth)?;
@@ -34,7 +34,7 @@ pub fn special_assignment<'a>(
     tokens: &'a [Token],
     depth: u32,
 ) -> Parsed<'a, Statement>
-    ensures value { Gives (λ p. (statement_of p.0, p.1.now)) result (special_read (expr_read depth) tokens.now) }
+    ensures value { GivesRead (λ p. (statement_of p.0, p.1.now)) result (special_read (expr_read depth) tokens.now) }
 {
     let (name, rest) = take(TokenClass::Special, tokens)?;
     let (_, rest) = take(TokenClass::Sign(Symbol::Assign), rest)?;
@@ -45,7 +45,7 @@ pub fn special_assignment<'a>(
 
 /// An expression and the `;` behind it.
 pub(crate) fn ended<'a>(alloc: Global, tokens: &'a [Token], depth: u32) -> Parsed<'a, Expr>
-    ensures value { Gives (λ p. (term_of p.0, p.1.now)) result (ended_read (expr_read depth) tokens.now) }
+    ensures value { GivesRead (λ p. (term_of p.0, p.1.now)) result (ended_read (expr_read depth) tokens.now) }
 {
     closed(expr(alloc, tokens, depth), Symbol::Semicolon)
 }

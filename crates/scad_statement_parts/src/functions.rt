@@ -1,7 +1,7 @@
 ghost use Rattle.scad_ast.specs.StatementView.{statement_of};
 ghost use Rattle.scad_grammar.specs.Reads.{expr_read};
 ghost use Rattle.scad_grammar.specs.StatementReads.{param_in, function_read};
-ghost use Rattle.scad_tokens.specs.Views.{Gives};
+ghost use Rattle.scad_tokens.specs.Views.{GivesRead};
 
 use crate::assignments::ended;
 use crate::parameters::params;
@@ -18,7 +18,7 @@ pub fn function<'a>(
     depth: u32,
     inner: u32,
 ) -> Parsed<'a, Statement>
-    ensures value { Gives (λ p. (statement_of p.0, p.1.now)) result (function_read (expr_read depth) (param_in inner (expr_read inner)) tokens.now) }
+    ensures value { GivesRead (λ p. (statement_of p.0, p.1.now)) result (function_read (expr_read depth) (param_in inner (expr_read inner)) tokens.now) }
 {
     let (word, rest) = take(TokenClass::Word(Reserved::Function), tokens)?;
     let (name, rest) = take(TokenClass::Name, rest)?;

@@ -4,7 +4,7 @@ ghost use Rattle.scad_ast.specs.StatementView.{instance_of, core_of, mark_of, ma
 ghost use Rattle.scad_grammar.specs.Grammar.{mark_term, instance_term};
 ghost use Rattle.scad_grammar.specs.Reads.{expr_read, in_parentheses};
 ghost use Rattle.scad_grammar.specs.StatementReads.{marks_read};
-ghost use Rattle.scad_tokens.specs.Views.{Gives};
+ghost use Rattle.scad_tokens.specs.Views.{GivesRead};
 
 use scad_ast::{Core, Expr, Instance, PlacedModifier, PlacedModifiers};
 use scad_expressions::expr;
@@ -14,7 +14,7 @@ use std::alloc::Global;
 
 /// The modifiers that stand here, which may be none.
 pub fn marks<'a>(alloc: Global, tokens: &'a [Token]) -> Parsed<'a, PlacedModifiers>
-    ensures value { Gives (λ p. (marks_of p.0, p.1.now)) result (marks_read tokens.now) }
+    ensures value { GivesRead (λ p. (marks_of p.0, p.1.now)) result (marks_read tokens.now) }
 {
     let mut items = Vec::new(alloc);
     let mut rest = tokens;
@@ -48,7 +48,7 @@ pub fn instance_from(marks: PlacedModifiers, core: Core) -> Instance
 
 /// The condition of an `if`: an expression in parentheses.
 pub fn condition<'a>(alloc: Global, tokens: &'a [Token], depth: u32) -> Parsed<'a, Expr>
-    ensures value { Gives (λ p. (term_of p.0, p.1.now)) result (in_parentheses (expr_read depth) tokens.now) }
+    ensures value { GivesRead (λ p. (term_of p.0, p.1.now)) result (in_parentheses (expr_read depth) tokens.now) }
 {
     let (_, rest) = take(TokenClass::Sign(Symbol::OpenParenthesis), tokens)?;
     closed(expr(alloc, rest, depth), Symbol::CloseParenthesis)

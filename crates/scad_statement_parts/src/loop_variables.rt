@@ -4,7 +4,7 @@ ghost use Rattle.scad_grammar.specs.Classes.{is, name, comma_sign};
 ghost use Rattle.scad_grammar.specs.Reading.{trailing, in_front};
 ghost use Rattle.scad_grammar.specs.Reads.{expr_read, in_parentheses};
 ghost use Rattle.scad_grammar.specs.StatementReads.{binder_in, binders_read};
-ghost use Rattle.scad_tokens.specs.Views.{Gives};
+ghost use Rattle.scad_tokens.specs.Views.{GivesRead};
 
 use scad_ast::{Binder, Binders};
 use scad_expressions::behind;
@@ -17,7 +17,7 @@ use std::alloc::Global;
 
 /// Variables of a loop, in parentheses.
 pub fn binders<'a>(alloc: Global, tokens: &'a [Token], depth: u32) -> Parsed<'a, Binders>
-    ensures value { Gives (λ p. (binders_of p.0, p.1.now)) result (in_parentheses (binders_read (binder_in depth (expr_read depth))) tokens.now) }
+    ensures value { GivesRead (λ p. (binders_of p.0, p.1.now)) result (in_parentheses (binders_read (binder_in depth (expr_read depth))) tokens.now) }
 {
     let (_, rest) = take(TokenClass::Sign(Symbol::OpenParenthesis), tokens)?;
     closed(binder_list(alloc, rest, depth), Symbol::CloseParenthesis)
@@ -25,7 +25,7 @@ pub fn binders<'a>(alloc: Global, tokens: &'a [Token], depth: u32) -> Parsed<'a,
 
 // Variables of a loop, and maybe a comma behind the last.
 fn binder_list<'a>(alloc: Global, tokens: &'a [Token], depth: u32) -> Parsed<'a, Binders>
-    ensures value { Gives (λ p. (binders_of p.0, p.1.now)) result (binders_read (binder_in depth (expr_read depth)) tokens.now) }
+    ensures value { GivesRead (λ p. (binders_of p.0, p.1.now)) result (binders_read (binder_in depth (expr_read depth)) tokens.now) }
 {
     let (first, rest) = binder(alloc, tokens, depth)?;
     let items = list_of(alloc, first, 4)?;
@@ -39,7 +39,7 @@ fn more_binders<'a>(
     tokens: &'a [Token],
     depth: u32,
 ) -> Parsed<'a, Binders>
-    ensures value { Gives (λ p. (binders_of p.0, p.1.now)) result (in_front (map binder_of items.items) (trailing (is comma_sign) (is name) (binder_in depth (expr_read depth)) tokens.now)) }
+    ensures value { GivesRead (λ p. (binders_of p.0, p.1.now)) result (in_front (map binder_of items.items) (trailing (is comma_sign) (is name) (binder_in depth (expr_read depth)) tokens.now)) }
 {
     let mut rest = tokens;
     'commas: while is_comma_and_name(rest) {
@@ -52,7 +52,7 @@ fn more_binders<'a>(
 
 // A variable of a loop, whose tokens are less deep than so much.
 fn binder<'a>(alloc: Global, tokens: &'a [Token], depth: u32) -> Parsed<'a, Binder>
-    ensures value { Gives (λ p. (binder_of p.0, p.1.now)) result (binder_in depth (expr_read depth) tokens.now) }
+    ensures value { GivesRead (λ p. (binder_of p.0, p.1.now)) result (binder_in depth (expr_read depth) tokens.now) }
 {
     if depth == 0 {
         return Err(too_deep(TokenClass::Name, TokenClass::LeftOut, tokens));

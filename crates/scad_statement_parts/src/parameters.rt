@@ -4,7 +4,7 @@ ghost use Rattle.scad_grammar.specs.Classes.{is, name, comma_sign};
 ghost use Rattle.scad_grammar.specs.Reading.{trailing, in_front};
 ghost use Rattle.scad_grammar.specs.Reads.{expr_read, in_parentheses};
 ghost use Rattle.scad_grammar.specs.StatementReads.{param_in, params_read};
-ghost use Rattle.scad_tokens.specs.Views.{Gives};
+ghost use Rattle.scad_tokens.specs.Views.{GivesRead};
 
 use scad_ast::{Param, Params};
 use scad_expressions::behind;
@@ -17,7 +17,7 @@ use std::alloc::Global;
 
 /// Parameters in parentheses.
 pub fn params<'a>(alloc: Global, tokens: &'a [Token], depth: u32) -> Parsed<'a, Params>
-    ensures value { Gives (λ p. (params_of p.0, p.1.now)) result (in_parentheses (params_read (param_in depth (expr_read depth))) tokens.now) }
+    ensures value { GivesRead (λ p. (params_of p.0, p.1.now)) result (in_parentheses (params_read (param_in depth (expr_read depth))) tokens.now) }
 {
     let (_, rest) = take(TokenClass::Sign(Symbol::OpenParenthesis), tokens)?;
     closed(param_list(alloc, rest, depth), Symbol::CloseParenthesis)
@@ -25,7 +25,7 @@ pub fn params<'a>(alloc: Global, tokens: &'a [Token], depth: u32) -> Parsed<'a, 
 
 // Parameters, and maybe a comma behind the last.
 fn param_list<'a>(alloc: Global, tokens: &'a [Token], depth: u32) -> Parsed<'a, Params>
-    ensures value { Gives (λ p. (params_of p.0, p.1.now)) result (params_read (param_in depth (expr_read depth)) tokens.now) }
+    ensures value { GivesRead (λ p. (params_of p.0, p.1.now)) result (params_read (param_in depth (expr_read depth)) tokens.now) }
 {
     if !TokenClass::Name.begins(tokens) {
         return Ok((no_params(alloc), tokens));
@@ -51,7 +51,7 @@ fn more_params<'a>(
     tokens: &'a [Token],
     depth: u32,
 ) -> Parsed<'a, Params>
-    ensures value { Gives (λ p. (params_of p.0, p.1.now)) result (in_front (map param_of items.items) (trailing (is comma_sign) (is name) (param_in depth (expr_read depth)) tokens.now)) }
+    ensures value { GivesRead (λ p. (params_of p.0, p.1.now)) result (in_front (map param_of items.items) (trailing (is comma_sign) (is name) (param_in depth (expr_read depth)) tokens.now)) }
 {
     let mut rest = tokens;
     'commas: while is_comma_and_name(rest) {
@@ -64,7 +64,7 @@ fn more_params<'a>(
 
 // A parameter whose tokens are less deep than so much.
 fn param<'a>(alloc: Global, tokens: &'a [Token], depth: u32) -> Parsed<'a, Param>
-    ensures value { Gives (λ p. (param_of p.0, p.1.now)) result (param_in depth (expr_read depth) tokens.now) }
+    ensures value { GivesRead (λ p. (param_of p.0, p.1.now)) result (param_in depth (expr_read depth) tokens.now) }
 {
     if depth == 0 {
         return Err(too_deep(TokenClass::Name, TokenClass::LeftOut, tokens));

@@ -11,13 +11,13 @@ use Rattle.scad_tokens.specs.declared.class.TokenClass.{TokenClass}
 use Rattle.scad_tokens.specs.declared.class.TokenClass.TheVariants.{Name, Special, ArgumentName, End, Word, Sign, Literal, Atom, Continuation, Operator, BinaryOperator, UnaryOperator, Suffix, Modifier, LoopWord, Expression, Statement, Body, LeftOut, LeftOutOfExpressions}
 
 -- the classes of all levels, one behind the other
-abbrev pub joined : List (List ℕ) → List ℕ
-joined [] = []
-joined (ops ∷ levels) = ops ++ joined levels
+abbrev pub classes_of_levels : List (List ℕ) → List ℕ
+classes_of_levels [] = []
+classes_of_levels (ops ∷ levels) = ops ++ classes_of_levels levels
 
 -- all operators of two sides
 abbrev pub binary_signs : List ℕ
-binary_signs = joined levels
+binary_signs = classes_of_levels levels
 
 -- the operators before an operand
 abbrev pub unary_signs : List ℕ

@@ -15,10 +15,10 @@ use Rattle.scad_tokens.specs.declared.next.Stopped.{Stopped}
 use Rattle.scad_tokens.specs.declared.next.Stopped.TheVariants.{Fault, NoMemory}
 
 -- what was read, or the fault and the tokens from where it stands, unless memory ran out
-abbrev pub Gives : {A X : Type 0} → (A → X × List Token) → Result A Stopped → Read Token SyntaxFault X → Type 0
-Gives view (Ok x) read = read ≡ Ok (view x)
-Gives view (Err (Fault fault at)) read = read ≡ Err (fault, at.now)
-Gives view (Err NoMemory) read = Unit {0}
+abbrev pub GivesRead : {A X : Type 0} → (A → X × List Token) → Result A Stopped → Read Token SyntaxFault X → Type 0
+GivesRead view (Ok x) read = read ≡ Ok (view x)
+GivesRead view (Err (Fault fault at)) read = read ≡ Err (fault, at.now)
+GivesRead view (Err NoMemory) read = Unit {0}
 
 -- this fault at these tokens
 abbrev pub IsStop : Stopped → SyntaxFault → List Token → Type 0
@@ -35,7 +35,7 @@ closed_by test read = after read (λ value tokens. after (one test tokens) (λ c
 
 -- the same of what a function of the parser gave
 abbrev pub IsClosed : {A : Type 0} → (Token → Bool) → Result (A × Bor (List Token)) Stopped → Result (A × Bor (List Token)) Stopped → Type 0
-IsClosed test (Ok read) given = Gives plain given (closed_by test (Ok (plain read)))
+IsClosed test (Ok read) given = GivesRead plain given (closed_by test (Ok (plain read)))
 IsClosed test (Err stopped) given = given ≡ Err stopped
 
 -- what was read, in a box, unless memory ran out

@@ -7,7 +7,7 @@ mod next;
 
 pub use class::{Level, TokenClass};
 pub use next::{
-    Parsed, Stopped, assigned, behind_comma, binary, boxed, bytes, closed, is_before,
+    Parsed, Stopped, assigned, behind_comma, binary_operator, boxed, bytes, closed, is_before,
     is_comma_and_name, is_comma_before, list_of, lone_atom, modifier, not_expected, take,
     take_first, too_deep, unary_operator, with,
 };

@@ -6,7 +6,7 @@ ghost use Rattle.scad_grammar.specs.Faults.{one, first};
 ghost use Rattle.scad_grammar.specs.Reading.{starts};
 ghost use Rattle.scad_tokens.specs.TokenClasses.{classes_of, continuations};
 ghost use Rattle.scad_tokens.specs.declared.class.TokenClass.TheVariants.{LeftOut};
-ghost use Rattle.scad_tokens.specs.Views.{Gives, IsStop, IsClosed, IsBoxed, nested_fault, fault_at, item_stands, past_comma, value_assigned, has_lone_atom};
+ghost use Rattle.scad_tokens.specs.Views.{GivesRead, IsStop, IsClosed, IsBoxed, nested_fault, fault_at, item_stands, past_comma, value_assigned, has_lone_atom};
 
 use crate::class::TokenClass;
 use compact_bytes::CompactBytes;
@@ -206,7 +206,7 @@ pub fn assigned<'a>(class: TokenClass, tokens: &'a [Token]) -> Option<(&'a Token
 /// One token of a class.
 #[inline(always)]
 pub fn take<'a>(class: TokenClass, tokens: &'a [Token]) -> Parsed<'a, &'a Token>
-    ensures value { Gives (λ p. (p.0.now, p.1.now)) result (one (among (classes_of class)) tokens.now) }
+    ensures value { GivesRead (λ p. (p.0.now, p.1.now)) result (one (among (classes_of class)) tokens.now) }
     ensures shorter { IfOk result (λ p. length p.1.now < length tokens.now) }
 {
     match tokens {
@@ -218,7 +218,7 @@ pub fn take<'a>(class: TokenClass, tokens: &'a [Token]) -> Parsed<'a, &'a Token>
 /// One token of a class, where an expression may begin.
 #[inline(always)]
 pub fn take_first<'a>(class: TokenClass, tokens: &'a [Token]) -> Parsed<'a, &'a Token>
-    ensures value { Gives (λ p. (p.0.now, p.1.now)) result (first (among (classes_of class)) tokens.now) }
+    ensures value { GivesRead (λ p. (p.0.now, p.1.now)) result (first (among (classes_of class)) tokens.now) }
     ensures shorter { IfOk result (λ p. length p.1.now < length tokens.now) }
 {
     match tokens {
@@ -271,7 +271,7 @@ pub fn bytes(alloc: Global, kind: &TokenKind) -> Result<CompactBytes, AllocError
 }
 
 /// The operator of two sides that a token is.
-pub fn binary(kind: &TokenKind) -> BinaryOp
+pub fn binary_operator(kind: &TokenKind) -> BinaryOp
     ensures { result ≡ binary_at (class_of kind.now) }
 {
     match kind {

@@ -9,7 +9,7 @@ use Rattle.scad_ast.specs.Terms.{StatementTerm}
 use Rattle.scad_grammar.specs.Grammar.{WholeProgram}
 use Rattle.scad_grammar.specs.declared.SyntaxFault.{SyntaxFault}
 use Rattle.scad_grammar.specs.FirstFault.{IsFirstFault}
-use Rattle.scad_parser.specs.Parsing.{kind_of, place_at, HasFault as HasSyntaxFault}
+use Rattle.scad_parser.specs.Parsing.{kind_of, place_at, HasSyntaxFault}
 use Rattle.plane_predicate.specs.declared.unit.Unit.{Unit as LengthUnit}
 use Rattle.csg_tree.specs.Formulas.{Formula}
 use Rattle.scad_meaning.specs.Sources.{Meaning, a_tree, a_fault, IsMeaning}
