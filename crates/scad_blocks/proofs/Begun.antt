@@ -5,7 +5,7 @@ use Rattle.scad_ast.specs.declared.statement.Statement.{Statement}
 use Rattle.scad_ast.specs.StatementView.{statement_of}
 use Rattle.scad_ast.specs.Counts.{begun_by, begun_in, begun_by_instance, begun_by_core, begun_by_body}
 use Rattle.scad_blocks.specs.Blocks.{Beginning, a_block, a_function, a_module, beginnings_of, beginnings_in, beginnings_of_instance, beginnings_of_core, beginnings_of_body, no_own, SourceBlock, entry_at, NumberedText}
-use Rattle.scad_blocks.specs.Walk.{numbered, with_beginning, after, with_text}
+use Rattle.scad_blocks.specs.Walk.{count_numbered, with_beginning, with_beginnings, with_text}
 use Rattle.scad_blocks.proofs.Scans.{statements_here}
 
 mutual
@@ -38,31 +38,31 @@ mutual
   body_begun (InstanceBody instance) = ap suc (instance_begun instance)
 
 -- ---- how much has numbers in a walk
-pub numbered_beginning : (w : NumberedText) (beginning : Beginning) → numbered (with_beginning w beginning) ≡ numbered w + 1
+pub numbered_beginning : (w : NumberedText) (beginning : Beginning) → count_numbered (with_beginning w beginning) ≡ count_numbered w + 1
 numbered_beginning w (a_block s) =
     let e = entry_at (length w.entries) (length w.functions) (length w.modules) s in
     omega (arith, length-append w.entries (e ∷ []))
 numbered_beginning w (a_function f) = omega (arith, length-append w.functions (f ∷ []))
 numbered_beginning w (a_module d) = omega (arith, length-append w.modules (d ∷ []))
 
-pub numbered_after : (w : NumberedText) (beginnings : List Beginning) → numbered (after w beginnings) ≡ numbered w + length beginnings
+pub numbered_after : (w : NumberedText) (beginnings : List Beginning) → count_numbered (with_beginnings w beginnings) ≡ count_numbered w + length beginnings
 numbered_after w [] = omega arith
 numbered_after w (beginning ∷ beginnings) = omega (arith, numbered_after (with_beginning w beginning) beginnings, numbered_beginning w beginning)
 
-pub numbered_begun : (w : NumberedText) (s : StatementTerms) → numbered (with_text w s) ≡ numbered w + 1
+pub numbered_begun : (w : NumberedText) (s : StatementTerms) → count_numbered (with_text w s) ≡ count_numbered w + 1
 numbered_begun w s =
     let e : SourceBlock = record { statements = s; own = no_own; behind = 0 } in
     omega (arith, length-append w.entries (e ∷ []))
 
 -- a statement of those that are left has room where all of them have
 pub room_here : (w v : NumberedText) (ss lent : List Statement) (all : StatementTerms) (i : ℕ) (s : Statement)
-    → after v (beginnings_in (statements_from (map statement_of (drop i ss)))) ≡ after w (beginnings_in all)
-    → numbered w + length (beginnings_in all) < 2 ^ 32
+    → with_beginnings v (beginnings_in (statements_from (map statement_of (drop i ss)))) ≡ with_beginnings w (beginnings_in all)
+    → count_numbered w + length (beginnings_in all) < 2 ^ 32
     → lent ≡ ss → i < length lent → s ≡ get_or lent i s
-    → numbered v + length (beginnings_of (statement_of s)) < 2 ^ 32
+    → count_numbered v + length (beginnings_of (statement_of s)) < 2 ^ 32
 room_here w v ss lent all i s told room same h e =
     let left = beginnings_in (statements_from (map statement_of (drop i ss))) in
     let rest = beginnings_in (statements_from (map statement_of (drop (i + 1) ss))) in
     let split = ap (λ l. length (beginnings_in l)) (statements_here ss i s (omega (arith, h, ap length same)) (e ∙ ap (λ l. get_or l i s) same))
     ∙ length-append (beginnings_of (statement_of s)) rest in
-    omega (arith, numbered_after v left, numbered_after w (beginnings_in all), ap numbered told, split, room)
+    omega (arith, numbered_after v left, numbered_after w (beginnings_in all), ap count_numbered told, split, room)

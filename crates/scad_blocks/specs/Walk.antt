@@ -10,8 +10,8 @@ abbrev pub walked : Walk → NumberedText
 walked walk = text_in walk.entries.items walk.functions.items walk.modules.items
 
 -- how many blocks, functions and modules have numbers
-abbrev pub numbered : NumberedText → ℕ
-numbered text = length text.entries + length text.functions + length text.modules
+abbrev pub count_numbered : NumberedText → ℕ
+count_numbered text = length text.entries + length text.functions + length text.modules
 
 -- a walk that has begun with nothing
 abbrev pub nothing_walked : NumberedText
@@ -26,9 +26,9 @@ with_beginning text (a_function function) = record text { functions = text.funct
 with_beginning text (a_module defined) = record text { modules = text.modules ++ defined ∷ []; bodies = text.bodies ++ length text.entries ∷ [] }
 
 -- with all beginnings of a text, one after another
-abbrev pub after : NumberedText → List Beginning → NumberedText
-after text [] = text
-after text (beginning ∷ beginnings) = after (with_beginning text beginning) beginnings
+abbrev pub with_beginnings : NumberedText → List Beginning → NumberedText
+with_beginnings text [] = text
+with_beginnings text (beginning ∷ beginnings) = with_beginnings (with_beginning text beginning) beginnings
 
 -- what statements add to a block's own
 abbrev pub own_with : OwnDefinitions → ℕ → ℕ → StatementTerms → OwnDefinitions

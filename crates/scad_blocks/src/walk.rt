@@ -3,7 +3,7 @@ ghost use Rattle.scad_ast.specs.Terms.{statements_from, no_statements, and_state
 ghost use Rattle.scad_ast.specs.ExprView.{term_of};
 ghost use Rattle.scad_ast.specs.StatementView.{params_of, statement_of, statements_of, instance_of, core_of, body_of};
 ghost use Rattle.scad_blocks.specs.Blocks.{beginnings_of, beginnings_in, beginnings_of_core, beginnings_of_body, beginnings_of_instance, a_block, a_function, a_module, beginnings_of_program};
-ghost use Rattle.scad_blocks.specs.Walk.{walked, numbered, after, with_beginning, nothing_walked, own_with, own_by, assigned_own, with_text, ended};
+ghost use Rattle.scad_blocks.specs.Walk.{walked, count_numbered, with_beginnings, with_beginning, nothing_walked, own_with, own_by, assigned_own, with_text, ended};
 ghost use Rattle.scad_blocks.specs.TextView.{own_of, statements_held};
 
 use crate::assigned::OwnSoFar;
@@ -24,7 +24,7 @@ pub(crate) struct Walk<'a> {
 
 /// The blocks, functions and modules of a program.
 pub(crate) fn walk_program<'a>(alloc: Global, program: &'a Program) -> Result<Walk<'a>, NoMemory>
-    ensures { IfOk result (λ w. walked w ≡ after nothing_walked (beginnings_of_program (statements_of program.now.statements))) }
+    ensures { IfOk result (λ w. walked w ≡ with_beginnings nothing_walked (beginnings_of_program (statements_of program.now.statements))) }
 {
     let mut walk = Walk::new(alloc);
     walk.braces(&program.statements)?;
@@ -51,8 +51,8 @@ impl<'a> Walk<'a> {
         statements: &'a Statements,
         so_far: &mut OwnSoFar<'a>,
     ) -> Result<(), NoMemory>
-        requires { numbered (walked self.old) + length (beginnings_in (statements_from (statements_of statements.now))) < 2 ^ 32 }
-        ensures walked { OnOk result (walked self.new ≡ after (walked self.old) (beginnings_in (statements_from (statements_of statements.now)))) }
+        requires { count_numbered (walked self.old) + length (beginnings_in (statements_from (statements_of statements.now))) < 2 ^ 32 }
+        ensures walked { OnOk result (walked self.new ≡ with_beginnings (walked self.old) (beginnings_in (statements_from (statements_of statements.now)))) }
         ensures own { OnOk result (own_of so_far.new.own ≡ own_with (own_of so_far.old.own) (length (walked self.old).functions)
             (length (walked self.old).modules) (statements_from (statements_of statements.now))) }
     {
@@ -70,8 +70,8 @@ impl<'a> Walk<'a> {
         statement: &'a Statement,
         so_far: &mut OwnSoFar<'a>,
     ) -> Result<(), NoMemory>
-        requires { numbered (walked self.old) + length (beginnings_of (statement_of statement.now)) < 2 ^ 32 }
-        ensures walked { OnOk result (walked self.new ≡ after (walked self.old) (beginnings_of (statement_of statement.now))) }
+        requires { count_numbered (walked self.old) + length (beginnings_of (statement_of statement.now)) < 2 ^ 32 }
+        ensures walked { OnOk result (walked self.new ≡ with_beginnings (walked self.old) (beginnings_of (statement_of statement.now))) }
         ensures own { OnOk result (own_of so_far.new.own ≡ own_by (own_of so_far.old.own) (length (walked self.old).functions)
             (length (walked self.old).modules) (statement_of statement.now)) }
     {
@@ -107,8 +107,8 @@ impl<'a> Walk<'a> {
     // Goes on through the bodies of an instance.
     #[cycle(walk)]
     fn core(&mut self, core: &'a Core) -> Result<(), NoMemory>
-        requires { numbered (walked self.old) + length (beginnings_of_core (core_of core.now)) < 2 ^ 32 }
-        ensures { OnOk result (walked self.new ≡ after (walked self.old) (beginnings_of_core (core_of core.now))) }
+        requires { count_numbered (walked self.old) + length (beginnings_of_core (core_of core.now)) < 2 ^ 32 }
+        ensures { OnOk result (walked self.new ≡ with_beginnings (walked self.old) (beginnings_of_core (core_of core.now))) }
     {
         match core {
             Core::If(_, _, body) => self.body(body),
@@ -123,8 +123,8 @@ impl<'a> Walk<'a> {
     #[cycle(walk)]
     #[tactic(auto, using(crate::proofs::Begun::numbered_after))]
     fn two(&mut self, body: &'a Body, other: &'a Body) -> Result<(), NoMemory>
-        requires { numbered (walked self.old) + length (beginnings_of_body (body_of body.now)) + length (beginnings_of_body (body_of other.now)) < 2 ^ 32 }
-        ensures { OnOk result (walked self.new ≡ after (walked self.old)
+        requires { count_numbered (walked self.old) + length (beginnings_of_body (body_of body.now)) + length (beginnings_of_body (body_of other.now)) < 2 ^ 32 }
+        ensures { OnOk result (walked self.new ≡ with_beginnings (walked self.old)
             (beginnings_of_body (body_of body.now) ++ beginnings_of_body (body_of other.now))) }
     {
         self.body(body)?;
@@ -134,8 +134,8 @@ impl<'a> Walk<'a> {
     // Goes on through a body, which is a block.
     #[cycle(walk)]
     fn body(&mut self, body: &'a Body) -> Result<(), NoMemory>
-        requires { numbered (walked self.old) + length (beginnings_of_body (body_of body.now)) < 2 ^ 32 }
-        ensures { OnOk result (walked self.new ≡ after (walked self.old) (beginnings_of_body (body_of body.now))) }
+        requires { count_numbered (walked self.old) + length (beginnings_of_body (body_of body.now)) < 2 ^ 32 }
+        ensures { OnOk result (walked self.new ≡ with_beginnings (walked self.old) (beginnings_of_body (body_of body.now))) }
     {
         match body {
             Body::Semicolon(_) => self.nothing(),
@@ -148,8 +148,8 @@ impl<'a> Walk<'a> {
     #[cycle(walk)]
     #[tactic(auto, using(crate::proofs::Begun::numbered_begun, crate::proofs::Begun::numbered_after))]
     fn single(&mut self, instance: &'a Instance) -> Result<(), NoMemory>
-        requires { numbered (walked self.old) + length (beginnings_of_instance (instance_of instance.now)) + 1 < 2 ^ 32 }
-        ensures { OnOk result (walked self.new ≡ after (walked self.old)
+        requires { count_numbered (walked self.old) + length (beginnings_of_instance (instance_of instance.now)) + 1 < 2 ^ 32 }
+        ensures { OnOk result (walked self.new ≡ with_beginnings (walked self.old)
             (a_block (and_statement (InstanceStatement (instance_of instance.now)) no_statements) ∷ beginnings_of_instance (instance_of instance.now))) }
     {
         let number = self.begin(BlockText::Single(instance))?;
@@ -162,8 +162,8 @@ impl<'a> Walk<'a> {
     #[cycle(walk)]
     #[tactic(auto, using(crate::proofs::Begun::numbered_begun, crate::proofs::Begun::numbered_after))]
     fn braces(&mut self, statements: &'a Statements) -> Result<(), NoMemory>
-        requires { numbered (walked self.old) + length (beginnings_in (statements_from (statements_of statements.now))) + 1 < 2 ^ 32 }
-        ensures { OnOk result (walked self.new ≡ after (walked self.old)
+        requires { count_numbered (walked self.old) + length (beginnings_in (statements_from (statements_of statements.now))) + 1 < 2 ^ 32 }
+        ensures { OnOk result (walked self.new ≡ with_beginnings (walked self.old)
             (a_block (statements_from (statements_of statements.now)) ∷ beginnings_in (statements_from (statements_of statements.now)))) }
     {
         let number = self.begin(BlockText::Statements(statements))?;
@@ -177,8 +177,8 @@ impl<'a> Walk<'a> {
     // A block in which nothing stands.
     #[tactic(auto, using(crate::proofs::Begun::numbered_begun))]
     fn nothing(&mut self) -> Result<(), NoMemory>
-        requires { numbered (walked self.old) + 1 < 2 ^ 32 }
-        ensures { OnOk result (walked self.new ≡ after (walked self.old) (a_block no_statements ∷ [])) }
+        requires { count_numbered (walked self.old) + 1 < 2 ^ 32 }
+        ensures { OnOk result (walked self.new ≡ with_beginnings (walked self.old) (a_block no_statements ∷ [])) }
     {
         let number = self.begin(BlockText::Nothing)?;
         self.end(number, Own::new(self.alloc));
@@ -188,7 +188,7 @@ impl<'a> Walk<'a> {
     // A block begins: its number. What it has of its own comes when it ends.
     #[tactic(auto, using(crate::proofs::Held::mapped_length))]
     fn begin(&mut self, text: BlockText<'a>) -> Result<u32, NoMemory>
-        requires { numbered (walked self.old) < 2 ^ 32 }
+        requires { count_numbered (walked self.old) < 2 ^ 32 }
         ensures walked { OnOk result (walked self.new ≡ with_text (walked self.old) (statements_held text.entry)) }
         ensures number { IfOk result (λ n. n ≡ length (walked self.old).entries) }
     {
@@ -206,7 +206,7 @@ impl<'a> Walk<'a> {
     #[tactic(auto, using(crate::proofs::Held::mapped_length))]
     fn end(&mut self, number: u32, own: Own<'a>)
         requires begun { number < length (walked self.old).entries }
-        requires few { numbered (walked self.old) < 2 ^ 32 }
+        requires few { count_numbered (walked self.old) < 2 ^ 32 }
         ensures { walked self.new ≡ ended (walked self.old) number (own_of own.entry) }
     {
         let behind = self.entries.len() as u32;
@@ -218,7 +218,7 @@ impl<'a> Walk<'a> {
     // A function begins: its number.
     #[tactic(auto, using(crate::proofs::Held::mapped_length))]
     fn function(&mut self, params: &'a Params, value: &'a Expr) -> Result<u32, NoMemory>
-        requires { numbered (walked self.old) < 2 ^ 32 }
+        requires { count_numbered (walked self.old) < 2 ^ 32 }
         ensures walked { OnOk result (walked self.new ≡ with_beginning (walked self.old)
             (a_function (record { params = params_of params.now; value = term_of value.now }))) }
         ensures number { IfOk result (λ n. n ≡ length (walked self.old).functions) }
@@ -231,7 +231,7 @@ impl<'a> Walk<'a> {
     // A module begins: its number. Its body is the next block.
     #[tactic(auto, using(crate::proofs::Held::mapped_length))]
     fn module(&mut self, params: &'a Params, body: &'a Body) -> Result<u32, NoMemory>
-        requires { numbered (walked self.old) < 2 ^ 32 }
+        requires { count_numbered (walked self.old) < 2 ^ 32 }
         ensures walked { OnOk result (walked self.new ≡ with_beginning (walked self.old)
             (a_module (record { params = params_of params.now; body = body_of body.now }))) }
         ensures number { IfOk result (λ n. n ≡ length (walked self.old).modules) }

@@ -6,7 +6,7 @@ use Rattle.scad_value.specs.Values.{Val, NumberVal, TruthVal, TextVal, ListVal, 
 use Rattle.scad_value.specs.Operators.{Answer}
 use Rattle.scad_builtin.specs.declared.function.Builtin.{Builtin}
 use Rattle.scad_builtin.specs.declared.function.Builtin.TheVariants.{Abs, Sign, Round, Min, Max, Len, Concat, Pow, IsUndef, IsNum, IsList}
-use Rattle.scad_builtin.specs.Builtins.{builtin_of, is_left_out, takes, applied}
+use Rattle.scad_builtin.specs.Builtins.{builtin_of, is_left_out_function, takes, applied}
 
 abbrev num : ℤ → Val
 num n = NumberVal n
@@ -115,10 +115,10 @@ pow_is_known = refl
 power_is_unknown : builtin_of (codes "power") ≡ None
 power_is_unknown = refl
 
-norm_is_left_out : is_left_out (codes "norm") ≡ true
+norm_is_left_out : is_left_out_function (codes "norm") ≡ true
 norm_is_left_out = refl
 
-pow_is_not_left_out : is_left_out (codes "pow") ≡ false
+pow_is_not_left_out : is_left_out_function (codes "pow") ≡ false
 pow_is_not_left_out = refl
 
 takes_none : takes Min 0 ≡ false

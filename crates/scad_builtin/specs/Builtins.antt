@@ -22,8 +22,8 @@ builtin_of name = named_in
     ∷ (codes "is_bool", IsBool) ∷ (codes "is_list", IsList) ∷ []) name
 
 -- functions of OpenSCAD that the profile leaves out
-abbrev pub is_left_out : List ℕ → Bool
-is_left_out = is_among
+abbrev pub is_left_out_function : List ℕ → Bool
+is_left_out_function = is_among
     (codes "str" ∷ codes "chr" ∷ codes "ord" ∷ codes "sin" ∷ codes "cos" ∷ codes "tan" ∷ codes "asin"
     ∷ codes "acos" ∷ codes "atan" ∷ codes "atan2" ∷ codes "sqrt" ∷ codes "exp" ∷ codes "ln" ∷ codes "log"
     ∷ codes "rands" ∷ codes "norm" ∷ codes "cross" ∷ codes "search" ∷ codes "lookup" ∷ codes "is_string"

@@ -11,4 +11,4 @@ mod number;
 
 pub use bound::are_bounded;
 pub use function::Builtin;
-pub use name::{builtin, is_among, is_left_out, named_in};
+pub use name::{builtin, is_among, is_left_out_function, named_in};

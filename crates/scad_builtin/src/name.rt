@@ -1,6 +1,6 @@
 ghost use Rattle.std.specs.Prelude.{◌≡◌, map};
 ghost use Rattle.std.specs.Str.{bytes_eq};
-ghost use Rattle.scad_builtin.specs.Builtins.{builtin_of, named_in, is_among, is_left_out};
+ghost use Rattle.scad_builtin.specs.Builtins.{builtin_of, named_in, is_among, is_left_out_function};
 
 use crate::function::Builtin;
 
@@ -77,8 +77,8 @@ const LEFT_OUT: [&[u8]; 24] = [
 ];
 
 /// Whether a name is a function of OpenSCAD that the profile leaves out.
-pub fn is_left_out(name: &[u8]) -> bool
-    ensures { result ≡ is_left_out name.now }
+pub fn is_left_out_function(name: &[u8]) -> bool
+    ensures { result ≡ is_left_out_function name.now }
 {
     is_among(&LEFT_OUT, name)
 }

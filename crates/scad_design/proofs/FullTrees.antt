@@ -6,11 +6,11 @@ use Rattle.csg_tree.specs.declared.op.Op.TheVariants.{Union, Intersection, Diffe
 use Rattle.csg_tree.specs.Formulas.{Formula, nothing, leaf, joined}
 use Rattle.csg_tree.specs.Joins.{join_of}
 use Rattle.csg_tree.specs.ProperTrees.{subtrees}
-use Rattle.scad_design.specs.declared.design.Design.{Design as DesignInMemory}
+use Rattle.scad_design.specs.declared.design.Design.{Design}
 use Rattle.scad_design.specs.declared.design.Design.TheVariants.{Joined, rolls-Joined}
 use Rattle.scad_design.specs.declared.design.Design.TheOpen.{Joined as JoinedIn}
 use Rattle.scad_design.specs.declared.design.Design.TheFolds.{fold-roll-Design}
-use Rattle.scad_design.specs.Designs.{Design, joined as joined_design}
+use Rattle.scad_design.specs.Designs.{DesignTree, joined_designs}
 use Rattle.scad_design.specs.View.{plain_of, plain_step}
 
 few_of : (op : Op) (l r : Formula) → subtrees (join_of op l r) ≤ 1 + subtrees l + subtrees r
@@ -41,5 +41,5 @@ pub few_joined : (op : Op) (l r tree : Formula) (m n : ℕ) → tree ≡ join_of
 few_joined op l r tree m n e hl hr = subst (λ (t : Formula). subtrees t ≤ 1 + m + n) (sym e) (omega (arith, few_of op l r, hl, hr))
 
 -- what a join in memory stands for
-pub joined_form : (op : Op) (left right : Box DesignInMemory Global) → plain_of (Joined op left right) ≡ joined_design op (plain_of left.value) (plain_of right.value)
-joined_form op left right = ap plain_of (sym (rolls-Joined op left right)) ∙ fold-roll-Design Design plain_step (JoinedIn op left right)
+pub joined_form : (op : Op) (left right : Box Design Global) → plain_of (Joined op left right) ≡ joined_designs op (plain_of left.value) (plain_of right.value)
+joined_form op left right = ap plain_of (sym (rolls-Joined op left right)) ∙ fold-roll-Design DesignTree plain_step (JoinedIn op left right)

@@ -2,23 +2,23 @@
 use Rattle.std.proofs.Common.{◌≡◌, ℕ, zero, suc, ◌+◌, ◌-◌, ◌/◌, ◌≤◌, List, [], ◌∷◌, length, take, drop, map, refl, ap, ap₂, subst, ◌∙◌, arith}
 use Rattle.std.proofs.lemmas.List.{length-map, length-take, length-drop, take-map, drop-map, length-take-le, take-take, drop-take, drop-drop}
 use Rattle.csg_tree.specs.declared.op.Op.{Op}
-use Rattle.scad_design.specs.Designs.{Design, join, joined_within, balanced}
+use Rattle.scad_design.specs.Designs.{DesignTree, join, designs_within, balanced}
 
 -- the first half of more than one is not all of them, and neither is the rest
-first_shorter : (designs : List Design) → 2 ≤ length designs → (n : ℕ) → length designs ≤ suc n →
+first_shorter : (designs : List DesignTree) → 2 ≤ length designs → (n : ℕ) → length designs ≤ suc n →
     length (take (length designs / 2) designs) ≤ n
 first_shorter designs two n within = rw length-take (omega arith)
 
-rest_shorter : (designs : List Design) → 2 ≤ length designs → (n : ℕ) → length designs ≤ suc n →
+rest_shorter : (designs : List DesignTree) → 2 ≤ length designs → (n : ℕ) → length designs ≤ suc n →
     length (drop (length designs / 2) designs) ≤ n
 rest_shorter designs two n within = rw length-drop (omega arith)
 
-two_long : (design next : Design) (designs : List Design) → 2 ≤ length (design ∷ next ∷ designs)
+two_long : (design next : DesignTree) (designs : List DesignTree) → 2 ≤ length (design ∷ next ∷ designs)
 two_long design next designs = omega arith
 
 -- halving more often than there are designs changes nothing
-pub often_enough : (n m : ℕ) (op : Op) (designs : List Design) → length designs ≤ n → length designs ≤ m →
-    joined_within n op designs ≡ joined_within m op designs
+pub often_enough : (n m : ℕ) (op : Op) (designs : List DesignTree) → length designs ≤ n → length designs ≤ m →
+    designs_within n op designs ≡ designs_within m op designs
 often_enough zero zero op designs hn hm = refl
 often_enough zero (suc m) op [] hn hm = refl
 often_enough zero (suc m) op (design ∷ designs) hn hm = absurd (omega arith)
@@ -35,7 +35,7 @@ often_enough (suc n) (suc m) op (design ∷ next ∷ designs) hn hm =
     (often_enough n m op (drop (length all / 2) all) (rest_shorter all two n hn) (rest_shorter all two m hm))
 
 -- more than one: the join of the first half and the rest
-pub by_halves : (op : Op) (designs : List Design) → 2 ≤ length designs →
+pub by_halves : (op : Op) (designs : List DesignTree) → 2 ≤ length designs →
     balanced op designs
     ≡ join op (balanced op (take (length designs / 2) designs))
     (balanced op (drop (length designs / 2) designs))
@@ -47,7 +47,7 @@ by_halves op (design ∷ next ∷ designs) two =
     let within : length all ≤ suc n = omega arith in
     let first = first_shorter all two n within in
     let rest = rest_shorter all two n within in
-    let self : (xs : List Design) → length xs ≤ length xs = λ xs. omega arith in
+    let self : (xs : List DesignTree) → length xs ≤ length xs = λ xs. omega arith in
     ap₂ (join op)
     (often_enough n (length (take (length all / 2) all)) op (take (length all / 2) all) first
     (self (take (length all / 2) all)))
@@ -55,7 +55,7 @@ by_halves op (design ∷ next ∷ designs) two =
     (self (drop (length all / 2) all)))
 
 -- what the first half and the next designs give make up what all give
-pub next_halves : {T : Type 0} (f : T → Design) (op : Op) (n : ℕ) (designs : List T) → 2 ≤ n →
+pub next_halves : {T : Type 0} (f : T → DesignTree) (op : Op) (n : ℕ) (designs : List T) → 2 ≤ n →
     n ≤ length designs →
     balanced op (map f (take n designs))
     ≡ join op (balanced op (map f (take (n / 2) designs)))

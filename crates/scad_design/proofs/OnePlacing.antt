@@ -17,9 +17,9 @@ use Rattle.shape_planes.proofs.Moves.{cancelled}
 use Rattle.shape_planes.proofs.OnePlane.{not_zero_below}
 use Rattle.csg_tree.specs.declared.op.Op.{Op}
 use Rattle.csg_tree.specs.Formulas.{Formula, leaf}
-use Rattle.scad_design.specs.Designs.{Design, empty, a_part, joined, Part}
+use Rattle.scad_design.specs.Designs.{DesignTree, empty, a_part, joined_designs, MovedShape}
 use Rattle.scad_design.specs.Placing.{Placed, placed, unplaced, and_new, joined_placed, AreItsPlanes, IsPlaced, Places, PlacesPart, PlacesRight, most_planes}
-use Rattle.scad_design.proofs.PartFaults.{Cause, large, far as far_off, many, cause_of}
+use Rattle.scad_design.proofs.PartFaults.{Cause, large, far_off, many, cause_of}
 
 -- ---- the plane of a face
 far_behind : (mesh : Mesh) (face : List ℕ) (is : IsFace mesh face) (m : Coefficients) → IsFacePlane mesh face m → value m (corner mesh.points (far mesh face is)) <ℤ pos 0
@@ -67,7 +67,7 @@ one_list mesh (f ∷ faces) (m ∷ ms) (n ∷ ns) is hm hn pm pn =
     (one_list mesh faces ms ns (All-tail (IsFace mesh) f faces is) hm.1 hn.1 (All-tail IsPlane m ms pm) (All-tail IsPlane n ns pn))
 
 -- ---- a part
-its_planes : (part : Part) (ms ns : List Coefficients) → AreItsPlanes part ms → AreItsPlanes part ns → ms ≡ ns
+its_planes : (part : MovedShape) (ms ns : List Coefficients) → AreItsPlanes part ms → AreItsPlanes part ns → ms ≡ ns
 its_planes part ms ns hm hn =
     let mesh = moved (map_of part.steps) part.mesh in
     let planes = λ (ps : List Coefficients) (h : AreItsPlanes part ps). all_from_distinct IsPlane h.faces.all (subst (All IsPlane) h.faces.first h.reduced) in
@@ -81,16 +81,16 @@ same_placed s t k l e f = ap₂ placed e f
 same_unplaced : (j k : FaultKind) (a b : Place) → j ≡ k → a ≡ b → unplaced j a ≡ unplaced k b
 same_unplaced j k a b e f = ap₂ unplaced e f
 
-not_many : (part : Part) (known ms ns : List Coefficients) → AreItsPlanes part ms → AreItsPlanes part ns
+not_many : (part : MovedShape) (known ms ns : List Coefficients) → AreItsPlanes part ms → AreItsPlanes part ns
     → length (and_new known ms) ≤ most_planes → most_planes < length (and_new known ns) → ⊥
 not_many part known ms ns hm hn few more = omega (arith, few, more, ap (λ (ps : List Coefficients). length (and_new known ps)) (its_planes part ms ns hm hn))
 
-not_placed : (part : Part) (known planes : List Coefficients) (kind : FaultKind) → IsPlaced part known planes → Cause part known kind → ⊥
+not_placed : (part : MovedShape) (known planes : List Coefficients) (kind : FaultKind) → IsPlaced part known planes → Cause part known kind → ⊥
 not_placed part known planes kind h (large e not_safe) = not_safe h.safe
 not_placed part known planes kind h (far_off e safe not_near) = not_near h.reach
 not_placed part known planes kind h (many e safe near more are past) = not_many part known planes more h.planes_are are h.few past
 
-same_cause : (part : Part) (known : List Coefficients) (j k : FaultKind) → Cause part known j → Cause part known k → j ≡ k
+same_cause : (part : MovedShape) (known : List Coefficients) (j k : FaultKind) → Cause part known j → Cause part known k → j ≡ k
 same_cause part known j k (large e n) (large f m) = e ∙ sym f
 same_cause part known j k (large e n) (far_off f s m) = absurd (n s)
 same_cause part known j k (large e n) (many f s r ps a p) = absurd (n s)
@@ -101,7 +101,7 @@ same_cause part known j k (many e s r ps a p) (large f m) = absurd (m s)
 same_cause part known j k (many e s r ps a p) (far_off f t m) = absurd (m r)
 same_cause part known j k (many e s r ps a p) (many f t q qs b c) = e ∙ sym f
 
-one_part : (part : Part) (known : List Coefficients) (out other : Placed) → PlacesPart part known out → PlacesPart part known other → out ≡ other
+one_part : (part : MovedShape) (known : List Coefficients) (out other : Placed) → PlacesPart part known out → PlacesPart part known other → out ≡ other
 one_part part known (placed s k) (placed t l) h g =
     let same = its_planes part h.0 g.0 h.1.planes_are g.1.planes_are in
     same_placed s t k l (h.2 ∙ ap leaf same ∙ sym g.2) (h.3 ∙ ap (and_new known) same ∙ sym g.3)
@@ -110,16 +110,16 @@ one_part part known (unplaced kind at) (placed t l) h g = absurd (not_placed par
 one_part part known (unplaced j a) (unplaced k b) h g = same_unplaced j k a b (same_cause part known j k (cause_of part known j h.0) (cause_of part known k g.0)) (h.1 ∙ sym g.1)
 
 -- ---- a design
-abbrev HasOne : Design → Type 0
+abbrev HasOne : DesignTree → Type 0
 HasOne design = (known : List Coefficients) (out other : Placed) → Places design known out → Places design known other → out ≡ other
 
-one_right : (op : Op) (right : Design) → HasOne right → (first out other : Placed) → PlacesRight (Places right) op first out → PlacesRight (Places right) op first other → out ≡ other
+one_right : (op : Op) (right : DesignTree) → HasOne right → (first out other : Placed) → PlacesRight (Places right) op first out → PlacesRight (Places right) op first other → out ≡ other
 one_right op right one (placed tree known) out other h g = h.2 ∙ ap (joined_placed op tree) (one known h.0 g.0 h.1 g.1) ∙ sym g.2
 one_right op right one (unplaced kind at) out other h g = h ∙ sym g
 
-pub one_placing : (design : Design) → HasOne design
+pub one_placing : (design : DesignTree) → HasOne design
 one_placing empty known out other h g = h ∙ sym g
 one_placing (a_part part) known out other h g = one_part part known out other h g
-one_placing (joined op left right) known out other h g =
+one_placing (joined_designs op left right) known out other h g =
     let same = one_placing left known g.0 h.0 g.1 h.1 in
     one_right op right (one_placing right) h.0 out other h.2 (subst (λ (first : Placed). PlacesRight (Places right) op first other) same g.2)

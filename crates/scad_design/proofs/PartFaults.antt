@@ -6,7 +6,7 @@ use Rattle.plane_predicate.specs.Space.{Coefficients, point_at, IsInReach}
 use Rattle.int_transform.specs.Maps.{image, map_of, LeavesRange, StaysInRange}
 use Rattle.shape_planes.specs.declared.stop.ShapeStop.TheVariants.{Kind}
 use Rattle.shape_planes.specs.Placing.{IsPlacingStop}
-use Rattle.scad_design.specs.Designs.{Part}
+use Rattle.scad_design.specs.Designs.{MovedShape}
 use Rattle.text_place.specs.declared.fault.Stop.{Stop}
 use Rattle.text_place.specs.declared.fault.Stop.TheVariants.{Fault, NoMemory}
 use Rattle.scad_design.specs.Designs.{a_part}
@@ -17,62 +17,62 @@ use Rattle.scad_design.specs.Trees.{IsRangeStop, IsStopOf}
 some_not : {A : Type 0} (P : A → Type 0) (xs : List A) → Any (λ (x : A). P x → ⊥) xs → All P xs → ⊥
 some_not P xs h all = h.4 (subst P h.3 (all h.0 h.1 h.2))
 
-pub past : (part : Part) → Any (λ (p : List ℤ). LeavesRange part.steps (point_at p)) part.mesh.points → StaysSafe part → ⊥
+pub past : (part : MovedShape) → Any (λ (p : List ℤ). LeavesRange part.steps (point_at p)) part.mesh.points → StaysSafe part → ⊥
 past part h safe =
     let stays : StaysInRange part.steps (point_at h.1) = subst (λ (p : List ℤ). StaysInRange part.steps (point_at p)) h.3 (safe h.0 h.1 h.2) in
     h.4.past (stays h.4.after h.4.within)
 
 -- why a shape has no planes where its steps move it is the part's fault, whatever planes are known
-pub range_fault : (part : Part) (known : List Coefficients) (kind : FaultKind) → IsPlacingStop (Kind kind) →
+pub range_fault : (part : MovedShape) (known : List Coefficients) (kind : FaultKind) → IsPlacingStop (Kind kind) →
     (kind ≡ TooLarge → Any (λ (p : List ℤ). LeavesRange part.steps (point_at p)) part.mesh.points) →
     (kind ≡ OutOfRange → All (λ (p : List ℤ). StaysInRange part.steps (point_at p)) part.mesh.points × Any (λ (p : List ℤ). IsInReach (image (map_of part.steps) (point_at p)) → ⊥) part.mesh.points) →
     IsPlacingFault part known kind
-range_fault part known BadCharacter stop large far = absurd stop
-range_fault part known OpenComment stop large far = absurd stop
-range_fault part known OpenText stop large far = absurd stop
-range_fault part known NotWhole stop large far = absurd stop
-range_fault part known TooLarge stop large far = past part (large refl)
-range_fault part known TypeMismatch stop large far = absurd stop
-range_fault part known ZeroDivisor stop large far = absurd stop
-range_fault part known BadSize stop large far = absurd stop
-range_fault part known NotOnGrid stop large far = absurd stop
-range_fault part known OutOfRange stop large far = let h = far refl in (h.0, some_not (λ (p : List ℤ). IsInReach (image (map_of part.steps) (point_at p))) part.mesh.points h.1)
-range_fault part known FewPoints stop large far = absurd stop
-range_fault part known BadPoint stop large far = absurd stop
-range_fault part known NotFlat stop large far = absurd stop
-range_fault part known NotConvex stop large far = absurd stop
-range_fault part known NotClosed stop large far = absurd stop
-range_fault part known Expected stop large far = absurd stop
-range_fault part known Nested stop large far = absurd stop
-range_fault part known UnknownName stop large far = absurd stop
-range_fault part known UnknownFunction stop large far = absurd stop
-range_fault part known UnknownModule stop large far = absurd stop
-range_fault part known BadArgument stop large far = absurd stop
-range_fault part known TooDeep stop large far = absurd stop
-range_fault part known TooManyTurns stop large far = absurd stop
-range_fault part known RangeOrder stop large far = absurd stop
-range_fault part known AssertFailed stop large far = absurd stop
-range_fault part known NotInProfile stop large far = absurd stop
-range_fault part known WrongDimension stop large far = absurd stop
-range_fault part known NotQuarter stop large far = absurd stop
-range_fault part known Singular stop large far = absurd stop
-range_fault part known TooManyParts stop large far = absurd stop
-range_fault part known TooManyPlanes stop large far = absurd stop
-range_fault part known LongList stop large far = absurd stop
+range_fault part known BadCharacter stop large far_off = absurd stop
+range_fault part known OpenComment stop large far_off = absurd stop
+range_fault part known OpenText stop large far_off = absurd stop
+range_fault part known NotWhole stop large far_off = absurd stop
+range_fault part known TooLarge stop large far_off = past part (large refl)
+range_fault part known TypeMismatch stop large far_off = absurd stop
+range_fault part known ZeroDivisor stop large far_off = absurd stop
+range_fault part known BadSize stop large far_off = absurd stop
+range_fault part known NotOnGrid stop large far_off = absurd stop
+range_fault part known OutOfRange stop large far_off = let h = far_off refl in (h.0, some_not (λ (p : List ℤ). IsInReach (image (map_of part.steps) (point_at p))) part.mesh.points h.1)
+range_fault part known FewPoints stop large far_off = absurd stop
+range_fault part known BadPoint stop large far_off = absurd stop
+range_fault part known NotFlat stop large far_off = absurd stop
+range_fault part known NotConvex stop large far_off = absurd stop
+range_fault part known NotClosed stop large far_off = absurd stop
+range_fault part known Expected stop large far_off = absurd stop
+range_fault part known Nested stop large far_off = absurd stop
+range_fault part known UnknownName stop large far_off = absurd stop
+range_fault part known UnknownFunction stop large far_off = absurd stop
+range_fault part known UnknownModule stop large far_off = absurd stop
+range_fault part known BadArgument stop large far_off = absurd stop
+range_fault part known TooDeep stop large far_off = absurd stop
+range_fault part known TooManyTurns stop large far_off = absurd stop
+range_fault part known RangeOrder stop large far_off = absurd stop
+range_fault part known AssertFailed stop large far_off = absurd stop
+range_fault part known NotInProfile stop large far_off = absurd stop
+range_fault part known WrongDimension stop large far_off = absurd stop
+range_fault part known NotQuarter stop large far_off = absurd stop
+range_fault part known Singular stop large far_off = absurd stop
+range_fault part known TooManyParts stop large far_off = absurd stop
+range_fault part known TooManyPlanes stop large far_off = absurd stop
+range_fault part known LongList stop large far_off = absurd stop
 
 -- a stop of a part by itself is one of the part behind other planes
-pub range_stop : (part : Part) (known : List Coefficients) (stop : Stop) → IsRangeStop part stop → IsStopOf (a_part part) known stop
+pub range_stop : (part : MovedShape) (known : List Coefficients) (stop : Stop) → IsRangeStop part stop → IsStopOf (a_part part) known stop
 range_stop part known (Fault fault) h = (h.0 known, h.1)
 range_stop part known NoMemory h = tt
 
 -- the three causes
-pub data Cause (part : Part) (known : List Coefficients) (kind : FaultKind) : Type 0 where
+pub data Cause (part : MovedShape) (known : List Coefficients) (kind : FaultKind) : Type 0 where
   large : (kind ≡ TooLarge) → (StaysSafe part → ⊥) → Cause part known kind
-  far : (kind ≡ OutOfRange) → StaysSafe part → (EndsInReach part → ⊥) → Cause part known kind
+  far_off : (kind ≡ OutOfRange) → StaysSafe part → (EndsInReach part → ⊥) → Cause part known kind
   many : (kind ≡ TooManyPlanes) → StaysSafe part → EndsInReach part → (planes : List Coefficients) → AreItsPlanes part planes
       → (most_planes < length (and_new known planes)) → Cause part known kind
 
-pub cause_of : (part : Part) (known : List Coefficients) (kind : FaultKind) → IsPlacingFault part known kind → Cause part known kind
+pub cause_of : (part : MovedShape) (known : List Coefficients) (kind : FaultKind) → IsPlacingFault part known kind → Cause part known kind
 cause_of part known BadCharacter h = absurd h
 cause_of part known OpenComment h = absurd h
 cause_of part known OpenText h = absurd h
@@ -82,7 +82,7 @@ cause_of part known TypeMismatch h = absurd h
 cause_of part known ZeroDivisor h = absurd h
 cause_of part known BadSize h = absurd h
 cause_of part known NotOnGrid h = absurd h
-cause_of part known OutOfRange h = far refl h.0 h.1
+cause_of part known OutOfRange h = far_off refl h.0 h.1
 cause_of part known FewPoints h = absurd h
 cause_of part known BadPoint h = absurd h
 cause_of part known NotFlat h = absurd h

@@ -12,7 +12,7 @@ use Rattle.csg_tree.specs.declared.op.Op.{Op}
 use Rattle.csg_tree.specs.Formulas.{Formula, leaf}
 use Rattle.csg_tree.specs.Joins.{join_of}
 use Rattle.csg_tree.specs.ProperTrees.{subtrees, IsProper}
-use Rattle.scad_design.specs.Designs.{Design, empty, a_part, joined, Part}
+use Rattle.scad_design.specs.Designs.{DesignTree, empty, a_part, joined_designs, MovedShape}
 use Rattle.scad_design.specs.Placing.{Placed, placed, unplaced, joined_placed, IsPlaced, Places, PlacesRight}
 use Rattle.scad_design.specs.Trees.{pieces_in, IsPlacedAs, IsSound}
 use Rattle.scad_design.proofs.FacePlanes.{images_are_in_reach}
@@ -24,7 +24,7 @@ some_planes mesh [] all h lt = absurd (omega (arith, lt))
 some_planes mesh (face ∷ faces) [] h lt = absurd h
 some_planes mesh (face ∷ faces) (m ∷ all) h lt = omega arith
 
-proper_leaf : (part : Part) (known planes : List Coefficients) → IsShape part.mesh → IsPlaced part known planes → IsProper (leaf planes)
+proper_leaf : (part : MovedShape) (known planes : List Coefficients) → IsShape part.mesh → IsPlaced part known planes → IsProper (leaf planes)
 proper_leaf part known planes shape is =
     let f = map_of part.steps in
     let mesh = moved f part.mesh in
@@ -55,21 +55,21 @@ module _ (joins : (op : Op) (left right : Formula) → IsProper left → IsPrope
   }
   small_join op m n first (unplaced kind at) few h g = tt
 
-  small_right : (op : Op) (right : Design) (m n : ℕ) (first out : Placed) → 1 + m + n < 2 ^ 32 → IsSmallPlaced m first →
+  small_right : (op : Op) (right : DesignTree) (m n : ℕ) (first out : Placed) → 1 + m + n < 2 ^ 32 → IsSmallPlaced m first →
       ((known : List Coefficients) (next : Placed) → Places right known next → IsSmallPlaced n next) → PlacesRight (Places right) op first out → IsSmallPlaced (1 + m + n) out
   small_right op right m n (placed tree known) out few h small r =
       subst (IsSmallPlaced (1 + m + n)) (sym r.2) (small_join op m n tree r.0 few h (small known r.0 r.1))
   small_right op right m n (unplaced kind at) out few h small r = subst (IsSmallPlaced (1 + m + n)) (sym r) tt
 
-  small_placed : (design : Design) (known : List Coefficients) (out : Placed) → IsSound design → pieces_in design < 2 ^ 32 → Places design known out → IsSmallPlaced (pieces_in design) out
+  small_placed : (design : DesignTree) (known : List Coefficients) (out : Placed) → IsSound design → pieces_in design < 2 ^ 32 → Places design known out → IsSmallPlaced (pieces_in design) out
   small_placed empty known out sound few h =
       subst (IsSmallPlaced 1) (sym h) (record { proper = record { leaves = tt; joins = tt; few = omega arith }; few = omega arith })
   small_placed (a_part part) known (placed tree now) sound few h =
       subst (IsSmall 1) (sym h.2) (record { proper = proper_leaf part known h.0 sound.0 h.1; few = omega arith })
   small_placed (a_part part) known (unplaced kind at) sound few h = tt
-  small_placed (joined op left right) known out sound few h =
+  small_placed (joined_designs op left right) known out sound few h =
       small_right op right (pieces_in left) (pieces_in right) h.0 out few (small_placed left known h.0 sound.0 (omega (arith, few)) h.1)
       (λ known next there. small_placed right known next sound.1 (omega (arith, few)) there) h.2
 
-  pub proper_placed : (design : Design) (tree : Formula) → IsSound design → pieces_in design < 2 ^ 32 → IsPlacedAs design tree → IsProper tree
+  pub proper_placed : (design : DesignTree) (tree : Formula) → IsSound design → pieces_in design < 2 ^ 32 → IsPlacedAs design tree → IsProper tree
   proper_placed design tree sound few h = (small_placed design [] (placed tree h.0) sound few h.1).proper

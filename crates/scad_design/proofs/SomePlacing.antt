@@ -11,14 +11,14 @@ use Rattle.shape_planes.proofs.Distinct.{all_of_distinct}
 use Rattle.shape_planes.proofs.Transforms.{faces_after}
 use Rattle.csg_tree.specs.declared.op.Op.{Op}
 use Rattle.csg_tree.specs.Formulas.{nothing, leaf}
-use Rattle.scad_design.specs.Designs.{Design, empty, a_part, joined, Part}
+use Rattle.scad_design.specs.Designs.{DesignTree, empty, a_part, joined_designs, MovedShape}
 use Rattle.scad_design.specs.Placing.{Placed, placed, unplaced, and_new, joined_placed, AreItsPlanes, EndsInReach, Places, PlacesPart, PlacesRight, StaysSafe, most_planes}
 use Rattle.scad_design.specs.Trees.{AreRegular, IsSound}
 use Rattle.scad_design.proofs.Deciding.{Decided, decided_by, decided_both, decided_at_most, decided_less_ℤ, decided_all, decided_all_below, at_most_or_more}
 use Rattle.scad_design.proofs.FacePlanes.{images_are_in_reach, some_face_planes}
 
 -- ---- the planes of a part that ends within reach
-some_planes : (part : Part) → IsShape part.mesh → AreRegular part.steps → EndsInReach part → (planes : List Coefficients) × AreItsPlanes part planes
+some_planes : (part : MovedShape) → IsShape part.mesh → AreRegular part.steps → EndsInReach part → (planes : List Coefficients) × AreItsPlanes part planes
 some_planes part shape regular reach =
     let f = map_of part.steps in
     let mesh = moved f part.mesh in
@@ -47,7 +47,7 @@ decided_range steps p =
     decided_by {P = StaysBelow steps p} (λ h k le. h k (omega (arith, le))) (λ h k lt. h k (omega (arith, lt)))
     (decided_all_below (suc (length steps)) (λ k. HasSafeCoordinates (image (map_of (take k steps)) p)) (λ k lt. decided_coordinates (image (map_of (take k steps)) p)))
 
-pub decided_safe : (part : Part) → Decided (StaysSafe part)
+pub decided_safe : (part : MovedShape) → Decided (StaysSafe part)
 decided_safe part = decided_all (λ p. StaysInRange part.steps (point_at p)) (λ p. decided_range part.steps (point_at p)) part.mesh.points
 
 decided_reach : (p : Coordinates) → Decided (IsInReach p)
@@ -57,20 +57,20 @@ decided_reach p =
     (decided_both (decided_at_most (unsigned_abs p.x) _)
     (decided_both (decided_at_most (unsigned_abs p.y) _) (decided_at_most (unsigned_abs p.z) _))))
 
-decided_near : (part : Part) → Decided (EndsInReach part)
+decided_near : (part : MovedShape) → Decided (EndsInReach part)
 decided_near part = decided_all (λ p. IsInReach (image (map_of part.steps) (point_at p))) (λ p. decided_reach (image (map_of part.steps) (point_at p))) part.mesh.points
 
 -- ---- a part
 more_than : (n : ℕ) → (n ≤ most_planes → ⊥) → most_planes < n
 more_than n h = ⊎_elim (λ k. absurd (h k)) (λ k. k) (at_most_or_more n most_planes)
 
-with_planes : (part : Part) (known planes : List Coefficients) → StaysSafe part → EndsInReach part → AreItsPlanes part planes → (out : Placed) × PlacesPart part known out
+with_planes : (part : MovedShape) (known planes : List Coefficients) → StaysSafe part → EndsInReach part → AreItsPlanes part planes → (out : Placed) × PlacesPart part known out
 with_planes part known planes safe reach are =
     ⊎_elim (λ few. (placed (leaf planes) (and_new known planes), (planes, record { safe = safe; reach = reach; planes_are = are; few = few }, refl, refl)))
     (λ more. (unplaced TooManyPlanes part.at, ((safe, reach, (planes, are, more_than (length (and_new known planes)) more)), refl)))
     (decided_at_most (length (and_new known planes)) most_planes)
 
-some_part : (part : Part) (known : List Coefficients) → IsShape part.mesh → AreRegular part.steps → (out : Placed) × PlacesPart part known out
+some_part : (part : MovedShape) (known : List Coefficients) → IsShape part.mesh → AreRegular part.steps → (out : Placed) × PlacesPart part known out
 some_part part known shape regular =
     ⊎_elim (λ safe.
     ⊎_elim (λ reach. let planes = some_planes part shape regular reach in with_planes part known planes.0 safe reach planes.1)
@@ -84,10 +84,10 @@ some_right : (op : Op) (right : List Coefficients → Placed → Type 0) → ((k
 some_right op right some (unplaced kind at) = (unplaced kind at, refl)
 some_right op right some (placed tree known) = let next = some known in (joined_placed op tree next.0, (next.0, next.1, refl))
 
-pub some_placing : (design : Design) (known : List Coefficients) → IsSound design → (out : Placed) × Places design known out
+pub some_placing : (design : DesignTree) (known : List Coefficients) → IsSound design → (out : Placed) × Places design known out
 some_placing empty known h = (placed nothing known, refl)
 some_placing (a_part part) known h = some_part part known h.0 h.1
-some_placing (joined op left right) known h =
+some_placing (joined_designs op left right) known h =
     let first = some_placing left known h.0 in
     let out = some_right op (Places right) (λ known. some_placing right known h.1) first.0 in
     (out.0, (first.0, first.1, out.1))

@@ -7,50 +7,50 @@ use Rattle.int_transform.specs.declared.affine.Affine.{Affine}
 use Rattle.shape_planes.specs.Shapes.{Mesh}
 
 -- a shape in grid steps, the steps that move it, the first done first, and the place of its module's name
-pub record Part : Type 0 where
+pub record MovedShape : Type 0 where
   pub mesh : Mesh
   pub steps : List Affine
   pub at : Place
 
-pub data Design : Type 0 where
-  empty : Design
-  a_part : (part : Part) → Design
-  joined : (op : Op) → (left right : Design) → Design
+pub data DesignTree : Type 0 where
+  empty : DesignTree
+  a_part : (part : MovedShape) → DesignTree
+  joined_designs : (op : Op) → (left right : DesignTree) → DesignTree
 
 -- a join without empty designs, as trees are joined: in a union the other side, in an intersection nothing, nothing minus
 -- anything is nothing, and a design minus nothing is the design
-abbrev pub join : Op → Design → Design → Design
+abbrev pub join : Op → DesignTree → DesignTree → DesignTree
 join Union empty right = right
 join Intersection empty right = empty
 join Difference empty right = empty
 join Union left empty = left
 join Intersection left empty = empty
 join Difference left empty = left
-join op left right = joined op left right
+join op left right = joined_designs op left right
 
 -- designs joined by halves, where the halves are halved at most this often
-abbrev pub joined_within : ℕ → Op → List Design → Design
-joined_within zero op designs = empty
-joined_within (suc depth) op [] = empty
-joined_within (suc depth) op (design ∷ []) = design
-joined_within (suc depth) op (design ∷ next ∷ designs) =
+abbrev pub designs_within : ℕ → Op → List DesignTree → DesignTree
+designs_within zero op designs = empty
+designs_within (suc depth) op [] = empty
+designs_within (suc depth) op (design ∷ []) = design
+designs_within (suc depth) op (design ∷ next ∷ designs) =
     let all = design ∷ next ∷ designs in
-    join op (joined_within depth op (take (length all / 2) all))
-    (joined_within depth op (drop (length all / 2) all))
+    join op (designs_within depth op (take (length all / 2) all))
+    (designs_within depth op (drop (length all / 2) all))
 
 -- designs joined by halves: none is empty, one itself, and more the join of the first half of them, rounded down, and the
 -- rest
-abbrev pub balanced : Op → List Design → Design
-balanced op designs = joined_within (length designs) op designs
+abbrev pub balanced : Op → List DesignTree → DesignTree
+balanced op designs = designs_within (length designs) op designs
 
 -- children joined by an operation; a difference is the first without the others
-abbrev pub grouped : Op → List Design → Design
+abbrev pub grouped : Op → List DesignTree → DesignTree
 grouped Difference [] = empty
 grouped Difference (first ∷ others) = join Difference first (balanced Union others)
 grouped op designs = balanced op designs
 
 -- steps at the end of those of each part
-abbrev pub moved_by : List Affine → Design → Design
+abbrev pub moved_by : List Affine → DesignTree → DesignTree
 moved_by steps empty = empty
 moved_by steps (a_part part) = a_part (record { mesh = part.mesh; steps = part.steps ++ steps; at = part.at })
-moved_by steps (joined op left right) = joined op (moved_by steps left) (moved_by steps right)
+moved_by steps (joined_designs op left right) = joined_designs op (moved_by steps left) (moved_by steps right)

@@ -11,7 +11,7 @@ use Rattle.shape_planes.specs.Placing.{moved, ArePlanesOf}
 use Rattle.csg_tree.specs.declared.op.Op.{Op}
 use Rattle.csg_tree.specs.Formulas.{Formula, nothing, leaf}
 use Rattle.csg_tree.specs.Joins.{join_of}
-use Rattle.scad_design.specs.Designs.{Design, empty, a_part, joined, Part}
+use Rattle.scad_design.specs.Designs.{DesignTree, empty, a_part, joined_designs, MovedShape}
 
 -- two planes of the same points
 abbrev pub same_points : Coefficients → Coefficients → Bool
@@ -28,16 +28,16 @@ and_new known [] = known
 and_new known (plane ∷ planes) = and_new (if_new (list_any (same_points plane) known) known plane) planes
 
 -- a part whose points all keep within 2^53 - 1 after each step
-abbrev pub StaysSafe : Part → Type 0
+abbrev pub StaysSafe : MovedShape → Type 0
 StaysSafe part = All (λ point. StaysInRange part.steps (point_at point)) part.mesh.points
 
 -- a part whose points are all within 4,095 at the end
-abbrev pub EndsInReach : Part → Type 0
+abbrev pub EndsInReach : MovedShape → Type 0
 EndsInReach part = All (λ point. IsInReach (image (map_of part.steps) (point_at point))) part.mesh.points
 
 -- the planes of a part in world position: those of its moved faces, of equal ones the first. Each face has one, with the
 -- body behind it
-pub record AreItsPlanes (part : Part) (planes : List Coefficients) : Type 0 where
+pub record AreItsPlanes (part : MovedShape) (planes : List Coefficients) : Type 0 where
   pub reduced : All IsPlane planes
   pub solid : All (IsFace (moved (map_of part.steps) part.mesh)) part.mesh.faces
   pub faces : ArePlanesOf (moved (map_of part.steps) part.mesh) part.mesh.faces planes
@@ -52,7 +52,7 @@ abbrev pub most_planes : ℕ
 most_planes = 1024
 
 -- a leaf, behind the distinct planes of those before it
-pub record IsPlaced (part : Part) (known : List Coefficients) (planes : List Coefficients) : Type 0 where
+pub record IsPlaced (part : MovedShape) (known : List Coefficients) (planes : List Coefficients) : Type 0 where
   pub safe : StaysSafe part
   pub reach : EndsInReach part
   pub planes_are : AreItsPlanes part planes
@@ -60,7 +60,7 @@ pub record IsPlaced (part : Part) (known : List Coefficients) (planes : List Coe
 
 -- the first fault of a leaf: a coordinate is past 2^53 - 1 after a step; else one is past 4,095 at the end; else the leaf
 -- brings the 1,025th distinct plane
-abbrev pub IsPlacingFault : Part → List Coefficients → FaultKind → Type 0
+abbrev pub IsPlacingFault : MovedShape → List Coefficients → FaultKind → Type 0
 IsPlacingFault part known TooLarge = StaysSafe part → ⊥
 IsPlacingFault part known OutOfRange = StaysSafe part × (EndsInReach part → ⊥)
 IsPlacingFault part known TooManyPlanes =
@@ -69,7 +69,7 @@ IsPlacingFault part known TooManyPlanes =
 IsPlacingFault part known kind = ⊥
 
 -- a leaf by itself
-abbrev pub PlacesPart : Part → List Coefficients → Placed → Type 0
+abbrev pub PlacesPart : MovedShape → List Coefficients → Placed → Type 0
 PlacesPart part known (placed tree now) =
     (planes : List Coefficients) × IsPlaced part known planes × (tree ≡ leaf planes) × (now ≡ and_new known planes)
 PlacesPart part known (unplaced kind at) = IsPlacingFault part known kind × (at ≡ part.at)
@@ -85,7 +85,7 @@ PlacesRight right op (unplaced kind at) out = out ≡ unplaced kind at
 PlacesRight right op (placed tree known) out = (next : Placed) × right known next × (out ≡ joined_placed op tree next)
 
 -- the leaves of a design from left to right, behind the distinct planes of those before them
-abbrev pub Places : Design → List Coefficients → Placed → Type 0
+abbrev pub Places : DesignTree → List Coefficients → Placed → Type 0
 Places empty known out = out ≡ placed nothing known
 Places (a_part part) known out = PlacesPart part known out
-Places (joined op left right) known out = (first : Placed) × Places left known first × PlacesRight (Places right) op first out
+Places (joined_designs op left right) known out = (first : Placed) × Places left known first × PlacesRight (Places right) op first out

@@ -16,9 +16,9 @@ pub struct Part {
 }
 
 impl Model for Part {
-    ghost use Rattle.scad_design.specs.Designs.{Part as PlainPart};
+    ghost use Rattle.scad_design.specs.Designs.{MovedShape};
 
-    ghost Value = { PlainPart };
+    ghost Value = { MovedShape };
 
     ghost view = { λ p. record { mesh = p.shape; steps = p.steps.items; at = p.at } };
 }

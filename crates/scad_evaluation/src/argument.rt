@@ -4,14 +4,14 @@ ghost use Rattle.scad_ast.specs.ExprView.{term_of, arg_of, args_of};
 ghost use Rattle.scad_ast.specs.declared.expression.Expr.{size-Expr};
 ghost use Rattle.scad_ast.specs.declared.expression.Arg.{size-Arg};
 ghost use Rattle.scad_ast.specs.Terms.{args_from};
-ghost use Rattle.scad_builtin.specs.Builtins.{applied, builtin_of, is_left_out};
+ghost use Rattle.scad_builtin.specs.Builtins.{applied, builtin_of, is_left_out_function};
 ghost use Rattle.scad_evaluation.specs.Meaning.{Setting, then_with, answered, each_value, built_in};
 ghost use Rattle.scad_evaluation.specs.Steps.{have_no_names, is_named, all_values, argument_of};
 ghost use Rattle.scad_value.specs.BoundedView.{bounded_val};
 ghost use Rattle.scad_evaluation.specs.View.{MeetsOutcome};
 
 use scad_ast::{Arg, Args, Expr};
-use scad_builtin::{Builtin, builtin, is_left_out};
+use scad_builtin::{Builtin, builtin, is_left_out_function};
 use text_place::{FaultKind, Place, Stop};
 
 // Whether no argument has a name.
@@ -64,9 +64,9 @@ pub fn built_in_for(name: &[u8], place: Place, args: &Args) -> Result<Builtin, S
 
 // The kind of fault of a name that no function has.
 fn unknown(name: &[u8]) -> FaultKind
-    ensures { result ≡ if is_left_out name.now then NotInProfile else UnknownFunction }
+    ensures { result ≡ if is_left_out_function name.now then NotInProfile else UnknownFunction }
 {
-    if is_left_out(name) {
+    if is_left_out_function(name) {
         return FaultKind::NotInProfile;
     }
     FaultKind::UnknownFunction

@@ -15,7 +15,7 @@ use Rattle.std.specs.Cmp.Lexicographic.{slice_cmp}
 use Rattle.shape_planes.specs.Spanning.{HasNoDirection, IsTriangle}
 use Rattle.shape_planes.specs.declared.spanning.Triangle.{Triangle}
 use Rattle.shape_planes.proofs.OnePlane.{nowhere}
-use Rattle.scad_hull.specs.Hulls.{different, faces_of, from, hull_of, put, has_direction, has_none_ahead, is_supporting, plane_of, shares_plane, AreOnOnePlane}
+use Rattle.scad_hull.specs.Hulls.{different, faces_of, from, hull_of, put, is_directed, has_none_ahead, is_supporting, plane_of, shares_plane, AreOnOnePlane}
 use Rattle.scad_hull.specs.Combinations.{IsInnerCombination}
 use Rattle.scad_hull.specs.Refusals.{AreInRange, HaveHull}
 use Rattle.scad_hull.specs.Steps.{with_triple, AreNumbered}
@@ -86,20 +86,20 @@ parts_of m e =
     let two = and_parts (int_eq m.b (pos 0)) (int_eq m.c (pos 0)) one.1 in
     record { a = (Decides-int_eq m.a (pos 0)).0 one.0; b = (Decides-int_eq m.b (pos 0)).0 two.0; c = (Decides-int_eq m.c (pos 0)).0 two.1 }
 
-direction_by : (m : Coefficients) (b : Bool) → b ≡ (int_eq m.a (pos 0) && (int_eq m.b (pos 0) && int_eq m.c (pos 0))) → (HasNoDirection m → ⊥) → has_direction m ≡ true
+direction_by : (m : Coefficients) (b : Bool) → b ≡ (int_eq m.a (pos 0) && (int_eq m.b (pos 0) && int_eq m.c (pos 0))) → (HasNoDirection m → ⊥) → is_directed m ≡ true
 direction_by m b e h = ap not (sym e) ∙ not_by b (λ t. h (parts_of m (sym e ∙ t)))
 
-pub direction_is : (m : Coefficients) (b : Bool) → OnTrue b (HasNoDirection m → ⊥) → OnFalse b (HasNoDirection m) → b ≡ has_direction m
+pub direction_is : (m : Coefficients) (b : Bool) → OnTrue b (HasNoDirection m → ⊥) → OnFalse b (HasNoDirection m) → b ≡ is_directed m
 direction_is m true some none = sym (direction_by m _ refl some)
 direction_is m false some none = sym (ap not (no_direction m none))
 
-pub supports_not : (points : List (List ℤ)) (t : List ℕ) (m : Coefficients) (b : Bool) → m ≡ plane_of points t → b ≡ has_direction m → b ≡ false → false ≡ is_supporting points t
-supports_not points t m b em eb e = sym (and_left (has_direction (plane_of points t)) (has_none_ahead points (plane_of points t) || has_none_ahead points (opposite_of (plane_of points t))) (ap has_direction (sym em) ∙ sym eb ∙ e))
+pub supports_not : (points : List (List ℤ)) (t : List ℕ) (m : Coefficients) (b : Bool) → m ≡ plane_of points t → b ≡ is_directed m → b ≡ false → false ≡ is_supporting points t
+supports_not points t m b em eb e = sym (and_left (is_directed (plane_of points t)) (has_none_ahead points (plane_of points t) || has_none_ahead points (opposite_of (plane_of points t))) (ap is_directed (sym em) ∙ sym eb ∙ e))
 
-pub supports_first : (points : List (List ℤ)) (t : List ℕ) (m : Coefficients) (b c : Bool) → m ≡ plane_of points t → b ≡ has_direction m → b ≡ true → c ≡ has_none_ahead points m → c ≡ true → true ≡ is_supporting points t
+pub supports_first : (points : List (List ℤ)) (t : List ℕ) (m : Coefficients) (b c : Bool) → m ≡ plane_of points t → b ≡ is_directed m → b ≡ true → c ≡ has_none_ahead points m → c ≡ true → true ≡ is_supporting points t
 supports_first points t m b c em eb e ec f =
     let n = plane_of points t in
-    sym (and_from (has_direction n) (has_none_ahead points n || has_none_ahead points (opposite_of n)) (ap has_direction (sym em) ∙ sym eb ∙ e) (or_left (has_none_ahead points n) (has_none_ahead points (opposite_of n)) (ap (has_none_ahead points) (sym em) ∙ sym ec ∙ f)))
+    sym (and_from (is_directed n) (has_none_ahead points n || has_none_ahead points (opposite_of n)) (ap is_directed (sym em) ∙ sym eb ∙ e) (or_left (has_none_ahead points n) (has_none_ahead points (opposite_of n)) (ap (has_none_ahead points) (sym em) ∙ sym ec ∙ f)))
 
 and_true : (a b : Bool) → a ≡ true → (a && b) ≡ b
 and_true true b e = refl
@@ -109,11 +109,11 @@ or_false : (a b : Bool) → a ≡ false → (a || b) ≡ b
 or_false true b e = absurd (true≢false e)
 or_false false b e = refl
 
-pub supports_second : (points : List (List ℤ)) (t : List ℕ) (m o : Coefficients) (b c r : Bool) → m ≡ plane_of points t → b ≡ has_direction m → b ≡ true → c ≡ has_none_ahead points m → c ≡ false → o ≡ opposite_of m → r ≡ has_none_ahead points o → r ≡ is_supporting points t
+pub supports_second : (points : List (List ℤ)) (t : List ℕ) (m o : Coefficients) (b c r : Bool) → m ≡ plane_of points t → b ≡ is_directed m → b ≡ true → c ≡ has_none_ahead points m → c ≡ false → o ≡ opposite_of m → r ≡ has_none_ahead points o → r ≡ is_supporting points t
 supports_second points t m o b c r em eb e ec f eo er =
     let n = plane_of points t in
     er ∙ ap (has_none_ahead points) (eo ∙ ap opposite_of em)
-    ∙ sym (and_true (has_direction n) (has_none_ahead points n || has_none_ahead points (opposite_of n)) (ap has_direction (sym em) ∙ sym eb ∙ e)
+    ∙ sym (and_true (is_directed n) (has_none_ahead points n || has_none_ahead points (opposite_of n)) (ap is_directed (sym em) ∙ sym eb ∙ e)
     ∙ or_false (has_none_ahead points n) (has_none_ahead points (opposite_of n)) (ap (has_none_ahead points) (sym em) ∙ sym ec ∙ f))
 
 -- ---- points on one plane

@@ -7,7 +7,7 @@ use Rattle.std.proofs.lemmas.Int.{ints}
 use Rattle.std.proofs.lemmas.List.Elements.{All-from_recursion, recursion_from_All}
 use Rattle.plane_predicate.specs.Space.{Coefficients, point_at, value, opposite_of, AreCollinear}
 use Rattle.shape_planes.specs.Shapes.{corner, value_at}
-use Rattle.scad_hull.specs.Hulls.{has_direction, has_none_ahead, is_supporting, plane_of, shares_plane}
+use Rattle.scad_hull.specs.Hulls.{is_directed, has_none_ahead, is_supporting, plane_of, shares_plane}
 use Rattle.scad_hull.proofs.Lines.{plane}
 
 pub le_true : (x y : ℤ) → int_le x y ≡ true → x ≤ℤ y
@@ -54,10 +54,10 @@ true_not true h = absurd (h refl)
 true_not false h = refl
 
 -- a plane through three points has a direction just where they aren't on one line
-pub directed : (points : List (List ℤ)) (i j k : ℕ) → has_direction (plane points i j k) ≡ true → AreCollinear (corner points i) (corner points j) (corner points k) → ⊥
+pub directed : (points : List (List ℤ)) (i j k : ℕ) → is_directed (plane points i j k) ≡ true → AreCollinear (corner points i) (corner points j) (corner points k) → ⊥
 directed points i j k h c = not_true _ h (and_from _ _ (true_eq _ _ c.a) (and_from _ _ (true_eq _ _ c.b) (true_eq _ _ c.c)))
 
-pub has_one : (points : List (List ℤ)) (i j k : ℕ) → (AreCollinear (corner points i) (corner points j) (corner points k) → ⊥) → has_direction (plane points i j k) ≡ true
+pub has_one : (points : List (List ℤ)) (i j k : ℕ) → (AreCollinear (corner points i) (corner points j) (corner points k) → ⊥) → is_directed (plane points i j k) ≡ true
 has_one points i j k apart =
     true_not _ (λ e.
     let parts = and_parts _ _ e in
@@ -92,7 +92,7 @@ pub record Supports (points : List (List ℤ)) (i j k : ℕ) : Type 0 where
 pub supports : (points : List (List ℤ)) (i j k : ℕ) → is_supporting points (triple i j k) ≡ true → Supports points i j k
 supports points i j k h =
     let m = plane points i j k in
-    let parts = and_parts (has_direction m) (has_none_ahead points m || has_none_ahead points (opposite_of m)) h in
+    let parts = and_parts (is_directed m) (has_none_ahead points m || has_none_ahead points (opposite_of m)) h in
     record {
       apart = directed points i j k parts.0;
       side = elim (or_cases (has_none_ahead points m) (has_none_ahead points (opposite_of m)) parts.1) [
@@ -104,7 +104,7 @@ supports points i j k h =
 pub is_support : (points : List (List ℤ)) (i j k : ℕ) → Supports points i j k → is_supporting points (triple i j k) ≡ true
 is_support points i j k s =
     let m = plane points i j k in
-    and_from (has_direction m) (has_none_ahead points m || has_none_ahead points (opposite_of m)) (has_one points i j k s.apart)
+    and_from (is_directed m) (has_none_ahead points m || has_none_ahead points (opposite_of m)) (has_one points i j k s.apart)
     (elim s.side [
       | inl this ↦ or_left (has_none_ahead points m) (has_none_ahead points (opposite_of m)) (has_none points m this)
       | inr other ↦ or_right (has_none_ahead points m) (has_none_ahead points (opposite_of m)) (has_none points (opposite_of m) other)

@@ -25,14 +25,14 @@ abbrev pub has_none_ahead : List (List ℤ) → Coefficients → Bool
 has_none_ahead points m = list_all (λ p. int_le (value m (point_at p)) (pos 0)) points
 
 -- the plane's direction is not 0: the three points that it was made through are not on one line
-abbrev pub has_direction : Coefficients → Bool
-has_direction m = not (int_eq m.a (pos 0) && (int_eq m.b (pos 0) && int_eq m.c (pos 0)))
+abbrev pub is_directed : Coefficients → Bool
+is_directed m = not (int_eq m.a (pos 0) && (int_eq m.b (pos 0) && int_eq m.c (pos 0)))
 
 -- three points that are not on one line, on whose plane's one side no point lies strictly
 abbrev pub is_supporting : List (List ℤ) → List ℕ → Bool
 is_supporting points triple =
     let m = plane_of points triple in
-    has_direction m && (has_none_ahead points m || has_none_ahead points (opposite_of m))
+    is_directed m && (has_none_ahead points m || has_none_ahead points (opposite_of m))
 
 -- the plane of the first triple goes through the points of the second: where neither's points are on one line, the two
 -- planes are equal

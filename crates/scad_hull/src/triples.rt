@@ -5,7 +5,7 @@ ghost use Rattle.std.specs.List.{list_any};
 ghost use Rattle.std.specs.Ordering.{int_eq};
 ghost use Rattle.plane_predicate.specs.Space.{point_at, value};
 ghost use Rattle.shape_planes.specs.Sizes.{IsOnGrid};
-ghost use Rattle.scad_hull.specs.Hulls.{has_direction as directed_of, has_none_ahead, is_supporting, plane_of, shares_plane};
+ghost use Rattle.scad_hull.specs.Hulls.{is_directed, has_none_ahead, is_supporting, plane_of, shares_plane};
 ghost use Rattle.scad_hull.specs.Steps.{AreNumbered, AreThree};
 
 use shape_planes::face_has_ahead;
@@ -29,7 +29,7 @@ pub fn supports(points: &[[i64; 3]], all: &[u32], triple: [u32; 3]) -> bool
 
 // Whether a direction is not 0.
 fn is_directed(plane: &FacePlane) -> bool
-    ensures { result ≡ directed_of plane.now }
+    ensures { result ≡ is_directed plane.now }
 {
     has_direction(plane)
 }

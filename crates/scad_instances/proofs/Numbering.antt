@@ -10,11 +10,11 @@ use Rattle.scad_ast.specs.declared.statement.Body.TheOpen.{Block as BlockIn}
 use Rattle.scad_ast.specs.declared.statement.Instance.{Instance}
 use Rattle.scad_ast.specs.declared.statement.Body.TheFolds.{fold_out-Instance, fold_out-Statements, fold-roll-Statement}
 use Rattle.scad_ast.specs.Terms.{StatementTerm, EmptyStatement, BlockStatement, AssignmentTerm, SpecialAssignmentTerm, ModuleTerm, FunctionTerm, InstanceStatement, StatementTerms, no_statements, and_statement, statements_from, InstanceTerm, AnInstance, CoreTerm, IfTerm, IfElseTerm, ForTerm, IntersectionForTerm, ModuleCallTerm, BodyTerm, EmptyBody, BlockBody, InstanceBody}
-use Rattle.scad_ast.specs.StatementView.{statement_of, statements_of, instance_of, core_of as core_in_memory, body_step, core_step, statement_step, instance_step, statements_step}
+use Rattle.scad_ast.specs.StatementView.{statement_of, statements_of, instance_of, core_of, body_step, core_step, statement_step, instance_step, statements_step}
 use Rattle.scad_blocks.specs.Blocks.{Beginning, a_block, a_function, a_module, beginnings_of, beginnings_in, beginnings_of_instance, beginnings_of_core, beginnings_of_body, count_blocks, nothing_there, NumberedText, StandAt}
 use Rattle.scad_evaluation.specs.Definitions.{statements_at, IsBlockOf, IsWhole}
 use Rattle.scad_meaning.specs.Bodies.{is_on, instances_in, instances_of, evaluated_in}
-use Rattle.scad_meaning.specs.Meaning.{core_of}
+use Rattle.scad_meaning.specs.Meaning.{core_of_instance}
 use Rattle.scad_instances.specs.Positions.{CoreHasBlocks, has_else}
 
 -- counts of two texts
@@ -133,24 +133,24 @@ module _ (text : NumberedText) where
     instance_is_there (AnInstance at beginnings core) n h = core_is_there core n h
 
     pub instance_blocks : (i : InstanceTerm) (n other : ℕ) → StandAt text n (beginnings_of_instance i) → Ends n other
-        → CoreHasBlocks text (core_of i) n other
+        → CoreHasBlocks text (core_of_instance i) n other
     instance_blocks (AnInstance at beginnings core) n other h e = core_blocks core n other h e
 
-    pub instance_ends : (i : InstanceTerm) (n : ℕ) → StandAt text n (beginnings_of_instance i) → has_else (core_of i) ≡ false
+    pub instance_ends : (i : InstanceTerm) (n : ℕ) → StandAt text n (beginnings_of_instance i) → has_else (core_of_instance i) ≡ false
         → Ends n (n + count_blocks (beginnings_of_instance i))
     instance_ends (AnInstance at beginnings core) n h not_so = core_ends core n h not_so
 
     pub second_is_there : (i : InstanceTerm) (n other : ℕ) → StandAt text n (beginnings_of_instance i) → Ends n other
-        → has_else (core_of i) ≡ true → other < length text.entries
+        → has_else (core_of_instance i) ≡ true → other < length text.entries
     second_is_there (AnInstance at beginnings core) n other h e is_so = else_is_there core n other h e is_so
 
     pub second_ends : (i : InstanceTerm) (n other : ℕ) → StandAt text n (beginnings_of_instance i) → Ends n other
-        → has_else (core_of i) ≡ true → Ends other (n + count_blocks (beginnings_of_instance i))
+        → has_else (core_of_instance i) ≡ true → Ends other (n + count_blocks (beginnings_of_instance i))
     second_ends (AnInstance at beginnings core) n other h e is_so = else_ends core n other h e is_so
 
 -- the core of an instance in memory
-pub core_there : (i : Instance) → core_of (instance_of i) ≡ core_in_memory i.core
-core_there i = ap core_of (fold_out-Instance BodyTerm CoreTerm StatementTerm InstanceTerm (List StatementTerm)
+pub core_there : (i : Instance) → core_of_instance (instance_of i) ≡ core_of i.core
+core_there i = ap core_of_instance (fold_out-Instance BodyTerm CoreTerm StatementTerm InstanceTerm (List StatementTerm)
     body_step core_step statement_step instance_step statements_step i)
 
 -- a bare block in memory, and a list of statements

@@ -4,7 +4,7 @@ use Rattle.scad_ast.specs.StatementView.{instance_of}
 use Rattle.scad_ast.specs.Terms.{InstanceTerm, CoreTerm, IfTerm, IfElseTerm, ForTerm, IntersectionForTerm, ModuleCallTerm}
 use Rattle.scad_blocks.specs.Blocks.{NumberedText}
 use Rattle.scad_evaluation.specs.Definitions.{IsBlockOf}
-use Rattle.scad_meaning.specs.Meaning.{core_of}
+use Rattle.scad_meaning.specs.Meaning.{core_of_instance}
 use Rattle.scad_instances.specs.declared.numbered.NumberedInstance.{NumberedInstance}
 
 -- an instance without the numbers of its blocks
@@ -21,7 +21,7 @@ CoreHasBlocks text (ModuleCallTerm at name args body) block other = IsBlockOf te
 
 -- the bodies of an instance stand in its blocks
 abbrev pub HasBlocks : NumberedText → NumberedInstance → Type 0
-HasBlocks text numbered = CoreHasBlocks text (core_of (term_of_numbered numbered)) numbered.block numbered.other
+HasBlocks text numbered = CoreHasBlocks text (core_of_instance (term_of_numbered numbered)) numbered.block numbered.other
 
 -- whether a core is a choice with an `else`
 abbrev pub has_else : CoreTerm → Bool

@@ -8,7 +8,7 @@ use Rattle.std.proofs.lemmas.Slice.Eq.{bytes_eq-Decides}
 use Rattle.std.proofs.lemmas.Bool.{false≢true}
 use Rattle.scad_ast.specs.Terms.{StatementTerms}
 use Rattle.scad_blocks.specs.Blocks.{Assigned, same_name, with_assigned, all_assigned, assigned_in, assignments_of}
-use Rattle.scad_meaning.specs.Bodies.{is_named_in, first_of, or_later, last_of, StandsForAll, HaveOwnNames}
+use Rattle.scad_meaning.specs.Bodies.{is_named_in, first_of_its_name, or_later, last_of, StandsForAll, HaveOwnNames}
 
 either : (b : Bool) → (b ≡ true) ⊎ (b ≡ false)
 either true = inl refl
@@ -77,16 +77,16 @@ later_joined o p (Some b) = refl
 nothing_is_none : (c : Assigned) → None ≡ Some c → ⊥
 nothing_is_none c h = cc h
 
-kept_by : (a : Assigned) (t : Bool) (x : Assigned) (xs : List Assigned) (b c : Assigned) → cond t (Some x) (first_of a xs) ≡ Some c →
-    (first_of a xs ≡ Some c → first_of a (xs ++ b ∷ []) ≡ Some c) → cond t (Some x) (first_of a (xs ++ b ∷ [])) ≡ Some c
+kept_by : (a : Assigned) (t : Bool) (x : Assigned) (xs : List Assigned) (b c : Assigned) → cond t (Some x) (first_of_its_name a xs) ≡ Some c →
+    (first_of_its_name a xs ≡ Some c → first_of_its_name a (xs ++ b ∷ []) ≡ Some c) → cond t (Some x) (first_of_its_name a (xs ++ b ∷ [])) ≡ Some c
 kept_by a true x xs b c h next = h
 kept_by a false x xs b c h next = next h
 
 some_is_some : (x : Assigned) → Some x ≡ None → ⊥
 some_is_some x h = cc h
 
-new_by : (a : Assigned) (t : Bool) (x : Assigned) (xs : List Assigned) → cond t (Some x) (first_of a xs) ≡ None →
-    (first_of a xs ≡ None → first_of a (xs ++ a ∷ []) ≡ Some a) → cond t (Some x) (first_of a (xs ++ a ∷ [])) ≡ Some a
+new_by : (a : Assigned) (t : Bool) (x : Assigned) (xs : List Assigned) → cond t (Some x) (first_of_its_name a xs) ≡ None →
+    (first_of_its_name a xs ≡ None → first_of_its_name a (xs ++ a ∷ []) ≡ Some a) → cond t (Some x) (first_of_its_name a (xs ++ a ∷ [])) ≡ Some a
 new_by a true x xs h next = absurd (some_is_some x h)
 new_by a false x xs h next = next h
 
@@ -97,15 +97,15 @@ last_with a (x ∷ xs) b =
     ap (or_later (cond (same_name a x) (Some x) None)) (last_with a xs b)
     ∙ sym (later_joined (cond (same_name a x) (Some x) None) (last_of a xs) (cond (same_name a b) (Some b) None))
 
-first_with : (a : Assigned) (before : List Assigned) (b : Assigned) → same_name a b ≡ false → first_of a (before ++ b ∷ []) ≡ first_of a before
+first_with : (a : Assigned) (before : List Assigned) (b : Assigned) → same_name a b ≡ false → first_of_its_name a (before ++ b ∷ []) ≡ first_of_its_name a before
 first_with a [] b h = ap (λ (t : Bool). cond t (Some b) None) h
 first_with a (x ∷ xs) b h = ap (λ (o : Option Assigned). cond (same_name a x) (Some x) o) (first_with a xs b h)
 
-first_kept : (a : Assigned) (before : List Assigned) (b c : Assigned) → first_of a before ≡ Some c → first_of a (before ++ b ∷ []) ≡ Some c
+first_kept : (a : Assigned) (before : List Assigned) (b c : Assigned) → first_of_its_name a before ≡ Some c → first_of_its_name a (before ++ b ∷ []) ≡ Some c
 first_kept a [] b c h = absurd (nothing_is_none c h)
 first_kept a (x ∷ xs) b c h = kept_by a (same_name a x) x xs b c h (first_kept a xs b c)
 
-first_new : (a : Assigned) (before : List Assigned) → first_of a before ≡ None → first_of a (before ++ a ∷ []) ≡ Some a
+first_new : (a : Assigned) (before : List Assigned) → first_of_its_name a before ≡ None → first_of_its_name a (before ++ a ∷ []) ≡ Some a
 first_new a [] h = ap (λ (t : Bool). cond t (Some a) None) (itself a)
 first_new a (x ∷ xs) h = new_by a (same_name a x) x xs h (first_new a xs)
 
@@ -133,22 +133,22 @@ renewed b a = record b { value = a.value }
 no_place : (b : Assigned) → option_map (λ (c : Assigned). c.at) None ≡ Some b.at → ⊥
 no_place b h = cc h
 
-same_place : (b : Assigned) (all : List Assigned) (a : Assigned) (o : Option Assigned) → first_of b all ≡ o → option_map (λ (c : Assigned). c.at) o ≡ Some b.at →
-    option_map (λ (c : Assigned). c.at) (first_of b (all ++ a ∷ [])) ≡ Some b.at
+same_place : (b : Assigned) (all : List Assigned) (a : Assigned) (o : Option Assigned) → first_of_its_name b all ≡ o → option_map (λ (c : Assigned). c.at) o ≡ Some b.at →
+    option_map (λ (c : Assigned). c.at) (first_of_its_name b (all ++ a ∷ [])) ≡ Some b.at
 same_place b all a None e h = absurd (no_place b h)
 same_place b all a (Some c) e h = ap (option_map (λ (c : Assigned). c.at)) (first_kept b all a c e) ∙ h
 
-renewed_first : (b a : Assigned) (xs : List Assigned) → first_of (renewed b a) xs ≡ first_of b xs
+renewed_first : (b a : Assigned) (xs : List Assigned) → first_of_its_name (renewed b a) xs ≡ first_of_its_name b xs
 renewed_first b a [] = refl
 renewed_first b a (x ∷ xs) = ap (λ (o : Option Assigned). cond (same_name b x) (Some x) o) (renewed_first b a xs)
 
 renewed_stands : (all : List Assigned) (a b : Assigned) → same_name b a ≡ true → StandsForAll all b → StandsForAll (all ++ a ∷ []) (renewed b a)
 renewed_stands all a b h s = record {
   last = ap (option_map (λ (c : Assigned). c.value)) (last_with (renewed b a) all a ∙ ap (λ (t : Bool). or_later (last_of (renewed b a) all) (cond t (Some a) None)) h);
-  first = ap (option_map (λ (c : Assigned). c.at)) (renewed_first b a (all ++ a ∷ [])) ∙ same_place b all a (first_of b all) refl s.first;
+  first = ap (option_map (λ (c : Assigned). c.at)) (renewed_first b a (all ++ a ∷ [])) ∙ same_place b all a (first_of_its_name b all) refl s.first;
 }
 
-new_stands : (all : List Assigned) (a : Assigned) → first_of a all ≡ None → StandsForAll (all ++ a ∷ []) a
+new_stands : (all : List Assigned) (a : Assigned) → first_of_its_name a all ≡ None → StandsForAll (all ++ a ∷ []) a
 new_stands all a h = record {
   last = ap (option_map (λ (c : Assigned). c.value)) (last_with a all a ∙ ap (λ (t : Bool). or_later (last_of a all) (cond t (Some a) None)) (itself a));
   first = ap (option_map (λ (c : Assigned). c.at)) (first_new a all h);
@@ -194,24 +194,24 @@ all_other all a [] h s = tt
 all_other all a (x ∷ xs) h s = (other_stands all a x h.0 s.0, all_other all a xs h.1 s.1)
 
 -- a name that is not found was never assigned
-not_assigned : (found all : List Assigned) (a : Assigned) → is_named_in found a ≡ false → AllByRecursion (λ b. is_named_in found b ≡ true) all → first_of a all ≡ None
+not_assigned : (found all : List Assigned) (a : Assigned) → is_named_in found a ≡ false → AllByRecursion (λ b. is_named_in found b ≡ true) all → first_of_its_name a all ≡ None
 not_assigned found [] a h named = refl
 not_assigned found (x ∷ xs) a h named =
     ⊎_elim (λ k. absurd (false≢true (sym h ∙ same_named a x k found ∙ named.0)))
-    (λ k. ap (λ (t : Bool). cond t (Some x) (first_of a xs)) k ∙ not_assigned found xs a h named.1) (either (same_name a x))
+    (λ k. ap (λ (t : Bool). cond t (Some x) (first_of_its_name a xs)) k ∙ not_assigned found xs a h named.1) (either (same_name a x))
 
 still_new : (a b : Assigned) (bs : List Assigned) (P : Type 0) → ((same_name a b || is_named_in bs a) ≡ false → P) → same_name b a ≡ false → is_named_in bs a ≡ false → P
 still_new a b bs P new h k = new (or_false (same_name a b) (is_named_in bs a) (not_turned b a h) k)
 
 stands_with : (all : List Assigned) (a : Assigned) (found : List Assigned) → HaveOwnNames found → AllByRecursion (StandsForAll all) found →
-    (is_named_in found a ≡ false → first_of a all ≡ None) → AllByRecursion (StandsForAll (all ++ a ∷ [])) (with_assigned found a)
+    (is_named_in found a ≡ false → first_of_its_name a all ≡ None) → AllByRecursion (StandsForAll (all ++ a ∷ [])) (with_assigned found a)
 stands_with all a [] own s new = (new_stands all a (new refl), tt)
 stands_with all a (b ∷ bs) own s new =
     ⊎_elim
     (λ h. subst (λ (t : Bool). AllByRecursion (StandsForAll (all ++ a ∷ [])) (cond t (renewed b a ∷ bs) (b ∷ with_assigned bs a))) (sym h)
     (renewed_stands all a b h s.0, all_other all a bs (each_other a bs (sym (same_named b a h bs) ∙ own.0)) s.1))
     (λ h. subst (λ (t : Bool). AllByRecursion (StandsForAll (all ++ a ∷ [])) (cond t (renewed b a ∷ bs) (b ∷ with_assigned bs a))) (sym h)
-    (other_stands all a b h s.0, stands_with all a bs own.1 s.1 (still_new a b bs (first_of a all ≡ None) new h)))
+    (other_stands all a b h s.0, stands_with all a bs own.1 s.1 (still_new a b bs (first_of_its_name a all ≡ None) new h)))
     (either (same_name b a))
 
 own_by : (t : Bool) (b a : Assigned) (bs : List Assigned) → same_name b a ≡ t → HaveOwnNames (b ∷ bs) → HaveOwnNames (with_assigned bs a) → HaveOwnNames (cond t (renewed b a ∷ bs) (b ∷ with_assigned bs a))

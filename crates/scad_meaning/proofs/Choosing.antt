@@ -3,7 +3,7 @@ use Rattle.std.proofs.Common.{◌≡◌, ℕ, zero, suc, List, [], ◌∷◌, �
 use Rattle.std.specs.Prelude.{All}
 use Rattle.std.proofs.lemmas.List.{map-append}
 use Rattle.std.proofs.lemmas.List.Elements.{All-nil, All-cons, All-head, All-tail, All-append}
-use Rattle.scad_modules.specs.Effects.{ChosenCall, all_children, numbered, ranged}
+use Rattle.scad_modules.specs.Effects.{ChosenCall, all_children, numbered_children, ranged_children}
 use Rattle.scad_meaning.specs.Loops.{numbers_of_range, nth_item, item_numbered, items_numbered, chosen_among}
 
 module _ {A B : Type 0} (f : A → B) where
@@ -23,8 +23,8 @@ module _ {A B : Type 0} (f : A → B) where
 
   pub map_chosen : (xs : List A) (chosen : ChosenCall) → map f (chosen_among xs chosen) ≡ chosen_among (map f xs) chosen
   map_chosen xs all_children = refl
-  map_chosen xs (numbered numbers) = map_items xs numbers
-  map_chosen xs (ranged from step upto) = map_items xs (numbers_of_range from step upto)
+  map_chosen xs (numbered_children numbers) = map_items xs numbers
+  map_chosen xs (ranged_children from step upto) = map_items xs (numbers_of_range from step upto)
 
 -- what holds of each thing holds of each that is chosen
 module _ {A : Type 0} (P : A → Type 0) where
@@ -43,5 +43,5 @@ module _ {A : Type 0} (P : A → Type 0) where
 
   pub all_chosen : (xs : List A) (chosen : ChosenCall) → All P xs → All P (chosen_among xs chosen)
   all_chosen xs all_children h = h
-  all_chosen xs (numbered numbers) h = all_items xs numbers h
-  all_chosen xs (ranged from step upto) h = all_items xs (numbers_of_range from step upto) h
+  all_chosen xs (numbered_children numbers) h = all_items xs numbers h
+  all_chosen xs (ranged_children from step upto) h = all_items xs (numbers_of_range from step upto) h

@@ -13,7 +13,7 @@ use Rattle.scad_blocks.specs.Blocks.{SourceFunction}
 use Rattle.scad_builtin.specs.declared.function.Builtin.{Builtin}
 use Rattle.scad_builtin.specs.Builtins.{builtin_of, takes, applied}
 use Rattle.scad_evaluation.specs.Limits.{most_turns}
-use Rattle.scad_evaluation.specs.Meaning.{Outcome, Gives, Faults, then_with, answered, Env, Within, no_call, visible_variable, visible_function, counted, Evaluates, Setting, value_at, with_calls, in_scope, with_specials, each_value, with_front, only_values, count_of_terms, Slots, Arguments, each_argument, parameter_value, each_parameter, paired, function_value, function_called, built_in, called, operand, each_suffix, each_link, settled, evaluated}
+use Rattle.scad_evaluation.specs.Meaning.{Outcome, Gives, Faults, then_with, answered, Env, Within, no_call, visible_variable, visible_function, counted, Evaluates, Setting, value_at, with_calls, in_scope, with_specials, each_value, with_first_term, only_values, count_of_terms, Slots, Arguments, each_argument, parameter_value, each_parameter, paired, function_value, function_called, built_in, called, operand, each_suffix, each_link, settled, evaluated}
 use Rattle.scad_answer.specs.Answers.{range_of, stepped_range_of, member_of, wants_right}
 use Rattle.scad_meaning.proofs.HeldPlaces.{every_joined, if_keeps, Whatever, Held, first_held, rest_held, FunctionHeld, ScopeHeld, function_found, Keeps, skip_keeps, option_keeps, some_keeps, turn_keeps, call_keeps, answered_keeps}
 
@@ -71,7 +71,7 @@ module _ (P : Place → Type 0) where
 
   -- arguments and parameters
   front_held : (e : Term) (o : Option Terms) → Held P (places_of_term e) → IfSome o (λ es. Held P (places_of_terms es))
-      → IfSome (with_front e o) (λ es. Held P (places_of_terms es))
+      → IfSome (with_first_term e o) (λ es. Held P (places_of_terms es))
   front_held e None h g = tt
   front_held e (Some es) h g = every_joined P (places_of_term e) (places_of_terms es) h g
 

@@ -8,7 +8,7 @@ use Rattle.scad_ast.specs.declared.operator.Modifier.TheVariants.{Root}
 use Rattle.scad_ast.specs.Terms.{NumberTerm, NameTerm, ListTerm, no_terms, and_term, PositionalTerm, InstanceStatement, no_statements, and_statement, AnInstance, ModuleCallTerm, EmptyBody, BlockBody, InstanceBody}
 use Rattle.scad_scope.specs.Names.{first_chain}
 use Rattle.scad_evaluation.specs.Meaning.{Gives, Faults, evaluated}
-use Rattle.scad_design.specs.Designs.{Part, empty, a_part, grouped}
+use Rattle.scad_design.specs.Designs.{MovedShape, empty, a_part, grouped}
 use Rattle.scad_meaning.specs.Verdicts.{Judge}
 use Rattle.scad_meaning.specs.Meaning.{design_within, design_of}
 use Rattle.scad_meaning.specs.Hulls.{is_union, points_of}
@@ -19,7 +19,7 @@ abbrev strict : Judge
 strict = record { solid = λ _ _. None; flat = λ _ _. None; height = λ _ _ _. None; hull = λ _. Some NotInProfile }
 
 -- a part with one point
-abbrev dot : Part
+abbrev dot : MovedShape
 dot = record { mesh = record { points = (pos 1 ∷ pos 2 ∷ pos 3 ∷ []) ∷ []; faces = [] }; steps = []; at = at 1 1 }
 
 -- a difference counts where it is left when empty sides are dropped

@@ -10,7 +10,7 @@ use Rattle.scad_hull.specs.Hulls.{different, from, AreOnOnePlane}
 use Rattle.scad_hull.specs.Steps.{AreNumbered}
 use Rattle.scad_hull.proofs.Lines.{plane}
 use Rattle.scad_hull.proofs.Loops.{flat_by_lines, flat_by_plane, numbered_by, solid_by_plane}
-use Rattle.scad_design.specs.Designs.{Design, empty, a_part, joined}
+use Rattle.scad_design.specs.Designs.{DesignTree, empty, a_part, joined_designs}
 use Rattle.scad_design.proofs.Deciding.{Decided, decided_all, decided_both, decided_same_ℤ, at_most_or_more}
 use Rattle.scad_design.proofs.SomePlacing.{decided_safe}
 use Rattle.scad_meaning.specs.Hulls.{is_union, points_of, StaySafe, HasHull, IsHullFault}
@@ -35,19 +35,19 @@ decided_one_plane points all h =
     ⊎_elim (λ t. decided_by_triangle points all h t) (λ none. inl (flat_by_lines points all h none)) (decided_triangle points all)
 
 -- parts that stay safe, and joins by union
-decided_stay_safe : (design : Design) → Decided (StaySafe design)
+decided_stay_safe : (design : DesignTree) → Decided (StaySafe design)
 decided_stay_safe empty = inl tt
 decided_stay_safe (a_part part) = decided_safe part
-decided_stay_safe (joined op left right) = decided_both (decided_stay_safe left) (decided_stay_safe right)
+decided_stay_safe (joined_designs op left right) = decided_both (decided_stay_safe left) (decided_stay_safe right)
 
 true_or_false : (b : Bool) → (b ≡ true) ⊎ (b ≡ false)
 true_or_false true = inl refl
 true_or_false false = inr refl
 
-abbrev pub HullVerdict : Design → Type 0
+abbrev pub HullVerdict : DesignTree → Type 0
 HullVerdict design = HasHull design ⊎ ((kind : FaultKind) × IsHullFault design kind)
 
-points_verdict : (design : Design) → is_union design ≡ true → StaySafe design → HullVerdict design
+points_verdict : (design : DesignTree) → is_union design ≡ true → StaySafe design → HullVerdict design
 points_verdict design union safe =
     let given = points_of design in
     ⊎_elim (λ range.
@@ -60,7 +60,7 @@ points_verdict design union safe =
     (λ past. inr (OutOfRange, (union, safe, past)))
     (decided_all (λ p. IsInRange (point_at p)) (λ p. decided_point_range (point_at p)) given)
 
-pub hull_verdict : (design : Design) → HullVerdict design
+pub hull_verdict : (design : DesignTree) → HullVerdict design
 hull_verdict design =
     ⊎_elim (λ union.
     ⊎_elim (λ safe. points_verdict design union safe) (λ past. inr (TooLarge, (union, past))) (decided_stay_safe design))

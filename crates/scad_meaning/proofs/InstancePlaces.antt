@@ -25,7 +25,7 @@ use Rattle.scad_modules.specs.declared.table.BuiltinModule.TheVariants.{Echo}
 use Rattle.scad_modules.specs.Table.{module_named, parameters_of}
 use Rattle.scad_modules.specs.Effects.{EffectCall, a_solid, a_flat, a_move, a_join, a_hull, an_extrusion, silence, some_children, FlatCall, ChosenCall}
 use Rattle.scad_modules.specs.Calls.{effect_of}
-use Rattle.scad_design.specs.Designs.{Design, empty, a_part, joined, join, joined_within, balanced, grouped, moved_by}
+use Rattle.scad_design.specs.Designs.{DesignTree, empty, a_part, joined_designs, join, designs_within, balanced, grouped, moved_by}
 use Rattle.int_transform.proofs.Ranges.{IsRegular}
 use Rattle.primitives.specs.Sizes.{AreSizes}
 use Rattle.scad_design.specs.Trees.{AreRegular, IsSound}
@@ -35,7 +35,7 @@ use Rattle.scad_meaning.specs.Hulls.{is_nothing, points_of, hull_mesh}
 use Rattle.scad_meaning.specs.Verdicts.{Judge, Verdict, IsRight, IsSolidVerdict, IsFlatVerdict, IsHeightVerdict, IsHullVerdict, solid_of, extruded}
 use Rattle.scad_meaning.specs.Bodies.{evaluated_in, is_child, children_in, is_marked, says_only, is_bare}
 use Rattle.scad_meaning.specs.Loops.{items_of}
-use Rattle.scad_meaning.specs.Meaning.{Context, inside_scope, with_chain, with_calls_left, inside_mark, inside_extrusion, setting, InstanceDesign, MemberDesigns, first_marked, no_design, no_members, as_member, and_members, joined_members, EvaluatesInstance, Evaluator, assigned_value, assigned, each_assigned, core_of, each_member, each_in_scope, each_in_body, body_design, after_step, each_step, in_loop, each_turn, loop_design, leaf_design, checked, hulled, hull_design, answered_with, module_scope, module_design, each_said, arguments_for, children_design, flat_design, effect_design, built_in_design, call_design, core_design, marked_design, instance_design, design_within, evaluator_with, program_context, or_all, design_of, counted_step, instances_chosen, block_members, module_given, most_leaves}
+use Rattle.scad_meaning.specs.Meaning.{Context, inside_scope, with_chain, with_calls_left, inside_mark, inside_extrusion, setting, InstanceDesign, MemberDesigns, first_marked, no_design, no_members, as_member, and_members, joined_members, EvaluatesInstance, Evaluator, assigned_value, assigned, each_assigned, core_of_instance, each_member, each_in_scope, each_in_body, body_design, after_step, each_step, in_loop, each_turn, loop_design, leaf_design, checked, hulled, hull_design, answered_with, module_scope, module_design, each_said, arguments_for, children_design, flat_design, effect_design, built_in_design, call_design, core_design, marked_design, instance_design, design_within, evaluator_with, program_context, or_all, design_of, counted_step, instances_chosen, block_members, module_given, most_leaves}
 use Rattle.scad_meaning.proofs.Choosing.{all_chosen}
 use Rattle.scad_meaning.proofs.HeldPlaces.{if_keeps, Whatever, Held, first_held, rest_held, ModuleHeld, ScopeHeld, CallHeld, module_found, call_found, variable_held, functions_held, modules_held, entered_held, body_held, AssignedHeld, assignments_held, InstanceHeld, evaluated_held, Keeps, then_keeps, skip_keeps, some_keeps, turn_keeps, call_keeps}
 use Rattle.scad_meaning.proofs.SoundShapes.{HasFlatSides, IsSoundCall, effect_sound, solid_is_shape, extruded_is_shape}
@@ -43,12 +43,12 @@ use Rattle.scad_meaning.proofs.ExpressionPlaces.{Sits, value_keeps, arguments_ke
 
 module _ (P : Place → Type 0) where
   -- a sound design whose parts all stand at places among the given ones
-  abbrev pub DesignHeld : Design → Type 0
+  abbrev pub DesignHeld : DesignTree → Type 0
   DesignHeld empty = Unit {0}
   DesignHeld (a_part part) = P part.at × IsSound (a_part part)
-  DesignHeld (joined op left right) = DesignHeld left × DesignHeld right
+  DesignHeld (joined_designs op left right) = DesignHeld left × DesignHeld right
 
-  join_held : (op : Op) (left right : Design) → DesignHeld left → DesignHeld right → DesignHeld (join op left right)
+  join_held : (op : Op) (left right : DesignTree) → DesignHeld left → DesignHeld right → DesignHeld (join op left right)
   join_held Union empty right hl hr = hr
   join_held Intersection empty right hl hr = tt
   join_held Difference empty right hl hr = tt
@@ -58,30 +58,30 @@ module _ (P : Place → Type 0) where
   join_held Union (a_part p) (a_part q) hl hr = (hl, hr)
   join_held Intersection (a_part p) (a_part q) hl hr = (hl, hr)
   join_held Difference (a_part p) (a_part q) hl hr = (hl, hr)
-  join_held Union (a_part p) (joined k c d) hl hr = (hl, hr)
-  join_held Intersection (a_part p) (joined k c d) hl hr = (hl, hr)
-  join_held Difference (a_part p) (joined k c d) hl hr = (hl, hr)
-  join_held Union (joined o a b) empty hl hr = hl
-  join_held Intersection (joined o a b) empty hl hr = tt
-  join_held Difference (joined o a b) empty hl hr = hl
-  join_held Union (joined o a b) (a_part q) hl hr = (hl, hr)
-  join_held Intersection (joined o a b) (a_part q) hl hr = (hl, hr)
-  join_held Difference (joined o a b) (a_part q) hl hr = (hl, hr)
-  join_held Union (joined o a b) (joined k c d) hl hr = (hl, hr)
-  join_held Intersection (joined o a b) (joined k c d) hl hr = (hl, hr)
-  join_held Difference (joined o a b) (joined k c d) hl hr = (hl, hr)
+  join_held Union (a_part p) (joined_designs k c d) hl hr = (hl, hr)
+  join_held Intersection (a_part p) (joined_designs k c d) hl hr = (hl, hr)
+  join_held Difference (a_part p) (joined_designs k c d) hl hr = (hl, hr)
+  join_held Union (joined_designs o a b) empty hl hr = hl
+  join_held Intersection (joined_designs o a b) empty hl hr = tt
+  join_held Difference (joined_designs o a b) empty hl hr = hl
+  join_held Union (joined_designs o a b) (a_part q) hl hr = (hl, hr)
+  join_held Intersection (joined_designs o a b) (a_part q) hl hr = (hl, hr)
+  join_held Difference (joined_designs o a b) (a_part q) hl hr = (hl, hr)
+  join_held Union (joined_designs o a b) (joined_designs k c d) hl hr = (hl, hr)
+  join_held Intersection (joined_designs o a b) (joined_designs k c d) hl hr = (hl, hr)
+  join_held Difference (joined_designs o a b) (joined_designs k c d) hl hr = (hl, hr)
 
-  within_held : (n : ℕ) (op : Op) (designs : List Design) → All DesignHeld designs → DesignHeld (joined_within n op designs)
+  within_held : (n : ℕ) (op : Op) (designs : List DesignTree) → All DesignHeld designs → DesignHeld (designs_within n op designs)
   within_held zero op designs h = tt
   within_held (suc n) op [] h = tt
   within_held (suc n) op (d ∷ []) h = All-head DesignHeld d [] h
   within_held (suc n) op (d ∷ e ∷ designs) h =
       let all = d ∷ e ∷ designs in
       let half = length all / 2 in
-      join_held op (joined_within n op (take half all)) (joined_within n op (drop half all))
+      join_held op (designs_within n op (take half all)) (designs_within n op (drop half all))
       (within_held n op (take half all) (All-take DesignHeld half all h)) (within_held n op (drop half all) (All-drop DesignHeld half all h))
 
-  grouped_held : (op : Op) (designs : List Design) → All DesignHeld designs → DesignHeld (grouped op designs)
+  grouped_held : (op : Op) (designs : List DesignTree) → All DesignHeld designs → DesignHeld (grouped op designs)
   grouped_held Union designs h = within_held (length designs) Union designs h
   grouped_held Intersection designs h = within_held (length designs) Intersection designs h
   grouped_held Difference [] h = tt
@@ -89,10 +89,10 @@ module _ (P : Place → Type 0) where
       join_held Difference d (balanced Union designs) (All-head DesignHeld d designs h)
       (within_held (length designs) Union designs (All-tail DesignHeld d designs h))
 
-  moved_held : (steps : List Affine) (design : Design) → AreRegular steps → DesignHeld design → DesignHeld (moved_by steps design)
+  moved_held : (steps : List Affine) (design : DesignTree) → AreRegular steps → DesignHeld design → DesignHeld (moved_by steps design)
   moved_held steps empty r h = tt
   moved_held steps (a_part part) r h = (h.0, (h.1.0, All-append IsRegular part.steps steps h.1.1 r))
-  moved_held steps (joined op left right) r h = (moved_held steps left r h.0, moved_held steps right r h.1)
+  moved_held steps (joined_designs op left right) r h = (moved_held steps left r h.0, moved_held steps right r h.1)
 
   -- what instances give
   abbrev DesignsHeld : InstanceDesign → Type 0
@@ -101,7 +101,7 @@ module _ (P : Place → Type 0) where
   abbrev MembersHeld : MemberDesigns → Type 0
   MembersHeld ms = All DesignHeld ms.designs × IfSome ms.marked DesignHeld
 
-  first_marked_held : (x y : Option Design) → IfSome x DesignHeld → IfSome y DesignHeld → IfSome (first_marked x y) DesignHeld
+  first_marked_held : (x y : Option DesignTree) → IfSome x DesignHeld → IfSome y DesignHeld → IfSome (first_marked x y) DesignHeld
   first_marked_held (Some d) y h g = h
   first_marked_held None y h g = g
 
@@ -133,7 +133,7 @@ module _ (P : Place → Type 0) where
   effect_keeps R Q (Ok x) at go p r g = g x r
   effect_keeps R Q (Err kind) at go p r g = p
 
-  after_keeps : (Q : MemberDesigns → Type 0) (at : Place) (designs : List Design) (turns : ℕ) (go : ℕ → Outcome MemberDesigns)
+  after_keeps : (Q : MemberDesigns → Type 0) (at : Place) (designs : List DesignTree) (turns : ℕ) (go : ℕ → Outcome MemberDesigns)
       → P at → ((n : ℕ) → Keeps P Q (go n)) → Keeps P Q (after_step at designs turns go)
   after_keeps Q at [] turns go p g = turn_keeps P Q at turns go p g
   after_keeps Q at (d ∷ ds) turns go p g = g turns
@@ -202,8 +202,8 @@ module _ (P : Place → Type 0) where
             then_keeps P DesignsHeld MembersHeld (deeper here i turns leaves) _ (good here i turns leaves s (All-head (InstanceHeld P) i is h)) (λ turns m k.
             then_keeps P MembersHeld MembersHeld (each_member evaluator here is turns m.leaves) _
             (members_keep here is turns m.leaves s (All-tail (InstanceHeld P) i is h)) (λ turns ms g.
-            and_held (as_member (if says_only here.env (core_of i) then false else true) m) ms
-            (as_member_held (if says_only here.env (core_of i) then false else true) m k) g))
+            and_held (as_member (if says_only here.env (core_of_instance i) then false else true) m) ms
+            (as_member_held (if says_only here.env (core_of_instance i) then false else true) m k) g))
 
         chosen_held : (env : Env) (chosen : Option ChosenCall) (statements : StatementTerms) → Held P (places_of_statements statements)
             → All (InstanceHeld P) (instances_chosen env chosen statements)
@@ -405,7 +405,7 @@ module _ (P : Place → Type 0) where
       within_keeps (suc evaluations) here i turns leaves s h = instance_keeps evaluations (design_within unit judge evaluations) (within_keeps evaluations) here i turns leaves s h
 
       -- the design of a program
-      or_all_held : (marked : Option Design) (designs : List Design) → IfSome marked DesignHeld → All DesignHeld designs → DesignHeld (or_all marked designs)
+      or_all_held : (marked : Option DesignTree) (designs : List DesignTree) → IfSome marked DesignHeld → All DesignHeld designs → DesignHeld (or_all marked designs)
       or_all_held None designs m h = grouped_held Union designs h
       or_all_held (Some design) designs m h = m
 

@@ -21,7 +21,7 @@ use Rattle.polyhedra.proofs.Planes.{flat_by, flat_on}
 use Rattle.polyhedra.proofs.OuterPlanes.{one_plane, bounded_spanned, bounded_opposite}
 use Rattle.polyhedra.proofs.Solids.{convex_by}
 use Rattle.scad_modules.specs.Effects.{SolidCall, cube_call, polyhedron_call, cylinder_call, FlatCall, square_call, polygon_call, circle_call}
-use Rattle.scad_design.specs.Designs.{Design}
+use Rattle.scad_design.specs.Designs.{DesignTree}
 use Rattle.scad_meaning.specs.Verdicts.{Verdict, Judge, IsRight, IsSolidVerdict, IsFlatVerdict, IsHeightVerdict, IsHullVerdict}
 use Rattle.scad_meaning.proofs.HullVerdicts.{hull_verdict, HullVerdict}
 use Rattle.scad_meaning.proofs.Triangles.{decided_point_range, at_place, decided_triangle}
@@ -372,7 +372,7 @@ flat_right unit (square_call center size) = square_right unit center size (size_
 flat_right unit (polygon_call points) = polygon_right unit points (polygon_verdict unit points)
 flat_right unit (circle_call radius) = circle_right unit radius (circle_verdict unit radius)
 
-hull_right : (design : Design) (v : HullVerdict design) → IsHullVerdict design (verdict_of v)
+hull_right : (design : DesignTree) (v : HullVerdict design) → IsHullVerdict design (verdict_of v)
 hull_right design (inl h) = h
 hull_right design (inr f) = f.1
 

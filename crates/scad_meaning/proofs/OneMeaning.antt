@@ -5,20 +5,20 @@ use Rattle.plane_predicate.specs.Space.{Coefficients}
 use Rattle.scad_ast.specs.Terms.{StatementTerm, statements_from}
 use Rattle.scad_scope.specs.Names.{first_chain}
 use Rattle.scad_evaluation.specs.Meaning.{Outcome, Gives, Faults}
-use Rattle.scad_design.specs.Designs.{Design}
+use Rattle.scad_design.specs.Designs.{DesignTree}
 use Rattle.scad_design.specs.Placing.{Placed, placed, unplaced, Places}
 use Rattle.scad_meaning.specs.Verdicts.{Judge, IsRight}
 use Rattle.scad_meaning.specs.Meaning.{design_of}
 use Rattle.scad_meaning.specs.Sources.{Meaning, IsMeaning, IsMeaningOf, IsMeaningOfDesign}
 
 abbrev pub OnePlacing : Type 0
-OnePlacing = (design : Design) (known : List Coefficients) (out other : Placed) → Places design known out → Places design known other → out ≡ other
+OnePlacing = (design : DesignTree) (known : List Coefficients) (out other : Placed) → Places design known out → Places design known other → out ≡ other
 
 one_of_placed : (out : Placed) (m n : Meaning) → IsMeaningOf out m → IsMeaningOf out n → m ≡ n
 one_of_placed (placed tree known) m n h g = h ∙ sym g
 one_of_placed (unplaced kind at) m n h g = h ∙ sym g
 
-one_of_design : OnePlacing → (design : Outcome Design) (m n : Meaning) → IsMeaningOfDesign design m → IsMeaningOfDesign design n → m ≡ n
+one_of_design : OnePlacing → (design : Outcome DesignTree) (m n : Meaning) → IsMeaningOfDesign design m → IsMeaningOfDesign design n → m ≡ n
 one_of_design one (Faults kind at) m n h g = h ∙ sym g
 one_of_design one (Gives turns design) m n h g =
     let same = one design [] g.0 h.0 g.1 h.1 in

@@ -25,14 +25,14 @@ use Rattle.scad_modules.specs.declared.table.BuiltinModule.{BuiltinModule}
 use Rattle.scad_modules.specs.Table.{module_named}
 use Rattle.scad_modules.specs.Effects.{EffectCall, a_solid, a_flat, a_move, a_join, a_hull, an_extrusion, silence, some_children, FlatCall, ChosenCall}
 use Rattle.scad_modules.specs.Calls.{effect_of}
-use Rattle.scad_design.specs.Designs.{Design, a_part, balanced, grouped, moved_by}
-use Rattle.scad_design.specs.Trees.{parts_in, pieces_in, IsTrim}
+use Rattle.scad_design.specs.Designs.{DesignTree, a_part, balanced, grouped, moved_by}
+use Rattle.scad_design.specs.Trees.{part_count, pieces_in, IsTrim}
 use Rattle.scad_meaning.specs.declared.extrusion.Extrusion.{Extrusion}
 use Rattle.scad_meaning.specs.Hulls.{is_nothing, hull_mesh}
 use Rattle.scad_meaning.specs.Verdicts.{Judge, Verdict, solid_of, extruded}
 use Rattle.scad_meaning.specs.Bodies.{is_marked, says_only, is_bare}
 use Rattle.scad_meaning.specs.Loops.{items_of}
-use Rattle.scad_meaning.specs.Meaning.{Context, inside_scope, with_chain, with_calls_left, inside_mark, inside_extrusion, setting, InstanceDesign, MemberDesigns, first_marked, no_design, no_members, as_member, and_members, joined_members, moved_design, EvaluatesInstance, Evaluator, each_assigned, core_of, each_member, each_in_scope, each_in_body, body_design, after_step, each_step, in_loop, each_turn, loop_design, leaf_design, checked, hulled, hull_design, answered_with, module_scope, module_design, arguments_for, children_design, flat_design, effect_design, built_in_design, call_design, core_design, marked_design, instance_design, design_within, evaluator_with, program_context, or_all, design_of, counted_step, instances_chosen, block_members, module_given, most_leaves}
+use Rattle.scad_meaning.specs.Meaning.{Context, inside_scope, with_chain, with_calls_left, inside_mark, inside_extrusion, setting, InstanceDesign, MemberDesigns, first_marked, no_design, no_members, as_member, and_members, joined_members, moved_design, EvaluatesInstance, Evaluator, each_assigned, core_of_instance, each_member, each_in_scope, each_in_body, body_design, after_step, each_step, in_loop, each_turn, loop_design, leaf_design, checked, hulled, hull_design, answered_with, module_scope, module_design, arguments_for, children_design, flat_design, effect_design, built_in_design, call_design, core_design, marked_design, instance_design, design_within, evaluator_with, program_context, or_all, design_of, counted_step, instances_chosen, block_members, module_given, most_leaves}
 
 -- what holds of that which an outcome gives
 abbrev Has : {A : Type 0} → (A → Type 0) → Outcome A → Type 0
@@ -76,35 +76,35 @@ answered_has : {A B : Type 0} (Q : B → Type 0) (answer : Answer A) (at : Place
 answered_has Q (Ok x) at go g = g x
 answered_has Q (Err kind) at go g = tt
 
-after_has : (Q : MemberDesigns → Type 0) (at : Place) (designs : List Design) (turns : ℕ) (go : ℕ → Outcome MemberDesigns)
+after_has : (Q : MemberDesigns → Type 0) (at : Place) (designs : List DesignTree) (turns : ℕ) (go : ℕ → Outcome MemberDesigns)
     → ((n : ℕ) → Has Q (go n)) → Has Q (after_step at designs turns go)
 after_has Q at [] turns go g = turn_has Q at turns go g
 after_has Q at (d ∷ ds) turns go g = g turns
 
 -- a design with no more parts than there are leaves more
-abbrev IsFew : ℕ → ℕ → Option Design → Type 0
+abbrev IsFew : ℕ → ℕ → Option DesignTree → Type 0
 IsFew before after None = Unit {0}
-IsFew before after (Some d) = (before + parts_in d ≤ after) × IsTrim d
+IsFew before after (Some d) = (before + part_count d ≤ after) × IsTrim d
 
 record IsSmall (before : ℕ) (m : InstanceDesign) : Type 0 where
   pub grows : before ≤ m.leaves
   pub most : before ≤ most_leaves → m.leaves ≤ most_leaves
-  pub parts : before + parts_in m.design ≤ m.leaves
+  pub parts : before + part_count m.design ≤ m.leaves
   pub trim : IsTrim m.design
   pub marked : IsFew before m.leaves m.marked
 
 record AreSmall (before : ℕ) (ms : MemberDesigns) : Type 0 where
   pub grows : before ≤ ms.leaves
   pub most : before ≤ most_leaves → ms.leaves ≤ most_leaves
-  pub parts : before + sum_by parts_in ms.designs ≤ ms.leaves
+  pub parts : before + sum_by part_count ms.designs ≤ ms.leaves
   pub trim : All IsTrim ms.designs
   pub marked : IsFew before ms.leaves ms.marked
 
-few_wider : (a b c d : ℕ) (o : Option Design) → a ≤ b → c ≤ d → IsFew b c o → IsFew a d o
+few_wider : (a b c d : ℕ) (o : Option DesignTree) → a ≤ b → c ≤ d → IsFew b c o → IsFew a d o
 few_wider a b c d None h g f = tt
 few_wider a b c d (Some x) h g f = (omega (arith, f.0), f.1)
 
-first_few : (before after : ℕ) (x y : Option Design) → IsFew before after x → IsFew before after y → IsFew before after (first_marked x y)
+first_few : (before after : ℕ) (x y : Option DesignTree) → IsFew before after x → IsFew before after y → IsFew before after (first_marked x y)
 first_few before after (Some d) y h g = h
 first_few before after None y h g = g
 
@@ -112,7 +112,7 @@ and_small : (before : ℕ) (ms more : MemberDesigns) → AreSmall before ms → 
 and_small before ms more h g = record {
   grows = let a = h.grows in let b = g.grows in omega arith;
   most = λ few. g.most (h.most few);
-  parts = let a = h.parts in let b = g.parts in let c = sum_by-append parts_in ms.designs more.designs in omega arith;
+  parts = let a = h.parts in let b = g.parts in let c = sum_by-append part_count ms.designs more.designs in omega arith;
   trim = All-append IsTrim ms.designs more.designs h.trim g.trim;
   marked = first_few before more.leaves ms.marked more.marked
       (few_wider before before ms.leaves more.leaves ms.marked (omega arith) g.grows h.marked)
@@ -123,7 +123,7 @@ as_member_small : (b : Bool) (before : ℕ) (m : InstanceDesign) → IsSmall bef
 as_member_small true before m h = record {
   grows = h.grows;
   most = h.most;
-  parts = let a = h.parts in let b = sum_by-cons parts_in m.design [] in omega arith;
+  parts = let a = h.parts in let b = sum_by-cons part_count m.design [] in omega arith;
   trim = All-cons IsTrim m.design [] h.trim (All-nil IsTrim);
   marked = h.marked;
 }
@@ -172,11 +172,11 @@ hull_small v at before m turns h =
 abbrev IsGood : EvaluatesInstance → Type 0
 IsGood deeper = (here : Context) (i : InstanceTerm) (turns leaves : ℕ) → Has (IsSmall leaves) (deeper here i turns leaves)
 
-module _ (grouped_trim : (op : Op) (designs : List Design) → All IsTrim designs → IsTrim (grouped op designs))
-    (grouped_parts : (op : Op) (designs : List Design) → parts_in (grouped op designs) ≤ sum_by parts_in designs)
-    (moved_trim : (steps : List Affine) (design : Design) → IsTrim design → IsTrim (moved_by steps design))
-    (moved_parts : (steps : List Affine) (design : Design) → parts_in (moved_by steps design) ≡ parts_in design)
-    (pieces : (design : Design) → IsTrim design → pieces_in design ≤ 1 + 2 * parts_in design)
+module _ (grouped_trim : (op : Op) (designs : List DesignTree) → All IsTrim designs → IsTrim (grouped op designs))
+    (grouped_parts : (op : Op) (designs : List DesignTree) → part_count (grouped op designs) ≤ sum_by part_count designs)
+    (moved_trim : (steps : List Affine) (design : DesignTree) → IsTrim design → IsTrim (moved_by steps design))
+    (moved_parts : (steps : List Affine) (design : DesignTree) → part_count (moved_by steps design) ≡ part_count design)
+    (pieces : (design : DesignTree) → IsTrim design → pieces_in design ≤ 1 + 2 * part_count design)
     (unit : LengthUnit) (judge : Judge) where
   joined_small : (op : Op) (before : ℕ) (ms : MemberDesigns) → AreSmall before ms → IsSmall before (joined_members op ms)
   joined_small op before ms h = record {
@@ -205,8 +205,8 @@ module _ (grouped_trim : (op : Op) (designs : List Design) → All IsTrim design
     members_small here (i ∷ is) turns leaves =
         then_has (IsSmall leaves) (AreSmall leaves) (deeper here i turns leaves) _ (good here i turns leaves) (λ turns m h.
         then_has (AreSmall m.leaves) (AreSmall leaves) (each_member evaluator here is turns m.leaves) _ (members_small here is turns m.leaves) (λ turns ms g.
-        and_small leaves (as_member (if says_only here.env (core_of i) then false else true) m) ms
-        (as_member_small (if says_only here.env (core_of i) then false else true) leaves m h) g))
+        and_small leaves (as_member (if says_only here.env (core_of_instance i) then false else true) m) ms
+        (as_member_small (if says_only here.env (core_of_instance i) then false else true) leaves m h) g))
 
     block_small : (chosen : Option ChosenCall) (here : Context) (statements : StatementTerms) (turns leaves : ℕ)
         → Has (AreSmall leaves) (block_members evaluator chosen statements here turns leaves)
@@ -337,9 +337,9 @@ module _ (grouped_trim : (op : Op) (designs : List Design) → All IsTrim design
 
     instance_small : IsGood (instance_design evaluator)
     instance_small here i turns leaves =
-        if_has (IsSmall leaves) (is_marked i) _ (core_design evaluator here (core_of i) turns leaves)
-        (if_has (IsSmall leaves) (is_some here.inside) _ (marked_design evaluator here (core_of i) turns leaves) tt
-        (marked_small here (core_of i) turns leaves)) (core_small here (core_of i) turns leaves)
+        if_has (IsSmall leaves) (is_marked i) _ (core_design evaluator here (core_of_instance i) turns leaves)
+        (if_has (IsSmall leaves) (is_some here.inside) _ (marked_design evaluator here (core_of_instance i) turns leaves) tt
+        (marked_small here (core_of_instance i) turns leaves)) (core_small here (core_of_instance i) turns leaves)
 
   within_small : (evaluations : ℕ) → IsGood (design_within unit judge evaluations)
   unfolding design_within
@@ -347,16 +347,16 @@ module _ (grouped_trim : (op : Op) (designs : List Design) → All IsTrim design
   within_small (suc evaluations) here i turns leaves = instance_small evaluations (design_within unit judge evaluations) (within_small evaluations) here i turns leaves
 
   -- the design of a program
-  all_small : (marked : Option Design) (designs : List Design) (leaves : ℕ) → IsFew 0 leaves marked → 0 + sum_by parts_in designs ≤ leaves
+  all_small : (marked : Option DesignTree) (designs : List DesignTree) (leaves : ℕ) → IsFew 0 leaves marked → 0 + sum_by part_count designs ≤ leaves
       → All IsTrim designs → leaves ≤ most_leaves → pieces_in (or_all marked designs) < 2 ^ 32
   all_small None designs leaves f h trim few =
-      let a : parts_in (balanced Union designs) ≤ sum_by parts_in designs = grouped_parts Union designs in
-      let b : pieces_in (balanced Union designs) ≤ 1 + 2 * parts_in (balanced Union designs) = pieces (grouped Union designs) (grouped_trim Union designs trim) in
+      let a : part_count (balanced Union designs) ≤ sum_by part_count designs = grouped_parts Union designs in
+      let b : pieces_in (balanced Union designs) ≤ 1 + 2 * part_count (balanced Union designs) = pieces (grouped Union designs) (grouped_trim Union designs trim) in
       omega arith
   all_small (Some design) designs leaves f h trim few =
       let a = f.0 in let b = pieces design f.1 in omega arith
 
-  pub design_small : (chain : Pairs Val) (statements : StatementTerms) (turns : ℕ) (design : Design)
+  pub design_small : (chain : Pairs Val) (statements : StatementTerms) (turns : ℕ) (design : DesignTree)
       → design_of unit judge chain statements ≡ Gives turns design → pieces_in design < 2 ^ 32
   unfolding design_of
   design_small chain statements turns design e =

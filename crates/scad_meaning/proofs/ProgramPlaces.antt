@@ -15,7 +15,7 @@ use Rattle.scad_ast.specs.Terms.{StatementTerm, statements_from}
 use Rattle.scad_ast.specs.Places.{places_of_program, HoldsPlace}
 use Rattle.scad_scope.specs.Names.{first_chain}
 use Rattle.scad_evaluation.specs.Meaning.{Outcome, Gives, Faults}
-use Rattle.scad_design.specs.Designs.{Design, empty, a_part, joined}
+use Rattle.scad_design.specs.Designs.{DesignTree, empty, a_part, joined_designs}
 use Rattle.scad_design.specs.Placing.{Placed, placed, unplaced, joined_placed, PlacesRight, Places}
 use Rattle.scad_meaning.specs.Verdicts.{Judge, IsRight}
 use Rattle.scad_meaning.specs.Meaning.{design_of}
@@ -39,11 +39,11 @@ module _ (P : Place → Type 0) where
   right_held right g op (unplaced kind at) out h r = subst PlacedHeld (sym r) h
   right_held right g op (placed tree known) out h r = subst PlacedHeld (sym r.2) (joined_held op tree r.0 (g known r.0 r.1))
 
-  places_held : (design : Design) (known : List Coefficients) (out : Placed) → DesignHeld P design → Places design known out → PlacedHeld out
+  places_held : (design : DesignTree) (known : List Coefficients) (out : Placed) → DesignHeld P design → Places design known out → PlacedHeld out
   places_held empty known out d h = subst PlacedHeld (sym h) tt
   places_held (a_part part) known (placed tree now) d h = tt
   places_held (a_part part) known (unplaced kind at) d h = subst P (sym h.1) d.0
-  places_held (joined op left right) known out d h =
+  places_held (joined_designs op left right) known out d h =
       right_held (Places right) (λ known out r. places_held right known out d.1 r) op h.0 out (places_held left known h.0 d.0 h.1) h.2
 
   -- meanings
@@ -55,7 +55,7 @@ module _ (P : Place → Type 0) where
   placed_means (placed tree known) meaning p h = subst MeaningHeld (sym h) tt
   placed_means (unplaced kind at) meaning p h = subst MeaningHeld (sym h) p
 
-  design_means : (out : Outcome Design) (meaning : Meaning) → Keeps P (DesignHeld P) out → IsMeaningOfDesign out meaning → MeaningHeld meaning
+  design_means : (out : Outcome DesignTree) (meaning : Meaning) → Keeps P (DesignHeld P) out → IsMeaningOfDesign out meaning → MeaningHeld meaning
   design_means (Faults kind at) meaning k h = subst MeaningHeld (sym h) k
   design_means (Gives turns design) meaning k h = placed_means h.0 meaning (places_held design [] h.0 k h.1) h.2
 

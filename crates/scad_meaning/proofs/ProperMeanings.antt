@@ -11,9 +11,9 @@ use Rattle.csg_tree.specs.ProperTrees.{IsProper}
 use Rattle.scad_ast.specs.Terms.{StatementTerm, statements_from}
 use Rattle.scad_scope.specs.Names.{first_chain}
 use Rattle.scad_evaluation.specs.Meaning.{Outcome, Gives, Faults}
-use Rattle.scad_design.specs.Designs.{Design, grouped, moved_by}
+use Rattle.scad_design.specs.Designs.{DesignTree, grouped, moved_by}
 use Rattle.scad_design.specs.Placing.{Placed, placed, unplaced, Places}
-use Rattle.scad_design.specs.Trees.{parts_in, pieces_in, IsPlacedAs, IsSound, IsTrim}
+use Rattle.scad_design.specs.Trees.{part_count, pieces_in, IsPlacedAs, IsSound, IsTrim}
 use Rattle.scad_meaning.specs.Verdicts.{Judge, IsRight}
 use Rattle.scad_meaning.specs.Meaning.{design_of}
 use Rattle.scad_meaning.specs.Sources.{a_tree, IsMeaning, IsMeaningOf, IsMeaningOfDesign}
@@ -26,18 +26,18 @@ use Rattle.scad_meaning.proofs.SomeMeaning.{sound}
 same_tree : (f g : Formula) → a_tree f ≡ a_tree g → f ≡ g
 same_tree f g e = cc
 
-module _ (grouped_trim : (op : Op) (designs : List Design) → All IsTrim designs → IsTrim (grouped op designs))
-    (grouped_parts : (op : Op) (designs : List Design) → parts_in (grouped op designs) ≤ sum_by parts_in designs)
-    (moved_trim : (steps : List Affine) (design : Design) → IsTrim design → IsTrim (moved_by steps design))
-    (moved_parts : (steps : List Affine) (design : Design) → parts_in (moved_by steps design) ≡ parts_in design)
-    (pieces : (design : Design) → IsTrim design → pieces_in design ≤ 1 + 2 * parts_in design)
-    (proper : (design : Design) (tree : Formula) → IsSound design → pieces_in design < 2 ^ 32 → IsPlacedAs design tree → IsProper tree) where
-  proper_placed : (tree : Formula) (design : Design) (out : Placed) → IsSound design → pieces_in design < 2 ^ 32 → Places design [] out → IsMeaningOf out (a_tree tree) → IsProper tree
+module _ (grouped_trim : (op : Op) (designs : List DesignTree) → All IsTrim designs → IsTrim (grouped op designs))
+    (grouped_parts : (op : Op) (designs : List DesignTree) → part_count (grouped op designs) ≤ sum_by part_count designs)
+    (moved_trim : (steps : List Affine) (design : DesignTree) → IsTrim design → IsTrim (moved_by steps design))
+    (moved_parts : (steps : List Affine) (design : DesignTree) → part_count (moved_by steps design) ≡ part_count design)
+    (pieces : (design : DesignTree) → IsTrim design → pieces_in design ≤ 1 + 2 * part_count design)
+    (proper : (design : DesignTree) (tree : Formula) → IsSound design → pieces_in design < 2 ^ 32 → IsPlacedAs design tree → IsProper tree) where
+  proper_placed : (tree : Formula) (design : DesignTree) (out : Placed) → IsSound design → pieces_in design < 2 ^ 32 → Places design [] out → IsMeaningOf out (a_tree tree) → IsProper tree
   proper_placed tree design (placed other known) is few places e = subst IsProper (sym (same_tree tree other e)) (proper design other is few (known, places))
   proper_placed tree design (unplaced kind at) is few places e = absurd (cc e)
 
-  proper_design : (P : Place → Type 0) (tree : Formula) (out : Outcome Design) → Keeps P (DesignHeld P) out
-      → ((turns : ℕ) (design : Design) → out ≡ Gives turns design → pieces_in design < 2 ^ 32) → IsMeaningOfDesign out (a_tree tree) → IsProper tree
+  proper_design : (P : Place → Type 0) (tree : Formula) (out : Outcome DesignTree) → Keeps P (DesignHeld P) out
+      → ((turns : ℕ) (design : DesignTree) → out ≡ Gives turns design → pieces_in design < 2 ^ 32) → IsMeaningOfDesign out (a_tree tree) → IsProper tree
   proper_design P tree (Faults kind at) held few h = absurd (cc h)
   proper_design P tree (Gives turns design) held few h = proper_placed tree design h.0 (sound P design held) (few turns design refl) h.1 h.2
 

@@ -14,7 +14,7 @@ use Rattle.scad_ast.specs.Terms.{NumberTerm, TextTerm, TruthTerm, ChildCountTerm
 use Rattle.scad_scope.specs.Names.{first_chain}
 use Rattle.scad_evaluation.specs.Limits.{most_evaluations}
 use Rattle.scad_evaluation.specs.Meaning.{Outcome, Gives, Faults, evaluated}
-use Rattle.scad_design.specs.Designs.{Design, empty, a_part, joined}
+use Rattle.scad_design.specs.Designs.{DesignTree, empty, a_part, joined_designs}
 use Rattle.scad_meaning.specs.Verdicts.{Judge}
 use Rattle.scad_meaning.specs.Meaning.{MemberDesigns, each_in_scope, program_context, design_within, evaluator_with, design_of}
 
@@ -25,7 +25,7 @@ at line column = record { line = line; column = column }
 abbrev pub lenient : Judge
 lenient = record { solid = λ _ _. None; flat = λ _ _. None; height = λ _ _ _. None; hull = λ _. None }
 
-abbrev pub meaning : StatementTerms → Outcome Design
+abbrev pub meaning : StatementTerms → Outcome DesignTree
 meaning p = design_of Whole lenient first_chain p
 
 -- a design by the points of its shapes in world position
@@ -35,12 +35,12 @@ pub data Seen : Type 0 where
   both_seen : (op : Op) → (left right : Seen) → Seen
   fault_seen : Seen
 
-abbrev pub seen : Design → Seen
+abbrev pub seen : DesignTree → Seen
 seen empty = nothing_seen
 seen (a_part part) = points_seen (map (λ p. coordinates (image (map_of part.steps) (point_at p))) part.mesh.points) part.mesh.faces
-seen (joined op left right) = both_seen op (seen left) (seen right)
+seen (joined_designs op left right) = both_seen op (seen left) (seen right)
 
-abbrev turns_in : Outcome Design → ℕ
+abbrev turns_in : Outcome DesignTree → ℕ
 turns_in (Gives turns design) = turns
 turns_in (Faults kind at) = 0
 
@@ -52,7 +52,7 @@ is_given (Faults kind at) = false
 abbrev pub begun : ℕ → ℕ → StatementTerms → Outcome MemberDesigns
 begun turns leaves p = each_in_scope (evaluator_with Whole lenient most_evaluations) (program_context first_chain p) p turns leaves
 
-abbrev pub seen_in : Outcome Design → Seen
+abbrev pub seen_in : Outcome DesignTree → Seen
 seen_in (Gives turns design) = seen design
 seen_in (Faults kind at) = fault_seen
 

@@ -7,7 +7,7 @@ use Rattle.plane_predicate.specs.Space.{Coefficients}
 use Rattle.scad_ast.specs.Terms.{StatementTerm, statements_from}
 use Rattle.scad_scope.specs.Names.{first_chain}
 use Rattle.scad_evaluation.specs.Meaning.{Outcome, Gives, Faults}
-use Rattle.scad_design.specs.Designs.{Design, empty, a_part, joined}
+use Rattle.scad_design.specs.Designs.{DesignTree, empty, a_part, joined_designs}
 use Rattle.scad_design.specs.Placing.{Placed, placed, unplaced, Places}
 use Rattle.scad_design.specs.Trees.{IsSound}
 use Rattle.scad_meaning.specs.Verdicts.{Judge, IsRight}
@@ -29,18 +29,18 @@ same_judge j k right also =
     λ i. record { solid = solid i; flat = flat i; height = height i; hull = hull i }
 
 abbrev pub SomePlacing : Type 0
-SomePlacing = (design : Design) (known : List Coefficients) → IsSound design → (out : Placed) × Places design known out
+SomePlacing = (design : DesignTree) (known : List Coefficients) → IsSound design → (out : Placed) × Places design known out
 
-pub sound : (P : Place → Type 0) (design : Design) → DesignHeld P design → IsSound design
+pub sound : (P : Place → Type 0) (design : DesignTree) → DesignHeld P design → IsSound design
 sound P empty h = tt
 sound P (a_part part) h = h.1
-sound P (joined op left right) h = (sound P left h.0, sound P right h.1)
+sound P (joined_designs op left right) h = (sound P left h.0, sound P right h.1)
 
 some_of_placed : (out : Placed) → (meaning : Meaning) × IsMeaningOf out meaning
 some_of_placed (placed tree known) = (a_tree tree, refl)
 some_of_placed (unplaced kind at) = (a_fault kind at, refl)
 
-some_of_design : SomePlacing → (P : Place → Type 0) (design : Outcome Design) → Keeps P (DesignHeld P) design → (meaning : Meaning) × IsMeaningOfDesign design meaning
+some_of_design : SomePlacing → (P : Place → Type 0) (design : Outcome DesignTree) → Keeps P (DesignHeld P) design → (meaning : Meaning) × IsMeaningOfDesign design meaning
 some_of_design some P (Faults kind at) h = (a_fault kind at, refl)
 some_of_design some P (Gives turns design) h =
     let out = some design [] (sound P design h) in

@@ -37,7 +37,7 @@ use Rattle.scad_slots.specs.Reading.{Slots, slot, number_in, truth_in, numbers_i
 use Rattle.scad_modules.specs.declared.table.BuiltinModule.{BuiltinModule}
 use Rattle.scad_modules.specs.declared.table.BuiltinModule.TheVariants.{Cube, Polyhedron, Cylinder, Square, Polygon, Circle, LinearExtrude, Translate, Rotate, Mirror, Scale, Multmatrix, Union, Difference, Intersection, Hull, Color, Render, Echo, Assert, Children}
 use Rattle.scad_modules.specs.Effects.{SolidCall, cube_call, polyhedron_call, cylinder_call, FlatCall, square_call, polygon_call, circle_call, EffectCall, a_solid, a_flat, a_move, a_join, a_hull, an_extrusion, silence, some_children, ChosenCall, all_children}
-use Rattle.scad_modules.specs.Transforms.{part, is_zero, is_past, on_grid, some_part, leaves_plane, is_skew, quarters_of, tilts_plane, turns_of, axis_of, along, factors_for, rows_in, some_row, is_past_matrix, leaves_plane_by, rows_on_grid, moves_past}
+use Rattle.scad_modules.specs.Transforms.{part, is_zero, is_past, on_grid, some_part, leaves_plane, is_skew, quarters_of, tilts_plane, turns_of, axis_of, along, factors_for, matrix_rows, some_row, is_past_matrix, leaves_plane_by, rows_on_grid, moves_past}
 use Rattle.scad_modules.specs.Calls.{chosen_in, effect_of}
 use Rattle.scad_modules.specs.Shapes.{fragments_in, with_four, cylinder_effect}
 use Rattle.scad_design.specs.Trees.{AreRegular}
@@ -318,10 +318,10 @@ matrix_read unit inside (Some rows) =
     one_step (affine_of (rows_on_grid unit rows)) (some_number (determinant_of (affine_of rows)) regular)))))
 
 matrix_sound : (unit : LengthUnit) (inside : Bool) (v : Option Val) →
-    IfOk (required v (λ v. of_type (rows_in v) (λ rows. refused_where (some_row (some_part is_past_matrix) rows) TooLarge (refused_where (is_zero (determinant_of (affine_of rows))) Singular
+    IfOk (required v (λ v. of_type (matrix_rows v) (λ rows. refused_where (some_row (some_part is_past_matrix) rows) TooLarge (refused_where (is_zero (determinant_of (affine_of rows))) Singular
     (refused_where (leaves_plane_by inside rows) WrongDimension (refused_where (some_row (moves_past unit) rows) TooLarge (Ok (a_move (affine_of (rows_on_grid unit rows) ∷ []))))))))) IsSoundCall
 matrix_sound unit inside None = tt
-matrix_sound unit inside (Some v) = matrix_read unit inside (rows_in v)
+matrix_sound unit inside (Some v) = matrix_read unit inside (matrix_rows v)
 
 assert_sound : (v : Option Val) → IfOk (required v (λ v. refused_where (not (truth_of v)) AssertFailed (Ok silence))) IsSoundCall
 assert_sound None = tt

@@ -14,7 +14,7 @@ use Rattle.polyhedra.specs.Polyhedra.{IsPolyhedron, IsFaultOf, IsFirstToFail, ch
 use Rattle.scad_modules.specs.Effects.{SolidCall, cube_call, polyhedron_call, cylinder_call, FlatCall, square_call, polygon_call, circle_call}
 use Rattle.scad_hull.specs.Hulls.{different, AreOnOnePlane}
 use Rattle.scad_hull.specs.Refusals.{AreInRange}
-use Rattle.scad_design.specs.Designs.{Design}
+use Rattle.scad_design.specs.Designs.{DesignTree}
 use Rattle.scad_meaning.specs.Hulls.{is_union, points_of, StaySafe, IsHullFault}
 use Rattle.scad_meaning.specs.Verdicts.{Verdict, IsSolidVerdict, IsFlatVerdict, IsHeightVerdict, IsHullVerdict}
 
@@ -183,7 +183,7 @@ one_height_verdict unit center height v w h k =
     one_verdict (size_checks unit center (height ∷ [])) size_faults v w (height_verdict unit center height v h) (height_verdict unit center height w k)
 
 -- the design and the points of a hull
-abbrev hull_checks : Design → List (Type 0)
+abbrev hull_checks : DesignTree → List (Type 0)
 hull_checks design =
     (is_union design ≡ true) ∷ StaySafe design ∷ AreInRange (points_of design) ∷ (length (different (points_of design)) ≤ 128)
     ∷ (AreOnOnePlane (different (points_of design)) → ⊥) ∷ []
@@ -191,7 +191,7 @@ hull_checks design =
 abbrev hull_faults : List FaultKind
 hull_faults = NotInProfile ∷ TooLarge ∷ OutOfRange ∷ LongList ∷ FewPoints ∷ []
 
-hull_fault : (design : Design) (kind : FaultKind) → IsHullFault design kind → IsFaultOf (hull_checks design) hull_faults kind
+hull_fault : (design : DesignTree) (kind : FaultKind) → IsHullFault design kind → IsFaultOf (hull_checks design) hull_faults kind
 hull_fault design NotInProfile h = record { number = 0; is = refl; fails = λ e. true≢false (sym e ∙ h) }
 hull_fault design TooLarge h = record { number = 1; is = refl; fails = (h.0, h.1) }
 hull_fault design OutOfRange h = record { number = 2; is = refl; fails = (h.0, (h.1, h.2)) }
@@ -199,9 +199,9 @@ hull_fault design LongList h = record { number = 3; is = refl; fails = (h.0, (h.
 hull_fault design FewPoints h = record { number = 4; is = refl; fails = (h.0, (h.1, (h.2.0, (h.2.1, λ solid. solid h.2.2)))) }
 hull_fault design kind h = absurd h.2
 
-hull_verdict : (design : Design) (v : Verdict) → IsHullVerdict design v → IsVerdictOf (hull_checks design) hull_faults v
+hull_verdict : (design : DesignTree) (v : Verdict) → IsHullVerdict design v → IsVerdictOf (hull_checks design) hull_faults v
 hull_verdict design None h = (h.union, (h.safe, (h.points.range, (h.points.few, (h.points.solid, tt)))))
 hull_verdict design (Some kind) h = hull_fault design kind h
 
-pub one_hull_verdict : (design : Design) (v w : Verdict) → IsHullVerdict design v → IsHullVerdict design w → v ≡ w
+pub one_hull_verdict : (design : DesignTree) (v w : Verdict) → IsHullVerdict design v → IsHullVerdict design w → v ≡ w
 one_hull_verdict design v w h k = one_verdict (hull_checks design) hull_faults v w (hull_verdict design v h) (hull_verdict design w k)

@@ -13,9 +13,9 @@ abbrev pub is_named_in : List Assigned → Assigned → Bool
 is_named_in others assignment = list_any (same_name assignment) others
 
 -- the first of these assignments that has the name of another one
-abbrev pub first_of : Assigned → List Assigned → Option Assigned
-first_of named [] = None
-first_of named (assignment ∷ rest) = if same_name named assignment then Some assignment else first_of named rest
+abbrev pub first_of_its_name : Assigned → List Assigned → Option Assigned
+first_of_its_name named [] = None
+first_of_its_name named (assignment ∷ rest) = if same_name named assignment then Some assignment else first_of_its_name named rest
 
 -- the later of two assignments, where there is one
 abbrev pub or_later : Option Assigned → Option Assigned → Option Assigned
@@ -30,7 +30,7 @@ last_of named (assignment ∷ rest) = or_later (if same_name named assignment th
 -- an assignment that stands for all of its name: it has the value of the last one, at the place of the first one
 pub record StandsForAll (assignments : List Assigned) (assignment : Assigned) : Type 0 where
   pub last : option_map (λ found. found.value) (last_of assignment assignments) ≡ Some assignment.value
-  pub first : option_map (λ found. found.at) (first_of assignment assignments) ≡ Some assignment.at
+  pub first : option_map (λ found. found.at) (first_of_its_name assignment assignments) ≡ Some assignment.at
 
 -- assignments to different names
 abbrev pub HaveOwnNames : List Assigned → Type 0

@@ -9,48 +9,48 @@ use Rattle.shape_planes.specs.Shapes.{Mesh}
 use Rattle.shape_planes.specs.Placing.{moved}
 use Rattle.scad_hull.specs.Hulls.{hull_of}
 use Rattle.scad_hull.specs.Refusals.{HaveHull, IsHullStop}
-use Rattle.scad_design.specs.Designs.{Design, empty, a_part, joined}
+use Rattle.scad_design.specs.Designs.{DesignTree, empty, a_part, joined_designs}
 use Rattle.scad_design.specs.Placing.{StaysSafe}
 
 -- whether a design has no part
-abbrev pub is_nothing : Design → Bool
+abbrev pub is_nothing : DesignTree → Bool
 is_nothing empty = true
 is_nothing (a_part part) = false
-is_nothing (joined op left right) = false
+is_nothing (joined_designs op left right) = false
 
 -- a design with no join but unions
-abbrev pub is_union : Design → Bool
+abbrev pub is_union : DesignTree → Bool
 is_union empty = true
 is_union (a_part part) = true
-is_union (joined Union left right) = is_union left && is_union right
-is_union (joined Intersection left right) = false
-is_union (joined Difference left right) = false
+is_union (joined_designs Union left right) = is_union left && is_union right
+is_union (joined_designs Intersection left right) = false
+is_union (joined_designs Difference left right) = false
 
 -- the points of all parts from left to right, each moved by its part's steps
-abbrev pub points_of : Design → List (List ℤ)
+abbrev pub points_of : DesignTree → List (List ℤ)
 points_of empty = []
 points_of (a_part part) = (moved (map_of part.steps) part.mesh).points
-points_of (joined op left right) = points_of left ++ points_of right
+points_of (joined_designs op left right) = points_of left ++ points_of right
 
 -- the points of each part keep within 2^53 - 1 after each step
-abbrev pub StaySafe : Design → Type 0
+abbrev pub StaySafe : DesignTree → Type 0
 StaySafe empty = Unit {0}
 StaySafe (a_part part) = StaysSafe part
-StaySafe (joined op left right) = StaySafe left × StaySafe right
+StaySafe (joined_designs op left right) = StaySafe left × StaySafe right
 
 -- the shape of a hull: that of all the points
-abbrev pub hull_mesh : Design → Mesh
+abbrev pub hull_mesh : DesignTree → Mesh
 hull_mesh design = hull_of (points_of design)
 
 -- a design with a hull
-pub record HasHull (design : Design) : Type 0 where
+pub record HasHull (design : DesignTree) : Type 0 where
   pub union : is_union design ≡ true
   pub safe : StaySafe design
   pub points : HaveHull (points_of design)
 
 -- why a design has no hull, the first that holds: it has a join other than a union; a coordinate of a part's point is past
 -- 2^53 - 1 after a step; or the points have none
-abbrev pub IsHullFault : Design → FaultKind → Type 0
+abbrev pub IsHullFault : DesignTree → FaultKind → Type 0
 IsHullFault design NotInProfile = is_union design ≡ false
 IsHullFault design TooLarge = (is_union design ≡ true) × (StaySafe design → ⊥)
 IsHullFault design kind = (is_union design ≡ true) × StaySafe design × IsHullStop (points_of design) (Kind kind)

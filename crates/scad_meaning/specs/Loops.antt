@@ -1,7 +1,7 @@
 -- What a loop goes through.
 use Rattle.std.specs.Prelude.{ℕ, zero, suc, ◌/◌, ℤ, pos, negsuc, ◌+ℤ◌, ◌-ℤ◌, unsigned_abs, List, [], ◌∷◌, ◌++◌, Option, Some, None, int_lt, if◌then◌else◌}
 use Rattle.scad_value.specs.Values.{Val, NumberVal, ListVal, RangeVal, Vals, no_vals, and_val}
-use Rattle.scad_modules.specs.Effects.{ChosenCall, all_children, numbered, ranged}
+use Rattle.scad_modules.specs.Effects.{ChosenCall, all_children, numbered_children, ranged_children}
 
 -- how many numbers a range has: none where its step leads away from its end
 abbrev pub count_of_range : ℤ → ℤ → ℤ → ℕ
@@ -48,5 +48,5 @@ items_numbered xs (number ∷ numbers) = item_numbered xs number ++ items_number
 -- the chosen ones of some children, in the order in which they are chosen; a number that none has chooses nothing
 abbrev pub chosen_among : {A : Type 0} → List A → ChosenCall → List A
 chosen_among xs all_children = xs
-chosen_among xs (numbered numbers) = items_numbered xs numbers
-chosen_among xs (ranged from step upto) = items_numbered xs (numbers_of_range from step upto)
+chosen_among xs (numbered_children numbers) = items_numbered xs numbers
+chosen_among xs (ranged_children from step upto) = items_numbered xs (numbers_of_range from step upto)

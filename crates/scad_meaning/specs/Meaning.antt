@@ -17,10 +17,10 @@ use Rattle.scad_evaluation.specs.Limits.{most_calls, most_evaluations}
 use Rattle.scad_evaluation.specs.Meaning.{Outcome, Gives, Faults, then_with, or_fault, Env, Outermost, Within, Opened, no_call, opened, visible_module, call_in, functions_standing_in, modules_standing_in, entered_scope, with_value, turn, Setting, value_at, one_call_fewer, Arguments, each_argument, each_parameter, paired, evaluated}
 use Rattle.scad_modules.specs.declared.table.BuiltinModule.{BuiltinModule}
 use Rattle.scad_modules.specs.declared.table.BuiltinModule.TheVariants.{Echo}
-use Rattle.scad_modules.specs.Table.{module_named, is_left_out, parameters_of}
+use Rattle.scad_modules.specs.Table.{module_named, is_left_out_module, parameters_of}
 use Rattle.scad_modules.specs.Effects.{EffectCall, a_solid, a_flat, a_move, a_join, a_hull, an_extrusion, silence, some_children, FlatCall, ChosenCall}
 use Rattle.scad_modules.specs.Calls.{effect_of}
-use Rattle.scad_design.specs.Designs.{Design, empty, a_part, balanced, grouped, moved_by}
+use Rattle.scad_design.specs.Designs.{DesignTree, empty, a_part, balanced, grouped, moved_by}
 use Rattle.scad_meaning.specs.declared.extrusion.Extrusion.{Extrusion}
 use Rattle.scad_meaning.specs.Hulls.{is_nothing, hull_mesh}
 use Rattle.scad_meaning.specs.Verdicts.{Judge, Verdict, solid_of, extruded}
@@ -63,17 +63,17 @@ setting evaluations here = record { deeper = evaluated evaluations; calls = here
 -- What an instance gives: the leaves so far, its design, and the first of the designs in it that is marked `!`
 pub record InstanceDesign : Type 0 where
   pub leaves : ℕ
-  pub design : Design
-  pub marked : Option Design
+  pub design : DesignTree
+  pub marked : Option DesignTree
 
 -- what the instances of a body give, from the first on
 pub record MemberDesigns : Type 0 where
   pub leaves : ℕ
-  pub designs : List Design
-  pub marked : Option Design
+  pub designs : List DesignTree
+  pub marked : Option DesignTree
 
 -- the first of the designs that are marked `!`
-abbrev pub first_marked : Option Design → Option Design → Option Design
+abbrev pub first_marked : Option DesignTree → Option DesignTree → Option DesignTree
 first_marked (Some design) later = Some design
 first_marked None later = later
 
@@ -102,7 +102,7 @@ abbrev pub joined_members : Op → MemberDesigns → InstanceDesign
 joined_members op members = record { leaves = members.leaves; design = grouped op members.designs; marked = members.marked }
 
 -- what an instance gives, with its design moved
-abbrev pub moved_design : (Design → Design) → InstanceDesign → InstanceDesign
+abbrev pub moved_design : (DesignTree → DesignTree) → InstanceDesign → InstanceDesign
 moved_design move result = record { leaves = result.leaves; design = move result.design; marked = result.marked }
 
 -- how an instance is evaluated: by where it stands, the instance, and the turns and the leaves so far
@@ -136,8 +136,8 @@ each_assigned evaluations here (assignment ∷ rest) turns =
     each_assigned evaluations (assigned assignment value here) rest turns)
 
 -- instances in order; those that only say something are no members
-abbrev pub core_of : InstanceTerm → CoreTerm
-core_of (AnInstance at marks core) = core
+abbrev pub core_of_instance : InstanceTerm → CoreTerm
+core_of_instance (AnInstance at marks core) = core
 
 -- what instances give as members, from the first on
 abbrev pub each_member : Evaluator → Context → List InstanceTerm → ℕ → ℕ → Outcome MemberDesigns
@@ -145,7 +145,7 @@ each_member evaluator here [] turns leaves = Gives turns (no_members leaves)
 each_member evaluator here (instance ∷ instances) turns leaves =
     then_with (evaluator.deeper here instance turns leaves) (λ turns result.
     then_with (each_member evaluator here instances turns result.leaves) (λ turns members.
-    Gives turns (and_members (as_member (if says_only here.env (core_of instance) then false else true) result) members)))
+    Gives turns (and_members (as_member (if says_only here.env (core_of_instance instance) then false else true) result) members)))
 
 -- the instances of a block that are evaluated, or the chosen ones of its children
 abbrev pub instances_chosen : Env → Option ChosenCall → StatementTerms → List InstanceTerm
@@ -173,7 +173,7 @@ body_design evaluator op here body turns leaves =
     then_with (each_in_body evaluator here body turns leaves) (λ turns members. Gives turns (joined_members op members))
 
 -- A step of a loop after which nothing followed counts one turn when it ends
-abbrev pub after_step : Place → List Design → ℕ → (ℕ → Outcome MemberDesigns) → Outcome MemberDesigns
+abbrev pub after_step : Place → List DesignTree → ℕ → (ℕ → Outcome MemberDesigns) → Outcome MemberDesigns
 after_step at [] turns go = turn at turns go
 after_step at (design ∷ designs) turns go = go turns
 
@@ -315,7 +315,7 @@ program_context chain statements = record {
 }
 
 -- the design of a program: the first one marked `!`, or else all
-abbrev pub or_all : Option Design → List Design → Design
+abbrev pub or_all : Option DesignTree → List DesignTree → DesignTree
 or_all None designs = balanced Union designs
 or_all (Some design) designs = design
 
@@ -352,7 +352,7 @@ built_in_given evaluator at builtin given body here turns leaves =
 -- a call of a built-in module
 abbrev pub built_in_design : Evaluator → Context → Place → List ℕ → List ArgTerm → BodyTerm → Option BuiltinModule → ℕ → ℕ → Outcome InstanceDesign
 built_in_design evaluator here at name args body None turns leaves =
-    Faults (if is_left_out name then NotInProfile else UnknownModule) at
+    Faults (if is_left_out_module name then NotInProfile else UnknownModule) at
 built_in_design evaluator here at name args body (Some builtin) turns leaves =
     then_with (arguments_for builtin (setting evaluator.evaluations here) (args_from args) turns) (λ turns given.
     built_in_given evaluator at builtin given body here turns leaves)
@@ -394,9 +394,9 @@ marked_design evaluator here core turns leaves =
 abbrev pub instance_design : Evaluator → EvaluatesInstance
 instance_design evaluator here instance turns leaves =
     if is_marked instance
-    then (if is_some here.inside then Faults WrongDimension (place_of_core (core_of instance))
-    else marked_design evaluator here (core_of instance) turns leaves)
-    else core_design evaluator here (core_of instance) turns leaves
+    then (if is_some here.inside then Faults WrongDimension (place_of_core (core_of_instance instance))
+    else marked_design evaluator here (core_of_instance instance) turns leaves)
+    else core_design evaluator here (core_of_instance instance) turns leaves
 
 -- with so many evaluations in one another left
 unfoldable pub design_within : LengthUnit → Judge → ℕ → EvaluatesInstance
@@ -411,7 +411,7 @@ evaluator_with unit judge evaluations =
     record { unit = unit; judge = judge; evaluations = evaluations; deeper = design_within unit judge evaluations }
 
 -- the design of a program, where all evaluations in one another are left
-unfoldable pub design_of : LengthUnit → Judge → Pairs Val → StatementTerms → Outcome Design
+unfoldable pub design_of : LengthUnit → Judge → Pairs Val → StatementTerms → Outcome DesignTree
 design_of unit judge chain statements =
     then_with (each_in_scope (evaluator_with unit judge most_evaluations) (program_context chain statements) statements 0 0) (λ turns members.
     Gives turns (or_all members.marked members.designs))

@@ -10,7 +10,7 @@ use Rattle.text_place.specs.declared.fault.Stop.{Stop}
 use Rattle.text_place.specs.declared.fault.Stop.TheVariants.{Fault, NoMemory}
 use Rattle.scad_scope.specs.Names.{first_chain}
 use Rattle.scad_evaluation.specs.Meaning.{Outcome, Gives, Faults}
-use Rattle.scad_design.specs.Designs.{Design}
+use Rattle.scad_design.specs.Designs.{DesignTree}
 use Rattle.scad_meaning.specs.Verdicts.{Judge, IsRight}
 use Rattle.scad_meaning.specs.Meaning.{design_of}
 use Rattle.scad_design.specs.Placing.{Placed, placed, unplaced, Places}
@@ -26,7 +26,7 @@ IsMeaningOf (placed tree known) meaning = meaning ≡ a_tree tree
 IsMeaningOf (unplaced kind at) meaning = meaning ≡ a_fault kind at
 
 -- a fault of evaluation comes before those of placing
-abbrev pub IsMeaningOfDesign : Outcome Design → Meaning → Type 0
+abbrev pub IsMeaningOfDesign : Outcome DesignTree → Meaning → Type 0
 IsMeaningOfDesign (Faults kind at) meaning = meaning ≡ a_fault kind at
 IsMeaningOfDesign (Gives turns design) meaning = (out : Placed) × Places design [] out × IsMeaningOf out meaning
 

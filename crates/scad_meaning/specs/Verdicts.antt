@@ -10,7 +10,7 @@ use Rattle.primitives.specs.Prisms.{extrusion_of}
 use Rattle.round_four.specs.Circles.{circle_of, IsCircleSize, IsCircleFault}
 use Rattle.round_four.specs.Cylinders.{cylinder_of, AreCylinderSizes, IsCylinderFault}
 use Rattle.polyhedra.specs.Polyhedra.{mesh_of, IsPolyhedron, IsFaultOf, checks, faults}
-use Rattle.scad_design.specs.Designs.{Design}
+use Rattle.scad_design.specs.Designs.{DesignTree}
 use Rattle.scad_meaning.specs.declared.extrusion.Extrusion.{Extrusion}
 use Rattle.scad_meaning.specs.Hulls.{HasHull, IsHullFault}
 use Rattle.scad_modules.specs.Effects.{SolidCall, cube_call, polyhedron_call, cylinder_call, FlatCall, square_call, polygon_call, circle_call}
@@ -25,7 +25,7 @@ pub record Judge : Type 0 where
   pub solid : LengthUnit → SolidCall → Verdict
   pub flat : LengthUnit → FlatCall → Verdict
   pub height : LengthUnit → Bool → ℤ → Verdict
-  pub hull : Design → Verdict
+  pub hull : DesignTree → Verdict
 
 -- what is wrong with the call of a solid, or that nothing is
 abbrev pub IsSolidVerdict : LengthUnit → SolidCall → Verdict → Type 0
@@ -51,7 +51,7 @@ IsHeightVerdict unit center height None = AreSizes unit center (height ∷ [])
 IsHeightVerdict unit center height (Some kind) = IsSizeFault unit center (height ∷ []) kind
 
 -- why a design has no hull, or that it has one
-abbrev pub IsHullVerdict : Design → Verdict → Type 0
+abbrev pub IsHullVerdict : DesignTree → Verdict → Type 0
 IsHullVerdict design None = HasHull design
 IsHullVerdict design (Some kind) = IsHullFault design kind
 
@@ -60,7 +60,7 @@ pub record IsRight (judge : Judge) : Type 0 where
   pub solid : (unit : LengthUnit) (call : SolidCall) → IsSolidVerdict unit call (judge.solid unit call)
   pub flat : (unit : LengthUnit) (call : FlatCall) → IsFlatVerdict unit call (judge.flat unit call)
   pub height : (unit : LengthUnit) (center : Bool) (height : ℤ) → IsHeightVerdict unit center height (judge.height unit center height)
-  pub hull : (design : Design) → IsHullVerdict design (judge.hull design)
+  pub hull : (design : DesignTree) → IsHullVerdict design (judge.hull design)
 
 -- the shape with nothing wrong, in grid steps
 abbrev pub solid_of : LengthUnit → SolidCall → Mesh

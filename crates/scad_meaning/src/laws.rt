@@ -17,7 +17,7 @@ ghost use Rattle.scad_meaning.specs.Hulls.{hull_mesh, points_of};
 ghost use Rattle.scad_modules.specs.Effects.{SolidCall, FlatCall};
 ghost use Rattle.csg_tree.specs.Formulas.{Formula};
 ghost use Rattle.csg_tree.specs.ProperTrees.{IsProper};
-ghost use Rattle.scad_design.specs.Designs.{Design};
+ghost use Rattle.scad_design.specs.Designs.{DesignTree};
 ghost use Rattle.scad_meaning.specs.Verdicts.{Verdict, Judge, IsRight, IsSolidVerdict, IsFlatVerdict, IsHeightVerdict, IsHullVerdict};
 ghost use Rattle.scad_meaning.specs.Sources.{Meaning, a_fault, a_tree, IsMeaning};
 
@@ -43,13 +43,13 @@ pub fn shapes_have_one_verdict()
         IsFlatVerdict unit call v → IsFlatVerdict unit call w → v ≡ w }
     ensures heights { (unit : LengthUnit) (center : Bool) (height : ℤ) (v w : Verdict) →
         IsHeightVerdict unit center height v → IsHeightVerdict unit center height w → v ≡ w }
-    ensures hulls { (design : Design) (v w : Verdict) → IsHullVerdict design v → IsHullVerdict design w → v ≡ w }
+    ensures hulls { (design : DesignTree) (v w : Verdict) → IsHullVerdict design v → IsHullVerdict design w → v ≡ w }
 {}
 
 /// Where nothing is wrong with the hull of what children give, a point is strictly behind all of its faces exactly where it is
 /// a combination, with weights above 0, of the points of their leaves, each moved by its leaf's steps.
 pub fn hulls_in_programs_hold_inner_combinations()
-    ensures { (judge : Judge) → IsRight judge → (design : Design) → judge.hull design ≡ None → (q : Coordinates) → pos 0 <ℤ q.w →
+    ensures { (judge : Judge) → IsRight judge → (design : DesignTree) → judge.hull design ≡ None → (q : Coordinates) → pos 0 <ℤ q.w →
         IsInside (hull_mesh design) q ↔ IsInnerCombination (different (points_of design)) q }
 {
     hulls_hold_inner_combinations();

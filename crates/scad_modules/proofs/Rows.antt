@@ -10,8 +10,8 @@ use Rattle.scad_value.specs.Values.{Val, NumberVal, TruthVal, TextVal, ListVal, 
 use Rattle.scad_value.specs.Operators.{Answer}
 use Rattle.scad_modules.specs.declared.table.BuiltinModule.{BuiltinModule}
 use Rattle.scad_modules.specs.declared.table.BuiltinModule.TheVariants.{Cube, Polyhedron, Cylinder, Square, Polygon, Circle, LinearExtrude, Translate, Rotate, Mirror, Scale, Multmatrix, Union, Hull, Color, Echo, Assert, Children}
-use Rattle.scad_modules.specs.Effects.{EffectCall, a_solid, a_flat, a_move, a_join, a_hull, an_extrusion, silence, some_children, cube_call, polyhedron_call, cylinder_call, square_call, polygon_call, circle_call, all_children, numbered, ranged}
-use Rattle.scad_modules.specs.Table.{module_named, is_left_out}
+use Rattle.scad_modules.specs.Effects.{EffectCall, a_solid, a_flat, a_move, a_join, a_hull, an_extrusion, silence, some_children, cube_call, polyhedron_call, cylinder_call, square_call, polygon_call, circle_call, all_children, numbered_children, ranged_children}
+use Rattle.scad_modules.specs.Table.{module_named, is_left_out_module}
 use Rattle.scad_modules.specs.Calls.{effect_of}
 
 abbrev given : ℕ → Option Val
@@ -284,13 +284,13 @@ asserted_true = refl
 all_of_them : outside Children (None ∷ []) ≡ Ok (some_children all_children)
 all_of_them = refl
 
-one_of_them : inside Children (given 2 ∷ []) ≡ Ok (some_children (numbered (pos 2 ∷ [])))
+one_of_them : inside Children (given 2 ∷ []) ≡ Ok (some_children (numbered_children (pos 2 ∷ [])))
 one_of_them = refl
 
-two_of_them : outside Children (Some (vector (pos 1 ∷ pos 0 ∷ [])) ∷ []) ≡ Ok (some_children (numbered (pos 1 ∷ pos 0 ∷ [])))
+two_of_them : outside Children (Some (vector (pos 1 ∷ pos 0 ∷ [])) ∷ []) ≡ Ok (some_children (numbered_children (pos 1 ∷ pos 0 ∷ [])))
 two_of_them = refl
 
-some_of_them : outside Children (Some (RangeVal (pos 0) (pos 1) (pos 2)) ∷ []) ≡ Ok (some_children (ranged (pos 0) (pos 1) (pos 2)))
+some_of_them : outside Children (Some (RangeVal (pos 0) (pos 1) (pos 2)) ∷ []) ≡ Ok (some_children (ranged_children (pos 0) (pos 1) (pos 2)))
 some_of_them = refl
 
 none_of_them : outside Children (Some UndefVal ∷ []) ≡ Err TypeMismatch
@@ -306,11 +306,11 @@ sphere_is_unknown = refl
 hull_is_known : module_named (codes "hull") ≡ Some Hull
 hull_is_known = refl
 
-hull_is_not_left_out : is_left_out (codes "hull") ≡ false
+hull_is_not_left_out : is_left_out_module (codes "hull") ≡ false
 hull_is_not_left_out = refl
 
-minkowski_is_left_out : is_left_out (codes "minkowski") ≡ true
+minkowski_is_left_out : is_left_out_module (codes "minkowski") ≡ true
 minkowski_is_left_out = refl
 
-cylinder_is_not_left_out : is_left_out (codes "cylinder") ≡ false
+cylinder_is_not_left_out : is_left_out_module (codes "cylinder") ≡ false
 cylinder_is_not_left_out = refl

@@ -13,7 +13,7 @@ use Rattle.scad_value.specs.Values.{Val, NumberVal, ListVal, RangeVal, Vals, no_
 use Rattle.scad_slots.specs.Reading.{slot, number_in, with_first, each_in, of_length, sides_in, filled_from, factors_in, or_default}
 use Rattle.scad_slots.specs.View.{slots_in, Reads}
 use Rattle.scad_modules.specs.Bounds.{IsSafeChoice}
-use Rattle.scad_modules.specs.Effects.{ChosenCall, all_children, numbered}
+use Rattle.scad_modules.specs.Effects.{ChosenCall, all_children, numbered_children}
 use Rattle.scad_modules.specs.Transforms.{part, factors_for}
 use Rattle.scad_modules.specs.Calls.{chosen_in}
 
@@ -136,7 +136,7 @@ chosen_safe (RangeVal from by upto) s = let p = and_parts _ _ s in let q = and_p
     (safe_number from p.0, safe_number by q.0, safe_number upto q.1)
 chosen_safe (ListVal items) s = some_numbered (each_in number_in items) (each_safe items s)
   where
-    some_numbered : (ns : Option (List ℤ)) → OnRead AreSafe ns → OnRead IsSafeChoice (option_map numbered ns)
+    some_numbered : (ns : Option (List ℤ)) → OnRead AreSafe ns → OnRead IsSafeChoice (option_map numbered_children ns)
     some_numbered None p = tt
     some_numbered (Some ns) p = p
 chosen_safe v s = tt

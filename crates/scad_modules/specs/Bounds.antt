@@ -1,7 +1,7 @@
 -- Numbers of at most 2^53 - 1 in size in a call's effect.
 use Rattle.std.specs.Prelude.{All}
 use Rattle.primitives.specs.Sizes.{IsSafe}
-use Rattle.scad_modules.specs.Effects.{SolidCall, cube_call, polyhedron_call, cylinder_call, FlatCall, square_call, polygon_call, circle_call, ChosenCall, all_children, numbered, ranged, EffectCall, a_solid, a_flat, a_move, a_join, a_hull, an_extrusion, silence, some_children}
+use Rattle.scad_modules.specs.Effects.{SolidCall, cube_call, polyhedron_call, cylinder_call, FlatCall, square_call, polygon_call, circle_call, ChosenCall, all_children, numbered_children, ranged_children, EffectCall, a_solid, a_flat, a_move, a_join, a_hull, an_extrusion, silence, some_children}
 
 -- what the calls of solid shapes want of sizes; they test points themselves
 abbrev pub IsSafeSolid : SolidCall → Type 0
@@ -18,8 +18,8 @@ IsSafeFlat (circle_call radius) = IsSafe radius
 -- the same of the numbers by which children are chosen
 abbrev pub IsSafeChoice : ChosenCall → Type 0
 IsSafeChoice all_children = Unit {0}
-IsSafeChoice (numbered numbers) = All IsSafe numbers
-IsSafeChoice (ranged from by upto) = IsSafe from × IsSafe by × IsSafe upto
+IsSafeChoice (numbered_children numbers) = All IsSafe numbers
+IsSafeChoice (ranged_children from by upto) = IsSafe from × IsSafe by × IsSafe upto
 
 -- the same of all effects; a step keeps its own bounds
 abbrev pub IsSafeCall : EffectCall → Type 0

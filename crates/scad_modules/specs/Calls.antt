@@ -8,15 +8,15 @@ use Rattle.scad_value.specs.Operators.{Answer}
 use Rattle.scad_slots.specs.Reading.{Slots, slot, numbers_in, or_default, required, of_type, refused_where}
 use Rattle.scad_modules.specs.declared.table.BuiltinModule.{BuiltinModule}
 use Rattle.scad_modules.specs.declared.table.BuiltinModule.TheVariants.{Cube, Polyhedron, Cylinder, Square, Polygon, Circle, LinearExtrude, Translate, Rotate, Mirror, Scale, Multmatrix, Union, Difference, Intersection, Hull, Color, Render, Echo, Assert, Children}
-use Rattle.scad_modules.specs.Effects.{EffectCall, a_join, a_hull, silence, some_children, ChosenCall, all_children, numbered, ranged}
+use Rattle.scad_modules.specs.Effects.{EffectCall, a_join, a_hull, silence, some_children, ChosenCall, all_children, numbered_children, ranged_children}
 use Rattle.scad_modules.specs.Transforms.{translate_call, rotate_call, mirror_call, scale_call, multmatrix_call}
 use Rattle.scad_modules.specs.Shapes.{cube_effect, polyhedron_effect, square_effect, polygon_effect, circle_effect, cylinder_effect, extrude_effect}
 
 -- children by one number, by a range, or by a list of numbers
 abbrev pub chosen_in : Val → Option ChosenCall
-chosen_in (NumberVal n) = Some (numbered (n ∷ []))
-chosen_in (RangeVal from by upto) = Some (ranged from by upto)
-chosen_in v = option_map numbered (numbers_in v)
+chosen_in (NumberVal n) = Some (numbered_children (n ∷ []))
+chosen_in (RangeVal from by upto) = Some (ranged_children from by upto)
+chosen_in v = option_map numbered_children (numbers_in v)
 
 -- children(index): all children of the enclosing call, where it is missing
 abbrev pub children_effect : Slots → Answer EffectCall

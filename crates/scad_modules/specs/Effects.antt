@@ -18,8 +18,8 @@ pub data FlatCall : Type 0 where
 -- which children of the enclosing call are wanted: all, those of some numbers in order, or those of a range
 pub data ChosenCall : Type 0 where
   all_children : ChosenCall
-  numbered : (numbers : List ℤ) → ChosenCall
-  ranged : (from by upto : ℤ) → ChosenCall
+  numbered_children : (numbers : List ℤ) → ChosenCall
+  ranged_children : (from by upto : ℤ) → ChosenCall
 
 -- a shape; its children moved by steps, the first done first, joined by an operation, extruded, or their hull; nothing; or
 -- children of the enclosing call

@@ -15,8 +15,8 @@ module_named name = named_in
     ∷ (codes "echo", Echo) ∷ (codes "assert", Assert) ∷ (codes "children", Children) ∷ []) name
 
 -- modules of OpenSCAD that the profile leaves out
-abbrev pub is_left_out : List ℕ → Bool
-is_left_out = is_among
+abbrev pub is_left_out_module : List ℕ → Bool
+is_left_out_module = is_among
     (codes "sphere" ∷ codes "minkowski" ∷ codes "offset" ∷ codes "resize" ∷ codes "projection"
     ∷ codes "text" ∷ codes "surface" ∷ codes "import" ∷ codes "rotate_extrude" ∷ [])
 

@@ -135,8 +135,8 @@ three_rows_from None = None
 three_rows_from (Some rows) = three_rows rows
 
 -- the rows of a matrix
-abbrev pub rows_in : Val → Option (List (List ℤ))
-rows_in v = three_rows_from (points_in 4 v)
+abbrev pub matrix_rows : Val → Option (List (List ℤ))
+matrix_rows v = three_rows_from (points_in 4 v)
 
 -- a row by its place from 0
 abbrev pub row_at : List (List ℤ) → ℕ → List ℤ
@@ -182,7 +182,7 @@ moves_past unit row = is_past (in_steps unit (part row 3))
 abbrev pub multmatrix_call : LengthUnit → Bool → Slots → Answer EffectCall
 multmatrix_call unit inside slots =
     required (slot slots 0) (λ v.
-    of_type (rows_in v) (λ rows.
+    of_type (matrix_rows v) (λ rows.
     refused_where (some_row (some_part is_past_matrix) rows) TooLarge
     (refused_where (is_zero (determinant_of (affine_of rows))) Singular
     (refused_where (leaves_plane_by inside rows) WrongDimension

@@ -15,7 +15,7 @@ use Rattle.scad_modules.specs.declared.effects.Chosen.{Chosen}
 use Rattle.scad_modules.specs.declared.effects.Chosen.TheVariants.{All, Numbered, Range}
 use Rattle.scad_modules.specs.declared.effects.Effect.{Effect}
 use Rattle.scad_modules.specs.declared.effects.Effect.TheVariants.{Solid, Flat, Move, Join, Hull, Extrusion, Nothing, Children}
-use Rattle.scad_modules.specs.Effects.{SolidCall, cube_call, polyhedron_call, cylinder_call, FlatCall, square_call, polygon_call, circle_call, ChosenCall, all_children, numbered, ranged, EffectCall, a_solid, a_flat, a_move, a_join, a_hull, an_extrusion, silence, some_children}
+use Rattle.scad_modules.specs.Effects.{SolidCall, cube_call, polyhedron_call, cylinder_call, FlatCall, square_call, polygon_call, circle_call, ChosenCall, all_children, numbered_children, ranged_children, EffectCall, a_solid, a_flat, a_move, a_join, a_hull, an_extrusion, silence, some_children}
 use Rattle.scad_modules.specs.Bounds.{IsSafeCall}
 
 -- the value of `$fn`
@@ -37,8 +37,8 @@ flat_call_of (Circle radius) = circle_call radius
 -- which children are wanted
 abbrev pub chosen_of : Chosen → ChosenCall
 chosen_of All = all_children
-chosen_of (Numbered numbers) = numbered numbers.items
-chosen_of (Range from by upto) = ranged from by upto
+chosen_of (Numbered numbers) = numbered_children numbers.items
+chosen_of (Range from by upto) = ranged_children from by upto
 
 -- what a call does
 abbrev pub call_of : Effect → EffectCall

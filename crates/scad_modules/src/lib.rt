@@ -11,5 +11,5 @@ mod transforms;
 
 pub use calls::effect;
 pub use effects::{Chosen, Effect, FlatShape, SolidShape};
-pub use name::{builtin_module, is_left_out};
+pub use name::{builtin_module, is_left_out_module};
 pub use table::BuiltinModule;

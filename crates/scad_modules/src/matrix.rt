@@ -7,7 +7,7 @@ ghost use Rattle.scad_value.specs.Values.{vals_from};
 ghost use Rattle.scad_value.specs.View.{val_of, vals_in};
 ghost use Rattle.scad_slots.specs.Reading.{each_in, vector_in};
 ghost use Rattle.scad_slots.specs.View.{slots_in};
-ghost use Rattle.scad_modules.specs.Transforms.{part, row_at, is_zero, some_part, some_row, is_last_row, three_rows_from, rows_in, is_past_matrix, keeps_plane, leaves_plane_by, moves_past, row_on_grid, rows_on_grid, multmatrix_call};
+ghost use Rattle.scad_modules.specs.Transforms.{part, row_at, is_zero, some_part, some_row, is_last_row, three_rows_from, matrix_rows, is_past_matrix, keeps_plane, leaves_plane_by, moves_past, row_on_grid, rows_on_grid, multmatrix_call};
 ghost use Rattle.scad_modules.specs.View.{MeetsEffect, GivesSafe};
 
 use crate::effects::Effect;
@@ -51,7 +51,7 @@ pub(crate) fn multmatrix(
 
 // Three rows of four numbers, or four of which the last is 0 0 0 1.
 fn rows(value: &Value) -> Option<[[i64; 4]; 3]>
-    ensures { result ≡ rows_in (val_of value.now) }
+    ensures { result ≡ matrix_rows (val_of value.now) }
 {
     match value {
         Value::List(values) => rows_of(values.items()),

@@ -1,5 +1,5 @@
 ghost use Rattle.std.specs.Prelude.{◌≡◌};
-ghost use Rattle.scad_modules.specs.Table.{module_named, is_left_out};
+ghost use Rattle.scad_modules.specs.Table.{module_named, is_left_out_module};
 
 use crate::table::BuiltinModule;
 use scad_builtin::{is_among, named_in};
@@ -50,8 +50,8 @@ const LEFT_OUT: [&[u8]; 9] = [
 ];
 
 /// Whether a name is a module of OpenSCAD that the profile leaves out.
-pub fn is_left_out(name: &[u8]) -> bool
-    ensures { result ≡ is_left_out name.now }
+pub fn is_left_out_module(name: &[u8]) -> bool
+    ensures { result ≡ is_left_out_module name.now }
 {
     is_among(&LEFT_OUT, name)
 }

@@ -44,8 +44,8 @@ IsLengthened see before (Err fault) (Ok after) = ⊥
 IsLengthened see before (Err fault) (Err stop) = stop ≡ fault
 
 -- what members give behind others
-abbrev pub in_front : MemberDesigns → Outcome MemberDesigns → Outcome MemberDesigns
-in_front before out = then_with out (λ turns members. Gives turns (and_members before members))
+abbrev pub members_in_front : MemberDesigns → Outcome MemberDesigns → Outcome MemberDesigns
+members_in_front before out = then_with out (λ turns members. Gives turns (and_members before members))
 
 -- a stop of a shape, at a place
 abbrev pub IsStopAt : ShapeStop → Place → Stop → Type 0

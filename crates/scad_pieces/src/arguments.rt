@@ -15,7 +15,7 @@ ghost use Rattle.scad_evaluation.specs.Evaluations.{EvaluatesTo};
 ghost use Rattle.scad_slots.specs.View.{slots_of};
 ghost use Rattle.scad_modules.specs.Bounds.{IsSafeCall};
 ghost use Rattle.scad_modules.specs.Calls.{effect_of};
-ghost use Rattle.scad_modules.specs.Table.{is_left_out};
+ghost use Rattle.scad_modules.specs.Table.{is_left_out_module};
 ghost use Rattle.scad_modules.specs.View.{call_of};
 ghost use Rattle.scad_meaning.specs.Meaning.{arguments_for, each_said};
 ghost use Rattle.scad_pieces.specs.Seen.{MeetsSilence};
@@ -28,7 +28,7 @@ use plane_predicate::Unit;
 use scad_ast::{Arg, Args, Body};
 use scad_evaluation::Evaluation;
 use scad_func::{arguments, evaluate, with};
-use scad_modules::{BuiltinModule, Effect, effect, is_left_out};
+use scad_modules::{BuiltinModule, Effect, effect, is_left_out_module};
 use scad_scope::{ArgumentsSoFar, GivenArguments, Names};
 use scad_value::{BoundedValue, Value, ValueStop};
 use std::alloc::Global;
@@ -139,9 +139,9 @@ fn say<'n, 'b>(
 
 /// The kind of fault of a name that no module has.
 pub fn unknown(name: &[u8]) -> FaultKind
-    ensures { result ≡ if is_left_out name.now then NotInProfile else UnknownModule }
+    ensures { result ≡ if is_left_out_module name.now then NotInProfile else UnknownModule }
 {
-    if is_left_out(name) {
+    if is_left_out_module(name) {
         return FaultKind::NotInProfile;
     }
     FaultKind::UnknownModule

@@ -13,7 +13,7 @@ use Rattle.std.proofs.Common.{Result, Ok, Err}
 use Rattle.scad_scope.specs.Names.{Row, NumberedEnv, NumberedOutermost, NumberedWithin, NumberedCall, no_numbered_call, numbered_call, call_behind, env_behind, or_outer_call, enclosing_call, envs_from, env_of, find_in, or_else, standing_in, variable_in}
 use Rattle.scad_scope.specs.declared.table.ModuleCall.{ModuleCall}
 use Rattle.scad_scope.specs.Table.{numbered_call_of}
-use Rattle.scad_scope.specs.View.{row_of, rows_in, pairs_of, definition_in}
+use Rattle.scad_scope.specs.View.{row_of_scope, rows_in, pairs_of, definition_in}
 
 pub envs_length : (before : List NumberedEnv) (rs : List Row) → length (envs_from before rs) ≡ length before + length
     rs
@@ -97,21 +97,21 @@ rows_length [] = refl
 rows_length (s ∷ ss) = ap suc (rows_length ss)
 
 row_at : (ss : List Scope) (k : ℕ) (s : Scope) → k < length ss → s ≡ get_or ss k s →
-    row_of s ≡ get_or (rows_in ss) k (row_of s)
+    row_of_scope s ≡ get_or (rows_in ss) k (row_of_scope s)
 row_at [] k s h e = absurd (omega arith)
-row_at (t ∷ ss) zero s h e = ap row_of e
+row_at (t ∷ ss) zero s h e = ap row_of_scope e
 row_at (t ∷ ss) (suc k) s h e = row_at ss k s (omega arith) e
 
 pub env_at : (ss : List Scope) (k : ℕ) (s : Scope) → k < length ss → s ≡ get_or ss k s
-    → env_of (rows_in ss) k ≡ NumberedWithin k (row_of s) (call_behind (env_of (rows_in ss)) k (row_of s).call)
+    → env_of (rows_in ss) k ≡ NumberedWithin k (row_of_scope s) (call_behind (env_of (rows_in ss)) k (row_of_scope s).call)
     (cond (nat_lt s.outer k) (env_of (rows_in ss) s.outer) NumberedOutermost)
 unfolding env_of
 env_at ss k s h e =
     let n : 0 + k ≡ k = omega arith in
     let less : k < length (rows_in ss) = omega (arith, rows_length ss) in
-    subst (λ n. Stands (envs_from [] (rows_in ss)) n (row_of s) (get_or (envs_from [] (rows_in ss)) n
+    subst (λ n. Stands (envs_from [] (rows_in ss)) n (row_of_scope s) (get_or (envs_from [] (rows_in ss)) n
     NumberedOutermost)) n
-    (envs_at [] (rows_in ss) k (row_of s) less (row_at ss k s h e))
+    (envs_at [] (rows_in ss) k (row_of_scope s) less (row_at ss k s h e))
 
 module _ (ss : List Scope) (k : ℕ) (s : Scope) (name : List ℕ) (h : k < length ss) (e : s ≡ get_or ss k s)
   where
@@ -126,61 +126,61 @@ module _ (ss : List Scope) (k : ℕ) (s : Scope) (name : List ℕ) (h : k < leng
     unfolding outside
     an_outer l = ap (λ b. cond b (env_of (rows_in ss) s.outer) NumberedOutermost) (lt-ltb s.outer k l)
 
-    here : variable_in (env_of (rows_in ss) k) name ≡ or_else (find_in (row_of s).variables name)
+    here : variable_in (env_of (rows_in ss) k) name ≡ or_else (find_in (row_of_scope s).variables name)
         (variable_in outside name)
     unfolding outside
     here = ap (λ x. variable_in x name) (env_at ss k s h e)
 
-    pub variable_found : (x : Val) → find_in (row_of s).variables name ≡ Some x →
+    pub variable_found : (x : Val) → find_in (row_of_scope s).variables name ≡ Some x →
         variable_in (env_of (rows_in ss) k) name ≡ Some x
     variable_found x f = here ∙ ap (λ o. or_else o (variable_in outside name)) f
 
-    pub variable_none : find_in (row_of s).variables name ≡ None → k ≤ s.outer →
+    pub variable_none : find_in (row_of_scope s).variables name ≡ None → k ≤ s.outer →
         variable_in (env_of (rows_in ss) k) name ≡ None
     variable_none f l = here ∙ ap (λ o. or_else o (variable_in outside name)) f ∙ ap (λ x. variable_in x name)
         (no_outer l)
 
-    pub variable_outer : find_in (row_of s).variables name ≡ None → s.outer < k
+    pub variable_outer : find_in (row_of_scope s).variables name ≡ None → s.outer < k
         → variable_in (env_of (rows_in ss) k) name ≡ variable_in (env_of (rows_in ss) s.outer) name
     variable_outer f l = here ∙ ap (λ o. or_else o (variable_in outside name)) f
         ∙ ap (λ x. variable_in x name)
         (an_outer l)
 
-    within : (family : Family) (call : NumberedCall) (env : NumberedEnv) → definition_in family (NumberedWithin k (row_of s) call env) name
-        ≡ or_else (standing_in (NumberedWithin k (row_of s) call env) (find_in (pairs_of family (row_of s)) name))
+    within : (family : Family) (call : NumberedCall) (env : NumberedEnv) → definition_in family (NumberedWithin k (row_of_scope s) call env) name
+        ≡ or_else (standing_in (NumberedWithin k (row_of_scope s) call env) (find_in (pairs_of family (row_of_scope s)) name))
         (definition_in family env name)
     within Functions call env = refl
     within Modules call env = refl
 
     standing : (family : Family) → definition_in family (env_of (rows_in ss) k) name
-        ≡ or_else (standing_in (env_of (rows_in ss) k) (find_in (pairs_of family (row_of s)) name))
+        ≡ or_else (standing_in (env_of (rows_in ss) k) (find_in (pairs_of family (row_of_scope s)) name))
         (definition_in family outside name)
     unfolding outside
     standing family = subst
         (λ x. definition_in family x name
-        ≡ or_else (standing_in x (find_in (pairs_of family (row_of s)) name))
+        ≡ or_else (standing_in x (find_in (pairs_of family (row_of_scope s)) name))
         (definition_in family outside name))
-        (sym (env_at ss k s h e)) (within family (call_behind (env_of (rows_in ss)) k (row_of s).call) outside)
+        (sym (env_at ss k s h e)) (within family (call_behind (env_of (rows_in ss)) k (row_of_scope s).call) outside)
 
-    pub definition_found : (family : Family) (d : ℕ) → find_in (pairs_of family (row_of s)) name ≡ Some d
+    pub definition_found : (family : Family) (d : ℕ) → find_in (pairs_of family (row_of_scope s)) name ≡ Some d
         → definition_in family (env_of (rows_in ss) k) name ≡ Some (env_of (rows_in ss) k, d)
     definition_found family d f = standing family ∙ ap (λ o. or_else (standing_in (env_of (rows_in ss) k) o)
         (definition_in family outside name)) f
 
     enclosing_here : enclosing_call (env_of (rows_in ss) k)
-        ≡ or_outer_call (call_behind (env_of (rows_in ss)) k (row_of s).call) (enclosing_call outside)
+        ≡ or_outer_call (call_behind (env_of (rows_in ss)) k (row_of_scope s).call) (enclosing_call outside)
     unfolding outside
     enclosing_here = ap enclosing_call (env_at ss k s h e)
 
-    pub call_found : (call : ModuleCall) → call_behind (env_of (rows_in ss)) k (row_of s).call ≡ numbered_call_of (env_of (rows_in ss)) (Some call)
+    pub call_found : (call : ModuleCall) → call_behind (env_of (rows_in ss)) k (row_of_scope s).call ≡ numbered_call_of (env_of (rows_in ss)) (Some call)
         → enclosing_call (env_of (rows_in ss) k) ≡ numbered_call_of (env_of (rows_in ss)) (Some call)
     call_found call f = enclosing_here ∙ ap (λ c. or_outer_call c (enclosing_call outside)) f
 
-    pub call_none : call_behind (env_of (rows_in ss)) k (row_of s).call ≡ no_numbered_call → k ≤ s.outer
+    pub call_none : call_behind (env_of (rows_in ss)) k (row_of_scope s).call ≡ no_numbered_call → k ≤ s.outer
         → enclosing_call (env_of (rows_in ss) k) ≡ no_numbered_call
     call_none f l = enclosing_here ∙ ap (λ c. or_outer_call c (enclosing_call outside)) f ∙ ap enclosing_call (no_outer l)
 
-    pub call_outer : call_behind (env_of (rows_in ss)) k (row_of s).call ≡ no_numbered_call → s.outer < k
+    pub call_outer : call_behind (env_of (rows_in ss)) k (row_of_scope s).call ≡ no_numbered_call → s.outer < k
         → enclosing_call (env_of (rows_in ss) k) ≡ enclosing_call (env_of (rows_in ss) s.outer)
     call_outer f l = enclosing_here ∙ ap (λ c. or_outer_call c (enclosing_call outside)) f ∙ ap enclosing_call (an_outer l)
 
@@ -188,17 +188,17 @@ module _ (ss : List Scope) (k : ℕ) (s : Scope) (name : List ℕ) (h : k < leng
     nowhere Functions = refl
     nowhere Modules = refl
 
-    passed : (family : Family) → find_in (pairs_of family (row_of s)) name ≡ None
+    passed : (family : Family) → find_in (pairs_of family (row_of_scope s)) name ≡ None
         → definition_in family (env_of (rows_in ss) k) name ≡ definition_in family outside name
     passed family f = standing family ∙ ap (λ o. or_else (standing_in (env_of (rows_in ss) k) o)
         (definition_in family outside name)) f
 
-    pub definition_none : (family : Family) → find_in (pairs_of family (row_of s)) name ≡ None → k ≤ s.outer
+    pub definition_none : (family : Family) → find_in (pairs_of family (row_of_scope s)) name ≡ None → k ≤ s.outer
         → definition_in family (env_of (rows_in ss) k) name ≡ None
     definition_none family f l = passed family f ∙ ap (λ x. definition_in family x name) (no_outer l) ∙
         nowhere family
 
-    pub definition_outer : (family : Family) → find_in (pairs_of family (row_of s)) name ≡ None → s.outer < k
+    pub definition_outer : (family : Family) → find_in (pairs_of family (row_of_scope s)) name ≡ None → s.outer < k
         → definition_in family (env_of (rows_in ss) k) name
         ≡ definition_in family (env_of (rows_in ss) s.outer)
         name

@@ -26,8 +26,8 @@ call_seen None = None
 call_seen (Some call) = Some (call.children, call.caller)
 
 -- a scope as its pairs and numbers
-abbrev pub row_of : Scope → Row
-row_of scope = record {
+abbrev pub row_of_scope : Scope → Row
+row_of_scope scope = record {
   variables = variables_of scope.variables;
   functions = newest_first scope.functions;
   modules = newest_first scope.modules;
@@ -37,7 +37,7 @@ row_of scope = record {
 
 -- the scopes of a table in order
 abbrev pub rows_in : List Scope → List Row
-rows_in scopes = map row_of scopes
+rows_in scopes = map row_of_scope scopes
 
 -- the functions or the modules of a scope
 abbrev pub pairs_of : Family → Row → Pairs ℕ

@@ -3,7 +3,7 @@ ghost use Rattle.newest_names.specs.Names.{newest_first};
 ghost use Rattle.scad_scope.specs.Rows.{row_of_block, own_row};
 ghost use Rattle.scad_scope.specs.Names.{empty_row};
 ghost use Rattle.scad_blocks.specs.Tables.{text_held};
-ghost use Rattle.scad_scope.specs.View.{row_of};
+ghost use Rattle.scad_scope.specs.View.{row_of_scope};
 ghost use Rattle.scad_blocks.specs.TextView.{named_of, own_of};
 
 use crate::table::Scope;
@@ -19,7 +19,7 @@ pub(crate) fn scope_of_block(
     blocks: &Blocks<'_>,
     block: u32,
 ) -> Result<Scope, NoMemory>
-    ensures { IfOk result (λ s. row_of s ≡ row_of_block outer (text_held blocks.now) block) }
+    ensures { IfOk result (λ s. row_of_scope s ≡ row_of_block outer (text_held blocks.now) block) }
 {
     if block as usize >= blocks.count() {
         return Ok(empty(alloc, outer));
@@ -29,7 +29,7 @@ pub(crate) fn scope_of_block(
 
 /// A new scope without definitions, inside another one.
 pub(crate) fn empty(alloc: Global, outer: u32) -> Scope
-    ensures { row_of result ≡ empty_row outer }
+    ensures { row_of_scope result ≡ empty_row outer }
 {
     Scope {
         variables: NameList::new(alloc),
@@ -42,7 +42,7 @@ pub(crate) fn empty(alloc: Global, outer: u32) -> Scope
 
 // A new scope with the definitions of a block.
 fn filled(alloc: Global, outer: u32, own: &Own<'_>) -> Result<Scope, NoMemory>
-    ensures { IfOk result (λ s. row_of s ≡ own_row outer (own_of own.now)) }
+    ensures { IfOk result (λ s. row_of_scope s ≡ own_row outer (own_of own.now)) }
 {
     Ok(Scope {
         variables: NameList::new(alloc),

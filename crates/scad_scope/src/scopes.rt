@@ -29,7 +29,7 @@ impl Scopes {
     ghost use Rattle.scad_scope.specs.Rows.{row_of_block};
     ghost use Rattle.scad_blocks.specs.Tables.{text_held, functions_held, modules_held};
     ghost use Rattle.scad_scope.specs.Numbered.{functions_below, modules_below, StaysBelow, StaysNumbered};
-    ghost use Rattle.scad_scope.specs.View.{definition_in, row_of};
+    ghost use Rattle.scad_scope.specs.View.{definition_in, row_of_scope};
     ghost use Rattle.scad_scope.specs.Table.{rows_of, chain_of, numbered_call_of, IsFound, IsMissing, IsVariable, KeepsScopes};
 
     /// One empty scope, number 0, outside all others, and the chain with `$fn` 0, `$fa` 12 and `$fs` 2.
@@ -123,7 +123,7 @@ impl Scopes {
     // One scope more, and its number.
     fn add(&mut self, scope: Scope) -> Result<u32, NoMemory>
         ensures number { IfOk result (λ n. n ≡ length (rows_of self.old)) }
-        ensures added { OnOk result (rows_of self.new ≡ rows_of self.old ++ row_of scope ∷ []) }
+        ensures added { OnOk result (rows_of self.new ≡ rows_of self.old ++ row_of_scope scope ∷ []) }
         ensures unchanged { OnErr result (rows_of self.new ≡ rows_of self.old) }
         ensures chain { chain_of self.new ≡ chain_of self.old }
     {

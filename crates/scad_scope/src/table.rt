@@ -4,7 +4,7 @@ ghost use Rattle.scad_value.specs.Values.{NumberVal, is_bounded};
 ghost use Rattle.scad_value.specs.View.{val_of};
 ghost use Rattle.scad_scope.specs.Names.{find_in, with_variable, NumberedEnv, call_behind, called_row, first_chain};
 ghost use Rattle.scad_scope.specs.Table.{numbered_call_of};
-ghost use Rattle.scad_scope.specs.View.{variables_of, IsValueFound, pairs_of, row_of};
+ghost use Rattle.scad_scope.specs.View.{variables_of, IsValueFound, pairs_of, row_of_scope};
 
 use newest_names::NameList;
 use scad_value::{BoundedValue, Value};
@@ -39,15 +39,15 @@ impl Scope {
         name: Bytes,
         value: BoundedValue,
     ) -> Result<(), NoMemory>
-        ensures bound { OnOk result (row_of self.new ≡ with_variable name (val_of value.value) (row_of self.old)) }
-        ensures unchanged { OnErr result (row_of self.new ≡ row_of self.old) }
+        ensures bound { OnOk result (row_of_scope self.new ≡ with_variable name (val_of value.value) (row_of_scope self.old)) }
+        ensures unchanged { OnErr result (row_of_scope self.new ≡ row_of_scope self.old) }
     {
         self.variables.push(alloc, name, value)
     }
 
     /// The same as the scope of a call.
     pub(crate) fn of_call(self, call: ModuleCall) -> Scope
-        ensures { row_of result ≡ called_row call.children call.caller (row_of self) }
+        ensures { row_of_scope result ≡ called_row call.children call.caller (row_of_scope self) }
     {
         Scope {
             variables: self.variables,
@@ -95,7 +95,7 @@ pub(crate) fn find_definition(definitions: &NameList<u32>, name: &[u8]) -> Optio
 
 /// The definitions of one kind in a scope.
 pub(crate) fn definitions(family: Family, scope: &Scope) -> &NameList<u32>
-    ensures { newest_first result.now ≡ pairs_of family (row_of scope.now) }
+    ensures { newest_first result.now ≡ pairs_of family (row_of_scope scope.now) }
 {
     match family {
         Family::Functions => &scope.functions,
@@ -132,7 +132,7 @@ fn with_number(
 
 /// The call of a scope of this number, where the caller's scope comes before it.
 pub(crate) fn call_before(scope: &Scope, number: u32) -> Option<ModuleCall>
-    ensures told { (look : ℕ → NumberedEnv) → call_behind look number (row_of scope.now).call ≡ numbered_call_of look result }
+    ensures told { (look : ℕ → NumberedEnv) → call_behind look number (row_of_scope scope.now).call ≡ numbered_call_of look result }
     ensures before { IfSome result (λ c. c.caller < number) }
 {
     match scope.call {

@@ -11,7 +11,7 @@ use Rattle.scad_ast.specs.declared.operator.UnaryOp.TheVariants.{Negate, Keep, N
 use Rattle.scad_value.specs.declared.value.Value.{Value}
 use Rattle.scad_value.specs.declared.stop.ValueStop.{ValueStop}
 use Rattle.scad_value.specs.Values.{Val, NumberVal, TextVal, ListVal, Vals, no_vals, and_val, vals_from, count_of, parts_of, parts_in, is_long, is_small, has_small_numbers, have_small_numbers, is_bounded}
-use Rattle.scad_value.specs.Operators.{Answer, and_then, sized, number, made, listed, in_front, if_equal, by_parts, pairs_by_parts, each_part, each_of_parts, sum_row, difference_row, product_row, unless_zero, exact, quotient_row, remainder_row, dot_of, dot_row, product_of, quotient_of, remainder_of, order_of, tested, binary_of, unary_of, item_at, byte_at, index_of}
+use Rattle.scad_value.specs.Operators.{Answer, and_then, sized, number, made, listed, values_in_front, if_equal, by_parts, pairs_by_parts, each_part, each_of_parts, sum_row, difference_row, product_row, unless_zero, exact, quotient_row, remainder_row, dot_of, dot_row, product_of, quotient_of, remainder_of, order_of, tested, binary_of, unary_of, item_at, byte_at, index_of}
 use Rattle.scad_value.specs.View.{MeetsAnswer, GivesBounded}
 
 abbrev pub IsBoundedAnswer : Answer Val → Type 0
@@ -89,7 +89,7 @@ listed_small (Ok vs) s = s
 listed_small (Err kind) s = tt
 
 front_small : (answer : Answer Val) (rest : Answer (List Val)) → HasSmall answer → AllSmall rest
-    → AllSmall (and_then answer (λ x. in_front (x ∷ []) rest))
+    → AllSmall (and_then answer (λ x. values_in_front (x ∷ []) rest))
 front_small (Ok x) (Ok xs) s t = and_from _ _ s t
 front_small (Ok x) (Err kind) s t = tt
 front_small (Err kind) rest s t = tt

@@ -39,9 +39,9 @@ listed (Ok vs) = Ok (ListVal (vals_from vs))
 listed (Err kind) = Err kind
 
 -- values that come before those of an answer
-abbrev pub in_front : List Val → Answer (List Val) → Answer (List Val)
-in_front vs (Ok ws) = Ok (vs ++ ws)
-in_front vs (Err kind) = Err kind
+abbrev pub values_in_front : List Val → Answer (List Val) → Answer (List Val)
+values_in_front vs (Ok ws) = Ok (vs ++ ws)
+values_in_front vs (Err kind) = Err kind
 
 -- what needs two equal lengths
 abbrev pub if_equal : {A : Type 0} → ℕ → ℕ → Answer A → Answer A
@@ -58,7 +58,7 @@ abbrev mutual
   -- the values of two lists of one length, pair by pair
   pub pairs_by_parts : (ℤ → ℤ → Answer ℤ) → Vals → Vals → Answer (List Val)
   pairs_by_parts row (and_val v vs) (and_val w ws) =
-      and_then (by_parts row v w) (λ x. in_front (x ∷ []) (pairs_by_parts row vs ws))
+      and_then (by_parts row v w) (λ x. values_in_front (x ∷ []) (pairs_by_parts row vs ws))
   pairs_by_parts row vs ws = Ok []
 
 -- a number, or each part of a list, from the first on
@@ -72,7 +72,7 @@ abbrev mutual
   pub each_of_parts : (ℤ → Answer ℤ) → Vals → Answer (List Val)
   each_of_parts row no_vals = Ok []
   each_of_parts row (and_val v vs) =
-      and_then (each_part row v) (λ x. in_front (x ∷ []) (each_of_parts row vs))
+      and_then (each_part row v) (λ x. values_in_front (x ∷ []) (each_of_parts row vs))
 
 -- two numbers
 abbrev pub sum_row : ℤ → ℤ → Answer ℤ

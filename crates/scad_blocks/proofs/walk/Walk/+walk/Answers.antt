@@ -5,7 +5,7 @@ use Rattle.scad_ast.specs.declared.statement.Statement.{Statement, size-Statemen
 use Rattle.scad_ast.specs.Terms.{statements_from, no_statements, and_statement, InstanceStatement}
 use Rattle.scad_ast.specs.StatementView.{statements_of, instance_of, body_of}
 use Rattle.scad_blocks.specs.Blocks.{beginnings_in, beginnings_of_body, beginnings_of_instance, OwnDefinitions, own_of_block, NumberedText}
-use Rattle.scad_blocks.specs.Walk.{walked, numbered, after, with_text, own_with}
+use Rattle.scad_blocks.specs.Walk.{walked, count_numbered, with_beginnings, with_text, own_with}
 use Rattle.scad_blocks.specs.TextView.{own_of}
 use Rattle.scad_blocks.proofs.Begun.{numbered_after, numbered_begun, room_here}
 use Rattle.scad_blocks.proofs.Scans.{instance_beginnings}
@@ -17,11 +17,11 @@ single-end-requires t c =
     let w = walked c.args.self.now in
     let i = instance_of c.args.instance.now in
     let s = and_statement (InstanceStatement i) no_statements in
-    let told : walked c.core.new.self ≡ after (with_text w s) (beginnings_of_instance i) =
-    c.in_ok-core.ensures ∙ ap (after (walked c.begin.new.self)) (sym (instance_beginnings c.args.instance.now)) ∙ ap (λ (w : NumberedText). after w (beginnings_of_instance i)) c.in_ok-number.ensures.walked in
+    let told : walked c.core.new.self ≡ with_beginnings (with_text w s) (beginnings_of_instance i) =
+    c.in_ok-core.ensures ∙ ap (with_beginnings (walked c.begin.new.self)) (sym (instance_beginnings c.args.instance.now)) ∙ ap (λ (w : NumberedText). with_beginnings w (beginnings_of_instance i)) c.in_ok-number.ensures.walked in
     record {
       begun = begun_there w (walked c.core.new.self) c.in_ok-number.number s (beginnings_of_instance i) told c.in_ok-number.ensures.number;
-      few = omega (arith, ap numbered told, numbered_after (with_text w s) (beginnings_of_instance i), numbered_begun w s, c.requires);
+      few = omega (arith, ap count_numbered told, numbered_after (with_text w s) (beginnings_of_instance i), numbered_begun w s, c.requires);
     }
 
 pub single-returns : goal.single-returns
@@ -29,18 +29,18 @@ single-returns t c =
     let i = instance_of c.args.instance.now in
     ending (walked c.args.self.now) (walked c.core.new.self) (walked c.end.new.self) c.in_ok-number.number
     (own_of c.new.result) (and_statement (InstanceStatement i) no_statements) (beginnings_of_instance i) c.end.ensures
-    (c.in_ok-core.ensures ∙ ap (after (walked c.begin.new.self)) (sym (instance_beginnings c.args.instance.now)) ∙ ap (λ (w : NumberedText). after w (beginnings_of_instance i)) c.in_ok-number.ensures.walked)
+    (c.in_ok-core.ensures ∙ ap (with_beginnings (walked c.begin.new.self)) (sym (instance_beginnings c.args.instance.now)) ∙ ap (λ (w : NumberedText). with_beginnings w (beginnings_of_instance i)) c.in_ok-number.ensures.walked)
     c.in_ok-number.ensures.number (c.new.ensures ∙ own_single (length (walked c.args.self.now).functions) (length (walked c.args.self.now).modules) i) (single_blocks i)
 
 pub braces-end-requires : goal.braces-end-requires
 braces-end-requires t c =
     let w = walked c.args.self.now in
     let s = statements_from (statements_of c.args.statements.now) in
-    let told : walked c.statements.new.self ≡ after (with_text w s) (beginnings_in s) =
-    c.in_ok-statements.ensures.walked ∙ ap (λ (w : NumberedText). after w (beginnings_in s)) c.in_ok-number.ensures.walked in
+    let told : walked c.statements.new.self ≡ with_beginnings (with_text w s) (beginnings_in s) =
+    c.in_ok-statements.ensures.walked ∙ ap (λ (w : NumberedText). with_beginnings w (beginnings_in s)) c.in_ok-number.ensures.walked in
     record {
       begun = begun_there w (walked c.statements.new.self) c.in_ok-number.number s (beginnings_in s) told c.in_ok-number.ensures.number;
-      few = omega (arith, ap numbered told, numbered_after (with_text w s) (beginnings_in s), numbered_begun w s, c.requires);
+      few = omega (arith, ap count_numbered told, numbered_after (with_text w s) (beginnings_in s), numbered_begun w s, c.requires);
     }
 
 pub braces-returns : goal.braces-returns
@@ -48,7 +48,7 @@ braces-returns t c =
     let s = statements_from (statements_of c.args.statements.now) in
     ending (walked c.args.self.now) (walked c.statements.new.self) (walked c.end.new.self) c.in_ok-number.number
     (own_of c.statements.new.so_far.own) s (beginnings_in s) c.end.ensures
-    (c.in_ok-statements.ensures.walked ∙ ap (λ (w : NumberedText). after w (beginnings_in s)) c.in_ok-number.ensures.walked)
+    (c.in_ok-statements.ensures.walked ∙ ap (λ (w : NumberedText). with_beginnings w (beginnings_in s)) c.in_ok-number.ensures.walked)
     c.in_ok-number.ensures.number
     (c.in_ok-statements.ensures.own
     ∙ ap (λ (o : OwnDefinitions). own_with o (length (walked c.begin.new.self).functions) (length (walked c.begin.new.self).modules) s) c.new-so_far.ensures
@@ -72,7 +72,7 @@ statements-statement-requires t c =
 
 pub two-body-requires-2 : goal.two-body-requires-2
 two-body-requires-2 t c =
-    omega (arith, ap numbered c.in_ok-body.ensures, numbered_after (walked c.args.self.now) (beginnings_of_body (body_of c.args.body.now)), c.requires)
+    omega (arith, ap count_numbered c.in_ok-body.ensures, numbered_after (walked c.args.self.now) (beginnings_of_body (body_of c.args.body.now)), c.requires)
 
 pub statements-each-preserved : goal.statements-each-preserved
 statements-each-preserved t c =

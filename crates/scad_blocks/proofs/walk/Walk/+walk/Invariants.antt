@@ -7,14 +7,14 @@ use Rattle.scad_ast.specs.declared.statement.Body.{size-Body}
 use Rattle.scad_ast.specs.Terms.{statements_from}
 use Rattle.scad_ast.specs.StatementView.{statement_of, statements_of}
 use Rattle.scad_blocks.specs.Blocks.{beginnings_in}
-use Rattle.scad_blocks.specs.Walk.{walked, after, own_with}
+use Rattle.scad_blocks.specs.Walk.{walked, with_beginnings, own_with}
 use Rattle.scad_blocks.specs.TextView.{own_of}
 use Rattle.scad_blocks.proofs.walk.Walk.+walk.Given as goal
 
 abbrev pub invariant-statements-each : goal.invariant-statements-each
 invariant-statements-each l = record {
-  walked_on : after (walked l.self) (beginnings_in (statements_from (map statement_of (drop l.statement-index l.statements.items.items))))
-      ≡ after (walked l.fn.self) (beginnings_in (statements_from (statements_of l.statements)));
+  walked_on : with_beginnings (walked l.self) (beginnings_in (statements_from (map statement_of (drop l.statement-index l.statements.items.items))))
+      ≡ with_beginnings (walked l.fn.self) (beginnings_in (statements_from (statements_of l.statements)));
   owned : own_with (own_of l.so_far.own) (length (walked l.self).functions) (length (walked l.self).modules)
       (statements_from (map statement_of (drop l.statement-index l.statements.items.items)))
       ≡ own_with (own_of l.fn.so_far.own) (length (walked l.fn.self).functions) (length (walked l.fn.self).modules)

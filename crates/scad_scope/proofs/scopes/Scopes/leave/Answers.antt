@@ -7,13 +7,13 @@ use Rattle.scad_scope.specs.Names.{env_of}
 use Rattle.scad_blocks.specs.Numbered.{numbers_below}
 use Rattle.scad_scope.specs.Numbered.{each_row}
 use Rattle.scad_scope.specs.Table.{rows_of}
-use Rattle.scad_scope.specs.View.{row_of, rows_in}
+use Rattle.scad_scope.specs.View.{row_of_scope, rows_in}
 use Rattle.scad_scope.proofs.Envs.{cut_kept}
 use Rattle.scad_scope.proofs.Numbered.{cut_passes}
 use Rattle.scad_scope.proofs.scopes.Scopes.leave.Goals as goal
 
 cut : (ss new : List Scope) (n : ℕ) → new ≡ take n ss → rows_in new ≡ take n (rows_in ss)
-cut ss new n e = ap rows_in e ∙ sym (take-map row_of n ss)
+cut ss new n e = ap rows_in e ∙ sym (take-map row_of_scope n ss)
 
 pub returns-clause-rows : goal.returns-clause-rows
 returns-clause-rows c = cut _ _ c.args.to c.truncate.ensures.items
