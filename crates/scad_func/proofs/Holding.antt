@@ -11,10 +11,7 @@ use Rattle.scad_value.specs.declared.bounded_value.BoundedValue.{BoundedValue}
 use Rattle.scad_value.specs.BoundedView.{bounded_val}
 use Rattle.scad_ast.specs.Terms.{ArgTerms, ArgTerm}
 use Rattle.scad_arguments.specs.Arguments.{positional_after, Taker, to_parameter, to_special, taker_of, with_argument}
-use Rattle.scad_evaluation.specs.Meaning.{Outcome, Gives, Faults, Setting, value_at, then_with, Arguments, each_argument}
-use Rattle.text_place.specs.declared.fault.Place.{Place}
-use Rattle.text_place.specs.declared.fault.FaultKind.TheVariants.{BadArgument}
-use Rattle.scad_arguments.specs.ArgumentsView.{IsFaultAt}
+use Rattle.scad_evaluation.specs.Meaning.{Outcome, Gives, Setting, value_at, then_with, Arguments, each_argument}
 use Rattle.scad_evaluation.specs.Steps.{argument_of}
 use Rattle.scad_evaluation.specs.declared.values.BoundedValues.{BoundedValues}
 use Rattle.scad_evaluation.specs.View.{MeetsOutcome, IsNoMemory, IsOneMore, values_seen, arguments_of}
@@ -138,12 +135,6 @@ argument_stops here names positional start args before turns b a rest taker m n 
 argument_stops here names positional start args before turns b a rest taker m n (Err fault) stop e f t g =
     subst (λ (x : Stop). MeetsOutcome arguments_of (Err x) n start) (sym g)
     (argument_fault here names positional start args before turns b a rest taker m n fault e f t)
-
--- an argument that nothing takes
-pub argument_refused : (stop : Stop) (n : ℕ) (at : Place) (out : Outcome Arguments) → out ≡ Faults BadArgument at
-    → IsFaultAt stop BadArgument at → MeetsOutcome arguments_of (Err stop) n out
-argument_refused (Fault fault) n at out e h = e ∙ ap (λ k. Faults k at) (sym h.0) ∙ ap (Faults fault.kind) (sym h.1)
-argument_refused NoMemory n at out e h = absurd h
 
 taker_length : (given : Arguments) (taker : Taker) (v : Val) → length (with_argument given taker v).slots ≡ length given.slots
 taker_length given (to_parameter k) v = length-set given.slots k (Some v)

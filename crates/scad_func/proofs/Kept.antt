@@ -12,12 +12,12 @@ use Rattle.scad_scope.specs.Table.{rows_of, chain_of}
 use Rattle.scad_arguments.specs.Arguments.{names_of, nothing_given}
 use Rattle.scad_blocks.specs.Blocks.{SourceFunction}
 use Rattle.scad_evaluation.specs.Limits.{most_calls, most_evaluations}
-use Rattle.scad_evaluation.specs.Meaning.{Outcome, Env, Setting, in_scope, with_specials, answered, evaluated, each_argument, function_called, called, visible_function, then_with}
+use Rattle.scad_evaluation.specs.Meaning.{Outcome, Env, Setting, in_scope, with_calls, with_specials, answered, evaluated, each_argument, function_called, called, visible_function, then_with}
 use Rattle.scad_evaluation.specs.declared.source.Source.{Source}
 use Rattle.scad_evaluation.specs.declared.evaluation.Evaluation.{Evaluation}
 use Rattle.scad_evaluation.specs.View.{MeetsOutcome, deepest, env_seen}
 use Rattle.scad_answer.specs.View.{MeetsAnswerAt}
-use Rattle.scad_evaluation.specs.Evaluations.{Keeps, EvaluatesTo, MoreSpecials, OneScopeMore, setting_in, setting_here, env_here, work_left}
+use Rattle.scad_evaluation.specs.Evaluations.{Keeps, EvaluatesTo, OneCallDeeper, MoreSpecials, OneScopeMore, setting_in, setting_here, env_here, work_left}
 use Rattle.scad_evaluation.proofs.Outcomes.{fault_goes, value_goes, meets_answer}
 
 -- where an expression stands, by what it depends on
@@ -29,6 +29,18 @@ setting_by source rows scope depth calls chain = record {
   chain = chain;
 }
 
+-- where an expression of a scope stands, by what is as before, and by the calls and special names that there are
+setting_from : (old new : Evaluation) (scope calls : ℕ) (chain : Pairs Val) → new.source.now ≡ old.source.now
+    → rows_of new.scopes.now ≡ rows_of old.scopes.now → new.depth ≡ old.depth → new.calls ≡ calls → chain_of new.scopes.now ≡ chain
+    → setting_in new scope ≡ setting_by old.source.now (rows_of old.scopes.now) scope old.depth calls chain
+unfolding setting_by
+setting_from old new scope calls chain s r d k c =
+    ap (λ (x : Source). setting_by x (rows_of new.scopes.now) scope new.depth new.calls (chain_of new.scopes.now)) s
+    ∙ ap (λ rows. setting_by old.source.now rows scope new.depth new.calls (chain_of new.scopes.now)) r
+    ∙ ap (λ n. setting_by old.source.now (rows_of old.scopes.now) scope n new.calls (chain_of new.scopes.now)) d
+    ∙ ap (λ n. setting_by old.source.now (rows_of old.scopes.now) scope old.depth n (chain_of new.scopes.now)) k
+    ∙ ap (setting_by old.source.now (rows_of old.scopes.now) scope old.depth calls) c
+
 -- by what is as before
 pub keeps_from : (old new : Evaluation) → new.source.now ≡ old.source.now
     → new.scopes.ghost_name ≡ old.scopes.ghost_name → new.scope ≡ old.scope
@@ -37,12 +49,8 @@ pub keeps_from : (old new : Evaluation) → new.source.now ≡ old.source.now
     → Keeps old new
 unfolding setting_by
 keeps_from old new s l w r c k d =
-    let same : (scope : ℕ) → setting_in new scope ≡ setting_in old scope = λ scope.
-    ap (λ (x : Source). setting_by x (rows_of new.scopes.now) scope new.depth new.calls (chain_of new.scopes.now)) s
-    ∙ ap (λ rows. setting_by old.source.now rows scope new.depth new.calls (chain_of new.scopes.now)) r
-    ∙ ap (λ n. setting_by old.source.now (rows_of old.scopes.now) scope n new.calls (chain_of new.scopes.now)) d
-    ∙ ap (λ n. setting_by old.source.now (rows_of old.scopes.now) scope old.depth n (chain_of new.scopes.now)) k
-    ∙ ap (setting_by old.source.now (rows_of old.scopes.now) scope old.depth old.calls) c in
+    let same : (scope : ℕ) → setting_in new scope ≡ setting_in old scope =
+    λ scope. setting_from old new scope old.calls (chain_of old.scopes.now) s r d k c in
     record {
       source = s;
       lent = l;
@@ -68,7 +76,19 @@ keeps_trans f g = keeps_from _ _ (g.source ∙ f.source) (g.lent ∙ f.lent) (g.
 pub moved : {A : Type 0} (F : Setting → A) {old new : Evaluation} → Keeps old new → F (setting_here old) ≡ F (setting_here new)
 moved F k = ap F (sym k.here)
 
--- where special names were put on the chain, or a scope was entered, behind evaluations that keep all
+-- where a call was begun, special names were put on the chain, or a scope was entered, behind evaluations that keep all
+pub call_kept : (old : Evaluation) {mid new : Evaluation} → OneCallDeeper old mid → Keeps mid new → OneCallDeeper old new
+call_kept old b k = record {
+  source = k.source ∙ b.source;
+  lent = k.lent ∙ b.lent;
+  stands = k.stands ∙ b.stands;
+  rows = k.rows ∙ b.rows;
+  chain = k.chain ∙ b.chain;
+  calls = k.calls ∙ b.calls;
+  depth = k.depth ∙ b.depth;
+  within = b.within;
+}
+
 pub specials_kept : (old : Evaluation) (count : ℕ) {mid new : Evaluation} → MoreSpecials old mid count → Keeps mid new → MoreSpecials old new count
 specials_kept old count b k = record {
   source = k.source ∙ b.source;
@@ -94,17 +114,20 @@ scope_kept old before {mid = mid} {new = new} e k = record {
   depth = k.depth ∙ e.depth;
 }
 
--- where an expression stands with more special names, or in a scope that was entered
+-- where an expression stands with more special names, one call deeper, or in a scope that was entered
 pub specials_setting : (old new : Evaluation) (count : ℕ) (specials : Pairs Val) → MoreSpecials old new count
     → chain_of new.scopes.now ≡ specials ++ chain_of old.scopes.now → setting_here new ≡ with_specials (setting_here old) specials
 unfolding setting_by
 specials_setting old new count specials b e =
-    ap (λ (x : Source). setting_by x (rows_of new.scopes.now) new.scope new.depth new.calls (chain_of new.scopes.now)) b.source
-    ∙ ap (λ rows. setting_by old.source.now rows new.scope new.depth new.calls (chain_of new.scopes.now)) b.rows
-    ∙ ap (λ n. setting_by old.source.now (rows_of old.scopes.now) n new.depth new.calls (chain_of new.scopes.now)) b.stands
-    ∙ ap (λ n. setting_by old.source.now (rows_of old.scopes.now) old.scope n new.calls (chain_of new.scopes.now)) b.depth
-    ∙ ap (λ n. setting_by old.source.now (rows_of old.scopes.now) old.scope old.depth n (chain_of new.scopes.now)) b.calls
-    ∙ ap (setting_by old.source.now (rows_of old.scopes.now) old.scope old.depth old.calls) e
+    ap (λ (n : ℕ). setting_in new n) b.stands
+    ∙ setting_from old new old.scope old.calls (specials ++ chain_of old.scopes.now) b.source b.rows b.depth b.calls e
+
+pub call_setting : (old new : Evaluation) → OneCallDeeper old new
+    → setting_here new ≡ with_calls (setting_here old) (most_calls - (old.calls + 1))
+unfolding setting_by
+call_setting old new b =
+    ap (λ (n : ℕ). setting_in new n) b.stands
+    ∙ setting_from old new old.scope (old.calls + 1) (chain_of old.scopes.now) b.source b.rows b.depth b.calls b.chain
 
 setting_with : ℕ → ℕ → Env → Pairs Val → Setting
 setting_with depth calls env chain = record { deeper = evaluated (most_evaluations - depth); calls = most_calls - calls; env = env; chain = chain }

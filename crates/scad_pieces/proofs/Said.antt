@@ -21,7 +21,7 @@ use Rattle.scad_arguments.specs.declared.parameters.GivenArguments.{GivenArgumen
 use Rattle.scad_evaluation.specs.Meaning.{Outcome, Gives, then_with, or_fault, Setting, value_at, Arguments}
 use Rattle.scad_evaluation.specs.View.{MeetsOutcome, arguments_of}
 use Rattle.scad_evaluation.proofs.GivenSeen.{IsHeld, taker_given, held_seen}
-use Rattle.scad_func.proofs.Holding.{argument_refused}
+use Rattle.scad_evaluation.proofs.Outcomes.{fault_at}
 use Rattle.scad_pieces.specs.Calls.{said_once}
 
 pub special_form : (a : Arg) (at : Place) (name : List ℕ) (value : Expr) → a ≡ Special at name value → arg_of a ≡ SpecialArgTerm at name (term_of value)
@@ -75,5 +75,5 @@ module _ (here : Setting) (a : ArgTerm) (at : Place) (name : List ℕ) (value : 
       → MeetsOutcome arguments_of (Err stop) then (said_once here a (arguments_of g) turns)
   refused stop then e fault =
       subst (λ x. MeetsOutcome arguments_of (Err stop) then (said_once here x (arguments_of g) turns)) (sym is)
-      (argument_refused stop then at (said_once here (SpecialArgTerm at name value) (arguments_of g) turns)
+      (fault_at arguments_of stop then BadArgument at (said_once here (SpecialArgTerm at name value) (arguments_of g) turns)
       (by_taker here at name value (arguments_of g) turns None (taker_same None e)) (subst (λ x. IsFaultAt stop BadArgument (argument_place x)) is fault))

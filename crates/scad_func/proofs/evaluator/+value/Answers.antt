@@ -23,8 +23,8 @@ use Rattle.scad_arguments.specs.ArgumentsView.{given_of, names_in, taker_seen, I
 use Rattle.scad_scope.specs.Names.{find_in, variable_in}
 use Rattle.scad_scope.specs.Table.{chain_of}
 use Rattle.scad_blocks.specs.TextView.{function_of}
-use Rattle.scad_evaluation.specs.Limits.{most_calls, most_evaluations}
-use Rattle.scad_evaluation.specs.Meaning.{Outcome, Gives, Faults, value_at, with_calls, one_call_fewer, turn, each_argument, each_parameter, parameter_value, function_value, operand, each_value, each_suffix, each_link, called, answered, or_fault, or_zero, Setting, Slots, then_with}
+use Rattle.scad_evaluation.specs.Limits.{most_evaluations}
+use Rattle.scad_evaluation.specs.Meaning.{Outcome, Gives, Faults, value_at, with_calls, each_argument, each_parameter, parameter_value, function_value, operand, each_value, each_suffix, each_link, called, answered, or_fault, or_zero, Setting, Slots, Arguments, then_with}
 use Rattle.scad_answer.specs.Answers.{range_of}
 use Rattle.scad_answer.specs.View.{MeetsAnswerAt}
 use Rattle.scad_evaluation.specs.Steps.{all_values, suffixed, linked, with_parameters}
@@ -34,15 +34,17 @@ use Rattle.scad_arguments.specs.declared.parameters.GivenArguments.{GivenArgumen
 use Rattle.scad_arguments.specs.declared.parameters.Names.{Names}
 use Rattle.scad_arguments.specs.declared.so_far.ArgumentsSoFar.{ArgumentsSoFar}
 use Rattle.scad_arguments.specs.declared.parameters.Destination.{Destination}
-use Rattle.scad_evaluation.specs.Evaluations.{EvaluatesTo, MoreSpecials, numbered_env_here, setting_here, work_left}
+use Rattle.scad_evaluation.specs.Evaluations.{EvaluatesTo, OneCallDeeper, MoreSpecials, numbered_env_here, setting_here, work_left}
+use Rattle.scad_evaluation.specs.Transitions.{IsRefusedCall}
 use Rattle.scad_evaluation.specs.declared.source.Source.{Source}
 use Rattle.scad_evaluation.proofs.Outcomes.{meets_along, fault_goes, evaluated_deeper, evaluated_too_deep, value_counted, fault_counted, values_end, terms_here, terms_end, args_here, args_end, values_here, suffixes_here, suffix_step, links_here, step_more, step_fault, name_then, fault_at, link_wants}
+use Rattle.scad_evaluation.proofs.Counting.{call_goes, call_refused}
 use Rattle.scad_evaluation.proofs.Environments.{variable_same}
 use Rattle.scad_evaluation.proofs.Steps.{deep_enough, param_deep, params_here, params_end, slots_here, filled_end, argument_none}
 use Rattle.scad_evaluation.proofs.Forms.{name_form, special_form, count_form, postfix_form, chain_form, choice_form, link_form, member_form, args_form}
-use Rattle.scad_func.proofs.Kept.{stops, goes, answers, keeps_from, keeps_same, keeps_trans, call_found, moved, work_falls, specials_kept, specials_setting}
+use Rattle.scad_func.proofs.Kept.{stops, goes, answers, keeps_from, keeps_same, keeps_trans, call_found, moved, work_falls, call_kept, call_setting, specials_kept, specials_setting}
 use Rattle.scad_evaluation.proofs.GivenSeen.{taker_given, nothing_seen, held_seen}
-use Rattle.scad_func.proofs.Holding.{argument_refused, argument_stops, item_told, item_stops, longer_length, argument_held, if_err_at, if_ok_at, on_ok_at, on_err_at, none_told}
+use Rattle.scad_func.proofs.Holding.{argument_stops, item_told, item_stops, longer_length, argument_held, if_err_at, if_ok_at, on_ok_at, on_err_at, none_told}
 use Rattle.scad_func.proofs.evaluator.+value.Goals as goal
 
 pub evaluate-returns-in_err-value : goal.evaluate-returns-in_err-value
@@ -341,7 +343,7 @@ postfix-returns-in_err-variable t c =
     (λ n. variable_in (numbered_env_here e) n) (sym c.items.ensures)
     ∙ missing.0 in
     record {
-      value = rw (p.1, p.2) (fault_at c.in_err-variable.field-0.0 e.turns UnknownName c.in-Name.place _
+      value = rw (p.1, p.2) (fault_at bounded_val c.in_err-variable.field-0.0 e.turns UnknownName c.in-Name.place _
           (name_then here (term_of c.args.of.now) c.in-Name.place c.in-Name.name e.turns None
           (λ turns v. each_suffix here v (suffixes_from (suffixes_of c.args.rest.now)) turns)
           (ap term_of c.in-Name.is ∙ name_form c.in-Name.place c.in-Name.name) none) missing.1);
@@ -591,7 +593,7 @@ arguments-returns-in_err-held-clause-given t c =
     let refused = if_err_at (λ (s : Stop). (taker_of (names_in c.each.so_far.names) c.each.positional (given_of before) a ≡ None) × IsFaultAt s BadArgument (argument_place a))
     c.destination_for-free.result stop c.in_err-held.ensures.err c.destination_for-free.ensures.none in
     record {
-      value = rw (p.1, p.2) (argument_refused stop _ (argument_place a) _
+      value = rw (p.1, p.2) (fault_at arguments_of stop _ BadArgument (argument_place a) _
           (argument_none here names c.each.positional _ (args_from (map arg_of (drop i xs))) (arguments_of before) c.each.evaluation.turns
           inv.told a rest (args_here xs i x h is)
           (ap (λ (ns : Names). taker_of (names_in ns) c.each.positional (arguments_of before) a) (sym inv.names)
@@ -698,8 +700,8 @@ parameters-each-preserved t c =
       kept = keeps_trans inv.kept g.kept;
     }
 
-pub parameters-returns-clause-values : goal.parameters-returns-clause-values
-parameters-returns-clause-values t c =
+pub parameters-returns : goal.parameters-returns
+parameters-returns t c =
     let xs = c.args.params.now.items.items in
     let i = c.each.i in
     let le : length xs ≤ i = omega (arith, c.each-test.false, ap length c.deref-param-items.ensures.value) in
@@ -707,6 +709,7 @@ parameters-returns-clause-values t c =
       value = filled_end (setting_here c.args.evaluation.now) _ (vals_in c.each.values.items.items)
           (map param_of (drop i xs)) (slots_in (drop i c.each.open.items)) c.each.evaluation.turns
           c.each.invariant.told (params_end xs i le);
+      count = omega (arith, c.each.invariant.got, le, c.each.far-i, ap length c.deref-param-items.ensures.value);
       kept = c.each.invariant.kept;
     }
 
@@ -714,23 +717,59 @@ pub function_call-returns-in_err-given : goal.function_call-returns-in_err-given
 function_call-returns-in_err-given t c =
     let p = err_from_is_err_and c.from_residual.result c.from_residual.ensures.1 in
     let e = c.args.evaluation.now in
-    let here = setting_here e in
+    let begun = c.begin_counted_call-begun in
+    let stop = c.in_err-given.field-0.0 in
     record {
-      value = rw (p.1, p.2) (if_err_at (λ (stop : Stop). (go : ℕ → ℕ → Outcome Val) (n : ℕ) → MeetsOutcome bounded_val (Err stop) n
-          (one_call_fewer (most_calls - e.calls) c.args.place (λ calls. turn c.args.place e.turns (go calls))))
-          c.may_call.result c.in_err-given.field-0.0 c.in_err-given.ensures.err c.may_call.ensures.refused
-          (λ calls turns. function_value (with_calls here calls) (function_of c.args.function) (arguments_of c.args.given) turns)
-          e.turns);
-      kept = keeps_same _;
+      value = rw (p.1, p.2) (call_refused bounded_val e c.args.place stop _
+          (λ calls turns. function_value (with_calls (setting_here e) calls) (function_of c.args.function) (arguments_of c.args.given) turns)
+          (if_err_at (IsRefusedCall e c.args.place) begun.result stop c.in_err-given.ensures.err begun.ensures.refused));
+      kept = on_err_at _ begun.result stop c.in_err-given.ensures.err begun.ensures.kept;
     }
 
 pub function_call-function_value-value-requires : goal.function_call-function_value-value-requires
 function_call-function_value-value-requires t c =
     let e = c.args.evaluation.now in
-    let w = c.in_ok-given.ensures.ok in (
-      omega (arith, work_falls e.source.now e.calls (omega arith), c.requires.within, c.decreases),
+    let begun = c.begin_counted_call-begun in
+    let mid = begun.new.self in
+    let w = c.in_ok-given.ensures.ok in
+    let deeper : OneCallDeeper e mid = on_ok_at _ begun.result _ w.1 begun.ensures.begun in (
+      omega (
+        arith,
+        ap (λ (x : Source). work_left x mid.calls) deeper.source,
+        ap (work_left e.source.now) deeper.calls,
+        work_falls e.source.now e.calls deeper.within,
+        c.requires.within,
+        c.decreases,
+      ),
       subst (λ (given : GivenArguments BoundedValue). length given.slots.items ≡ length c.args.function.params.now.items.items) (sym w.0) c.requires.count,
     )
+
+pub function_call-end_call-requires : goal.function_call-end_call-requires
+function_call-end_call-requires t c =
+    let e = c.args.evaluation.now in
+    let begun = c.begin_counted_call-begun in
+    let deeper : OneCallDeeper e begun.new.self = on_ok_at _ begun.result _ c.in_ok-given.ensures.ok.1 begun.ensures.begun in
+    omega (arith, deeper.calls, c.function_value-value.ensures.kept.calls)
+
+pub function_call-returns : goal.function_call-returns
+function_call-returns t c =
+    let e = c.args.evaluation.now in
+    let f = function_of c.args.function in
+    let begun = c.begin_counted_call-begun in
+    let mid = begun.new.self in
+    let w = c.in_ok-given.ensures.ok in
+    let deeper : OneCallDeeper e mid = on_ok_at _ begun.result _ w.1 begun.ensures.begun in
+    let counted = on_ok_at _ begun.result _ w.1 begun.ensures.counted in
+    let g = c.function_value-value.ensures in
+    let told : Setting → Arguments → ℕ → Outcome Val = λ here given turns. function_value here f given turns in
+    record {
+      value = rw (c.end_call.ensures.turns) (meets_along c.function_value-value.result _ _ _
+          (call_goes c.args.place e.calls e.turns (λ calls turns. told (with_calls (setting_here e) calls) (arguments_of c.args.given) turns) deeper.within counted.0
+          ∙ ap (λ s. told s (arguments_of c.args.given) (e.turns + 1)) (sym (call_setting e mid deeper))
+          ∙ ap (told (setting_here mid) (arguments_of c.args.given)) (sym counted.1)
+          ∙ ap (λ (given : GivenArguments BoundedValue). told (setting_here mid) (arguments_of given) mid.turns) (sym w.0)) g.value);
+      kept = c.end_call.ensures.back e (call_kept e deeper g.kept);
+    }
 
 pub suffix-returns-in-Member : goal.suffix-returns-in-Member
 suffix-returns-in-Member t c =
@@ -750,7 +789,7 @@ function_value-returns-in_err-slots t c =
     let stop = c.in_err-slots.field-0.0 in
     record {
       value = rw (p.1, p.2) (none_told bounded_val stop _ _ (if_err_at IsNoMemory c.begin_specials-begun.result stop c.in_err-slots.ensures.err c.begin_specials-begun.ensures.stop));
-      kept = on_err_at _ c.begin_specials-begun.result stop c.in_err-slots.ensures.err c.begin_specials-begun.ensures.kept;
+      kept = on_err_at _ c.begin_specials-begun.result stop c.in_err-slots.ensures.err c.begin_specials-begun.ensures.begins.kept;
     }
 
 pub function_value-with_defaults-value-requires : goal.function_value-with_defaults-value-requires
@@ -758,7 +797,7 @@ function_value-with_defaults-value-requires t c =
     let e = c.args.evaluation.now in
     let begun = c.begin_specials-begun.new.self in
     let w = c.in_ok-slots.ensures.ok in
-    let begins : MoreSpecials e begun c.in_ok-slots.before = if_ok_at (λ (n : ℕ). MoreSpecials e begun n) c.begin_specials-begun.result _ w.1 c.begin_specials-begun.ensures.begun in (
+    let begins : MoreSpecials e begun c.in_ok-slots.before = if_ok_at (λ (n : ℕ). MoreSpecials e begun n) c.begin_specials-begun.result _ w.1 c.begin_specials-begun.ensures.begins.begun in (
       omega (arith, ap (λ (x : Source). work_left x begun.calls) begins.source, ap (work_left e.source.now) begins.calls, c.decreases),
       ap (λ (v : Vec (Option BoundedValue) Global). length v.items) w.0 ∙ c.requires.count,
     )
@@ -768,8 +807,8 @@ function_value-end_specials-requires t c =
     let e = c.args.evaluation.now in
     let begun = c.begin_specials-begun.new.self in
     let w = c.in_ok-slots.ensures.ok in
-    let begins : MoreSpecials e begun c.in_ok-slots.before = if_ok_at (λ (n : ℕ). MoreSpecials e begun n) c.begin_specials-begun.result _ w.1 c.begin_specials-begun.ensures.begun in
-    let chain = on_ok_at _ c.begin_specials-begun.result _ w.1 c.begin_specials-begun.ensures.chain in
+    let begins : MoreSpecials e begun c.in_ok-slots.before = if_ok_at (λ (n : ℕ). MoreSpecials e begun n) c.begin_specials-begun.result _ w.1 c.begin_specials-begun.ensures.begins.begun in
+    let chain = on_ok_at _ c.begin_specials-begun.result _ w.1 c.begin_specials-begun.ensures.begins.chain in
     omega (
       arith,
       begins.number,
@@ -785,14 +824,14 @@ function_value-returns t c =
     let w = c.in_ok-slots.ensures.ok in
     let before = c.in_ok-slots.before in
     let given = arguments_of c.args.given in
-    let begins : MoreSpecials e begun before = if_ok_at (λ (n : ℕ). MoreSpecials e begun n) c.begin_specials-begun.result _ w.1 c.begin_specials-begun.ensures.begun in
-    let chain : chain_of begun.scopes.now ≡ given.specials ++ chain_of e.scopes.now = on_ok_at _ c.begin_specials-begun.result _ w.1 c.begin_specials-begun.ensures.chain in
+    let begins : MoreSpecials e begun before = if_ok_at (λ (n : ℕ). MoreSpecials e begun n) c.begin_specials-begun.result _ w.1 c.begin_specials-begun.ensures.begins.begun in
+    let chain : chain_of begun.scopes.now ≡ given.specials ++ chain_of e.scopes.now = on_ok_at _ c.begin_specials-begun.result _ w.1 c.begin_specials-begun.ensures.begins.chain in
     let g = c.with_defaults-value.ensures in
     let told : Setting → Slots → ℕ → Outcome Val = λ here slots turns. then_with (each_parameter here f.params slots turns) (λ turns vs. with_parameters here f vs turns) in
     record {
       value = rw (c.end_specials.ensures.turns) (meets_along c.with_defaults-value.result _ _ _
           (ap (λ s. told s given.slots e.turns) (sym (specials_setting e begun before given.specials begins chain))
           ∙ ap (λ (v : Vec (Option BoundedValue) Global). told (setting_here begun) (slots_in v.items) e.turns) (sym w.0)
-          ∙ ap (told (setting_here begun) (slots_in c.in_ok-slots.slots.items)) (sym c.begin_specials-begun.ensures.turns)) g.value);
+          ∙ ap (told (setting_here begun) (slots_in c.in_ok-slots.slots.items)) (sym c.begin_specials-begun.ensures.begins.turns)) g.value);
       kept = c.end_specials.ensures.back e (specials_kept e before begins g.kept);
     }
