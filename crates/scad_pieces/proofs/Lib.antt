@@ -1,2 +1,1 @@
 mod Said
-mod Slots

@@ -1,6 +1,6 @@
 //! The arguments of built-in modules, and their effects.
 
-ghost use Rattle.std.specs.Prelude.{◌≡◌, IfOk, is_some, option_map, codes, if◌then◌else◌};
+ghost use Rattle.std.specs.Prelude.{◌≡◌, IfOk, is_some, codes, if◌then◌else◌};
 ghost use Rattle.text_place.specs.declared.fault.FaultKind.TheVariants.{NotInProfile, UnknownModule};
 ghost use Rattle.scad_ast.specs.Terms.{args_from};
 ghost use Rattle.scad_ast.specs.ExprView.{arg_of, args_of};
@@ -9,10 +9,8 @@ ghost use Rattle.scad_scope.specs.Names.{find_in};
 ghost use Rattle.scad_scope.specs.Table.{chain_of};
 ghost use Rattle.scad_arguments.specs.Arguments.{nothing_given};
 ghost use Rattle.scad_arguments.specs.SoFarView.{only_given};
-ghost use Rattle.scad_value.specs.View.{val_of};
-ghost use Rattle.scad_evaluation.specs.View.{slot_of, slots_in, arguments_of};
+ghost use Rattle.scad_evaluation.specs.View.{slots_in, arguments_of};
 ghost use Rattle.scad_evaluation.specs.Evaluations.{EvaluatesTo};
-ghost use Rattle.scad_slots.specs.View.{slots_of};
 ghost use Rattle.scad_modules.specs.Bounds.{IsSafeCall};
 ghost use Rattle.scad_modules.specs.Calls.{effect_of};
 ghost use Rattle.scad_modules.specs.Table.{is_left_out_module};
@@ -30,9 +28,8 @@ use scad_evaluation::Evaluation;
 use scad_func::{arguments, evaluate, with};
 use scad_modules::{BuiltinModule, Effect, effect, is_left_out_module};
 use scad_scope::{ArgumentsSoFar, GivenArguments, Names};
-use scad_value::{BoundedValue, Value, ValueStop};
-use std::alloc::Global;
-use text_place::{FaultKind, NoMemory, Place, Stop};
+use scad_value::{BoundedValue, ValueStop};
+use text_place::{FaultKind, Place, Stop};
 
 /// The effect of a call of a built-in module, in a unit. Its faults stand at the module's name.
 pub fn effect_of(
@@ -47,7 +44,6 @@ pub fn effect_of(
         (find_in (chain_of evaluation.now.scopes.now) (codes "fn")) built_in (slots_in slots.items)) }
     ensures safe { IfOk result (λ effect. IsSafeCall (call_of effect)) }
 {
-    let slots = slots_alone(evaluation.alloc, slots)?;
     let fragments = match evaluation.scopes.special(b"fn", place) {
         Ok(value) => Some(value),
         Err(_) => None,
@@ -57,30 +53,6 @@ pub fn effect_of(
         Ok(effect) => Ok(effect),
         Err(ValueStop::Kind(kind)) => Err(kind.at(place)),
         Err(ValueStop::NoMemory) => Err(Stop::NoMemory),
-    }
-}
-
-// Slots without the type that keeps their values bounded, as built-in modules read them.
-fn slots_alone(
-    alloc: Global,
-    slots: Vec<Option<BoundedValue>>,
-) -> Result<Vec<Option<Value>>, NoMemory>
-    ensures { IfOk result (λ alone. slots_of alone.items ≡ slots_in slots.items) }
-{
-    let mut alone = Vec::new(alloc);
-    let mut left = slots.into_iter();
-    'each: while let Some(slot) = left.next() {
-        alone.push(slot_alone(slot))?;
-    }
-    Ok(alone)
-}
-
-fn slot_alone(slot: Option<BoundedValue>) -> Option<Value>
-    ensures { option_map val_of result ≡ slot_of slot }
-{
-    match slot {
-        Some(bounded) => Some(bounded.value),
-        None => None,
     }
 }
 
