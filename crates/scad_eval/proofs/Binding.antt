@@ -7,8 +7,6 @@ use Rattle.scad_blocks.specs.Blocks.{Assigned}
 use Rattle.scad_blocks.specs.declared.text.Assignment.{Assignment}
 use Rattle.scad_blocks.specs.TextView.{assigned_of}
 use Rattle.scad_evaluation.specs.Meaning.{Outcome, Gives, Faults, then_with}
-use Rattle.scad_evaluation.specs.Evaluations.{Keeps, EvaluationBegins}
-use Rattle.scad_evaluation.specs.declared.evaluation.Evaluation.{Evaluation}
 use Rattle.scad_meaning.specs.Meaning.{Context, assigned_value, assigned, each_assigned}
 use Rattle.scad_pieces.specs.Seen.{HasOutcome}
 use Rattle.scad_eval.proofs.Outcomes.{along, stop_outcome}
@@ -39,16 +37,3 @@ module _ (start : Outcome Context) (evaluations evaluations_here : ℕ) (here : 
       → HasOutcome see (Err stop) m l (then_with (assigned_value evaluations_here here (assigned_of x) turns) (λ turns v. Gives turns (assigned (assigned_of x) v here)))
       → HasOutcome after (Err stop) n k start
   assigned_stops m l n k t = along next (stop_outcome (λ turns there. each_assigned evaluations there (map assigned_of (drop (i + 1) xs)) turns) t)
-
--- an evaluation that began is still one deeper
-pub begun_kept : {first old new : Evaluation} → EvaluationBegins first old → Keeps old new → EvaluationBegins first new
-begun_kept b k = record {
-  source = k.source ∙ b.source;
-  lent = k.lent ∙ b.lent;
-  stands = k.stands ∙ b.stands;
-  rows = k.rows ∙ b.rows;
-  chain = k.chain ∙ b.chain;
-  calls = k.calls ∙ b.calls;
-  depth = k.depth ∙ b.depth;
-  within = b.within;
-}

@@ -1,133 +1,131 @@
 -- Where instances stand, before and after steps.
-use Rattle.std.proofs.Common.{◌≡◌, ℕ, ◌-◌, List, ◌++◌, take, Option, Result, refl, sym, ap, subst, ◌∙◌, append_assoc}
-use Rattle.text_place.specs.declared.fault.Stop.{Stop}
+use Rattle.std.proofs.Common.{◌≡◌, ℕ, ◌-◌, List, [], ◌++◌, take, false, Option, None, Result, Ok, Err, refl, sym, ap, subst, ◌∙◌, append_assoc}
+use Rattle.std.specs.Prelude.{OnOk}
 use Rattle.plane_predicate.specs.declared.unit.Unit.{Unit as LengthUnit}
 use Rattle.scad_value.specs.Values.{Val}
 use Rattle.scad_scope.specs.Names.{Pairs, Row}
 use Rattle.scad_scope.specs.Table.{rows_of, chain_of}
 use Rattle.scad_evaluation.specs.Limits.{most_calls, most_evaluations}
-use Rattle.scad_evaluation.specs.Meaning.{Env}
-use Rattle.scad_evaluation.specs.View.{seen}
-use Rattle.scad_evaluation.specs.Evaluations.{Keeps, scope_here}
-use Rattle.scad_evaluation.specs.declared.evaluation.Evaluation.{Evaluation}
+use Rattle.scad_evaluation.specs.Meaning.{Env, Setting}
+use Rattle.scad_evaluation.specs.View.{env_seen}
+use Rattle.scad_evaluation.specs.Evaluations.{Keeps, SameSetting, env_here}
 use Rattle.scad_evaluation.specs.declared.source.Source.{Source}
 use Rattle.scad_meaning.specs.declared.extrusion.Extrusion.{Extrusion}
 use Rattle.scad_pieces.specs.declared.position.Position.{Position}
 use Rattle.scad_eval.specs.declared.evaluator.InstanceEvaluator.{InstanceEvaluator}
-use Rattle.scad_meaning.specs.Verdicts.{Judge, IsRight}
-use Rattle.scad_meaning.specs.Meaning.{Context, evaluator_with}
-use Rattle.scad_pieces.specs.Seen.{HasOutcome}
-use Rattle.scad_eval.specs.Keeping.{evaluations_left, evaluator_at, context_at, IsChecked, Stays, Enters, Assigns, Equation, MeetsEquation}
-use Rattle.scad_eval.proofs.Outcomes.{along}
+use Rattle.scad_meaning.specs.Verdicts.{Judge}
+use Rattle.scad_meaning.specs.Meaning.{Context, evaluator_with, inside_scope}
+use Rattle.scad_eval.specs.Keeping.{evaluations_left, evaluator_at, context_at, IsChecked, Stays, Enters, KeepsOlder, Assigns, Equation, meant_at}
+use Rattle.scad_func.proofs.Kept.{keeps_same, keeps_trans, scope_setting}
+
+-- where an instance stands, by where an expression there stands
+abbrev context_by : Setting → Position → Context
+context_by here position = record { calls = here.calls; env = here.env; chain = here.chain; inside = position.inside; under_mark = position.under_mark }
 
 -- where an instance stands, by what it depends on
-abbrev pub context_by : ℕ → Source → List Row → ℕ → Pairs Val → Position → Context
-context_by calls source rows scope chain s = record {
-  calls = most_calls - calls;
-  env = seen source rows scope;
+abbrev context_of : ℕ → Source → List Row → ℕ → Pairs Val → Position → Context
+context_of calls source rows scope chain position = record {
+  calls = calls;
+  env = env_seen source rows scope;
   chain = chain;
-  inside = s.inside;
-  under_mark = s.under_mark;
+  inside = position.inside;
+  under_mark = position.under_mark;
 }
 
-pub context_from : (old new : InstanceEvaluator) (s : Position) → new.evaluation.calls ≡ old.evaluation.calls → new.evaluation.source.now ≡ old.evaluation.source.now
-    → rows_of new.evaluation.scopes.now ≡ rows_of old.evaluation.scopes.now → new.evaluation.scope ≡ old.evaluation.scope
-    → chain_of new.evaluation.scopes.now ≡ chain_of old.evaluation.scopes.now → context_at new s ≡ context_at old s
-context_from old new s calls source rows stands chain =
-    ap (λ n. context_by n new.evaluation.source.now (rows_of new.evaluation.scopes.now) new.evaluation.scope (chain_of new.evaluation.scopes.now) s) calls
-    ∙ ap (λ (x : Source). context_by old.evaluation.calls x (rows_of new.evaluation.scopes.now) new.evaluation.scope (chain_of new.evaluation.scopes.now) s) source
-    ∙ ap (λ l. context_by old.evaluation.calls old.evaluation.source.now l new.evaluation.scope (chain_of new.evaluation.scopes.now) s) rows
-    ∙ ap (λ n. context_by old.evaluation.calls old.evaluation.source.now (rows_of old.evaluation.scopes.now) n (chain_of new.evaluation.scopes.now) s) stands
-    ∙ ap (λ c. context_by old.evaluation.calls old.evaluation.source.now (rows_of old.evaluation.scopes.now) old.evaluation.scope c s) chain
+-- where source and scopes stay
+pub context_from : (old new : InstanceEvaluator) (position : Position) (calls : ℕ) (chain : Pairs Val)
+    → new.evaluation.source.now ≡ old.evaluation.source.now → rows_of new.evaluation.scopes.now ≡ rows_of old.evaluation.scopes.now
+    → new.evaluation.scope ≡ old.evaluation.scope → most_calls - new.evaluation.calls ≡ calls → chain_of new.evaluation.scopes.now ≡ chain
+    → context_at new position ≡ context_of calls old.evaluation.source.now (rows_of old.evaluation.scopes.now) old.evaluation.scope chain position
+context_from old new position calls chain source rows stands left is =
+    ap (λ n. context_of n new.evaluation.source.now (rows_of new.evaluation.scopes.now) new.evaluation.scope (chain_of new.evaluation.scopes.now) position) left
+    ∙ ap (λ (x : Source). context_of calls x (rows_of new.evaluation.scopes.now) new.evaluation.scope (chain_of new.evaluation.scopes.now) position) source
+    ∙ ap (λ l. context_of calls old.evaluation.source.now l new.evaluation.scope (chain_of new.evaluation.scopes.now) position) rows
+    ∙ ap (λ n. context_of calls old.evaluation.source.now (rows_of old.evaluation.scopes.now) n (chain_of new.evaluation.scopes.now) position) stands
+    ∙ ap (λ c. context_of calls old.evaluation.source.now (rows_of old.evaluation.scopes.now) old.evaluation.scope c position) is
 
-pub same_context : (old new : InstanceEvaluator) (s : Position) → Stays old new → context_at new s ≡ context_at old s
-same_context old new s k = context_from old new s k.calls k.source k.rows k.stands k.chain
+pub same_context : (old new : InstanceEvaluator) (position : Position) → Stays old new → context_at new position ≡ context_at old position
+same_context old new position k = ap (λ (here : Setting). context_by here position) k.evaluation.here
 
 pub same_evaluations : (old new : InstanceEvaluator) → Stays old new → evaluations_left new ≡ evaluations_left old
-same_evaluations old new k = ap (λ n. most_evaluations - n) k.depth
+same_evaluations old new k = ap (λ n. most_evaluations - n) k.evaluation.depth
 
+-- all that stays, step by step
 pub stays_same : (m : InstanceEvaluator) → Stays m m
-stays_same m = record { unit = refl; source = refl; lent = refl; stands = refl; rows = refl; chain = refl; calls = refl; depth = refl }
+stays_same m = record { unit = refl; evaluation = keeps_same m.evaluation }
 
--- two evaluators of one evaluation
-pub stays_alike : (a b : InstanceEvaluator) → b.unit ≡ a.unit → b.evaluation ≡ a.evaluation → Stays a b
-stays_alike a b u e = record {
-  unit = u;
-  source = ap (λ (x : Evaluation). x.source.now) e;
-  lent = ap (λ (x : Evaluation). x.scopes.ghost_name) e;
-  stands = ap (λ (x : Evaluation). x.scope) e;
-  rows = ap (λ (x : Evaluation). rows_of x.scopes.now) e;
-  chain = ap (λ (x : Evaluation). chain_of x.scopes.now) e;
-  calls = ap (λ (x : Evaluation). x.calls) e;
-  depth = ap (λ (x : Evaluation). x.depth) e;
-}
+pub stays_kept : (old new : InstanceEvaluator) → new.unit ≡ old.unit → Keeps old.evaluation new.evaluation → Stays old new
+stays_kept old new unit kept = record { unit = unit; evaluation = kept }
 
 pub stays_then : {a b c : InstanceEvaluator} → Stays a b → Stays b c → Stays a c
-stays_then f g = record {
-  unit = g.unit ∙ f.unit;
+stays_then f g = record { unit = g.unit ∙ f.unit; evaluation = keeps_trans f.evaluation g.evaluation }
+
+pub stays_after : {A E : Type 0} (a b c : InstanceEvaluator) (r : Result A E) → Stays a b → OnOk r (Stays b c) → OnOk r (Stays a c)
+stays_after a b c (Ok x) f g = stays_then f g
+stays_after a b c (Err stop) f g = tt
+
+pub stays_told : {A E : Type 0} {a b : InstanceEvaluator} (r : Result A E) → Stays a b → OnOk r (Stays a b)
+stays_told (Ok x) k = k
+stays_told (Err stop) k = tt
+
+-- a position that is any other as well, for what is said of every position
+pub some_position : Position
+some_position = record { inside = None; under_mark = false }
+
+-- an extrusion with nothing wrong still has nothing wrong
+pub checked_still : (a b : LengthUnit) (through : Option Extrusion) → b ≡ a → IsChecked a through → IsChecked b through
+checked_still a b through e h = subst (λ (u : LengthUnit). IsChecked u through) (sym e) h
+
+-- what is meant by the same evaluator in the same context
+pub meant_by : {B : Type 0} (meaning : Equation B) (judge : Judge) (mid : InstanceEvaluator) (position : Position) (unit : LengthUnit) (evaluations : ℕ)
+    (here : Context) → mid.unit ≡ unit → evaluations_left mid ≡ evaluations → context_at mid position ≡ here
+    → meaning (evaluator_with unit judge evaluations) here mid.evaluation.turns mid.leaves ≡ meant_at mid position judge meaning
+meant_by meaning judge mid position unit evaluations here a b c =
+    ap (λ (x : LengthUnit). meaning (evaluator_with x judge evaluations) here mid.evaluation.turns mid.leaves) (sym a)
+    ∙ ap (λ n. meaning (evaluator_with mid.unit judge n) here mid.evaluation.turns mid.leaves) (sym b)
+    ∙ ap (λ x. meaning (evaluator_at mid judge) x mid.evaluation.turns mid.leaves) (sym c)
+
+-- what is meant behind steps that keep all but turns and leaves
+pub meant_after : {B : Type 0} (meaning : Equation B) (judge : Judge) {old mid : InstanceEvaluator} (position : Position) → Stays old mid
+    → meaning (evaluator_at old judge) (context_at old position) mid.evaluation.turns mid.leaves ≡ meant_at mid position judge meaning
+meant_after meaning judge {old = old} {mid = mid} position k =
+    meant_by meaning judge mid position old.unit (evaluations_left old) (context_at old position) k.unit (same_evaluations old mid k) (same_context old mid position k)
+
+-- a stand in a scope that was entered
+pub entered_context : (old new : InstanceEvaluator) (position : Position) (before : ℕ) (env : Env) → Enters old new before
+    → env_here new.evaluation ≡ env → context_at new position ≡ inside_scope (context_at old position) env
+entered_context old new position before env e is = ap (λ (here : Setting). context_by here position) (scope_setting old.evaluation new.evaluation before env e.evaluation is)
+
+-- assignments, one behind another
+same_then : (a b c : InstanceEvaluator) → SameSetting a.evaluation b.evaluation → SameSetting b.evaluation c.evaluation → SameSetting a.evaluation c.evaluation
+same_then a b c f g = record {
   source = g.source ∙ f.source;
   lent = g.lent ∙ f.lent;
   stands = g.stands ∙ f.stands;
-  rows = g.rows ∙ f.rows;
-  chain = g.chain ∙ f.chain;
   calls = g.calls ∙ f.calls;
   depth = g.depth ∙ f.depth;
 }
 
--- what an evaluation keeps, where the unit stays
-pub stays_kept : (old new : InstanceEvaluator) → new.unit ≡ old.unit → Keeps old.evaluation new.evaluation → Stays old new
-stays_kept old new u k = record { unit = u; source = k.source; lent = k.lent; stands = k.stands; rows = k.rows; chain = k.chain; calls = k.calls; depth = k.depth }
-
--- a stand is still there
-pub checked_still : (a b : LengthUnit) (o : Option Extrusion) → b ≡ a → IsChecked a o → IsChecked b o
-checked_still a b o e h = subst (λ (u : LengthUnit). IsChecked u o) (sym e) h
-
--- what is said from where a step left
-moved : {B : Type 0} (equation : Equation B) (judge : Judge) (u v : LengthUnit) (l m : ℕ) (here there : Context) (turns leaves : ℕ)
-    → v ≡ u → m ≡ l → there ≡ here
-    → equation (evaluator_with v judge m) there turns leaves ≡ equation (evaluator_with u judge l) here turns leaves
-moved equation judge u v l m here there turns leaves a b c =
-    ap (λ (x : LengthUnit). equation (evaluator_with x judge m) there turns leaves) a
-    ∙ ap (λ n. equation (evaluator_with u judge n) there turns leaves) b
-    ∙ ap (λ x. equation (evaluator_with u judge l) x turns leaves) c
-
--- from a stand that an equation changes
-pub meets_at : {A B : Type 0} {see : ℕ → A → B} {mid new : InstanceEvaluator} {s : Position} {r : Result A Stop} {equation : Equation B}
-    (u : LengthUnit) (evaluations : ℕ) (here : Context) → mid.unit ≡ u → evaluations_left mid ≡ evaluations → context_at mid s ≡ here
-    → MeetsEquation see mid new s r equation → (judge : Judge) → IsRight judge
-    → HasOutcome see r new.evaluation.turns new.leaves (equation (evaluator_with u judge evaluations) here mid.evaluation.turns mid.leaves)
-meets_at {mid = mid} {s = s} {equation = equation} u evaluations here a b c h judge right =
-    along (sym (moved equation judge u mid.unit evaluations (evaluations_left mid) here (context_at mid s) mid.evaluation.turns mid.leaves a b c)) (h.by judge right)
-
--- from the same stand
-pub meets_after : {A B : Type 0} {see : ℕ → A → B} {old mid new : InstanceEvaluator} {s : Position} {r : Result A Stop} {equation : Equation B}
-    → Stays old mid → MeetsEquation see mid new s r equation → (judge : Judge) → IsRight judge
-    → HasOutcome see r new.evaluation.turns new.leaves
-    (equation (evaluator_at old judge) (context_at old s) mid.evaluation.turns mid.leaves)
-meets_after {old = old} {mid = mid} {s = s} k h judge right =
-    meets_at old.unit (evaluations_left old) (context_at old s) k.unit (same_evaluations old mid k) (same_context old mid s k) h judge right
-
--- a stand in a scope that was entered
-pub entered_context : (old new : InstanceEvaluator) (s : Position) (before : ℕ) (env : Env) → Enters old new before
-    → scope_here new.evaluation ≡ env
-    → context_at new s ≡ record { calls = most_calls - old.evaluation.calls; env = env; chain = chain_of old.evaluation.scopes.now; inside = s.inside; under_mark = s.under_mark }
-entered_context old new s before env e is =
-    ap (λ n. record { calls = most_calls - n; env = scope_here new.evaluation; chain = chain_of new.evaluation.scopes.now; inside = s.inside; under_mark = s.under_mark }) e.evaluation.calls
-    ∙ ap (λ (x : Env). record { calls = most_calls - old.evaluation.calls; env = x; chain = chain_of new.evaluation.scopes.now; inside = s.inside; under_mark = s.under_mark }) is
-    ∙ ap (λ (c : Pairs Val). record { calls = most_calls - old.evaluation.calls; env = env; chain = c; inside = s.inside; under_mark = s.under_mark }) e.evaluation.chain
-
--- assignments, one behind another
-pub assigns_then : {a b c : InstanceEvaluator} → Assigns a b → Assigns b c → Assigns a c
-assigns_then {a = a} {b = b} {c = c} f g = record {
+older_then : {a b c : InstanceEvaluator} → KeepsOlder a b → KeepsOlder b c → KeepsOlder a c
+older_then {a = a} {b = b} {c = c} f g = record {
   unit = g.unit ∙ f.unit;
-  source = g.source ∙ f.source;
-  lent = g.lent ∙ f.lent;
-  stands = g.stands ∙ f.stands;
-  leaves = g.leaves ∙ f.leaves;
-  front = ap (λ n. take n (rows_of c.evaluation.scopes.now)) (sym f.stands) ∙ g.front ∙ ap (λ n. take n (rows_of b.evaluation.scopes.now)) f.stands ∙ f.front;
+  same = same_then a b c f.same g.same;
+  front = ap (λ n. take n (rows_of c.evaluation.scopes.now)) (sym f.same.stands) ∙ g.front ∙ ap (λ n. take n (rows_of b.evaluation.scopes.now)) f.same.stands ∙ f.front;
   there = g.there ∙ f.there;
+}
+
+pub assigns_same : (m : InstanceEvaluator) → Assigns m m
+assigns_same m = record {
+  older = record { unit = refl; same = record { source = refl; lent = refl; stands = refl; calls = refl; depth = refl }; front = refl; there = refl };
+  leaves = refl;
+  newer = [];
+  chain = refl;
+}
+
+pub assigns_then : {a b c : InstanceEvaluator} → Assigns a b → Assigns b c → Assigns a c
+assigns_then {a = a} f g = record {
+  older = older_then f.older g.older;
+  leaves = g.leaves ∙ f.leaves;
   newer = g.newer ++ f.newer;
   chain = g.chain ∙ ap (λ l. g.newer ++ l) f.chain ∙ sym (append_assoc g.newer f.newer (chain_of a.evaluation.scopes.now));
-  calls = g.calls ∙ f.calls;
-  depth = g.depth ∙ f.depth;
 }

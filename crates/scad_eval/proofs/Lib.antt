@@ -3,6 +3,7 @@ mod Evaluating
 mod Leaving
 mod Membership
 mod Outcomes
+mod Told
 mod Contexts
 mod Beginning
 mod Standing

@@ -8,17 +8,17 @@ use Rattle.scad_evaluation.specs.Meaning.{Outcome, Gives, Faults, Env, then_with
 use Rattle.scad_pieces.specs.declared.position.InstanceResult.{InstanceResult}
 use Rattle.scad_instances.specs.declared.numbered.NumberedInstance.{NumberedInstance}
 use Rattle.scad_meaning.specs.Bodies.{says_only, is_child}
-use Rattle.scad_meaning.specs.Meaning.{InstanceDesign, MemberDesigns, as_member, and_members, core_of}
+use Rattle.scad_meaning.specs.Meaning.{InstanceDesign, MemberDesigns, as_member, and_members, core_of_instance}
 use Rattle.scad_instances.specs.Positions.{term_of_numbered}
 use Rattle.scad_evaluation.specs.View.{MeetsOutcome}
-use Rattle.scad_pieces.specs.Seen.{HasOutcome, instance_design_of, one_member_of, in_front}
+use Rattle.scad_pieces.specs.Seen.{HasOutcome, instance_design_of, one_member_of, members_in_front}
 
 flipped : (b : Bool) → (if b then false else true) ≡ not b
 flipped true = refl
 flipped false = refl
 
 -- what is a child is a member
-pub child_is_member : (env : Env) (i : InstanceTerm) → (if says_only env (core_of i) then false else true) ≡ is_child env i
+pub child_is_member : (env : Env) (i : InstanceTerm) → (if says_only env (core_of_instance i) then false else true) ≡ is_child env i
 child_is_member env (AnInstance at marks core) = flipped (says_only env core)
 
 -- an instance's design, as a member
@@ -34,7 +34,7 @@ as_member_outcome b {r = r} {m = m} {l = l} {out = out} h = record { is = as_mem
 
 pub member_step : (b : Bool) (out : Outcome InstanceDesign) (go : ℕ → ℕ → Outcome MemberDesigns)
     → then_with out (λ turns m. then_with (go turns m.leaves) (λ turns ms. Gives turns (and_members (as_member b m) ms)))
-    ≡ then_with (then_with out (λ turns m. Gives turns (as_member b m))) (λ turns ms. in_front ms (go turns ms.leaves))
+    ≡ then_with (then_with out (λ turns m. Gives turns (as_member b m))) (λ turns ms. members_in_front ms (go turns ms.leaves))
 member_step b (Gives turns m) go = refl
 member_step b (Faults kind at) go = refl
 

@@ -2,12 +2,12 @@
 use Rattle.std.proofs.Common.{◌≡◌, ℕ, List, ◌++◌, Option, Some, None, Result, Ok, Err, refl, sym, ap, subst, ◌∙◌, append_assoc}
 use Rattle.text_place.specs.declared.fault.Stop.{Stop}
 use Rattle.text_place.specs.declared.fault.Stop.TheVariants.{Fault, NoMemory}
-use Rattle.scad_design.specs.Designs.{Design}
+use Rattle.scad_design.specs.Designs.{DesignTree}
 use Rattle.scad_evaluation.specs.Meaning.{Outcome, Gives, Faults, then_with}
 use Rattle.scad_evaluation.specs.View.{MeetsOutcome, IsNoMemory}
 use Rattle.scad_pieces.specs.declared.position.MemberResults.{MemberResults}
 use Rattle.scad_meaning.specs.Meaning.{MemberDesigns, no_members, and_members, first_marked}
-use Rattle.scad_pieces.specs.Seen.{HasOutcome, member_designs_of, IsLengthened, in_front}
+use Rattle.scad_pieces.specs.Seen.{HasOutcome, member_designs_of, IsLengthened, members_in_front}
 
 -- what was told of an outcome is told of an equal one
 pub along : {A B : Type 0} {see : ℕ → A → B} {r : Result A Stop} {turns leaves : ℕ} {a b : Outcome B}
@@ -46,45 +46,45 @@ pub told_outcome : {A B : Type 0} (see : A → B) (r : Result A Stop) (turns lea
 told_outcome see r turns leaves out h = record { is = h }
 
 -- members
-first_of_three : (a b c : Option Design) → first_marked (first_marked a b) c ≡ first_marked a (first_marked b c)
+first_of_three : (a b c : Option DesignTree) → first_marked (first_marked a b) c ≡ first_marked a (first_marked b c)
 first_of_three None b c = refl
 first_of_three (Some d) b c = refl
 
 and_three : (a b c : MemberDesigns) → and_members (and_members a b) c ≡ and_members a (and_members b c)
 and_three a b c =
-    ap (λ (ds : List Design). record { leaves = c.leaves; designs = ds; marked = first_marked (first_marked a.marked b.marked) c.marked })
+    ap (λ (ds : List DesignTree). record { leaves = c.leaves; designs = ds; marked = first_marked (first_marked a.marked b.marked) c.marked })
     (append_assoc a.designs b.designs c.designs)
-    ∙ ap (λ (m : Option Design). record { leaves = c.leaves; designs = a.designs ++ (b.designs ++ c.designs); marked = m })
+    ∙ ap (λ (m : Option DesignTree). record { leaves = c.leaves; designs = a.designs ++ (b.designs ++ c.designs); marked = m })
     (first_of_three a.marked b.marked c.marked)
 
-pub front_of_none : (leaves : ℕ) (out : Outcome MemberDesigns) → in_front (no_members leaves) out ≡ out
+pub front_of_none : (leaves : ℕ) (out : Outcome MemberDesigns) → members_in_front (no_members leaves) out ≡ out
 front_of_none leaves (Gives turns ms) = refl
 front_of_none leaves (Faults kind at) = refl
 
-front_twice : (before more : MemberDesigns) (out : Outcome MemberDesigns) → in_front before (in_front more out) ≡ in_front (and_members before more) out
+front_twice : (before more : MemberDesigns) (out : Outcome MemberDesigns) → members_in_front before (members_in_front more out) ≡ members_in_front (and_members before more) out
 front_twice before more (Gives turns ms) = ap (Gives turns) (sym (and_three before more ms))
 front_twice before more (Faults kind at) = refl
 
 -- a loop that lengthens members: one step more
 module _ {A : Type 0} (see : ℕ → A → MemberDesigns) (counts : (leaves : ℕ) (x : A) → (see leaves x).leaves ≡ leaves)
     (start : Outcome MemberDesigns) (before : MemberResults) (first : ℕ) (now step : Outcome MemberDesigns) (go : ℕ → ℕ → Outcome MemberDesigns)
-    (s : start ≡ in_front (member_designs_of first before) now) (h : now ≡ then_with step (λ turns ms. in_front ms (go turns ms.leaves))) where
+    (s : start ≡ members_in_front (member_designs_of first before) now) (h : now ≡ then_with step (λ turns ms. members_in_front ms (go turns ms.leaves))) where
   gone : (turns leaves : ℕ) (x : A) (out : Outcome MemberDesigns) → out ≡ Gives turns (see leaves x)
-      → then_with out (λ turns ms. in_front ms (go turns ms.leaves)) ≡ in_front (see leaves x) (go turns leaves)
-  gone turns leaves x out e = ap (λ o. then_with o (λ turns ms. in_front ms (go turns ms.leaves))) e
-      ∙ ap (λ n. in_front (see leaves x) (go turns n)) (counts leaves x)
+      → then_with out (λ turns ms. members_in_front ms (go turns ms.leaves)) ≡ members_in_front (see leaves x) (go turns leaves)
+  gone turns leaves x out e = ap (λ o. then_with o (λ turns ms. members_in_front ms (go turns ms.leaves))) e
+      ∙ ap (λ n. members_in_front (see leaves x) (go turns n)) (counts leaves x)
 
   pub lengthened : (r : Result A Stop) (after : MemberResults) (turns leaves : ℕ) → IsLengthened see before r (Ok after)
-      → HasOutcome see r turns leaves step → start ≡ in_front (member_designs_of leaves after) (go turns leaves)
+      → HasOutcome see r turns leaves step → start ≡ members_in_front (member_designs_of leaves after) (go turns leaves)
   lengthened (Ok x) after turns leaves l t =
-      s ∙ ap (in_front (member_designs_of first before)) (h ∙ gone turns leaves x step t.is)
+      s ∙ ap (members_in_front (member_designs_of first before)) (h ∙ gone turns leaves x step t.is)
       ∙ front_twice (member_designs_of first before) (see leaves x) (go turns leaves)
-      ∙ ap (λ ms. in_front ms (go turns leaves)) (sym (l first leaves))
+      ∙ ap (λ ms. members_in_front ms (go turns leaves)) (sym (l first leaves))
   lengthened (Err stop) after turns leaves l t = absurd l
 
   stopped : (f : Stop) (m l n k : ℕ) → MeetsOutcome (see l) (Err f) m step → MeetsOutcome (member_designs_of k) (Err f) n start
   stopped (Fault fault) m l n k t =
-      s ∙ ap (in_front (member_designs_of first before)) (h ∙ ap (λ o. then_with o (λ turns ms. in_front ms (go turns ms.leaves))) t)
+      s ∙ ap (members_in_front (member_designs_of first before)) (h ∙ ap (λ o. then_with o (λ turns ms. members_in_front ms (go turns ms.leaves))) t)
   stopped NoMemory m l n k t = tt
 
   pub lengthening_stops : (r : Result A Stop) (stop : Stop) (m l n k : ℕ) → IsLengthened see before r (Err stop)
@@ -93,7 +93,8 @@ module _ {A : Type 0} (see : ℕ → A → MemberDesigns) (counts : (leaves : �
   lengthening_stops (Err f) stop m l n k e t =
       subst (λ (x : Stop). HasOutcome member_designs_of (Err x) n k start) (sym e) (record { is = stopped f m l n k t.is })
 
--- the same told with an equal number of turns
-pub outcome_with : {A B : Type 0} {see : ℕ → A → B} {r : Result A Stop} {m n leaves : ℕ} {out : Outcome B}
-    → m ≡ n → HasOutcome see r n leaves out → HasOutcome see r m leaves out
-outcome_with {see = see} {r = r} {leaves = leaves} {out = out} e h = subst (λ k. HasOutcome see r k leaves out) (sym e) h
+-- the same told with equal numbers of turns and leaves
+pub outcome_with : {A B : Type 0} {see : ℕ → A → B} {r : Result A Stop} {m n k l : ℕ} {out : Outcome B}
+    → m ≡ n → k ≡ l → HasOutcome see r n l out → HasOutcome see r m k out
+outcome_with {see = see} {r = r} {m = m} {l = l} {out = out} e f h =
+    subst (λ k. HasOutcome see r m k out) (sym f) (subst (λ n. HasOutcome see r n l out) (sym e) h)

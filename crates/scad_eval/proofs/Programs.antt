@@ -15,22 +15,22 @@ use Rattle.scad_scope.specs.Table.{rows_of, chain_of}
 use Rattle.scad_blocks.specs.Blocks.{NumberedText, numbered_text}
 use Rattle.scad_evaluation.specs.Limits.{most_calls, most_evaluations}
 use Rattle.scad_evaluation.specs.Meaning.{Outcome, Gives, then_with, Env, Within, Outermost, no_call, entered_scope}
-use Rattle.scad_evaluation.specs.View.{seen, source_text}
+use Rattle.scad_evaluation.specs.View.{env_seen, source_text}
 use Rattle.scad_evaluation.specs.Definitions.{statements_at, block_scope, IsWhole}
-use Rattle.scad_evaluation.specs.Evaluations.{ScopeEnters, scope_here}
+use Rattle.scad_evaluation.specs.Evaluations.{OneScopeMore, env_here}
 use Rattle.scad_evaluation.specs.declared.source.Source.{Source}
 use Rattle.scad_evaluation.specs.declared.evaluation.Evaluation.{Evaluation}
-use Rattle.scad_design.specs.Designs.{Design}
+use Rattle.scad_design.specs.Designs.{DesignTree}
 use Rattle.scad_design.specs.Trees.{IsPlacedAs, IsStopOf}
 use Rattle.scad_design.specs.View.{plain_of}
-use Rattle.scad_design.specs.declared.design.Design.{Design as DesignIn}
+use Rattle.scad_design.specs.declared.design.Design.{Design}
 use Rattle.scad_pieces.specs.declared.position.Position.{Position}
 use Rattle.scad_pieces.specs.declared.position.MemberResults.{MemberResults}
 use Rattle.scad_eval.specs.declared.evaluator.InstanceEvaluator.{InstanceEvaluator}
 use Rattle.scad_meaning.specs.Verdicts.{Judge, IsRight}
 use Rattle.scad_meaning.specs.Meaning.{Context, evaluator_with, each_in_scope, program_context, or_all, design_of, block_members}
 use Rattle.scad_pieces.specs.Seen.{HasOutcome, member_designs_of}
-use Rattle.scad_eval.specs.Keeping.{context_at, MeetsEquation}
+use Rattle.scad_eval.specs.Keeping.{context_at, EvaluatesKeeping}
 use Rattle.scad_meaning.specs.Sources.{a_tree, a_fault, IsMeaning, IsMeaningOfDesign, IsMeaningStop, HoldsFault}
 use Rattle.scad_meaning.proofs.ProgramPlaces.{stop_held}
 use Rattle.scad_eval.specs.Programs.{MeetsDesign}
@@ -38,49 +38,49 @@ use Rattle.scad_eval.proofs.Evaluating.{tree_meant, placing_stops}
 use Rattle.scad_eval.proofs.Outcomes.{along, stop_outcome}
 
 -- the scope outside all others
-first_env : (source : Source) (rows : List Row) → rows ≡ first_row ∷ [] → seen source rows 0 ≡ Within [] [] [] no_call Outermost
+first_env : (source : Source) (rows : List Row) → rows ≡ first_row ∷ [] → env_seen source rows 0 ≡ Within [] [] [] no_call Outermost
 unfolding env_of
-first_env source rows e = ap (λ l. seen source l 0) e
+first_env source rows e = ap (λ l. env_seen source l 0) e
 
 -- the scope of a program's block
 program_scope : (source : Source) (rows : List Row) (program : List StatementTerm) (env : Env) → IsWhole (source_text source)
     → source_text source ≡ numbered_text program → rows ≡ first_row ∷ []
-    → env ≡ block_scope (source_text source) 0 no_call (seen source rows 0)
+    → env ≡ block_scope (source_text source) 0 no_call (env_seen source rows 0)
     → env ≡ entered_scope (statements_from program) no_call (Within [] [] [] no_call Outermost)
 program_scope source rows program env whole text first is =
-    is ∙ whole.scopes 0 no_call (seen source rows 0)
-    ∙ ap (λ (t : NumberedText). entered_scope (statements_at t 0) no_call (seen source rows 0)) text
+    is ∙ whole.scopes 0 no_call (env_seen source rows 0)
+    ∙ ap (λ (t : NumberedText). entered_scope (statements_at t 0) no_call (env_seen source rows 0)) text
     ∙ ap (λ (outer : Env). entered_scope (statements_from program) no_call outer) (first_env source rows first)
 
 abbrev pub context_of : ℕ → Env → Pairs Val → Context
 context_of calls env chain = record { calls = most_calls - calls; env = env; chain = chain; inside = None; under_mark = false }
 
-pub program_begins : {old new : Evaluation} {before : ℕ} → ScopeEnters old new before → (program : List StatementTerm)
+pub program_begins : {old new : Evaluation} {before : ℕ} → OneScopeMore old new before → (program : List StatementTerm)
     → IsWhole (source_text old.source.now) → source_text old.source.now ≡ numbered_text program → rows_of old.scopes.now ≡ first_row ∷ []
     → chain_of old.scopes.now ≡ first_chain → old.calls ≡ 0
-    → scope_here new ≡ block_scope (source_text old.source.now) 0 no_call (seen old.source.now (rows_of old.scopes.now) 0)
-    → context_of new.calls (scope_here new) (chain_of new.scopes.now) ≡ program_context first_chain (statements_from program)
+    → env_here new ≡ block_scope (source_text old.source.now) 0 no_call (env_seen old.source.now (rows_of old.scopes.now) 0)
+    → context_of new.calls (env_here new) (chain_of new.scopes.now) ≡ program_context first_chain (statements_from program)
 program_begins {old = old} {new = new} e program whole text rows chain none is =
-    ap (λ n. context_of n (scope_here new) (chain_of new.scopes.now)) (e.calls ∙ none)
+    ap (λ n. context_of n (env_here new) (chain_of new.scopes.now)) (e.calls ∙ none)
     ∙ ap (λ (x : Env). context_of 0 x (chain_of new.scopes.now))
-    (program_scope old.source.now (rows_of old.scopes.now) program (scope_here new) whole text rows is)
+    (program_scope old.source.now (rows_of old.scopes.now) program (env_here new) whole text rows is)
     ∙ ap (λ (c : Pairs Val). context_of 0 (entered_scope (statements_from program) no_call (Within [] [] [] no_call Outermost)) c) (e.chain ∙ chain)
 
 -- the members of the block
-pub program_members : {old new : InstanceEvaluator} {s : Position} {r : Result MemberResults Stop} (statements : StatementTerms)
-    → MeetsEquation member_designs_of old new s r (λ evaluator. block_members evaluator None statements)
-    → (program : List StatementTerm) → context_at old s ≡ program_context first_chain (statements_from program)
+pub program_members : {old new : InstanceEvaluator} {position : Position} {r : Result MemberResults Stop} {Kept : Type 0} (statements : StatementTerms)
+    → EvaluatesKeeping member_designs_of old new position r Kept (λ evaluator. block_members evaluator None statements)
+    → (program : List StatementTerm) → context_at old position ≡ program_context first_chain (statements_from program)
     → statements ≡ statements_from program → old.evaluation.depth ≡ 0 → old.evaluation.turns ≡ 0 → old.leaves ≡ 0
     → (judge : Judge) → IsRight judge → HasOutcome member_designs_of r new.evaluation.turns new.leaves
     (each_in_scope (evaluator_with old.unit judge most_evaluations) (program_context first_chain (statements_from program)) (statements_from program) 0 0)
-program_members {old = old} {s = s} statements h program here same depth turns leaves judge right =
+program_members {old = old} {position = position} statements h program here same depth turns leaves judge right =
     along (sym (
-    ap (λ d. block_members (evaluator_with old.unit judge (most_evaluations - d)) None statements (context_at old s) old.evaluation.turns old.leaves) depth
+    ap (λ d. block_members (evaluator_with old.unit judge (most_evaluations - d)) None statements (context_at old position) old.evaluation.turns old.leaves) depth
     ∙ ap (λ x. block_members (evaluator_with old.unit judge most_evaluations) None statements x old.evaluation.turns old.leaves) here
     ∙ ap (λ st. block_members (evaluator_with old.unit judge most_evaluations) None st (program_context first_chain (statements_from program)) old.evaluation.turns old.leaves) same
     ∙ ap (λ n. block_members (evaluator_with old.unit judge most_evaluations) None (statements_from program) (program_context first_chain (statements_from program)) n old.leaves) turns
     ∙ ap (λ n. block_members (evaluator_with old.unit judge most_evaluations) None (statements_from program) (program_context first_chain (statements_from program)) 0 n) leaves))
-    (h.by judge right)
+    (h.equation judge right)
 
 pub program_statements : (old new : Source) (program : List StatementTerm) → new ≡ old → source_text old ≡ numbered_text program
     → statements_at (source_text new) 0 ≡ statements_from program
@@ -88,7 +88,7 @@ program_statements old new program same e = ap (λ (x : Source). statements_at (
 
 -- the design
 module _ (unit : LengthUnit) (judge : Judge) (chain : Pairs Val) (statements : StatementTerms) where
-  pub design_outcome : (ms : MemberResults) (design : DesignIn) (m l : ℕ)
+  pub design_outcome : (ms : MemberResults) (design : Design) (m l : ℕ)
       → HasOutcome member_designs_of (Ok ms) m l (each_in_scope (evaluator_with unit judge most_evaluations) (program_context chain statements) statements 0 0)
       → plain_of design ≡ or_all (option_map plain_of ms.marked) (map plain_of ms.designs.items)
       → HasOutcome (λ leaves. plain_of) (Ok design) m 0 (design_of unit judge chain statements)
@@ -104,7 +104,7 @@ module _ (unit : LengthUnit) (judge : Judge) (chain : Pairs Val) (statements : S
   design_stops stop m l n t = stop_outcome (λ turns ms. Gives turns (or_all ms.marked ms.designs)) t
 
 -- the tree of a design
-module _ (unit : LengthUnit) (program : List StatementTerm) (design : DesignIn) (told : MeetsDesign unit program (Ok design)) where
+module _ (unit : LengthUnit) (program : List StatementTerm) (design : Design) (told : MeetsDesign unit program (Ok design)) where
   pub placed_tree : (r : Result CsgTree Stop) → IfOk r (λ tree. IsPlacedAs (plain_of design) (formula_of tree))
       → IfOk r (λ tree. IsMeaning unit program (a_tree (formula_of tree)))
   placed_tree (Ok tree) h = tree_meant unit program design (formula_of tree) told h
@@ -123,5 +123,5 @@ module _ (unit : LengthUnit) (program : List StatementTerm) (design : DesignIn) 
 -- the fault of a program stands at one of its places
 pub design_stop_held : (unit : LengthUnit) (program : List StatementTerm) (stop : Stop) → MeetsDesign unit program (Err stop) → HoldsFault program stop
 design_stop_held unit program (Fault fault) told = stop_held unit program (Fault fault) (λ judge right.
-    subst (λ (out : Outcome Design). IsMeaningOfDesign out (a_fault fault.kind fault.place)) (sym (told judge right).1.is) refl)
+    subst (λ (out : Outcome DesignTree). IsMeaningOfDesign out (a_fault fault.kind fault.place)) (sym (told judge right).1.is) refl)
 design_stop_held unit program NoMemory told = tt

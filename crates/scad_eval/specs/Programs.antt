@@ -6,14 +6,14 @@ use Rattle.scad_ast.specs.Terms.{StatementTerm, statements_from}
 use Rattle.scad_scope.specs.declared.scopes.Scopes.{Scopes}
 use Rattle.scad_scope.specs.Table.{rows_of, chain_of}
 use Rattle.scad_scope.specs.Names.{first_chain, first_row}
-use Rattle.scad_design.specs.declared.design.Design.{Design as DesignIn}
+use Rattle.scad_design.specs.declared.design.Design.{Design}
 use Rattle.scad_design.specs.View.{plain_of}
 use Rattle.scad_meaning.specs.Verdicts.{Judge, IsRight}
 use Rattle.scad_meaning.specs.Meaning.{design_of}
 use Rattle.scad_pieces.specs.Seen.{HasOutcome}
 
 -- the design of a program, or its fault, unless memory ran out
-abbrev pub MeetsDesign : LengthUnit → List StatementTerm → Result DesignIn Stop → Type 0
+abbrev pub MeetsDesign : LengthUnit → List StatementTerm → Result Design Stop → Type 0
 MeetsDesign unit program result = (judge : Judge) → IsRight judge →
     (turns : ℕ) × HasOutcome (λ leaves. plain_of) result turns 0 (design_of unit judge first_chain (statements_from program))
 

@@ -1,6 +1,5 @@
 //! Calls of built-in modules.
 
-ghost use Rattle.std.specs.Prelude.{OnOk};
 ghost use Rattle.csg_tree.specs.declared.op.Op.TheVariants.{Union};
 ghost use Rattle.primitives.specs.Sizes.{IsSafe};
 ghost use Rattle.scad_ast.specs.ExprView.{args_of};
@@ -13,7 +12,7 @@ ghost use Rattle.scad_modules.specs.View.{call_of};
 ghost use Rattle.scad_design.specs.Designs.{moved_by};
 ghost use Rattle.scad_meaning.specs.Meaning.{built_in_design, effect_design, body_design, moved_design, built_in_given};
 ghost use Rattle.scad_pieces.specs.Seen.{instance_design_of};
-ghost use Rattle.scad_eval.specs.Keeping.{Stays, MeetsEquation};
+ghost use Rattle.scad_eval.specs.Keeping.{EvaluatesAt};
 ghost use Rattle.scad_eval.specs.Within.{body_seen, IsBodyAt};
 
 use crate::evaluator::InstanceEvaluator;
@@ -42,10 +41,9 @@ impl InstanceEvaluator<'_, '_> {
         args: &Args,
         body: NumberedBody<'_>,
     ) -> Result<InstanceResult, Stop>
-        requires stands { IsBodyAt self.old position body }
-        ensures made { MeetsEquation instance_design_of self.old self.new position result (λ evaluator here.
+        requires { IsBodyAt self.old position body }
+        ensures { EvaluatesAt instance_design_of self.old self.new position result (λ evaluator here.
             built_in_design evaluator here place name.now (args_of args.now) (body_seen body.entry) (module_named name.now)) }
-        ensures stays { OnOk result (Stays self.old self.new) }
     {
         match builtin_module(name) {
             None => Err(unknown(name).at(place)),
@@ -66,10 +64,9 @@ impl InstanceEvaluator<'_, '_> {
         given: GivenArguments<'_, BoundedValue>,
         body: NumberedBody<'_>,
     ) -> Result<InstanceResult, Stop>
-        requires stands { IsBodyAt self.old position body }
-        ensures made { MeetsEquation instance_design_of self.old self.new position result (λ evaluator.
+        requires { IsBodyAt self.old position body }
+        ensures { EvaluatesAt instance_design_of self.old self.new position result (λ evaluator.
             built_in_given evaluator place built_in (arguments_of given.entry) (body_seen body.entry)) }
-        ensures stays { OnOk result (Stays self.old self.new) }
     {
         let GivenArguments { slots, specials } = given;
         let begun = self.evaluation.begin_specials(specials);
@@ -98,9 +95,8 @@ impl InstanceEvaluator<'_, '_> {
     ) -> Result<InstanceResult, Stop>
         requires stands { IsBodyAt self.old position body }
         requires safe { IsSafeCall (call_of effect) }
-        ensures made { MeetsEquation instance_design_of self.old self.new position result (λ evaluator here.
+        ensures { EvaluatesAt instance_design_of self.old self.new position result (λ evaluator here.
             effect_design evaluator here place (call_of effect) (body_seen body.entry)) }
-        ensures stays { OnOk result (Stays self.old self.new) }
     {
         match effect {
             Effect::Solid(shape) => self.solid(place, &shape),
@@ -127,10 +123,10 @@ impl InstanceEvaluator<'_, '_> {
         steps: &[Step],
         body: NumberedBody<'_>,
     ) -> Result<InstanceResult, Stop>
-        requires stands { IsBodyAt self.old position body }
-        ensures made { MeetsEquation instance_design_of self.old self.new position result (λ evaluator here turns leaves.
-            then_with (body_design evaluator Union here (body_seen body.entry) turns leaves) (λ turns m. Gives turns (moved_design (moved_by steps.now) m))) }
-        ensures stays { OnOk result (Stays self.old self.new) }
+        requires { IsBodyAt self.old position body }
+        ensures { EvaluatesAt instance_design_of self.old self.new position result (λ evaluator here turns leaves.
+            then_with (body_design evaluator Union here (body_seen body.entry) turns leaves)
+            (λ turns made. Gives turns (moved_design (moved_by steps.now) made))) }
     {
         let InstanceResult { design, marked } = self.body(Op::Union, position, body)?;
         match design.moved_by(self.evaluation.alloc, steps) {
@@ -150,9 +146,8 @@ impl InstanceEvaluator<'_, '_> {
     ) -> Result<InstanceResult, Stop>
         requires stands { IsBodyAt self.old position body }
         requires safe { IsSafe through.height }
-        ensures made { MeetsEquation instance_design_of self.old self.new position result
+        ensures { EvaluatesAt instance_design_of self.old self.new position result
             (λ evaluator here. effect_design evaluator here place (an_extrusion through.center through.height) (body_seen body.entry)) }
-        ensures stays { OnOk result (Stays self.old self.new) }
     {
         match size_fault(&[through.height], through.center, self.unit) {
             Some(kind) => Err(kind.at(place)),

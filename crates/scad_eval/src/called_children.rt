@@ -1,12 +1,11 @@
 //! Calls of children.
 
-ghost use Rattle.std.specs.Prelude.{OnOk};
 ghost use Rattle.scad_evaluation.specs.Meaning.{call_in};
 ghost use Rattle.scad_modules.specs.Bounds.{IsSafeChoice};
 ghost use Rattle.scad_modules.specs.View.{chosen_of};
 ghost use Rattle.scad_meaning.specs.Meaning.{children_design, chosen_children};
 ghost use Rattle.scad_pieces.specs.Seen.{instance_design_of};
-ghost use Rattle.scad_eval.specs.Keeping.{IsPosition, Stays, MeetsEquation};
+ghost use Rattle.scad_eval.specs.Keeping.{IsPosition, EvaluatesAt};
 
 use crate::evaluator::InstanceEvaluator;
 use csg_tree::Op;
@@ -25,9 +24,8 @@ impl InstanceEvaluator<'_, '_> {
     ) -> Result<InstanceResult, Stop>
         requires position { IsPosition self.old position }
         requires safe { IsSafeChoice (chosen_of chosen.now) }
-        ensures made { MeetsEquation instance_design_of self.old self.new position result
+        ensures { EvaluatesAt instance_design_of self.old self.new position result
             (λ evaluator. chosen_children evaluator place (chosen_of chosen.now)) }
-        ensures stays { OnOk result (Stays self.old self.new) }
     {
         self.evaluation.begin_call(place)?;
         let made = self.children_made(position, chosen)?;
@@ -40,9 +38,8 @@ impl InstanceEvaluator<'_, '_> {
     fn children_made(&mut self, position: Position, chosen: &Chosen) -> Result<InstanceResult, Stop>
         requires position { IsPosition self.old position }
         requires safe { IsSafeChoice (chosen_of chosen.now) }
-        ensures made { MeetsEquation instance_design_of self.old self.new position result
+        ensures { EvaluatesAt instance_design_of self.old self.new position result
             (λ evaluator here. children_design evaluator here (call_in here.env) (chosen_of chosen.now)) }
-        ensures stays { OnOk result (Stays self.old self.new) }
     {
         match self.evaluation.enclosing_call() {
             None => Ok(nothing_made()),

@@ -1,14 +1,14 @@
 //! Calls of modules of the source.
 
-ghost use Rattle.std.specs.Prelude.{◌≡◌, OnOk, length};
+ghost use Rattle.std.specs.Prelude.{◌≡◌, length};
 ghost use Rattle.scad_ast.specs.ExprView.{args_of};
 ghost use Rattle.scad_ast.specs.StatementView.{params_of};
 ghost use Rattle.scad_blocks.specs.TextView.{module_of};
-ghost use Rattle.scad_evaluation.specs.Meaning.{module_in};
+ghost use Rattle.scad_evaluation.specs.Meaning.{visible_module};
 ghost use Rattle.scad_evaluation.specs.View.{arguments_of, values_seen};
 ghost use Rattle.scad_meaning.specs.Meaning.{call_design, module_design, module_filled, module_given};
 ghost use Rattle.scad_pieces.specs.Seen.{instance_design_of};
-ghost use Rattle.scad_eval.specs.Keeping.{env_at, IsPosition, Stays, MeetsEquation};
+ghost use Rattle.scad_eval.specs.Keeping.{env_at, EvaluatesAt};
 ghost use Rattle.scad_eval.specs.Within.{body_seen, IsBodyAt, IsCallAt};
 
 use crate::evaluator::InstanceEvaluator;
@@ -32,10 +32,9 @@ impl InstanceEvaluator<'_, '_> {
         args: &Args,
         body: NumberedBody<'_>,
     ) -> Result<InstanceResult, Stop>
-        requires stands { IsBodyAt self.old position body }
-        ensures made { MeetsEquation instance_design_of self.old self.new position result (λ evaluator here.
-            call_design evaluator here place name.now (args_of args.now) (body_seen body.entry) (module_in here.env name.now)) }
-        ensures stays { OnOk result (Stays self.old self.new) }
+        requires { IsBodyAt self.old position body }
+        ensures { EvaluatesAt instance_design_of self.old self.new position result (λ evaluator here.
+            call_design evaluator here place name.now (args_of args.now) (body_seen body.entry) (visible_module here.env name.now)) }
     {
         match self.evaluation.module(name) {
             Some((defined, home)) => {
@@ -58,14 +57,12 @@ impl InstanceEvaluator<'_, '_> {
         given: GivenArguments<'_, BoundedValue>,
         body: NumberedBody<'_>,
     ) -> Result<InstanceResult, Stop>
-        requires position { IsPosition self.old position }
-        requires called { IsCallAt self.old defined home body }
+        requires called { IsCallAt self.old position defined home body }
         requires given { length given.slots.items ≡ length (params_of defined.params.now) }
-        ensures made { MeetsEquation instance_design_of self.old self.new position result (λ evaluator here.
+        ensures { EvaluatesAt instance_design_of self.old self.new position result (λ evaluator here.
             module_design evaluator here place (module_of defined.entry, env_at self.old home) (arguments_of given.entry) (body_seen body.entry)) }
-        ensures stays { OnOk result (Stays self.old self.new) }
     {
-        let begun = self.begin_counted_call(place);
+        let begun = self.evaluation.begin_counted_call(place);
         let (given, ()) = with(given, begun)?;
         let made = self.module_with_specials(position, defined, home, given, body)?;
         self.evaluation.end_call();
@@ -82,12 +79,10 @@ impl InstanceEvaluator<'_, '_> {
         given: GivenArguments<'_, BoundedValue>,
         body: NumberedBody<'_>,
     ) -> Result<InstanceResult, Stop>
-        requires position { IsPosition self.old position }
-        requires called { IsCallAt self.old defined home body }
+        requires called { IsCallAt self.old position defined home body }
         requires given { length given.slots.items ≡ length (params_of defined.params.now) }
-        ensures made { MeetsEquation instance_design_of self.old self.new position result (λ evaluator.
+        ensures { EvaluatesAt instance_design_of self.old self.new position result (λ evaluator.
             module_given evaluator (module_of defined.entry, env_at self.old home) (arguments_of given.entry) (body_seen body.entry)) }
-        ensures stays { OnOk result (Stays self.old self.new) }
     {
         let GivenArguments { slots, specials } = given;
         let begun = self.evaluation.begin_specials(specials);
@@ -109,12 +104,10 @@ impl InstanceEvaluator<'_, '_> {
         values: BoundedValues,
         body: NumberedBody<'_>,
     ) -> Result<InstanceResult, Stop>
-        requires position { IsPosition self.old position }
-        requires called { IsCallAt self.old defined home body }
+        requires called { IsCallAt self.old position defined home body }
         requires values { length values.items.items ≡ length defined.params.now.items.items }
-        ensures made { MeetsEquation instance_design_of self.old self.new position result
+        ensures { EvaluatesAt instance_design_of self.old self.new position result
             (λ evaluator. module_filled evaluator (module_of defined.entry, env_at self.old home) (values_seen values) (body_seen body.entry)) }
-        ensures stays { OnOk result (Stays self.old self.new) }
     {
         let before = self.enter_module(defined, home, values, body)?;
         let members = self.members_in_scope(position, defined.block, None)?;

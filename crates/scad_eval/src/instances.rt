@@ -1,16 +1,16 @@
 //! Instances and their marks.
 
-ghost use Rattle.std.specs.Prelude.{All, true, map, OnOk, if◌then◌else◌};
+ghost use Rattle.std.specs.Prelude.{All, true, map, if◌then◌else◌};
 ghost use Rattle.csg_tree.specs.declared.op.Op.TheVariants.{Union};
 ghost use Rattle.scad_ast.specs.ExprView.{term_of};
 ghost use Rattle.scad_value.specs.Values.{truth_of};
 ghost use Rattle.scad_evaluation.specs.Meaning.{Gives, then_with, value_at};
 ghost use Rattle.scad_evaluation.specs.View.{source_text};
-ghost use Rattle.scad_meaning.specs.Meaning.{setting, body_design, no_design, each_member, core_of, core_design, instance_design};
-ghost use Rattle.scad_instances.specs.Positions.{term_of_numbered, HasBlocks};
+ghost use Rattle.scad_meaning.specs.Meaning.{setting, body_design, no_design, each_member, core_of_instance, core_design, instance_design};
+ghost use Rattle.scad_instances.specs.Positions.{term_of_numbered};
 ghost use Rattle.scad_pieces.specs.Seen.{instance_design_of, member_designs_of};
-ghost use Rattle.scad_eval.specs.Keeping.{IsPosition, Stays, MeetsEquation};
-ghost use Rattle.scad_eval.specs.Within.{body_seen, IsInBlock, IsBodyAt};
+ghost use Rattle.scad_eval.specs.Keeping.{EvaluatesAt};
+ghost use Rattle.scad_eval.specs.Within.{body_seen, IsInBlock, IsInstanceAt, IsBodyAt};
 
 use crate::evaluator::InstanceEvaluator;
 use csg_tree::Op;
@@ -32,11 +32,9 @@ impl InstanceEvaluator<'_, '_> {
         position: Position,
         instance: NumberedInstance<'_>,
     ) -> Result<InstanceResult, Stop>
-        requires position { IsPosition self.old position }
-        requires blocks { HasBlocks (source_text self.old.evaluation.source.now) instance }
-        ensures made { MeetsEquation instance_design_of self.old self.new position result
+        requires { IsInstanceAt self.old position instance }
+        ensures { EvaluatesAt instance_design_of self.old self.new position result
             (λ evaluator here. evaluator.deeper here (term_of_numbered instance.entry)) }
-        ensures stays { OnOk result (Stays self.old self.new) }
     {
         self.evaluation.begin_evaluation(instance.instance.place())?;
         let made = self.marked_or_not(position, instance)?;
@@ -52,11 +50,9 @@ impl InstanceEvaluator<'_, '_> {
         position: Position,
         instance: NumberedInstance<'_>,
     ) -> Result<InstanceResult, Stop>
-        requires position { IsPosition self.old position }
-        requires blocks { HasBlocks (source_text self.old.evaluation.source.now) instance }
-        ensures made { MeetsEquation instance_design_of self.old self.new position result
+        requires { IsInstanceAt self.old position instance }
+        ensures { EvaluatesAt instance_design_of self.old self.new position result
             (λ evaluator here. instance_design evaluator here (term_of_numbered instance.entry)) }
-        ensures stays { OnOk result (Stays self.old self.new) }
     {
         if !is_marked(instance.instance) {
             return self.core(position, instance);
@@ -78,11 +74,9 @@ impl InstanceEvaluator<'_, '_> {
         position: Position,
         instance: NumberedInstance<'_>,
     ) -> Result<InstanceResult, Stop>
-        requires position { IsPosition self.old position }
-        requires blocks { HasBlocks (source_text self.old.evaluation.source.now) instance }
-        ensures made { MeetsEquation instance_design_of self.old self.new position result
-            (λ evaluator here. core_design evaluator here (core_of (term_of_numbered instance.entry))) }
-        ensures stays { OnOk result (Stays self.old self.new) }
+        requires { IsInstanceAt self.old position instance }
+        ensures { EvaluatesAt instance_design_of self.old self.new position result
+            (λ evaluator here. core_design evaluator here (core_of_instance (term_of_numbered instance.entry))) }
     {
         let NumberedInstance {
             instance,
@@ -128,11 +122,10 @@ impl InstanceEvaluator<'_, '_> {
         test: &Expr,
         body: NumberedBody<'_>,
     ) -> Result<InstanceResult, Stop>
-        requires stands { IsBodyAt self.old position body }
-        ensures made { MeetsEquation instance_design_of self.old self.new position result
-            (λ evaluator here turns leaves. then_with (value_at (setting evaluator.evaluations here) true (term_of test.now) turns) (λ turns v.
-            if truth_of v then body_design evaluator Union here (body_seen body.entry) turns leaves else Gives turns (no_design leaves))) }
-        ensures stays { OnOk result (Stays self.old self.new) }
+        requires { IsBodyAt self.old position body }
+        ensures { EvaluatesAt instance_design_of self.old self.new position result
+            (λ evaluator here turns leaves. then_with (value_at (setting evaluator.evaluations here) true (term_of test.now) turns) (λ turns value.
+            if truth_of value then body_design evaluator Union here (body_seen body.entry) turns leaves else Gives turns (no_design leaves))) }
     {
         let value = evaluate(&mut self.evaluation, test)?;
         if truth(&value.value) {
@@ -152,10 +145,9 @@ impl InstanceEvaluator<'_, '_> {
     ) -> Result<InstanceResult, Stop>
         requires stands { IsBodyAt self.old position body }
         requires other { IsInBlock (source_text self.old.evaluation.source.now) other }
-        ensures made { MeetsEquation instance_design_of self.old self.new position result
-            (λ evaluator here turns leaves. then_with (value_at (setting evaluator.evaluations here) true (term_of test.now) turns) (λ turns v.
-            body_design evaluator Union here (if truth_of v then body_seen body.entry else body_seen other.entry) turns leaves)) }
-        ensures stays { OnOk result (Stays self.old self.new) }
+        ensures { EvaluatesAt instance_design_of self.old self.new position result
+            (λ evaluator here turns leaves. then_with (value_at (setting evaluator.evaluations here) true (term_of test.now) turns) (λ turns value.
+            body_design evaluator Union here (if truth_of value then body_seen body.entry else body_seen other.entry) turns leaves)) }
     {
         let value = evaluate(&mut self.evaluation, test)?;
         if truth(&value.value) {
@@ -171,11 +163,9 @@ impl InstanceEvaluator<'_, '_> {
         position: Position,
         instances: &[NumberedInstance<'_>],
     ) -> Result<MemberResults, Stop>
-        requires position { IsPosition self.old position }
-        requires blocks { All (HasBlocks (source_text self.old.evaluation.source.now)) instances.now }
-        ensures members { MeetsEquation member_designs_of self.old self.new position result
+        requires { All (IsInstanceAt self.old position) instances.now }
+        ensures { EvaluatesAt member_designs_of self.old self.new position result
             (λ evaluator here. each_member evaluator here (map term_of_numbered instances.now)) }
-        ensures stays { OnOk result (Stays self.old self.new) }
     {
         let mut members = no_members(self.evaluation.alloc);
         'each: for instance in instances {

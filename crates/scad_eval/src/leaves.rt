@@ -3,11 +3,10 @@
 ghost use Rattle.scad_modules.specs.Bounds.{IsSafeSolid, IsSafeFlat};
 ghost use Rattle.scad_modules.specs.View.{solid_call_of, flat_call_of};
 ghost use Rattle.scad_design.specs.View.{plain_of};
-ghost use Rattle.scad_pieces.specs.declared.position.Position.{Position};
 ghost use Rattle.scad_meaning.specs.Verdicts.{solid_of, extruded};
 ghost use Rattle.scad_meaning.specs.Meaning.{checked, leaf_design, flat_design, hull_design};
 ghost use Rattle.scad_pieces.specs.Seen.{instance_design_of, IsStopAt};
-ghost use Rattle.scad_eval.specs.Keeping.{IsThrough, IsPosition, Stays, MeetsEquation};
+ghost use Rattle.scad_eval.specs.Keeping.{IsThrough, IsPosition, Stays, EvaluatesKeeping, EvaluatesAnywhere};
 
 use crate::evaluator::InstanceEvaluator;
 use primitives::extrude;
@@ -26,9 +25,9 @@ impl InstanceEvaluator<'_, '_> {
     /// A solid, as one leaf more.
     pub(crate) fn solid(&mut self, place: Place, shape: &SolidShape) -> Result<InstanceResult, Stop>
         requires { IsSafeSolid (solid_call_of shape.now) }
-        ensures made { (s : Position) → MeetsEquation instance_design_of self.old self.new s result (λ evaluator here turns leaves.
-            checked (evaluator.judge.solid evaluator.unit (solid_call_of shape.now)) place (leaf_design place (solid_of evaluator.unit (solid_call_of shape.now)) turns leaves)) }
-        ensures stays { Stays self.old self.new }
+        ensures { EvaluatesAnywhere instance_design_of self.old self.new result (λ evaluator here turns leaves.
+            checked (evaluator.judge.solid evaluator.unit (solid_call_of shape.now)) place
+            (leaf_design place (solid_of evaluator.unit (solid_call_of shape.now)) turns leaves)) }
     {
         match solid_shape(self.evaluation.alloc, self.unit, shape) {
             Ok(shape) => self.leaf(place, shape),
@@ -45,9 +44,8 @@ impl InstanceEvaluator<'_, '_> {
     ) -> Result<InstanceResult, Stop>
         requires position { IsPosition self.old position }
         requires safe { IsSafeFlat (flat_call_of shape.now) }
-        ensures made { MeetsEquation instance_design_of self.old self.new position result
+        ensures { EvaluatesKeeping instance_design_of self.old self.new position result (Stays self.old self.new)
             (λ evaluator here. flat_design evaluator here.inside place (flat_call_of shape.now)) }
-        ensures stays { Stays self.old self.new }
     {
         match position.inside {
             None => Err(FaultKind::WrongDimension.at(place)),
@@ -64,9 +62,9 @@ impl InstanceEvaluator<'_, '_> {
     ) -> Result<InstanceResult, Stop>
         requires through { IsThrough self.old.unit through }
         requires safe { IsSafeFlat (flat_call_of shape.now) }
-        ensures made { (s : Position) → MeetsEquation instance_design_of self.old self.new s result (λ evaluator here turns leaves.
-            checked (evaluator.judge.flat evaluator.unit (flat_call_of shape.now)) place (leaf_design place (extruded evaluator.unit through (flat_call_of shape.now)) turns leaves)) }
-        ensures stays { Stays self.old self.new }
+        ensures { EvaluatesAnywhere instance_design_of self.old self.new result (λ evaluator here turns leaves.
+            checked (evaluator.judge.flat evaluator.unit (flat_call_of shape.now)) place
+            (leaf_design place (extruded evaluator.unit through (flat_call_of shape.now)) turns leaves)) }
     {
         let alloc = self.evaluation.alloc;
         match flat_shape(alloc, self.unit, shape) {
@@ -85,9 +83,8 @@ impl InstanceEvaluator<'_, '_> {
         place: Place,
         made: InstanceResult,
     ) -> Result<InstanceResult, Stop>
-        ensures made { (s : Position) → MeetsEquation instance_design_of self.old self.new s result (λ evaluator here turns leaves.
+        ensures { EvaluatesAnywhere instance_design_of self.old self.new result (λ evaluator here turns leaves.
             hull_design (evaluator.judge.hull (plain_of made.design)) place (instance_design_of leaves made) turns) }
-        ensures stays { Stays self.old self.new }
     {
         let InstanceResult { design, marked } = made;
         if is_nothing(&design) {
@@ -107,9 +104,8 @@ impl InstanceEvaluator<'_, '_> {
 
     // One leaf more. TooManyParts where it is the 1,025th.
     fn leaf(&mut self, place: Place, shape: Shape) -> Result<InstanceResult, Stop>
-        ensures made { (s : Position) → MeetsEquation instance_design_of self.old self.new s result
+        ensures { EvaluatesAnywhere instance_design_of self.old self.new result
             (λ evaluator here turns leaves. leaf_design place shape turns leaves) }
-        ensures stays { Stays self.old self.new }
     {
         if self.leaves == LEAVES {
             return Err(FaultKind::TooManyParts.at(place));

@@ -1,13 +1,13 @@
 //! Loops.
 
-ghost use Rattle.std.specs.Prelude.{[], map, OnOk};
+ghost use Rattle.std.specs.Prelude.{[], map};
 ghost use Rattle.csg_tree.specs.declared.op.Op.TheVariants.{Union};
 ghost use Rattle.scad_ast.specs.StatementView.{binder_of, binders_of};
 ghost use Rattle.scad_value.specs.BoundedView.{bounded_val};
 ghost use Rattle.scad_meaning.specs.Meaning.{loop_design, each_turn, each_step, in_loop};
 ghost use Rattle.scad_instances.specs.Items.{remaining_in};
 ghost use Rattle.scad_pieces.specs.Seen.{instance_design_of, member_designs_of};
-ghost use Rattle.scad_eval.specs.Keeping.{Stays, MeetsEquation};
+ghost use Rattle.scad_eval.specs.Keeping.{EvaluatesAt};
 ghost use Rattle.scad_eval.specs.Steps.{one_step};
 ghost use Rattle.scad_eval.specs.Within.{body_seen, IsBodyAt};
 
@@ -38,10 +38,9 @@ impl InstanceEvaluator<'_, '_> {
         binders: &Binders,
         body: NumberedBody<'_>,
     ) -> Result<InstanceResult, Stop>
-        requires stands { IsBodyAt self.old position body }
-        ensures made { MeetsEquation instance_design_of self.old self.new position result
+        requires { IsBodyAt self.old position body }
+        ensures { EvaluatesAt instance_design_of self.old self.new position result
             (λ evaluator here. loop_design evaluator op here place (binders_of binders.now) (body_seen body.entry)) }
-        ensures stays { OnOk result (Stays self.old self.new) }
     {
         // A source has far fewer; the bound is for the proof that evaluation ends.
         if binders.items.len() > u32::MAX as usize {
@@ -60,10 +59,9 @@ impl InstanceEvaluator<'_, '_> {
         binders: &[Binder],
         body: NumberedBody<'_>,
     ) -> Result<MemberResults, Stop>
-        requires stands { IsBodyAt self.old position body }
-        ensures members { MeetsEquation member_designs_of self.old self.new position result
+        requires { IsBodyAt self.old position body }
+        ensures { EvaluatesAt member_designs_of self.old self.new position result
             (λ evaluator. each_turn evaluator place (map binder_of binders.now) (body_seen body.entry)) }
-        ensures stays { OnOk result (Stays self.old self.new) }
     {
         match binders.split_first() {
             None => self.one_turn(position, place, body),
@@ -87,10 +85,9 @@ impl InstanceEvaluator<'_, '_> {
         place: Place,
         body: NumberedBody<'_>,
     ) -> Result<MemberResults, Stop>
-        requires stands { IsBodyAt self.old position body }
-        ensures members { MeetsEquation member_designs_of self.old self.new position result
+        requires { IsBodyAt self.old position body }
+        ensures { EvaluatesAt member_designs_of self.old self.new position result
             (λ evaluator. each_turn evaluator place [] (body_seen body.entry)) }
-        ensures stays { OnOk result (Stays self.old self.new) }
     {
         self.evaluation.turn(place)?;
         let made = self.body(Op::Union, position, body);
@@ -108,10 +105,10 @@ impl InstanceEvaluator<'_, '_> {
         body: NumberedBody<'_>,
         items: Items,
     ) -> Result<MemberResults, Stop>
-        requires stands { IsBodyAt self.old position body }
-        ensures members { MeetsEquation member_designs_of self.old self.new position result (λ evaluator here.
-            each_step place (λ item. each_turn evaluator place (map binder_of rest.now) (body_seen body.entry) (in_loop here name.now item)) (remaining_in items.remaining)) }
-        ensures stays { OnOk result (Stays self.old self.new) }
+        requires { IsBodyAt self.old position body }
+        ensures { EvaluatesAt member_designs_of self.old self.new position result (λ evaluator here.
+            each_step place (λ item. each_turn evaluator place (map binder_of rest.now) (body_seen body.entry) (in_loop here name.now item))
+            (remaining_in items.remaining)) }
     {
         let mut remaining = items;
         let mut members = no_members(self.evaluation.alloc);
@@ -133,10 +130,9 @@ impl InstanceEvaluator<'_, '_> {
         body: NumberedBody<'_>,
         value: BoundedValue,
     ) -> Result<MemberResults, Stop>
-        requires stands { IsBodyAt self.old position body }
-        ensures members { MeetsEquation member_designs_of self.old self.new position result
+        requires { IsBodyAt self.old position body }
+        ensures { EvaluatesAt member_designs_of self.old self.new position result
             (λ evaluator. one_step evaluator place name.now (map binder_of rest.now) (body_seen body.entry) (bounded_val value)) }
-        ensures stays { OnOk result (Stays self.old self.new) }
     {
         let members = self.turns_with(position, place, name, rest, body, value)?;
         if members.designs.is_empty() {
@@ -157,10 +153,10 @@ impl InstanceEvaluator<'_, '_> {
         body: NumberedBody<'_>,
         value: BoundedValue,
     ) -> Result<MemberResults, Stop>
-        requires stands { IsBodyAt self.old position body }
-        ensures members { MeetsEquation member_designs_of self.old self.new position result
-            (λ evaluator here. each_turn evaluator place (map binder_of rest.now) (body_seen body.entry) (in_loop here name.now (bounded_val value))) }
-        ensures stays { OnOk result (Stays self.old self.new) }
+        requires { IsBodyAt self.old position body }
+        ensures { EvaluatesAt member_designs_of self.old self.new position result
+            (λ evaluator here. each_turn evaluator place (map binder_of rest.now) (body_seen body.entry)
+            (in_loop here name.now (bounded_val value))) }
     {
         let before = self.evaluation.enter_empty()?;
         if self.evaluation.scope > SCOPES {

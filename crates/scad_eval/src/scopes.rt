@@ -5,7 +5,7 @@ ghost use Rattle.scad_evaluation.specs.View.{source_text};
 ghost use Rattle.scad_evaluation.specs.Definitions.{statements_at};
 ghost use Rattle.scad_meaning.specs.Meaning.{body_design, block_members};
 ghost use Rattle.scad_pieces.specs.Seen.{instance_design_of, member_designs_of};
-ghost use Rattle.scad_eval.specs.Keeping.{IsPosition, Stays, Binds, MeetsEquation};
+ghost use Rattle.scad_eval.specs.Keeping.{IsPosition, Binds, EvaluatesKeeping, EvaluatesAt};
 ghost use Rattle.scad_instances.specs.Choosing.{chosen_seen, IsSafeChosen};
 ghost use Rattle.scad_eval.specs.Within.{body_seen, IsBodyAt};
 
@@ -25,10 +25,9 @@ impl InstanceEvaluator<'_, '_> {
         position: Position,
         body: NumberedBody<'_>,
     ) -> Result<InstanceResult, Stop>
-        requires stands { IsBodyAt self.old position body }
-        ensures made { MeetsEquation instance_design_of self.old self.new position result
+        requires { IsBodyAt self.old position body }
+        ensures { EvaluatesAt instance_design_of self.old self.new position result
             (λ evaluator here. body_design evaluator op here (body_seen body.entry)) }
-        ensures stays { OnOk result (Stays self.old self.new) }
     {
         let outer = self.evaluation.scope;
         let before = self.evaluation.enter_body(outer, body.block)?;
@@ -48,10 +47,9 @@ impl InstanceEvaluator<'_, '_> {
     ) -> Result<MemberResults, Stop>
         requires position { IsPosition self.old position }
         requires safe { IsSafeChosen chosen }
-        ensures members { let statements = statements_at (source_text self.old.evaluation.source.now) block in
-            MeetsEquation member_designs_of self.old self.new position result
+        ensures { let statements = statements_at (source_text self.old.evaluation.source.now) block in
+            EvaluatesKeeping member_designs_of self.old self.new position result (OnOk result (Binds self.old self.new))
             (λ evaluator. block_members evaluator (chosen_seen chosen.entry) statements) }
-        ensures binds { OnOk result (Binds self.old self.new) }
     {
         let length = self.evaluation.chain_length()?;
         self.assign_all(block)?;

@@ -14,7 +14,7 @@ returns-in_err-members c = λ program text judge right.
     let new = c.enter_body.new.self in
     let after = c.members_in_scope.new.self in
     let here = program_begins entered.entered program c.requires.whole text c.requires.table.rows c.requires.table.chain refl entered.inside in
-    let told = program_members (statements_at (source_text new.source.now) 0) c.in_err-members.ensures.members program here
+    let told = program_members (statements_at (source_text new.source.now) 0) c.in_err-members.ensures program here
     (program_statements c.args.source.now new.source.now program entered.entered.source text) entered.entered.depth entered.turns refl judge right in (
       after.evaluation.turns,
       rw (p.1, p.2) (design_stops c.args.unit judge first_chain (statements_from program) c.in_err-members.field-0.0
@@ -27,7 +27,7 @@ returns c = λ program text judge right.
     let new = c.enter_body.new.self in
     let after = c.members_in_scope.new.self in
     let here = program_begins entered.entered program c.requires.whole text c.requires.table.rows c.requires.table.chain refl entered.inside in
-    let told = program_members (statements_at (source_text new.source.now) 0) c.in_ok-members.ensures.members program here
+    let told = program_members (statements_at (source_text new.source.now) 0) c.in_ok-members.ensures program here
     (program_statements c.args.source.now new.source.now program entered.entered.source text) entered.entered.depth entered.turns refl judge right in (
       after.evaluation.turns,
       design_outcome c.args.unit judge first_chain (statements_from program) c.in_ok-members.members c.in_ok-first_or_all.field-0

@@ -1,52 +1,61 @@
-use Rattle.std.proofs.Common.{◌≡◌, ℕ, ◌+◌, ◌-◌, ◌<◌, Bool, true, List, [], ◌∷◌, ◌++◌, All, length, map, drop, Option, Some, None, Ok, Err, refl, sym, ap, subst, ◌∙◌, arith, if◌then◌else◌}
-use Rattle.std.specs.declared.vec.Vec.{Vec}
-use Rattle.std.specs.declared.alloc.Global.{Global}
-use Rattle.std.proofs.lemmas.Result.{err_from_is_err_and, IfErr-at_err, IfOk-at_ok, on_ok_weaker}
+use Rattle.std.proofs.Common.{◌≡◌, ℕ, ◌+◌, ◌-◌, ◌<◌, Bool, true, false, List, [], ◌∷◌, ◌++◌, All, length, map, drop, Option, Some, None, Ok, Err, refl, sym, ap, subst, ◌∙◌, length-append, arith, if◌then◌else◌}
+use Rattle.std.proofs.lemmas.Result.{err_from_is_err_and, IfErr-at_err}
 use Rattle.text_place.specs.declared.fault.Place.{Place}
 use Rattle.text_place.specs.declared.fault.FaultKind.TheVariants.{TooDeep, TypeMismatch}
+use Rattle.csg_tree.specs.declared.op.Op.{Op}
 use Rattle.csg_tree.specs.declared.op.Op.TheVariants.{Union}
 use Rattle.scad_ast.specs.declared.statement.Binder.{Binder}
-use Rattle.scad_ast.specs.Terms.{BodyTerm, StatementTerms}
+use Rattle.scad_ast.specs.Terms.{BinderTerm, BodyTerm}
 use Rattle.scad_ast.specs.ExprView.{args_of}
 use Rattle.scad_ast.specs.StatementView.{binder_of, params_of}
 use Rattle.scad_value.specs.declared.bounded_value.BoundedValue.{BoundedValue}
-use Rattle.scad_value.specs.Values.{Val, Vals}
+use Rattle.scad_value.specs.Values.{Val, Vals, truth_of}
 use Rattle.scad_value.specs.BoundedView.{bounded_val}
 use Rattle.scad_scope.specs.Names.{Row, oldest}
 use Rattle.scad_scope.specs.Table.{chain_of}
+use Rattle.scad_blocks.specs.declared.text.Module.{Module}
 use Rattle.scad_blocks.specs.TextView.{module_of}
 use Rattle.scad_blocks.specs.Blocks.{SourceModule, statements_of_body}
 use Rattle.scad_arguments.specs.declared.parameters.GivenArguments.{GivenArguments}
 use Rattle.scad_modules.specs.declared.effects.Effect.{Effect}
 use Rattle.scad_modules.specs.declared.table.BuiltinModule.{BuiltinModule}
+use Rattle.scad_modules.specs.Effects.{ChosenCall}
 use Rattle.scad_modules.specs.View.{chosen_of, call_of}
 use Rattle.scad_design.specs.Designs.{moved_by}
 use Rattle.scad_evaluation.specs.Limits.{most_calls, most_turns}
-use Rattle.scad_evaluation.specs.Meaning.{Outcome, Gives, Faults, Opened, Within, no_call, with_variable, then_with, or_fault, one_call_fewer, turn, each_parameter, Arguments, Slots, Setting, Env}
-use Rattle.scad_evaluation.specs.View.{seen, source_text, arguments_of, slots_in, specials_in, values_seen, IsNoMemory}
-use Rattle.scad_evaluation.specs.Definitions.{statements_at}
-use Rattle.scad_evaluation.specs.Evaluations.{SpecialsBegin, scope_here}
+use Rattle.scad_evaluation.specs.Meaning.{Outcome, Gives, Faults, Opened, Within, no_call, opened, with_value, then_with, or_fault, each_parameter, entered_scope, Arguments, Slots, Setting, Env}
+use Rattle.scad_evaluation.specs.View.{env_seen, source_text, arguments_of, slots_in, specials_in, values_seen, IsNoMemory}
+use Rattle.scad_evaluation.specs.Definitions.{statements_at, block_scope, IsWhole}
+use Rattle.scad_evaluation.specs.Evaluations.{OneCallDeeper, MoreSpecials, env_here, setting_in}
+use Rattle.scad_evaluation.specs.Transitions.{IsRefusedCall}
 use Rattle.scad_evaluation.specs.declared.source.Source.{Source}
 use Rattle.scad_instances.specs.declared.numbered.NumberedInstance.{NumberedInstance}
+use Rattle.scad_pieces.specs.declared.position.NumberedBody.{NumberedBody}
 use Rattle.scad_pieces.specs.declared.position.Position.{Position}
 use Rattle.scad_instances.specs.Choosing.{chosen_seen}
 use Rattle.scad_instances.specs.Items.{remaining_in}
 use Rattle.scad_instances.specs.Positions.{term_of_numbered, HasBlocks}
-use Rattle.scad_pieces.specs.Seen.{one_member_of, member_designs_of}
+use Rattle.scad_pieces.specs.Seen.{one_member_of, instance_design_of, member_designs_of}
+use Rattle.scad_meaning.specs.Verdicts.{Judge}
 use Rattle.scad_meaning.specs.Bodies.{is_child}
-use Rattle.scad_meaning.specs.Meaning.{Context, MemberDesigns, InstanceDesign, Evaluator, joined_members, moved_design, no_design, as_member, and_members, body_design, hull_design, built_in_design, children_design, effect_design, after_step, each_member, each_step, each_turn, in_loop, module_scope, with_calls_left, with_chain, inside_scope, setting, apart, block_members, built_in_given, instances_chosen, module_filled, module_given}
+use Rattle.scad_meaning.specs.Loops.{items_of}
+use Rattle.scad_meaning.specs.Meaning.{Context, MemberDesigns, InstanceDesign, Evaluator, joined_members, moved_design, no_design, as_member, and_members, body_design, core_design, core_of_instance, hull_design, loop_design, built_in_design, children_design, effect_design, after_step, each_member, each_step, each_turn, in_loop, module_design, module_scope, with_calls_left, with_chain, inside_scope, setting, apart, block_members, built_in_given, instances_chosen, module_filled, module_given}
 use Rattle.scad_eval.specs.declared.evaluator.InstanceEvaluator.{InstanceEvaluator}
-use Rattle.scad_eval.specs.Keeping.{evaluations_left, evaluator_at, env_at, context_at, CountsCall, StopsBefore}
+use Rattle.scad_eval.specs.Keeping.{evaluator_at, env_at, context_at, Stays, Enters, meant_at}
 use Rattle.scad_eval.specs.Steps.{one_step}
-use Rattle.scad_eval.specs.Within.{body_seen}
+use Rattle.scad_eval.specs.Within.{body_seen, IsInstanceAt, IsModuleCall}
+use Rattle.scad_func.proofs.Kept.{keeps_same, keeps_trans, specials_kept, scope_kept}
 use Rattle.scad_eval.proofs.Work.{work_falls, work_same}
-use Rattle.scad_eval.proofs.Counting.{design_too_deep, call_counted, call_too_deep, turn_counted}
+use Rattle.scad_evaluation.proofs.Counting.{call_refused, call_goes}
+use Rattle.scad_eval.proofs.Counting.{design_too_deep, call_too_deep, turn_counted}
 use Rattle.scad_eval.proofs.Membership.{child_is_member, as_member_outcome, member_step, instances_here}
-use Rattle.scad_eval.proofs.Outcomes.{along, then_outcome, stop_outcome, only_no_memory, outcome_with, told_outcome, lengthened, lengthening_stops}
-use Rattle.scad_eval.proofs.Contexts.{stays_same, stays_alike, stays_then, stays_kept, same_context, meets_after, meets_at}
-use Rattle.scad_eval.proofs.Standing.{position_still, body_still, call_still, scope_entered, scope_bound, specials_begun, specials_there, call_begun, evaluation_begun, block_bound}
-use Rattle.scad_eval.proofs.Newest.{with_specials}
-use Rattle.scad_eval.proofs.Equations.{refused_outcome, joined_outcome, entered_meets, body_entered, block_meets, deeper_meets, call_meets, children_meets, specials_meets, specials_setting, built_in_refused, built_in_meets, marked_form, begun_front, lengthened_on, first_outcome, OnOk-at_ok}
+use Rattle.scad_eval.proofs.Outcomes.{along, then_outcome, stop_outcome, only_no_memory, told_outcome, lengthened, lengthening_stops}
+use Rattle.scad_eval.proofs.Told.{begun_at, told_from, told_after, told_there, stops, evaluation_stops, joins, join_stops}
+use Rattle.scad_eval.proofs.Contexts.{stays_same, stays_then, stays_kept, stays_told, same_context}
+use Rattle.scad_eval.proofs.Beginning.{evaluation_kept, call_kept, specials_there}
+use Rattle.scad_eval.proofs.Standing.{position_still, instance_still, body_still, call_still, instances_stand, scope_bound, block_bound}
+use Rattle.scad_eval.proofs.Newest.{with_specials, specials_began, slots_lent}
+use Rattle.scad_eval.proofs.Equations.{refused_outcome, entered_meant, body_meant, block_meant, entered_block, instances_meant, deeper_meant, call_meant, children_meant, specials_meant, specials_setting, built_in_refused, built_in_meant, marked_form, begun_front, lengthened_kept, first_outcome, OnOk-at_ok}
 use Rattle.scad_eval.proofs.evaluator.InstanceEvaluator.+instances.Goals as goal
 
 pub body-members_in_scope-requires : goal.body-members_in_scope-requires
@@ -54,109 +63,97 @@ body-members_in_scope-requires t c =
     let m = c.args.self.now in
     let e = c.in_ok-before.ensures.entered in (
       omega (arith, work_same c.enter_body.new.self.depth m.evaluation.depth e.depth, c.decreases),
-      (position_still m _ refl e.source c.requires.stands.position, tt),
+      (position_still m _ refl e.source c.requires.position, tt),
     )
 
-pub body-returns-in_err-members-clause-made : goal.body-returns-in_err-members-clause-made
-body-returns-in_err-members-clause-made t c =
+pub body-returns-in_err-members : goal.body-returns-in_err-members
+body-returns-in_err-members t c =
     let p = err_from_is_err_and c.from_residual-in_err-members.result c.from_residual-in_err-members.ensures.1 in
-    let m = c.args.self.now in
     let e = c.in_ok-before.ensures.entered in
-    rw (p.1, p.2) (record {
-      by = λ judge right.
-          stop_outcome (λ turns ms. Gives turns (joined_members c.args.op ms))
-          (body_entered m _ c.members_in_scope.new.self c.args.position c.in_ok-before.before c.args.body.block no_call
-          (scope_here m.evaluation) None (statements_of_body (body_seen c.args.body))
-          c.requires.stands.position.whole c.requires.stands.block (record { unit = refl; leaves = refl; evaluation = e }) c.in_ok-before.ensures.inside
-          c.enter_body.ensures.turns c.in_err-members.ensures.members judge right);
-    })
+    rw (p.1, p.2) (join_stops c.args.op c.in_err-members.ensures
+    (λ judge right. body_meant c.args.op judge c.args.self.now (begun_at c.in_err-members.ensures) c.args.position c.in_ok-before.before c.args.body c.requires
+    (record { unit = refl; leaves = refl; evaluation = e }) c.in_ok-before.ensures.inside c.enter_body.ensures.turns) tt)
 
-pub body-returns-clause-made : goal.body-returns-clause-made
-body-returns-clause-made t c =
+pub body-returns : goal.body-returns
+body-returns t c =
     let m = c.args.self.now in
     let e = c.in_ok-before.ensures.entered in
-    record {
-      by = λ judge right.
-          joined_outcome c.args.op c.in_ok-members.members c.in_ok-joined.field-0 _ _ _
-          (outcome_with c.leave.ensures.turns
-          (body_entered m _ c.members_in_scope.new.self c.args.position c.in_ok-before.before c.args.body.block no_call
-          (scope_here m.evaluation) None (statements_of_body (body_seen c.args.body))
-          c.requires.stands.position.whole c.requires.stands.block (record { unit = refl; leaves = refl; evaluation = e }) c.in_ok-before.ensures.inside
-          c.enter_body.ensures.turns c.in_ok-members.ensures.members judge right))
-          c.in_ok-joined.ensures;
-    }
-
-pub body-returns-clause-stays : goal.body-returns-clause-stays
-body-returns-clause-stays t c =
-    let m = c.args.self.now in
-    let e = c.in_ok-before.ensures.entered in
-    let b = c.in_ok-members.ensures.binds in
-    stays_kept m _ b.unit (c.leave.ensures.back m.evaluation (scope_bound m b e))
+    let b = c.in_ok-members.ensures.kept in
+    joins c.args.op c.in_ok-members.ensures
+    (λ judge right. body_meant c.args.op judge m (begun_at c.in_ok-members.ensures) c.args.position c.in_ok-before.before c.args.body c.requires
+    (record { unit = refl; leaves = refl; evaluation = e }) c.in_ok-before.ensures.inside c.enter_body.ensures.turns)
+    c.in_ok-joined.ensures c.leave.ensures.turns refl (stays_kept m _ b.older.unit (c.leave.ensures.back m.evaluation (scope_bound m b e)))
 
 pub body-leave-requires : goal.body-leave-requires
 body-leave-requires t c =
     let e = c.in_ok-before.ensures.entered in
-    omega (arith, e.from, e.number, c.in_ok-members.ensures.binds.stands, c.args.self.now.evaluation.there)
+    omega (arith, e.from, e.number, c.in_ok-members.ensures.kept.older.same.stands, c.args.self.now.evaluation.there)
 
 pub members_in_scope-members-requires : goal.members_in_scope-members-requires
 members_in_scope-members-requires t c =
     let m = c.args.self.now in
-    let a = c.in_ok-assign_all.ensures.assigns in (
-      omega (arith, work_same c.assign_all.new.self.evaluation.depth m.evaluation.depth a.depth, c.decreases),
-      (
-        position_still m _ a.unit a.source c.requires.position,
-        subst (λ (is : List NumberedInstance). All (HasBlocks (source_text c.assign_all.new.self.evaluation.source.now)) is) (sym c.deref.ensures.value)
-            c.in_ok-instances.ensures.blocks,
-      ),
+    let a = (c.in_ok-assign_all.ensures c.args.position).kept.older in (
+      omega (arith, work_same c.assign_all.new.self.evaluation.depth m.evaluation.depth a.same.depth, c.decreases),
+      instances_stand c.assign_all.new.self c.args.position c.deref.result.now (position_still m _ a.unit a.same.source c.requires.position)
+          (subst (λ (is : List NumberedInstance). All (HasBlocks (source_text c.assign_all.new.self.evaluation.source.now)) is) (sym c.deref.ensures.value)
+          c.in_ok-instances.ensures.blocks),
     )
 
-pub members_in_scope-returns-in_err-assign_all-clause-members : goal.members_in_scope-returns-in_err-assign_all-clause-members
-members_in_scope-returns-in_err-assign_all-clause-members t c =
+pub members_in_scope-chosen_instances-requires-clause-whole : goal.members_in_scope-chosen_instances-requires-clause-whole
+members_in_scope-chosen_instances-requires-clause-whole t c =
+    let a = (c.in_ok-assign_all.ensures c.args.position).kept.older in
+    subst (λ (source : Source). IsWhole (source_text source)) (sym a.same.source) c.requires.position.whole
+
+pub members_in_scope-end_specials-requires : goal.members_in_scope-end_specials-requires
+members_in_scope-end_specials-requires t c =
+    let a = (c.in_ok-assign_all.ensures c.args.position).kept in
+    omega (
+      arith,
+      c.in_ok-length.ensures,
+      ap length (c.in_ok-members.ensures.kept.evaluation.chain ∙ a.chain),
+      length-append a.newer (chain_of c.args.self.now.evaluation.scopes.now),
+    )
+
+pub members_in_scope-returns-in_err-assign_all : goal.members_in_scope-returns-in_err-assign_all
+members_in_scope-returns-in_err-assign_all t c =
     let p = err_from_is_err_and c.from_residual-in_err-assign_all.result c.from_residual-in_err-assign_all.ensures.1 in
     let m = c.args.self.now in
-    rw (p.1, p.2) (record {
-      by = λ judge right.
-          stop_outcome (λ turns there. each_member (evaluator_at m judge) there (instances_chosen there.env (chosen_seen c.args.chosen)
-          (statements_at (source_text m.evaluation.source.now) c.args.block)) turns m.leaves)
-          ((c.in_err-assign_all.ensures.assigned c.args.position).by judge right);
-    })
+    rw (p.1, p.2) (stops (λ judge turns there. each_member (evaluator_at m judge) there (instances_chosen there.env (chosen_seen c.args.chosen)
+    (statements_at (source_text m.evaluation.source.now) c.args.block)) turns m.leaves)
+    (c.in_err-assign_all.ensures c.args.position) (λ judge right. refl) tt)
 
-pub members_in_scope-returns-in_err-members-clause-members : goal.members_in_scope-returns-in_err-members-clause-members
-members_in_scope-returns-in_err-members-clause-members t c =
+pub members_in_scope-returns-in_err-members : goal.members_in_scope-returns-in_err-members
+members_in_scope-returns-in_err-members t c =
     let p = err_from_is_err_and c.from_residual-in_err-members.result c.from_residual-in_err-members.ensures.1 in
-    rw (p.1, p.2) (record {
-      by = λ judge right.
-          block_meets c.args.self.now c.assign_all.new.self c.members.new.self c.args.position c.args.block (chosen_seen c.args.chosen)
-          (map term_of_numbered c.deref.result.now) c.in_ok-assign_all.ensures.assigns ((c.in_ok-assign_all.ensures.assigned c.args.position).by judge right)
-          (ap (map term_of_numbered) c.deref.ensures.value ∙ c.in_ok-instances.ensures.found) c.in_err-members.ensures.members judge right;
-    })
+    let a = c.in_ok-assign_all.ensures c.args.position in
+    rw (p.1, p.2) (told_from c.in_err-members.ensures
+    (λ judge right. instances_meant c.args.self.now c.assign_all.new.self c.args.position c.args.block (chosen_seen c.args.chosen)
+    (map term_of_numbered c.deref.result.now) judge a.kept (a.equation judge right).is
+    (ap (map term_of_numbered) c.deref.ensures.value ∙ c.in_ok-instances.ensures.found)) refl refl tt)
 
-pub members_in_scope-returns-clause-members : goal.members_in_scope-returns-clause-members
-members_in_scope-returns-clause-members t c = record {
-  by = λ judge right.
-      outcome_with c.end_specials.ensures.turns (
-      block_meets c.args.self.now c.assign_all.new.self c.members.new.self c.args.position c.args.block (chosen_seen c.args.chosen)
-      (map term_of_numbered c.deref.result.now) c.in_ok-assign_all.ensures.assigns ((c.in_ok-assign_all.ensures.assigned c.args.position).by judge right)
-      (ap (map term_of_numbered) c.deref.ensures.value ∙ c.in_ok-instances.ensures.found) c.in_ok-members.ensures.members judge right);
-}
-
-pub members_in_scope-returns-clause-binds : goal.members_in_scope-returns-clause-binds
-members_in_scope-returns-clause-binds t c =
+pub members_in_scope-returns : goal.members_in_scope-returns
+members_in_scope-returns t c =
     let m = c.args.self.now in
-    block_bound m c.assign_all.new.self c.members.new.self _ c.in_ok-assign_all.ensures.assigns c.in_ok-members.ensures.stays refl
+    let a = c.in_ok-assign_all.ensures c.args.position in
+    told_from c.in_ok-members.ensures
+    (λ judge right. instances_meant m c.assign_all.new.self c.args.position c.args.block (chosen_seen c.args.chosen)
+    (map term_of_numbered c.deref.result.now) judge a.kept (a.equation judge right).is
+    (ap (map term_of_numbered) c.deref.ensures.value ∙ c.in_ok-instances.ensures.found)) c.end_specials.ensures.turns refl
+    (block_bound m c.assign_all.new.self c.members.new.self _ a.kept c.in_ok-members.ensures.kept refl
     c.end_specials.ensures.same c.end_specials.ensures.rows
-    (c.end_specials.ensures.chain ∙ ap (λ n. oldest n (chain_of c.members.new.self.evaluation.scopes.now)) c.in_ok-length.ensures)
+    (c.end_specials.ensures.chain ∙ ap (λ n. oldest n (chain_of c.members.new.self.evaluation.scopes.now)) c.in_ok-length.ensures))
 
-pub children_made-returns-in-None-clause-made : goal.children_made-returns-in-None-clause-made
-children_made-returns-in-None-clause-made t c = record {
-  by = λ judge right.
-      let m = c.args.self.now in
-      record {
+pub children_made-returns-in-None : goal.children_made-returns-in-None
+children_made-returns-in-None t c =
+    let m = c.args.self.now in
+    record {
+      equation = λ judge right. record {
         is = ap (λ (o : Opened). children_design (evaluator_at m judge) (context_at m c.args.position) o (chosen_of c.args.chosen.now) m.evaluation.turns m.leaves)
             c.in-None.ensures.value
             ∙ ap (λ (made : InstanceDesign). Gives m.evaluation.turns made) (sym (c.nothing_made.ensures m.leaves));
       };
-}
+      kept = stays_same m;
+    }
 
 pub children_made-members_in_scope-requires : goal.children_made-members_in_scope-requires
 children_made-members_in_scope-requires t c =
@@ -166,52 +163,46 @@ children_made-members_in_scope-requires t c =
       (position_still m _ refl e.source c.requires.position, c.requires.safe),
     )
 
-pub children_made-returns-in_err-members-in-Some-clause-made : goal.children_made-returns-in_err-members-in-Some-clause-made
-children_made-returns-in_err-members-in-Some-clause-made t c =
+-- the chosen children of a call that was found
+children_entered : (judge : Judge) (m mid : InstanceEvaluator) (position : Position) (before block : ℕ) (caller : Env) (call : Opened) (chosen : ChosenCall)
+    → IsWhole (source_text m.evaluation.source.now) → call ≡ opened (statements_at (source_text m.evaluation.source.now) block) caller → Enters m mid before
+    → env_here mid.evaluation ≡ block_scope (source_text m.evaluation.source.now) block no_call caller → mid.evaluation.turns ≡ m.evaluation.turns
+    → children_design (evaluator_at m judge) (context_at m position) call chosen m.evaluation.turns m.leaves
+    ≡ then_with (meant_at mid position judge (λ evaluator. block_members evaluator (Some chosen) (statements_at (source_text mid.evaluation.source.now) block)))
+    (λ turns members. Gives turns (joined_members Union members))
+children_entered judge m mid position before block caller call chosen whole found e inside turns =
+    let text = source_text m.evaluation.source.now in
+    let statements = statements_at text block in
+    ap (λ (o : Opened). children_design (evaluator_at m judge) (context_at m position) o chosen m.evaluation.turns m.leaves) found
+    ∙ ap (λ o. then_with o (λ turns members. Gives turns (joined_members Union members)))
+    (block_meant judge m mid position before block (Some chosen) statements (entered_scope statements no_call caller) refl e
+    (entered_block text block no_call caller statements whole refl inside) turns)
+
+pub children_made-returns-in_err-members-in-Some : goal.children_made-returns-in_err-members-in-Some
+children_made-returns-in_err-members-in-Some t c =
     let p = err_from_is_err_and c.from_residual-in_err-members-in-Some.result c.from_residual-in_err-members-in-Some.ensures.1 in
     let m = c.args.self.now in
     let e = c.in_ok-before-in-Some.ensures.entered in
-    let statements = statements_at (source_text m.evaluation.source.now) c.in-Some.call.children in
-    let caller = env_at m c.in-Some.call.caller in
-    rw (p.1, p.2) (record {
-      by = λ judge right.
-          along (ap (λ (o : Opened). children_design (evaluator_at m judge) (context_at m c.args.position) o (chosen_of c.args.chosen.now) m.evaluation.turns m.leaves)
-          c.in-Some.ensures.value)
-          (stop_outcome (λ turns ms. Gives turns (joined_members Union ms))
-          (body_entered m _ c.members_in_scope.new.self c.args.position c.in_ok-before-in-Some.before c.in-Some.call.children no_call caller (Some (chosen_of c.args.chosen.now)) statements
-          c.requires.position.whole refl (record { unit = refl; leaves = refl; evaluation = e }) c.in_ok-before-in-Some.ensures.inside c.enter_body.ensures.turns
-          c.in_err-members-in-Some.ensures.members judge right));
-    })
+    rw (p.1, p.2) (join_stops Union c.in_err-members-in-Some.ensures
+    (λ judge right. children_entered judge m (begun_at c.in_err-members-in-Some.ensures) c.args.position c.in_ok-before-in-Some.before c.in-Some.call.children (env_at m c.in-Some.call.caller) _
+    (chosen_of c.args.chosen.now) c.requires.position.whole c.in-Some.ensures.value (record { unit = refl; leaves = refl; evaluation = e })
+    c.in_ok-before-in-Some.ensures.inside c.enter_body.ensures.turns) tt)
 
-pub children_made-returns-in_ok-joined-in-Some-clause-made : goal.children_made-returns-in_ok-joined-in-Some-clause-made
-children_made-returns-in_ok-joined-in-Some-clause-made t c =
+pub children_made-returns-in_ok-joined-in-Some : goal.children_made-returns-in_ok-joined-in-Some
+children_made-returns-in_ok-joined-in-Some t c =
     let m = c.args.self.now in
     let e = c.in_ok-before-in-Some.ensures.entered in
-    let statements = statements_at (source_text m.evaluation.source.now) c.in-Some.call.children in
-    let caller = env_at m c.in-Some.call.caller in
-    record {
-      by = λ judge right.
-          along (ap (λ (o : Opened). children_design (evaluator_at m judge) (context_at m c.args.position) o (chosen_of c.args.chosen.now) m.evaluation.turns m.leaves)
-          c.in-Some.ensures.value)
-          (joined_outcome Union c.in_ok-members-in-Some.members c.in_ok-joined-in-Some.field-0 _ _ _
-          (outcome_with c.leave.ensures.turns
-          (body_entered m _ c.members_in_scope.new.self c.args.position c.in_ok-before-in-Some.before c.in-Some.call.children no_call caller (Some (chosen_of c.args.chosen.now)) statements
-          c.requires.position.whole refl (record { unit = refl; leaves = refl; evaluation = e }) c.in_ok-before-in-Some.ensures.inside c.enter_body.ensures.turns
-          c.in_ok-members-in-Some.ensures.members judge right))
-          c.in_ok-joined-in-Some.ensures);
-    }
-
-pub children_made-returns-in_ok-joined-in-Some-clause-stays : goal.children_made-returns-in_ok-joined-in-Some-clause-stays
-children_made-returns-in_ok-joined-in-Some-clause-stays t c =
-    let m = c.args.self.now in
-    let e = c.in_ok-before-in-Some.ensures.entered in
-    let b = c.in_ok-members-in-Some.ensures.binds in
-    stays_kept m _ b.unit (c.leave.ensures.back m.evaluation (scope_bound m b e))
+    let b = c.in_ok-members-in-Some.ensures.kept in
+    joins Union c.in_ok-members-in-Some.ensures
+    (λ judge right. children_entered judge m (begun_at c.in_ok-members-in-Some.ensures) c.args.position c.in_ok-before-in-Some.before c.in-Some.call.children (env_at m c.in-Some.call.caller) _
+    (chosen_of c.args.chosen.now) c.requires.position.whole c.in-Some.ensures.value (record { unit = refl; leaves = refl; evaluation = e })
+    c.in_ok-before-in-Some.ensures.inside c.enter_body.ensures.turns)
+    c.in_ok-joined-in-Some.ensures c.leave.ensures.turns refl (stays_kept m _ b.older.unit (c.leave.ensures.back m.evaluation (scope_bound m b e)))
 
 pub children_made-leave-requires : goal.children_made-leave-requires
 children_made-leave-requires t c =
     let e = c.in_ok-before-in-Some.ensures.entered in
-    omega (arith, e.from, e.number, c.in_ok-members-in-Some.ensures.binds.stands, c.args.self.now.evaluation.there)
+    omega (arith, e.from, e.number, c.in_ok-members-in-Some.ensures.kept.older.same.stands, c.args.self.now.evaluation.there)
 
 pub children_called-children_made-requires : goal.children_called-children_made-requires
 children_called-children_made-requires t c =
@@ -221,218 +212,164 @@ children_called-children_made-requires t c =
       (position_still m _ refl b.source c.requires.position, c.requires.safe),
     )
 
-pub children_called-returns-in_err-begin_call-clause-made : goal.children_called-returns-in_err-begin_call-clause-made
-children_called-returns-in_err-begin_call-clause-made t c =
+pub children_called-returns-in_err-begin_call : goal.children_called-returns-in_err-begin_call
+children_called-returns-in_err-begin_call t c =
     let p = err_from_is_err_and c.from_residual.result c.from_residual.ensures.1 in
     let m = c.args.self.now in
     let r = c.in_err-begin_call.ensures.refused in
     rw (p.1, p.2) (record {
-      by = λ judge right. along (call_too_deep m.evaluation.calls c.args.place _ r.0) (refused_outcome c.in_err-begin_call.field-0.0 _ _ TooDeep c.args.place r.1);
+      equation = λ judge right. along (call_too_deep m.evaluation.calls c.args.place _ r.0) (refused_outcome c.in_err-begin_call.field-0.0 _ _ TooDeep c.args.place r.1);
+      kept = tt;
     })
 
-pub children_called-returns-in_err-made-clause-made : goal.children_called-returns-in_err-made-clause-made
-children_called-returns-in_err-made-clause-made t c =
+pub children_called-returns-in_err-made : goal.children_called-returns-in_err-made
+children_called-returns-in_err-made t c =
     let p = err_from_is_err_and c.from_residual-in_err-made.result c.from_residual-in_err-made.ensures.1 in
-    let m = c.args.self.now in
-    rw (p.1, p.2) (record {
-      by = λ judge right.
-          children_meets m _ c.children_made.new.self c.args.position c.args.place (chosen_of c.args.chosen.now) refl refl
-          c.begin_call.ensures.turns c.in_ok-begin_call.ensures.begun c.in_err-made.ensures.made judge right;
-    })
+    rw (p.1, p.2) (told_from c.in_err-made.ensures
+    (λ judge right. children_meant judge c.args.self.now (begun_at c.in_err-made.ensures) c.args.position c.args.place (chosen_of c.args.chosen.now) refl refl
+    c.begin_call.ensures.turns c.in_ok-begin_call.ensures.begun) refl refl tt)
 
-pub children_called-returns-clause-made : goal.children_called-returns-clause-made
-children_called-returns-clause-made t c =
+pub children_called-returns : goal.children_called-returns
+children_called-returns t c =
     let m = c.args.self.now in
-    record {
-      by = λ judge right.
-          outcome_with c.end_call.ensures.turns
-          (children_meets m _ c.children_made.new.self c.args.position c.args.place (chosen_of c.args.chosen.now) refl refl
-          c.begin_call.ensures.turns c.in_ok-begin_call.ensures.begun c.in_ok-made.ensures.made judge right);
-    }
+    let k = c.in_ok-made.ensures.kept in
+    told_from c.in_ok-made.ensures
+    (λ judge right. children_meant judge m (begun_at c.in_ok-made.ensures) c.args.position c.args.place (chosen_of c.args.chosen.now) refl refl
+    c.begin_call.ensures.turns c.in_ok-begin_call.ensures.begun) c.end_call.ensures.turns refl
+    (stays_kept m _ k.unit (c.end_call.ensures.back m.evaluation (call_kept c.in_ok-begin_call.ensures.begun k.evaluation)))
 
-pub children_called-returns-clause-stays : goal.children_called-returns-clause-stays
-children_called-returns-clause-stays t c =
-    let m = c.args.self.now in
-    let k = c.in_ok-made.ensures.stays in
-    stays_kept m _ k.unit (c.end_call.ensures.back m.evaluation
-    (call_begun m k c.in_ok-begin_call.ensures.begun))
-
-pub built_in_made-returns-in_err-slots-clause-made : goal.built_in_made-returns-in_err-slots-clause-made
-built_in_made-returns-in_err-slots-clause-made t c =
+pub built_in_made-returns-in_err-slots : goal.built_in_made-returns-in_err-slots
+built_in_made-returns-in_err-slots t c =
     let p = err_from_is_err_and c.from_residual.result c.from_residual.ensures.1 in
     rw (p.1, p.2) (record {
-      by = λ judge right. only_no_memory _ (IfErr-at_err IsNoMemory c.in_err-slots.ensures.err c.begin_specials-begun.ensures.stop);
+      equation = λ judge right. only_no_memory _ (IfErr-at_err IsNoMemory c.in_err-slots.ensures.err c.begin_specials-begun.ensures.stop);
+      kept = tt;
     })
 
 pub built_in_made-effect_made-requires : goal.built_in_made-effect_made-requires
 built_in_made-effect_made-requires t c =
     let m = c.args.self.now in
     let ok = c.in_ok-slots.ensures.ok in
-    let special = c.begin_specials-begun.new.self in
-    let begins : SpecialsBegin m.evaluation special c.in_ok-slots.length = IfOk-at_ok (λ (n : ℕ). SpecialsBegin m.evaluation special n) ok.1 c.begin_specials-begun.ensures.begun in
-    let begun = with_specials m special c.in_ok-slots.length begins in (
-      omega (arith, work_same c.begin_specials-begun.new.self.depth m.evaluation.depth begins.depth, c.decreases),
-      (body_still m _ refl begins.source c.requires.stands, c.in_ok-effect.ensures.safe),
+    let begins = specials_began c.begin_specials-begun.ensures.begins ok.1 in (
+      omega (arith, work_same c.begin_specials-begun.new.self.depth m.evaluation.depth begins.0.depth, c.decreases),
+      (body_still m _ refl begins.0.source c.requires, c.in_ok-effect.ensures.safe),
     )
 
-pub built_in_made-returns-in_err-effect-clause-made : goal.built_in_made-returns-in_err-effect-clause-made
-built_in_made-returns-in_err-effect-clause-made t c =
+pub built_in_made-returns-in_err-effect : goal.built_in_made-returns-in_err-effect
+built_in_made-returns-in_err-effect t c =
     let p = err_from_is_err_and c.from_residual-in_err-effect.result c.from_residual-in_err-effect.ensures.1 in
     let m = c.args.self.now in
     let ok = c.in_ok-slots.ensures.ok in
-    let special = c.begin_specials-begun.new.self in
-    let begins : SpecialsBegin m.evaluation special c.in_ok-slots.length = IfOk-at_ok (λ (n : ℕ). SpecialsBegin m.evaluation special n) ok.1 c.begin_specials-begun.ensures.begun in
-    let begun = with_specials m special c.in_ok-slots.length begins in
-    let chain : chain_of begun.evaluation.scopes.now ≡ specials_in c.args.given.specials.items ++ chain_of m.evaluation.scopes.now = OnOk-at_ok ok.1 c.begin_specials-begun.ensures.chain in
-    rw (p.1, p.2) (record {
-      by = λ judge right.
-          built_in_refused m begun c.args.position c.args.place c.args.built_in (arguments_of c.args.given) (body_seen c.args.body) (slots_in c.in_ok-slots.slots.items) chain
-          (ap slots_in (ap (λ (v : Vec (Option BoundedValue) Global). v.items) (sym ok.0)))
-          c.in_err-effect.field-0.0 _ _ c.in_err-effect.ensures.effect judge;
-    })
+    let begins = specials_began c.begin_specials-begun.ensures.begins ok.1 in
+    let begun = with_specials m c.begin_specials-begun.new.self c.in_ok-slots.length begins.0 in
+    rw (p.1, p.2) (built_in_refused m begun c.args.position c.args.place c.args.built_in (arguments_of c.args.given) (body_seen c.args.body) (slots_in c.in_ok-slots.slots.items) begins.1
+    (slots_lent ok.0) c.in_err-effect.field-0.0 _ c.in_err-effect.ensures.effect tt)
 
-pub built_in_made-returns-in_err-made-clause-made : goal.built_in_made-returns-in_err-made-clause-made
-built_in_made-returns-in_err-made-clause-made t c =
+pub built_in_made-returns-in_err-made : goal.built_in_made-returns-in_err-made
+built_in_made-returns-in_err-made t c =
     let p = err_from_is_err_and c.from_residual-in_err-made.result c.from_residual-in_err-made.ensures.1 in
     let m = c.args.self.now in
     let ok = c.in_ok-slots.ensures.ok in
-    let special = c.begin_specials-begun.new.self in
-    let begins : SpecialsBegin m.evaluation special c.in_ok-slots.length = IfOk-at_ok (λ (n : ℕ). SpecialsBegin m.evaluation special n) ok.1 c.begin_specials-begun.ensures.begun in
-    let begun = with_specials m special c.in_ok-slots.length begins in
-    let chain : chain_of begun.evaluation.scopes.now ≡ specials_in c.args.given.specials.items ++ chain_of m.evaluation.scopes.now = OnOk-at_ok ok.1 c.begin_specials-begun.ensures.chain in
-    rw (p.1, p.2) (record {
-      by = λ judge right.
-          built_in_meets m begun c.args.position c.args.place c.args.built_in (arguments_of c.args.given) (body_seen c.args.body) (slots_in c.in_ok-slots.slots.items) chain
-          (ap slots_in (ap (λ (v : Vec (Option BoundedValue) Global). v.items) (sym ok.0)))
-          _ c.effect_made.new.self c.in_ok-slots.length (call_of c.in_ok-effect.effect) refl refl c.begin_specials-begun.ensures.turns begins (stays_alike begun _ refl refl) refl
-          c.in_ok-effect.ensures.effect
-          c.in_err-made.ensures.made judge right;
-    })
+    let begins = specials_began c.begin_specials-begun.ensures.begins ok.1 in
+    let begun = with_specials m c.begin_specials-begun.new.self c.in_ok-slots.length begins.0 in
+    rw (p.1, p.2) (told_from c.in_err-made.ensures
+    (λ judge right. built_in_meant m begun c.args.position c.args.place c.args.built_in (arguments_of c.args.given) (body_seen c.args.body) (slots_in c.in_ok-slots.slots.items) begins.1
+    (slots_lent ok.0)
+    judge (begun_at c.in_err-made.ensures) c.in_ok-slots.length (call_of c.in_ok-effect.effect) refl refl c.begin_specials-begun.ensures.begins.turns begins.0 (stays_kept begun _ refl (keeps_same _)) refl
+    c.in_ok-effect.ensures.effect) refl refl tt)
 
-pub built_in_made-returns-clause-made : goal.built_in_made-returns-clause-made
-built_in_made-returns-clause-made t c =
+pub built_in_made-returns : goal.built_in_made-returns
+built_in_made-returns t c =
     let m = c.args.self.now in
     let ok = c.in_ok-slots.ensures.ok in
-    let special = c.begin_specials-begun.new.self in
-    let begins : SpecialsBegin m.evaluation special c.in_ok-slots.length = IfOk-at_ok (λ (n : ℕ). SpecialsBegin m.evaluation special n) ok.1 c.begin_specials-begun.ensures.begun in
-    let begun = with_specials m special c.in_ok-slots.length begins in
-    let chain : chain_of begun.evaluation.scopes.now ≡ specials_in c.args.given.specials.items ++ chain_of m.evaluation.scopes.now = OnOk-at_ok ok.1 c.begin_specials-begun.ensures.chain in
-    record {
-      by = λ judge right.
-          outcome_with c.end_specials.ensures.turns
-          (built_in_meets m begun c.args.position c.args.place c.args.built_in (arguments_of c.args.given) (body_seen c.args.body) (slots_in c.in_ok-slots.slots.items) chain
-          (ap slots_in (ap (λ (v : Vec (Option BoundedValue) Global). v.items) (sym ok.0)))
-          _ c.effect_made.new.self c.in_ok-slots.length (call_of c.in_ok-effect.effect) refl refl c.begin_specials-begun.ensures.turns begins (stays_alike begun _ refl refl) refl
-          c.in_ok-effect.ensures.effect
-          c.in_ok-made.ensures.made judge right);
-    }
-
-pub built_in_made-returns-clause-stays : goal.built_in_made-returns-clause-stays
-built_in_made-returns-clause-stays t c =
-    let m = c.args.self.now in
-    let ok = c.in_ok-slots.ensures.ok in
-    let special = c.begin_specials-begun.new.self in
-    let begins : SpecialsBegin m.evaluation special c.in_ok-slots.length = IfOk-at_ok (λ (n : ℕ). SpecialsBegin m.evaluation special n) ok.1 c.begin_specials-begun.ensures.begun in
-    let begun = with_specials m special c.in_ok-slots.length begins in
-    let k = c.in_ok-made.ensures.stays in
-    stays_kept m _ k.unit (c.end_specials.ensures.back m.evaluation (specials_begun m c.in_ok-slots.length k begins))
+    let begins = specials_began c.begin_specials-begun.ensures.begins ok.1 in
+    let begun = with_specials m c.begin_specials-begun.new.self c.in_ok-slots.length begins.0 in
+    let k = c.in_ok-made.ensures.kept in
+    told_from c.in_ok-made.ensures
+    (λ judge right. built_in_meant m begun c.args.position c.args.place c.args.built_in (arguments_of c.args.given) (body_seen c.args.body) (slots_in c.in_ok-slots.slots.items) begins.1
+    (slots_lent ok.0)
+    judge (begun_at c.in_ok-made.ensures) c.in_ok-slots.length (call_of c.in_ok-effect.effect) refl refl c.begin_specials-begun.ensures.begins.turns begins.0 (stays_kept begun _ refl (keeps_same _)) refl
+    c.in_ok-effect.ensures.effect) c.end_specials.ensures.turns refl
+    (stays_kept m _ k.unit (c.end_specials.ensures.back m.evaluation (specials_kept m.evaluation c.in_ok-slots.length begins.0 k.evaluation)))
 
 pub built_in_made-end_specials-requires : goal.built_in_made-end_specials-requires
 built_in_made-end_specials-requires t c =
     let m = c.args.self.now in
     let ok = c.in_ok-slots.ensures.ok in
-    let special = c.begin_specials-begun.new.self in
-    let begins : SpecialsBegin m.evaluation special c.in_ok-slots.length = IfOk-at_ok (λ (n : ℕ). SpecialsBegin m.evaluation special n) ok.1 c.begin_specials-begun.ensures.begun in
-    let begun = with_specials m special c.in_ok-slots.length begins in
-    let chain : chain_of begun.evaluation.scopes.now ≡ specials_in c.args.given.specials.items ++ chain_of m.evaluation.scopes.now = OnOk-at_ok ok.1 c.begin_specials-begun.ensures.chain in
-    specials_there m c.in_ok-slots.length (specials_in c.args.given.specials.items) c.in_ok-made.ensures.stays begins chain
+    let begins = specials_began c.begin_specials-begun.ensures.begins ok.1 in
+    specials_there c.in_ok-slots.length (specials_in c.args.given.specials.items) c.in_ok-made.ensures.kept.evaluation begins.0 begins.1
 
-pub built_in_called-returns-in_err-given-in-Some-clause-made : goal.built_in_called-returns-in_err-given-in-Some-clause-made
-built_in_called-returns-in_err-given-in-Some-clause-made t c =
+pub built_in_called-returns-in_err-given-in-Some : goal.built_in_called-returns-in_err-given-in-Some
+built_in_called-returns-in_err-given-in-Some t c =
     let p = err_from_is_err_and c.from_residual.result c.from_residual.ensures.1 in
     let m = c.args.self.now in
-    rw (p.1, p.2) (record {
-      by = λ judge right.
-          along (ap (λ (o : Option BuiltinModule). built_in_design (evaluator_at m judge) (context_at m c.args.position) c.args.place c.args.name.now (args_of c.args.args.now) (body_seen c.args.body) o m.evaluation.turns m.leaves)
-          (sym c.in-Some.ensures))
-          (stop_outcome (λ turns given. built_in_given (evaluator_at m judge) c.args.place c.in-Some.built_in given (body_seen c.args.body) (context_at m c.args.position) turns m.leaves)
-          (told_outcome arguments_of (Err c.in_err-given-in-Some.field-0.0) c.arguments_for.new.evaluation.turns m.leaves _ c.in_err-given-in-Some.ensures.value));
-    })
+    rw (p.1, p.2) (evaluation_stops (λ judge turns given. built_in_given (evaluator_at m judge) c.args.place c.in-Some.built_in given (body_seen c.args.body) (context_at m c.args.position) turns m.leaves)
+    c.in_err-given-in-Some.ensures
+    (λ judge right. ap (λ (o : Option BuiltinModule). built_in_design (evaluator_at m judge) (context_at m c.args.position) c.args.place c.args.name.now (args_of c.args.args.now) (body_seen c.args.body) o m.evaluation.turns m.leaves)
+    (sym c.in-Some.ensures)) tt)
 
-pub built_in_called-returns-in_ok-given-in-Some-clause-made : goal.built_in_called-returns-in_ok-given-in-Some-clause-made
-built_in_called-returns-in_ok-given-in-Some-clause-made t c =
+pub built_in_called-returns-in_ok-given-in-Some : goal.built_in_called-returns-in_ok-given-in-Some
+built_in_called-returns-in_ok-given-in-Some t c =
     let m = c.args.self.now in
-    record {
-      by = λ judge right.
-          along (ap (λ (o : Option BuiltinModule). built_in_design (evaluator_at m judge) (context_at m c.args.position) c.args.place c.args.name.now (args_of c.args.args.now) (body_seen c.args.body) o m.evaluation.turns m.leaves)
-          (sym c.in-Some.ensures))
-          (then_outcome (λ turns given. built_in_given (evaluator_at m judge) c.args.place c.in-Some.built_in given (body_seen c.args.body) (context_at m c.args.position) turns m.leaves)
-          (told_outcome arguments_of (Ok c.in_ok-given-in-Some.given) c.arguments_for.new.evaluation.turns m.leaves _ c.in_ok-given-in-Some.ensures.value)
-          (meets_after (stays_kept m _ refl c.arguments_for.ensures.kept) c.built_in_made.ensures.made judge right));
-    }
-
-pub built_in_called-returns-in_ok-given-in-Some-clause-stays : goal.built_in_called-returns-in_ok-given-in-Some-clause-stays
-built_in_called-returns-in_ok-given-in-Some-clause-stays t c =
-    on_ok_weaker c.built_in_made.result (λ k. stays_then (stays_kept c.args.self.now _ refl c.arguments_for.ensures.kept) k)
-    c.built_in_made.ensures.stays
+    told_after (stays_kept m _ refl c.arguments_for.ensures.kept) c.built_in_made.ensures
+    (λ judge right. ap (λ (o : Option BuiltinModule). built_in_design (evaluator_at m judge) (context_at m c.args.position) c.args.place c.args.name.now (args_of c.args.args.now) (body_seen c.args.body) o m.evaluation.turns m.leaves)
+    (sym c.in-Some.ensures)
+    ∙ ap (λ o. then_with o (λ turns given. built_in_given (evaluator_at m judge) c.args.place c.in-Some.built_in given (body_seen c.args.body) (context_at m c.args.position) turns m.leaves))
+    c.in_ok-given-in-Some.ensures.value)
 
 pub built_in_called-built_in_made-requires : goal.built_in_called-built_in_made-requires
 built_in_called-built_in_made-requires t c =
     let m = c.args.self.now in
     let k = c.arguments_for.ensures.kept in (
       omega (arith, work_same c.arguments_for.new.evaluation.depth m.evaluation.depth k.depth, c.decreases),
-      body_still m _ refl k.source c.requires.stands,
+      body_still m _ refl k.source c.requires,
     )
 
-pub effect_made-returns-in-Solid-clause-made : goal.effect_made-returns-in-Solid-clause-made
-effect_made-returns-in-Solid-clause-made t c = record {
-  by = λ judge right.
-      let m = c.args.self.now in
-      along (ap (λ (e : Effect). effect_design (evaluator_at m judge) (context_at m c.args.position) c.args.place (call_of e) (body_seen c.args.body) m.evaluation.turns m.leaves)
-      c.in-Solid.is)
-      ((c.solid.ensures.made c.args.position).by judge right);
-}
+pub effect_made-returns-in-Solid : goal.effect_made-returns-in-Solid
+effect_made-returns-in-Solid t c =
+    let m = c.args.self.now in
+    let f = c.solid.ensures c.args.position in
+    told_from f
+    (λ judge right. ap (λ (e : Effect). effect_design (evaluator_at m judge) (context_at m c.args.position) c.args.place (call_of e) (body_seen c.args.body) m.evaluation.turns m.leaves)
+    c.in-Solid.is) refl refl (stays_told c.solid.result f.kept)
 
-pub effect_made-returns-in_err-made-in-Hull-clause-made : goal.effect_made-returns-in_err-made-in-Hull-clause-made
-effect_made-returns-in_err-made-in-Hull-clause-made t c =
+pub effect_made-returns-in_err-made-in-Hull : goal.effect_made-returns-in_err-made-in-Hull
+effect_made-returns-in_err-made-in-Hull t c =
     let p = err_from_is_err_and c.from_residual.result c.from_residual.ensures.1 in
     let m = c.args.self.now in
-    rw (p.1, p.2) (record {
-      by = λ judge right.
-          along (ap (λ (e : Effect). effect_design (evaluator_at m judge) (context_at m c.args.position) c.args.place (call_of e) (body_seen c.args.body) m.evaluation.turns m.leaves)
-          c.in-Hull.is)
-          (stop_outcome (λ turns m. hull_design (judge.hull m.design) c.args.place m turns) (c.in_err-made-in-Hull.ensures.made.by judge right));
-    })
+    rw (p.1, p.2) (stops (λ judge turns made. hull_design (judge.hull made.design) c.args.place made turns) c.in_err-made-in-Hull.ensures
+    (λ judge right. ap (λ (e : Effect). effect_design (evaluator_at m judge) (context_at m c.args.position) c.args.place (call_of e) (body_seen c.args.body) m.evaluation.turns m.leaves)
+    c.in-Hull.is) tt)
 
-pub effect_made-returns-in_ok-made-in-Hull-clause-made : goal.effect_made-returns-in_ok-made-in-Hull-clause-made
-effect_made-returns-in_ok-made-in-Hull-clause-made t c =
+pub effect_made-returns-in_ok-made-in-Hull : goal.effect_made-returns-in_ok-made-in-Hull
+effect_made-returns-in_ok-made-in-Hull t c =
     let m = c.args.self.now in
+    let f = c.hull.ensures c.args.position in
     record {
-      by = λ judge right.
+      equation = λ judge right.
           along (ap (λ (e : Effect). effect_design (evaluator_at m judge) (context_at m c.args.position) c.args.place (call_of e) (body_seen c.args.body) m.evaluation.turns m.leaves)
           c.in-Hull.is)
-          (then_outcome (λ turns m. hull_design (judge.hull m.design) c.args.place m turns)
-          (c.in_ok-made-in-Hull.ensures.made.by judge right) ((c.hull.ensures.made c.args.position).by judge right));
+          (then_outcome (λ turns made. hull_design (judge.hull made.design) c.args.place made turns)
+          (c.in_ok-made-in-Hull.ensures.equation judge right) (f.equation judge right));
+      kept = stays_told c.hull.result (stays_then c.in_ok-made-in-Hull.ensures.kept f.kept);
     }
 
-pub moved-returns-in_err-design-clause-made : goal.moved-returns-in_err-design-clause-made
-moved-returns-in_err-design-clause-made t c =
+pub moved-returns-in_err-design : goal.moved-returns-in_err-design
+moved-returns-in_err-design t c =
     let p = err_from_is_err_and c.from_residual.result c.from_residual.ensures.1 in
-    rw (p.1, p.2) (record {
-      by = λ judge right.
-          stop_outcome (λ turns m. Gives turns (moved_design (moved_by c.args.steps.now) m)) (c.in_err-design.ensures.made.by judge right);
-    })
+    rw (p.1, p.2) (stops (λ judge turns made. Gives turns (moved_design (moved_by c.args.steps.now) made)) c.in_err-design.ensures (λ judge right. refl) tt)
 
-pub instance-returns-in_err-begin_evaluation-clause-made : goal.instance-returns-in_err-begin_evaluation-clause-made
-instance-returns-in_err-begin_evaluation-clause-made t c =
+pub instance-returns-in_err-begin_evaluation : goal.instance-returns-in_err-begin_evaluation
+instance-returns-in_err-begin_evaluation t c =
     let p = err_from_is_err_and c.from_residual.result c.from_residual.ensures.1 in
     let m = c.args.self.now in
     let r = c.in_err-begin_evaluation.ensures.refused in
     rw (p.1, p.2) (record {
-      by = λ judge right.
+      equation = λ judge right.
           along (design_too_deep m.unit judge m.evaluation.depth (context_at m c.args.position) (term_of_numbered c.args.instance) m.evaluation.turns m.leaves r.0
           ∙ ap (λ (at : Place). Faults TooDeep at) (sym c.place.ensures))
           (refused_outcome c.in_err-begin_evaluation.field-0.0 _ _ TooDeep c.place.result r.1);
+      kept = tt;
     })
 
 pub instance-marked_or_not-requires : goal.instance-marked_or_not-requires
@@ -440,70 +377,59 @@ instance-marked_or_not-requires t c =
     let m = c.args.self.now in
     let b = c.in_ok-begin_evaluation.ensures.begun in (
       omega (arith, work_falls m.evaluation.depth b.within, work_same c.begin_evaluation.new.self.depth (m.evaluation.depth + 1) b.depth, c.decreases),
-      (
-        position_still m _ refl b.source c.requires.position,
-        subst (λ (x : Source). HasBlocks (source_text x) c.args.instance) (sym b.source) c.requires.blocks,
-      ),
+      instance_still m _ refl b.source c.requires,
     )
 
-pub instance-returns-in_err-made-clause-made : goal.instance-returns-in_err-made-clause-made
-instance-returns-in_err-made-clause-made t c =
+pub instance-returns-in_err-made : goal.instance-returns-in_err-made
+instance-returns-in_err-made t c =
     let p = err_from_is_err_and c.from_residual-in_err-made.result c.from_residual-in_err-made.ensures.1 in
-    rw (p.1, p.2) (record {
-      by = λ judge right.
-          deeper_meets c.args.self.now _ c.marked_or_not.new.self c.args.position (term_of_numbered c.args.instance) refl refl c.begin_evaluation.ensures.turns
-          c.in_ok-begin_evaluation.ensures.begun c.in_err-made.ensures.made judge right;
-    })
+    rw (p.1, p.2) (told_from c.in_err-made.ensures
+    (λ judge right. deeper_meant judge c.args.self.now (begun_at c.in_err-made.ensures) c.args.position (term_of_numbered c.args.instance) refl refl c.begin_evaluation.ensures.turns
+    c.in_ok-begin_evaluation.ensures.begun) refl refl tt)
 
-pub instance-returns-clause-made : goal.instance-returns-clause-made
-instance-returns-clause-made t c = record {
-  by = λ judge right.
-      outcome_with c.end_evaluation.ensures.turns
-      (deeper_meets c.args.self.now _ c.marked_or_not.new.self c.args.position (term_of_numbered c.args.instance) refl refl c.begin_evaluation.ensures.turns
-      c.in_ok-begin_evaluation.ensures.begun c.in_ok-made.ensures.made judge right);
-}
-
-pub instance-returns-clause-stays : goal.instance-returns-clause-stays
-instance-returns-clause-stays t c =
+pub instance-returns : goal.instance-returns
+instance-returns t c =
     let m = c.args.self.now in
-    let k = c.in_ok-made.ensures.stays in
-    stays_kept m _ k.unit (c.end_evaluation.ensures.back m.evaluation
-    (evaluation_begun m k c.in_ok-begin_evaluation.ensures.begun))
+    let k = c.in_ok-made.ensures.kept in
+    told_from c.in_ok-made.ensures
+    (λ judge right. deeper_meant judge m (begun_at c.in_ok-made.ensures) c.args.position (term_of_numbered c.args.instance) refl refl c.begin_evaluation.ensures.turns
+    c.in_ok-begin_evaluation.ensures.begun) c.end_evaluation.ensures.turns refl
+    (stays_kept m _ k.unit (c.end_evaluation.ensures.back m.evaluation (evaluation_kept c.in_ok-begin_evaluation.ensures.begun k.evaluation)))
 
-pub looped-returns-in_err-members-clause-made : goal.looped-returns-in_err-members-clause-made
-looped-returns-in_err-members-clause-made t c =
+-- a loop's variables, as they are read
+turns_meant : (m : InstanceEvaluator) (position : Position) (judge : Judge) (op : Op) (place : Place) (body : BodyTerm) {binders read : List Binder} → read ≡ binders
+    → meant_at m position judge (λ evaluator here. loop_design evaluator op here place (map binder_of binders) body)
+    ≡ then_with (meant_at m position judge (λ evaluator. each_turn evaluator place (map binder_of read) body)) (λ turns members. Gives turns (joined_members op members))
+turns_meant m position judge op place body same =
+    ap (λ (bs : List Binder). meant_at m position judge (λ evaluator here. loop_design evaluator op here place (map binder_of bs) body)) (sym same)
+
+pub looped-returns-in_err-members : goal.looped-returns-in_err-members
+looped-returns-in_err-members t c =
     let p = err_from_is_err_and c.from_residual.result c.from_residual.ensures.1 in
+    rw (p.1, p.2) (join_stops c.args.op c.in_err-members.ensures
+    (λ judge right. turns_meant c.args.self.now c.args.position judge c.args.op c.args.place (body_seen c.args.body) c.deref.ensures.value) tt)
+
+pub looped-returns : goal.looped-returns
+looped-returns t c =
+    joins c.args.op c.in_ok-members.ensures
+    (λ judge right. turns_meant c.args.self.now c.args.position judge c.args.op c.args.place (body_seen c.args.body) c.deref.ensures.value)
+    c.in_ok-joined.ensures refl refl c.in_ok-members.ensures.kept
+
+pub marked_or_not-returns : goal.marked_or_not-returns
+marked_or_not-returns t c =
     let m = c.args.self.now in
-    rw (p.1, p.2) (record {
-      by = λ judge right.
-          stop_outcome (λ turns ms. Gives turns (joined_members c.args.op ms))
-          (along (ap (λ (bs : List Binder). each_turn (evaluator_at m judge) c.args.place (map binder_of bs) (body_seen c.args.body) (context_at m c.args.position) m.evaluation.turns m.leaves)
-          (sym c.deref.ensures.value))
-          (c.in_err-members.ensures.members.by judge right));
-    })
-
-pub looped-returns-clause-made : goal.looped-returns-clause-made
-looped-returns-clause-made t c = record {
-  by = λ judge right.
-      let m = c.args.self.now in
-      joined_outcome c.args.op c.in_ok-members.members c.in_ok-joined.field-0 _ _ _
-      (along (ap (λ (bs : List Binder). each_turn (evaluator_at m judge) c.args.place (map binder_of bs) (body_seen c.args.body) (context_at m c.args.position) m.evaluation.turns m.leaves)
-      (sym c.deref.ensures.value))
-      (c.in_ok-members.ensures.members.by judge right))
-      c.in_ok-joined.ensures;
-}
-
-pub marked_or_not-returns-clause-made : goal.marked_or_not-returns-clause-made
-marked_or_not-returns-clause-made t c = record {
-  by = λ judge right.
-      let m = c.args.self.now in
-      let i = term_of_numbered c.args.instance in
-      along (marked_form (evaluator_at m judge) (context_at m c.args.position) i m.evaluation.turns m.leaves
-      (sym c.is_marked.ensures ∙ c.if-not-is_marked.false) (sym c.is_some.ensures ∙ c.if-is_some.false) c.if-position.false)
-      (then_outcome (λ turns made. Gives turns (apart made))
-      (meets_at m.unit (evaluations_left m) _ refl refl (ap (λ (s : Position). context_at m s) c.marked.ensures) c.in_ok-made.ensures.made judge right)
-      (record { is = ap (λ (made : InstanceDesign). Gives c.core-2.new.self.evaluation.turns made) (sym (c.set_apart.ensures c.core-2.new.self.leaves)) }));
-}
+    let i = term_of_numbered c.args.instance in
+    let f = c.in_ok-made.ensures in
+    record {
+      equation = λ judge right.
+          along (marked_form (evaluator_at m judge) (context_at m c.args.position) i m.evaluation.turns m.leaves
+          (sym c.is_marked.ensures ∙ c.if-not-is_marked.false) (sym c.is_some.ensures ∙ c.if-is_some.false) c.if-position.false)
+          (then_outcome (λ turns made. Gives turns (apart made))
+          (along (ap (λ (position : Position). meant_at m position judge (λ evaluator here. core_design evaluator here (core_of_instance i))) (sym c.marked.ensures))
+          (f.equation judge right))
+          (record { is = ap (λ (made : InstanceDesign). Gives c.core-2.new.self.evaluation.turns made) (sym (c.set_apart.ensures c.core-2.new.self.leaves)) }));
+      kept = f.kept;
+    }
 
 pub members-each-init : goal.members-each-init
 members-each-init t c = record {
@@ -518,12 +444,9 @@ members-instance-next-requires t c =
     let xs = c.args.instances.now in
     let i = c.each.instance-index in
     let h : i < length xs = omega (arith, c.each-test.true) in (
-      omega (arith, work_same c.each.self.evaluation.depth m.evaluation.depth k.depth, c.decreases),
-      (
-        position_still m _ k.unit k.source c.requires.position,
-        subst (λ (x : Source). HasBlocks (source_text x) c.instance-item.result) (sym k.source)
-            (subst (λ (x : NumberedInstance). HasBlocks (source_text m.evaluation.source.now) x) (sym c.instance-item.is) (c.requires.blocks i c.instance-item.result h)),
-      ),
+      omega (arith, work_same c.each.self.evaluation.depth m.evaluation.depth k.evaluation.depth, c.decreases),
+      instance_still m _ k.unit k.evaluation.source
+          (subst (λ (x : NumberedInstance). IsInstanceAt m c.args.position x) (sym c.instance-item.is) (c.requires i c.instance-item.result h)),
     )
 
 pub members-each-preserved : goal.members-each-preserved
@@ -535,12 +458,13 @@ members-each-preserved t c =
     let i = c.each.instance-index in
     let x = c.instance-item.result in
     let h : i < length xs = omega (arith, c.each-test.true) in
+    let b = c.is_child-is_member.result in
+    let f = told_there inv.stays c.instance-next.ensures in
     record {
-      stays = stays_then inv.stays (lengthened_on (one_member_of c.is_child-is_member.result) c.each.members c.instance-next.result c.in_ok-members.members _ c.in_ok-members.ensures c.instance-next.ensures.stays);
+      stays = lengthened_kept (one_member_of b) c.each.members c.instance-next.result (Ok c.in_ok-members.members) _ c.in_ok-members.ensures f.kept;
       told = λ judge right.
           let evaluator = evaluator_at m judge in
           let here = context_at m c.args.position in
-          let b = c.is_child-is_member.result in
           let go : ℕ → ℕ → Outcome MemberDesigns = λ turns leaves. each_member evaluator here (map term_of_numbered (drop (i + 1) xs)) turns leaves in
           lengthened (one_member_of b) (λ leaves x. refl) (each_member evaluator here (map term_of_numbered xs) m.evaluation.turns m.leaves) c.each.members m.leaves
           (each_member evaluator here (map term_of_numbered (drop i xs)) mid.evaluation.turns mid.leaves)
@@ -554,145 +478,132 @@ members-each-preserved t c =
           ∙ sym c.is_child-is_member.ensures)
           ∙ member_step b (evaluator.deeper here (term_of_numbered x) mid.evaluation.turns mid.leaves) go)
           c.instance-next.result c.in_ok-members.members _ _ c.in_ok-members.ensures
-          (as_member_outcome b (meets_after inv.stays c.instance-next.ensures.made judge right));
+          (as_member_outcome b (f.equation judge right));
     }
 
-pub module_called-returns-in_err-given-clause-made : goal.module_called-returns-in_err-given-clause-made
-module_called-returns-in_err-given-clause-made t c =
+pub module_called-returns-in_err-given : goal.module_called-returns-in_err-given
+module_called-returns-in_err-given t c =
     let p = err_from_is_err_and c.from_residual.result c.from_residual.ensures.1 in
     let m = c.args.self.now in
     rw (p.1, p.2) (record {
-      by = λ judge right.
-          IfErr-at_err (StopsBefore m.evaluation c.args.place) c.in_err-given.ensures.err c.begin_counted_call-begun.ensures.refused
-          (λ calls turns. module_given (evaluator_at m judge) (module_of c.args.defined, env_at m c.args.home)
-          (arguments_of c.args.given) (body_seen c.args.body) (with_calls_left (context_at m c.args.position) calls) turns m.leaves) _ _;
+      equation = λ judge right. record {
+        is = call_refused (instance_design_of m.leaves) m.evaluation c.args.place _ _
+            (λ calls turns. module_given (evaluator_at m judge) (module_of c.args.defined, env_at m c.args.home)
+            (arguments_of c.args.given) (body_seen c.args.body) (with_calls_left (context_at m c.args.position) calls) turns m.leaves)
+            (IfErr-at_err (IsRefusedCall m.evaluation c.args.place) c.in_err-given.ensures.err c.begin_counted_call-begun.ensures.refused);
+      };
+      kept = tt;
     })
 
 pub module_called-module_with_specials-requires : goal.module_called-module_with_specials-requires
 module_called-module_with_specials-requires t c =
     let m = c.args.self.now in
-    let mid = c.begin_counted_call-begun.new.self in
     let ok = c.in_ok-given.ensures.ok in
-    let counted : CountsCall m mid = OnOk-at_ok ok.1 c.begin_counted_call-begun.ensures.counted in (
-      omega (arith, work_same mid.evaluation.depth m.evaluation.depth counted.begun.depth, c.decreases),
+    let begun : OneCallDeeper m.evaluation c.begin_counted_call-begun.new.self = OnOk-at_ok ok.1 c.begin_counted_call-begun.ensures.begun in (
+      omega (arith, work_same c.begin_counted_call-begun.new.self.depth m.evaluation.depth begun.depth, c.decreases),
       (
-        position_still m _ counted.unit counted.begun.source c.requires.position,
-        (
-          call_still m _ counted.begun.source counted.begun.rows c.requires.called,
-          subst (λ (given : GivenArguments BoundedValue). length given.slots.items ≡ length (params_of c.args.defined.params.now)) (sym ok.0) c.requires.given,
-        ),
+        call_still m _ refl begun.source begun.rows c.requires.called,
+        subst (λ (given : GivenArguments BoundedValue). length given.slots.items ≡ length (params_of c.args.defined.params.now)) (sym ok.0) c.requires.given,
       ),
     )
 
 -- a module called from where its call was counted
-module_counted : (m : InstanceEvaluator) (calls turns : ℕ) (place : Place) (go : ℕ → ℕ → Outcome InstanceDesign)
-    → m.evaluation.calls < most_calls → m.evaluation.turns < most_turns
-    → calls ≡ most_calls - (m.evaluation.calls + 1) → turns ≡ m.evaluation.turns + 1
-    → one_call_fewer (most_calls - m.evaluation.calls) place (λ calls. turn place m.evaluation.turns (go calls)) ≡ go calls turns
-module_counted m calls turns place go few some is more =
-    call_counted m.evaluation.calls place (λ calls. turn place m.evaluation.turns (go calls)) few
-    ∙ turn_counted place m.evaluation.turns (go (most_calls - (m.evaluation.calls + 1))) some
-    ∙ ap (λ n. go n (m.evaluation.turns + 1)) (sym is) ∙ ap (λ n. go calls n) (sym more)
+counted_meant : (judge : Judge) (m mid : InstanceEvaluator) (position : Position) (place : Place) (defined : SourceModule) (home : ℕ) (body : BodyTerm)
+    {given lent : GivenArguments BoundedValue} → mid.unit ≡ m.unit → mid.leaves ≡ m.leaves → OneCallDeeper m.evaluation mid.evaluation
+    → (m.evaluation.turns < most_turns) × (mid.evaluation.turns ≡ m.evaluation.turns + 1) → lent ≡ given
+    → meant_at m position judge (λ evaluator here. module_design evaluator here place (defined, env_at m home) (arguments_of given) body)
+    ≡ meant_at mid position judge (λ evaluator. module_given evaluator (defined, env_at mid home) (arguments_of lent) body)
+counted_meant judge m mid position place defined home body {given = given} {lent = lent} unit leaves begun counted same =
+    let left = most_calls - (m.evaluation.calls + 1) in
+    let go : GivenArguments BoundedValue → ℕ → ℕ → Outcome InstanceDesign = λ given calls turns. module_given (evaluator_at m judge) (defined, env_at m home)
+    (arguments_of given) body (with_calls_left (context_at m position) calls) turns m.leaves in
+    call_goes place m.evaluation.calls m.evaluation.turns (go given) begun.within counted.0
+    ∙ ap (go given left) (sym counted.1)
+    ∙ ap (λ (given : GivenArguments BoundedValue). go given left mid.evaluation.turns) (sym same)
+    ∙ call_meant (λ (x : Source) (rows : List Row) evaluator. module_given evaluator (defined, env_seen x rows home) (arguments_of lent) body)
+    judge m mid position unit leaves begun
 
-pub module_called-returns-in_err-made-clause-made : goal.module_called-returns-in_err-made-clause-made
-module_called-returns-in_err-made-clause-made t c =
+pub module_called-returns-in_err-made : goal.module_called-returns-in_err-made
+module_called-returns-in_err-made t c =
     let p = err_from_is_err_and c.from_residual-in_err-made.result c.from_residual-in_err-made.ensures.1 in
-    let m = c.args.self.now in
-    let mid = c.begin_counted_call-begun.new.self in
     let ok = c.in_ok-given.ensures.ok in
-    let counted : CountsCall m mid = OnOk-at_ok ok.1 c.begin_counted_call-begun.ensures.counted in
-    rw (p.1, p.2) (record {
-      by = λ judge right.
-          along (module_counted m (most_calls - (m.evaluation.calls + 1)) mid.evaluation.turns c.args.place
-          (λ calls turns. module_given (evaluator_at m judge) (module_of c.args.defined, env_at m c.args.home)
-          (arguments_of c.args.given) (body_seen c.args.body) (with_calls_left (context_at m c.args.position) calls) turns m.leaves)
-          counted.begun.within counted.few refl counted.turns
-          ∙ ap (λ (given : GivenArguments BoundedValue). module_given (evaluator_at m judge) (module_of c.args.defined, env_at m c.args.home)
-          (arguments_of given) (body_seen c.args.body) (with_calls_left (context_at m c.args.position) (most_calls - (m.evaluation.calls + 1))) mid.evaluation.turns m.leaves) (sym ok.0))
-          (call_meets (λ (x : Source) (rows : List Row) evaluator. module_given evaluator (module_of c.args.defined, seen x rows c.args.home) (arguments_of c.in_ok-given.given) (body_seen c.args.body))
-          m mid c.module_with_specials.new.self c.args.position counted.unit counted.leaves counted.begun c.in_err-made.ensures.made judge right);
-    })
+    rw (p.1, p.2) (told_from c.in_err-made.ensures
+    (λ judge right. counted_meant judge c.args.self.now (begun_at c.in_err-made.ensures) c.args.position c.args.place (module_of c.args.defined) c.args.home (body_seen c.args.body) refl refl
+    (OnOk-at_ok ok.1 c.begin_counted_call-begun.ensures.begun) (OnOk-at_ok ok.1 c.begin_counted_call-begun.ensures.counted) ok.0) refl refl tt)
 
-pub module_called-returns-clause-made : goal.module_called-returns-clause-made
-module_called-returns-clause-made t c =
+pub module_called-returns : goal.module_called-returns
+module_called-returns t c =
     let m = c.args.self.now in
-    let mid = c.begin_counted_call-begun.new.self in
     let ok = c.in_ok-given.ensures.ok in
-    let counted : CountsCall m mid = OnOk-at_ok ok.1 c.begin_counted_call-begun.ensures.counted in
-    record {
-      by = λ judge right.
-          outcome_with c.end_call.ensures.turns
-          (along (module_counted m (most_calls - (m.evaluation.calls + 1)) mid.evaluation.turns c.args.place
-          (λ calls turns. module_given (evaluator_at m judge) (module_of c.args.defined, env_at m c.args.home)
-          (arguments_of c.args.given) (body_seen c.args.body) (with_calls_left (context_at m c.args.position) calls) turns m.leaves)
-          counted.begun.within counted.few refl counted.turns
-          ∙ ap (λ (given : GivenArguments BoundedValue). module_given (evaluator_at m judge) (module_of c.args.defined, env_at m c.args.home)
-          (arguments_of given) (body_seen c.args.body) (with_calls_left (context_at m c.args.position) (most_calls - (m.evaluation.calls + 1))) mid.evaluation.turns m.leaves) (sym ok.0))
-          (call_meets (λ (x : Source) (rows : List Row) evaluator. module_given evaluator (module_of c.args.defined, seen x rows c.args.home) (arguments_of c.in_ok-given.given) (body_seen c.args.body))
-          m mid c.module_with_specials.new.self c.args.position counted.unit counted.leaves counted.begun c.in_ok-made.ensures.made judge right));
-    }
-
-pub module_called-returns-clause-stays : goal.module_called-returns-clause-stays
-module_called-returns-clause-stays t c =
-    let m = c.args.self.now in
-    let mid = c.begin_counted_call-begun.new.self in
-    let ok = c.in_ok-given.ensures.ok in
-    let counted : CountsCall m mid = OnOk-at_ok ok.1 c.begin_counted_call-begun.ensures.counted in
-    let k = c.in_ok-made.ensures.stays in
-    stays_kept m _ (k.unit ∙ counted.unit) (c.end_call.ensures.back m.evaluation (call_begun m k counted.begun))
+    let begun : OneCallDeeper m.evaluation c.begin_counted_call-begun.new.self = OnOk-at_ok ok.1 c.begin_counted_call-begun.ensures.begun in
+    let k = c.in_ok-made.ensures.kept in
+    told_from c.in_ok-made.ensures
+    (λ judge right. counted_meant judge m (begun_at c.in_ok-made.ensures) c.args.position c.args.place (module_of c.args.defined) c.args.home (body_seen c.args.body) refl refl
+    begun (OnOk-at_ok ok.1 c.begin_counted_call-begun.ensures.counted) ok.0)
+    c.end_call.ensures.turns refl
+    (stays_kept m _ k.unit (c.end_call.ensures.back m.evaluation (call_kept begun k.evaluation)))
 
 pub module_made-members_in_scope-requires : goal.module_made-members_in_scope-requires
 module_made-members_in_scope-requires t c =
     let m = c.args.self.now in
-    let e = c.in_ok-before.ensures.entered in (
+    let e = c.in_ok-before.ensures.entered in
+    let called = c.requires.called in (
       omega (arith, work_same c.enter_module.new.self.evaluation.depth m.evaluation.depth e.evaluation.depth, c.decreases),
-      (position_still m _ e.unit e.evaluation.source c.requires.position, tt),
+      (position_still m _ e.unit e.evaluation.source (record { whole = called.called.whole; inside = called.inside }), tt),
     )
 
-pub module_made-returns-in_err-members-clause-made : goal.module_made-returns-in_err-members-clause-made
-module_made-returns-in_err-members-clause-made t c =
+-- a module's body in its scope
+module_meant : (judge : Judge) (m mid : InstanceEvaluator) (position : Position) (before : ℕ) (defined : Module) (home : ℕ) (values : Vals) (body : NumberedBody)
+    → IsModuleCall m defined home body → Enters m mid before
+    → env_here mid.evaluation ≡ module_scope (env_at m home) (module_of defined) values (statements_of_body (body_seen body)) (env_here m.evaluation)
+    → mid.evaluation.turns ≡ m.evaluation.turns
+    → meant_at m position judge (λ evaluator. module_filled evaluator (module_of defined, env_at m home) values (body_seen body))
+    ≡ then_with (meant_at mid position judge (λ evaluator. block_members evaluator None (statements_at (source_text mid.evaluation.source.now) defined.block)))
+    (λ turns members. Gives turns (joined_members Union members))
+module_meant judge m mid position before defined home values body called e inside turns =
+    ap (λ o. then_with o (λ turns members. Gives turns (joined_members Union members)))
+    (block_meant judge m mid position before defined.block None _ _ called.its_block e inside turns)
+
+pub module_made-returns-in_err-members : goal.module_made-returns-in_err-members
+module_made-returns-in_err-members t c =
     let p = err_from_is_err_and c.from_residual-in_err-members.result c.from_residual-in_err-members.ensures.1 in
-    let m = c.args.self.now in
-    let home = env_at m c.args.home in
-    let caller = scope_here m.evaluation in
-    let vs = values_seen c.args.values in
-    let env = module_scope home (module_of c.args.defined) vs (statements_of_body (body_seen c.args.body)) caller in
-    rw (p.1, p.2) (record {
-      by = λ judge right.
-          stop_outcome (λ turns ms. Gives turns (joined_members Union ms))
-          (along (ap (λ (st : StatementTerms). block_members (evaluator_at m judge) None st (inside_scope (context_at m c.args.position) env) m.evaluation.turns m.leaves)
-          (sym c.requires.called.its_block))
-          (entered_meets (λ (x : Source) evaluator. block_members evaluator None (statements_at (source_text x) c.args.defined.block))
-          m c.enter_module.new.self c.members_in_scope.new.self c.args.position c.in_ok-before.before env c.in_ok-before.ensures.entered c.in_ok-before.ensures.inside
-          c.enter_module.ensures.turns c.in_err-members.ensures.members judge right));
-    })
+    rw (p.1, p.2) (join_stops Union c.in_err-members.ensures
+    (λ judge right. module_meant judge c.args.self.now c.enter_module.new.self c.args.position c.in_ok-before.before c.args.defined c.args.home (values_seen c.args.values) c.args.body
+    c.requires.called.called c.in_ok-before.ensures.entered c.in_ok-before.ensures.inside c.enter_module.ensures.turns) tt)
 
-pub module_made-returns-clause-made : goal.module_made-returns-clause-made
-module_made-returns-clause-made t c =
-    let m = c.args.self.now in
-    let home = env_at m c.args.home in
-    let caller = scope_here m.evaluation in
-    let vs = values_seen c.args.values in
-    let env = module_scope home (module_of c.args.defined) vs (statements_of_body (body_seen c.args.body)) caller in
-    record {
-      by = λ judge right.
-          joined_outcome Union c.in_ok-members.members c.in_ok-joined.field-0 _ _ _
-          (outcome_with c.leave.ensures.turns
-          (along (ap (λ (st : StatementTerms). block_members (evaluator_at m judge) None st (inside_scope (context_at m c.args.position) env) m.evaluation.turns m.leaves)
-          (sym c.requires.called.its_block))
-          (entered_meets (λ (x : Source) evaluator. block_members evaluator None (statements_at (source_text x) c.args.defined.block))
-          m c.enter_module.new.self c.members_in_scope.new.self c.args.position c.in_ok-before.before env c.in_ok-before.ensures.entered c.in_ok-before.ensures.inside
-          c.enter_module.ensures.turns c.in_ok-members.ensures.members judge right)))
-          c.in_ok-joined.ensures;
-    }
-
-pub module_made-returns-clause-stays : goal.module_made-returns-clause-stays
-module_made-returns-clause-stays t c =
+pub module_made-returns : goal.module_made-returns
+module_made-returns t c =
     let m = c.args.self.now in
     let e = c.in_ok-before.ensures.entered in
-    let b = c.in_ok-members.ensures.binds in
-    stays_kept m _ (b.unit ∙ e.unit) (c.leave.ensures.back m.evaluation
-    (scope_bound m b e.evaluation))
+    let b = c.in_ok-members.ensures.kept in
+    joins Union c.in_ok-members.ensures
+    (λ judge right. module_meant judge m c.enter_module.new.self c.args.position c.in_ok-before.before c.args.defined c.args.home (values_seen c.args.values) c.args.body
+    c.requires.called.called e c.in_ok-before.ensures.inside c.enter_module.ensures.turns)
+    c.in_ok-joined.ensures c.leave.ensures.turns refl
+    (stays_kept m _ (b.older.unit ∙ e.unit) (c.leave.ensures.back m.evaluation (scope_bound m b e.evaluation)))
+
+pub module_made-leave-requires : goal.module_made-leave-requires
+module_made-leave-requires t c =
+    let e = c.in_ok-before.ensures.entered.evaluation in
+    omega (arith, e.from, e.number, c.in_ok-members.ensures.kept.older.same.stands, c.args.self.now.evaluation.there)
+
+pub module_with_specials-returns-in_err-slots : goal.module_with_specials-returns-in_err-slots
+module_with_specials-returns-in_err-slots t c =
+    let p = err_from_is_err_and c.from_residual.result c.from_residual.ensures.1 in
+    rw (p.1, p.2) (record {
+      equation = λ judge right. only_no_memory _ (IfErr-at_err IsNoMemory c.in_err-slots.ensures.err c.begin_specials-begun.ensures.stop);
+      kept = tt;
+    })
+
+pub module_with_specials-module_made-requires : goal.module_with_specials-module_made-requires
+module_with_specials-module_made-requires t c =
+    let m = c.args.self.now in
+    let ok = c.in_ok-slots.ensures.ok in
+    let begins = specials_began c.begin_specials-begun.ensures.begins ok.1 in
+    let k = c.parameters_in.ensures.kept in (
+      omega (arith, work_same c.parameters_in.new.evaluation.depth m.evaluation.depth (k.depth ∙ begins.0.depth), c.decreases),
+      (call_still m _ refl (k.source ∙ begins.0.source) (k.rows ∙ begins.0.rows) c.requires.called, c.in_ok-values.ensures.count),
+    )
 
 -- the values of a module's parameters, and the module with them
 module _ (evaluator : Evaluator) (defined : SourceModule) (home : Env) (given : Arguments) (there : Context) (from : Setting) (slots : Slots) (start : ℕ) {turns : ℕ}
@@ -707,196 +618,141 @@ module _ (evaluator : Evaluator) (defined : SourceModule) (home : Env) (given : 
       ≡ module_filled evaluator (defined, home) vs body there after leaves
   filled_from body leaves h = ap (λ o. then_with o (λ turns vs. module_filled evaluator (defined, home) vs body there turns leaves)) (parameters_from ∙ h)
 
-pub module_made-leave-requires : goal.module_made-leave-requires
-module_made-leave-requires t c =
-    let e = c.in_ok-before.ensures.entered.evaluation in
-    omega (arith, e.from, e.number, c.in_ok-members.ensures.binds.stands, c.args.self.now.evaluation.there)
-
-pub module_with_specials-returns-in_err-slots-clause-made : goal.module_with_specials-returns-in_err-slots-clause-made
-module_with_specials-returns-in_err-slots-clause-made t c =
-    let p = err_from_is_err_and c.from_residual.result c.from_residual.ensures.1 in
-    rw (p.1, p.2) (record {
-      by = λ judge right. only_no_memory _ (IfErr-at_err IsNoMemory c.in_err-slots.ensures.err c.begin_specials-begun.ensures.stop);
-    })
-
-pub module_with_specials-module_made-requires : goal.module_with_specials-module_made-requires
-module_with_specials-module_made-requires t c =
-    let m = c.args.self.now in
-    let ok = c.in_ok-slots.ensures.ok in
-    let special = c.begin_specials-begun.new.self in
-    let begins : SpecialsBegin m.evaluation special c.in_ok-slots.length = IfOk-at_ok (λ (n : ℕ). SpecialsBegin m.evaluation special n) ok.1 c.begin_specials-begun.ensures.begun in
-    let begun = with_specials m special c.in_ok-slots.length begins in
-    let k = c.parameters_in.ensures.kept in (
-      omega (arith, work_same c.parameters_in.new.evaluation.depth m.evaluation.depth (k.depth ∙ begins.depth), c.decreases),
-      (
-        position_still m _ refl (k.source ∙ begins.source) c.requires.position,
-        (
-          call_still m _ (k.source ∙ begins.source) (k.rows ∙ begins.rows) c.requires.called,
-          c.in_ok-values.ensures.count,
-        ),
-      ),
-    )
-
-pub module_with_specials-returns-in_err-values-clause-made : goal.module_with_specials-returns-in_err-values-clause-made
-module_with_specials-returns-in_err-values-clause-made t c =
+pub module_with_specials-returns-in_err-values : goal.module_with_specials-returns-in_err-values
+module_with_specials-returns-in_err-values t c =
     let p = err_from_is_err_and c.from_residual-in_err-values.result c.from_residual-in_err-values.ensures.1 in
     let m = c.args.self.now in
     let ok = c.in_ok-slots.ensures.ok in
-    let special = c.begin_specials-begun.new.self in
-    let begins : SpecialsBegin m.evaluation special c.in_ok-slots.length = IfOk-at_ok (λ (n : ℕ). SpecialsBegin m.evaluation special n) ok.1 c.begin_specials-begun.ensures.begun in
-    let begun = with_specials m special c.in_ok-slots.length begins in
-    let chain : chain_of begun.evaluation.scopes.now ≡ specials_in c.args.given.specials.items ++ chain_of m.evaluation.scopes.now = OnOk-at_ok ok.1 c.begin_specials-begun.ensures.chain in
+    let begins = specials_began c.begin_specials-begun.ensures.begins ok.1 in
+    let begun = with_specials m c.begin_specials-begun.new.self c.in_ok-slots.length begins.0 in
     rw (p.1, p.2) (record {
-      by = λ judge right.
+      equation = λ judge right.
           let given = arguments_of c.args.given in
           let home = env_at m c.args.home in
           let there = with_chain (context_at m c.args.position) (given.specials ++ chain_of m.evaluation.scopes.now) in
           let go : ℕ → Vals → Outcome InstanceDesign = λ turns vs. module_filled (evaluator_at m judge) (module_of c.args.defined, home) vs (body_seen c.args.body) there turns m.leaves in
           along (ap (λ o. then_with o go) (parameters_from (evaluator_at m judge) (module_of c.args.defined) home given there _ _ _
-          (specials_setting m begun c.args.position c.args.home c.in_ok-slots.length given.specials begins chain)
-          (ap slots_in (ap (λ (v : Vec (Option BoundedValue) Global). v.items) (sym ok.0))) c.begin_specials-begun.ensures.turns))
-          (stop_outcome go (told_outcome values_seen (Err c.in_err-values.field-0.0) c.parameters_in.new.evaluation.turns m.leaves _ c.in_err-values.ensures.values));
+          (specials_setting m begun c.args.position c.args.home c.in_ok-slots.length given.specials begins.0 begins.1)
+          (slots_lent ok.0) c.begin_specials-begun.ensures.begins.turns))
+          (stop_outcome go (told_outcome values_seen (Err c.in_err-values.field-0.0) c.parameters_in.new.evaluation.turns m.leaves _ c.in_err-values.ensures.value));
+      kept = tt;
     })
 
-pub module_with_specials-returns-in_err-made-clause-made : goal.module_with_specials-returns-in_err-made-clause-made
-module_with_specials-returns-in_err-made-clause-made t c =
+-- a module with its special arguments on the chain, and with the values of its parameters
+specials_filled : (judge : Judge) (m begun mid : InstanceEvaluator) (position : Position) (count : ℕ) (defined : SourceModule) (home : ℕ) (given : Arguments) (slots : Slots)
+    (values : Vals) (body : BodyTerm) → begun.unit ≡ m.unit → begun.leaves ≡ m.leaves → begun.evaluation.turns ≡ m.evaluation.turns → MoreSpecials m.evaluation begun.evaluation count
+    → chain_of begun.evaluation.scopes.now ≡ given.specials ++ chain_of m.evaluation.scopes.now → given.slots ≡ slots
+    → Stays begun mid → mid.leaves ≡ begun.leaves
+    → each_parameter (setting_in begun.evaluation home) defined.params slots begun.evaluation.turns ≡ Gives mid.evaluation.turns values
+    → meant_at m position judge (λ evaluator. module_given evaluator (defined, env_at m home) given body)
+    ≡ meant_at mid position judge (λ evaluator. module_filled evaluator (defined, env_at mid home) values body)
+specials_filled judge m begun mid position count defined home given slots values body unit leaves turns begins chain slot k same is =
+    filled_from (evaluator_at m judge) defined (env_at m home) given (with_chain (context_at m position) (given.specials ++ chain_of m.evaluation.scopes.now)) _ _ _
+    (specials_setting m begun position home count given.specials begins chain) slot turns body m.leaves is
+    ∙ specials_meant (λ (x : Source) (rows : List Row) evaluator. module_filled evaluator (defined, env_seen x rows home) values body)
+    judge m begun mid position count given.specials unit leaves begins chain k same
+
+pub module_with_specials-returns-in_err-made : goal.module_with_specials-returns-in_err-made
+module_with_specials-returns-in_err-made t c =
     let p = err_from_is_err_and c.from_residual-in_err-made.result c.from_residual-in_err-made.ensures.1 in
     let m = c.args.self.now in
     let ok = c.in_ok-slots.ensures.ok in
-    let special = c.begin_specials-begun.new.self in
-    let begins : SpecialsBegin m.evaluation special c.in_ok-slots.length = IfOk-at_ok (λ (n : ℕ). SpecialsBegin m.evaluation special n) ok.1 c.begin_specials-begun.ensures.begun in
-    let begun = with_specials m special c.in_ok-slots.length begins in
-    let chain : chain_of begun.evaluation.scopes.now ≡ specials_in c.args.given.specials.items ++ chain_of m.evaluation.scopes.now = OnOk-at_ok ok.1 c.begin_specials-begun.ensures.chain in
-    rw (p.1, p.2) (record {
-      by = λ judge right.
-          let given = arguments_of c.args.given in
-          let home = env_at m c.args.home in
-          let there = with_chain (context_at m c.args.position) (given.specials ++ chain_of m.evaluation.scopes.now) in
-          along (filled_from (evaluator_at m judge) (module_of c.args.defined) home given there _ _ _
-          (specials_setting m begun c.args.position c.args.home c.in_ok-slots.length given.specials begins chain)
-          (ap slots_in (ap (λ (v : Vec (Option BoundedValue) Global). v.items) (sym ok.0))) c.begin_specials-begun.ensures.turns
-          (body_seen c.args.body) m.leaves c.in_ok-values.ensures.values)
-          (specials_meets (λ (x : Source) (rows : List Row) evaluator. module_filled evaluator (module_of c.args.defined, seen x rows c.args.home) (values_seen c.in_ok-values.values) (body_seen c.args.body))
-          m begun _ c.module_made.new.self c.args.position c.in_ok-slots.length given.specials refl refl begins chain
-          (stays_kept begun _ refl c.parameters_in.ensures.kept) refl c.in_err-made.ensures.made judge right);
-    })
+    let begins = specials_began c.begin_specials-begun.ensures.begins ok.1 in
+    let begun = with_specials m c.begin_specials-begun.new.self c.in_ok-slots.length begins.0 in
+    rw (p.1, p.2) (told_from c.in_err-made.ensures
+    (λ judge right. specials_filled judge m begun (begun_at c.in_err-made.ensures) c.args.position c.in_ok-slots.length (module_of c.args.defined) c.args.home (arguments_of c.args.given)
+    (slots_in c.in_ok-slots.slots.items) (values_seen c.in_ok-values.values) (body_seen c.args.body) refl refl c.begin_specials-begun.ensures.begins.turns begins.0 begins.1
+    (slots_lent ok.0) (stays_kept begun _ refl c.parameters_in.ensures.kept) refl
+    c.in_ok-values.ensures.value) refl refl tt)
 
-pub module_with_specials-returns-clause-made : goal.module_with_specials-returns-clause-made
-module_with_specials-returns-clause-made t c =
+pub module_with_specials-returns : goal.module_with_specials-returns
+module_with_specials-returns t c =
     let m = c.args.self.now in
     let ok = c.in_ok-slots.ensures.ok in
-    let special = c.begin_specials-begun.new.self in
-    let begins : SpecialsBegin m.evaluation special c.in_ok-slots.length = IfOk-at_ok (λ (n : ℕ). SpecialsBegin m.evaluation special n) ok.1 c.begin_specials-begun.ensures.begun in
-    let begun = with_specials m special c.in_ok-slots.length begins in
-    let chain : chain_of begun.evaluation.scopes.now ≡ specials_in c.args.given.specials.items ++ chain_of m.evaluation.scopes.now = OnOk-at_ok ok.1 c.begin_specials-begun.ensures.chain in
-    record {
-      by = λ judge right.
-          let given = arguments_of c.args.given in
-          let home = env_at m c.args.home in
-          let there = with_chain (context_at m c.args.position) (given.specials ++ chain_of m.evaluation.scopes.now) in
-          outcome_with c.end_specials.ensures.turns
-          (along (filled_from (evaluator_at m judge) (module_of c.args.defined) home given there _ _ _
-          (specials_setting m begun c.args.position c.args.home c.in_ok-slots.length given.specials begins chain)
-          (ap slots_in (ap (λ (v : Vec (Option BoundedValue) Global). v.items) (sym ok.0))) c.begin_specials-begun.ensures.turns
-          (body_seen c.args.body) m.leaves c.in_ok-values.ensures.values)
-          (specials_meets (λ (x : Source) (rows : List Row) evaluator. module_filled evaluator (module_of c.args.defined, seen x rows c.args.home) (values_seen c.in_ok-values.values) (body_seen c.args.body))
-          m begun _ c.module_made.new.self c.args.position c.in_ok-slots.length given.specials refl refl begins chain
-          (stays_kept begun _ refl c.parameters_in.ensures.kept) refl c.in_ok-made.ensures.made judge right));
-    }
-
-pub module_with_specials-returns-clause-stays : goal.module_with_specials-returns-clause-stays
-module_with_specials-returns-clause-stays t c =
-    let m = c.args.self.now in
-    let ok = c.in_ok-slots.ensures.ok in
-    let special = c.begin_specials-begun.new.self in
-    let begins : SpecialsBegin m.evaluation special c.in_ok-slots.length = IfOk-at_ok (λ (n : ℕ). SpecialsBegin m.evaluation special n) ok.1 c.begin_specials-begun.ensures.begun in
-    let begun = with_specials m special c.in_ok-slots.length begins in
-    let k = stays_then (stays_kept begun _ refl c.parameters_in.ensures.kept) c.in_ok-made.ensures.stays in
-    stays_kept m _ k.unit (c.end_specials.ensures.back m.evaluation (specials_begun m c.in_ok-slots.length k begins))
+    let begins = specials_began c.begin_specials-begun.ensures.begins ok.1 in
+    let begun = with_specials m c.begin_specials-begun.new.self c.in_ok-slots.length begins.0 in
+    let k = c.in_ok-made.ensures.kept in
+    told_from c.in_ok-made.ensures
+    (λ judge right. specials_filled judge m begun (begun_at c.in_ok-made.ensures) c.args.position c.in_ok-slots.length (module_of c.args.defined) c.args.home (arguments_of c.args.given)
+    (slots_in c.in_ok-slots.slots.items) (values_seen c.in_ok-values.values) (body_seen c.args.body) refl refl c.begin_specials-begun.ensures.begins.turns begins.0 begins.1
+    (slots_lent ok.0) (stays_kept begun _ refl c.parameters_in.ensures.kept) refl
+    c.in_ok-values.ensures.value) c.end_specials.ensures.turns refl
+    (stays_kept m _ k.unit (c.end_specials.ensures.back m.evaluation
+    (specials_kept m.evaluation c.in_ok-slots.length begins.0 (keeps_trans c.parameters_in.ensures.kept k.evaluation))))
 
 pub module_with_specials-end_specials-requires : goal.module_with_specials-end_specials-requires
 module_with_specials-end_specials-requires t c =
     let m = c.args.self.now in
     let ok = c.in_ok-slots.ensures.ok in
-    let special = c.begin_specials-begun.new.self in
-    let begins : SpecialsBegin m.evaluation special c.in_ok-slots.length = IfOk-at_ok (λ (n : ℕ). SpecialsBegin m.evaluation special n) ok.1 c.begin_specials-begun.ensures.begun in
-    let begun = with_specials m special c.in_ok-slots.length begins in
-    let chain : chain_of begun.evaluation.scopes.now ≡ specials_in c.args.given.specials.items ++ chain_of m.evaluation.scopes.now = OnOk-at_ok ok.1 c.begin_specials-begun.ensures.chain in
-    let k = stays_then (stays_kept begun _ refl c.parameters_in.ensures.kept) c.in_ok-made.ensures.stays in
-    specials_there m c.in_ok-slots.length (specials_in c.args.given.specials.items) k begins chain
+    let begins = specials_began c.begin_specials-begun.ensures.begins ok.1 in
+    specials_there c.in_ok-slots.length (specials_in c.args.given.specials.items) (keeps_trans c.parameters_in.ensures.kept c.in_ok-made.ensures.kept.evaluation) begins.0 begins.1
 
-pub one_or_nothing-returns-clause-made : goal.one_or_nothing-returns-clause-made
-one_or_nothing-returns-clause-made t c = record {
-  by = λ judge right.
-      let m = c.args.self.now in
-      let n = c.evaluate.new.evaluation.turns in
-      then_outcome _ (told_outcome bounded_val (Ok c.in_ok-value.value) n m.leaves _ c.in_ok-value.ensures.value)
-      (record {
-        is = ap (λ (b : Bool). if b then body_design (evaluator_at m judge) Union (context_at m c.args.position) (body_seen c.args.body) n m.leaves else Gives n (no_design m.leaves))
-            (sym c.truth.ensures ∙ c.if-truth.false)
-            ∙ ap (λ (made : InstanceDesign). Gives n made) (sym (c.nothing_made.ensures m.leaves));
-      });
-}
+-- a choice by a value that was evaluated
+chosen_by : {A : Type 0} (go : Bool → ℕ → Outcome A) {out : Outcome Val} {turns : ℕ} {value : Val} (test b : Bool) → out ≡ Gives turns value
+    → test ≡ truth_of value → test ≡ b → then_with out (λ turns value. go (truth_of value) turns) ≡ go b turns
+chosen_by go {turns = turns} test b told is holds =
+    ap (λ o. then_with o (λ turns value. go (truth_of value) turns)) told ∙ ap (λ b. go b turns) (sym is ∙ holds)
 
-pub one_or_nothing-returns-then-truth-clause-made : goal.one_or_nothing-returns-then-truth-clause-made
-one_or_nothing-returns-then-truth-clause-made t c = record {
-  by = λ judge right.
-      let m = c.args.self.now in
-      let n = c.evaluate.new.evaluation.turns in
-      then_outcome _ (told_outcome bounded_val (Ok c.in_ok-value.value) n m.leaves _ c.in_ok-value.ensures.value)
-      (along (ap (λ (b : Bool). if b then body_design (evaluator_at m judge) Union (context_at m c.args.position) (body_seen c.args.body) n m.leaves else Gives n (no_design m.leaves)) (sym c.truth.ensures ∙ c.if-truth.true))
-      (meets_after (stays_kept m _ refl c.evaluate.ensures.kept) c.body.ensures.made judge right));
-}
+pub one_or_nothing-returns : goal.one_or_nothing-returns
+one_or_nothing-returns t c =
+    let m = c.args.self.now in
+    record {
+      equation = λ judge right. record {
+        is = chosen_by (λ b turns. if b then body_design (evaluator_at m judge) Union (context_at m c.args.position) (body_seen c.args.body) turns m.leaves else Gives turns (no_design m.leaves))
+            c.truth.result false c.in_ok-value.ensures.value c.truth.ensures c.if-truth.false
+            ∙ ap (λ (made : InstanceDesign). Gives c.evaluate.new.evaluation.turns made) (sym (c.nothing_made.ensures m.leaves));
+      };
+      kept = stays_kept m _ refl c.evaluate.ensures.kept;
+    }
 
-pub one_or_other-returns-then-truth-clause-made : goal.one_or_other-returns-then-truth-clause-made
-one_or_other-returns-then-truth-clause-made t c = record {
-  by = λ judge right.
-      let m = c.args.self.now in
-      let n = c.evaluate.new.evaluation.turns in
-      then_outcome _ (told_outcome bounded_val (Ok c.in_ok-value.value) n m.leaves _ c.in_ok-value.ensures.value)
-      (along (ap (λ (b : Bool). body_design (evaluator_at m judge) Union (context_at m c.args.position) (if b then body_seen c.args.body else body_seen c.args.other) n m.leaves) (sym c.truth.ensures ∙ c.if-truth.true))
-      (meets_after (stays_kept m _ refl c.evaluate.ensures.kept) c.body.ensures.made judge right));
-}
+pub one_or_nothing-returns-then-truth : goal.one_or_nothing-returns-then-truth
+one_or_nothing-returns-then-truth t c =
+    let m = c.args.self.now in
+    told_after (stays_kept m _ refl c.evaluate.ensures.kept) c.body.ensures (λ judge right.
+    chosen_by (λ b turns. if b then body_design (evaluator_at m judge) Union (context_at m c.args.position) (body_seen c.args.body) turns m.leaves else Gives turns (no_design m.leaves))
+    c.truth.result true c.in_ok-value.ensures.value c.truth.ensures c.if-truth.true)
 
-pub one_or_other-returns-clause-made : goal.one_or_other-returns-clause-made
-one_or_other-returns-clause-made t c = record {
-  by = λ judge right.
-      let m = c.args.self.now in
-      let n = c.evaluate.new.evaluation.turns in
-      then_outcome _ (told_outcome bounded_val (Ok c.in_ok-value.value) n m.leaves _ c.in_ok-value.ensures.value)
-      (along (ap (λ (b : Bool). body_design (evaluator_at m judge) Union (context_at m c.args.position) (if b then body_seen c.args.body else body_seen c.args.other) n m.leaves) (sym c.truth.ensures ∙ c.if-truth.false))
-      (meets_after (stays_kept m _ refl c.evaluate.ensures.kept) c.body-2.ensures.made judge right));
-}
+pub one_or_other-returns-then-truth : goal.one_or_other-returns-then-truth
+one_or_other-returns-then-truth t c =
+    let m = c.args.self.now in
+    told_after (stays_kept m _ refl c.evaluate.ensures.kept) c.body.ensures (λ judge right.
+    chosen_by (λ b turns. body_design (evaluator_at m judge) Union (context_at m c.args.position) (if b then body_seen c.args.body else body_seen c.args.other) turns m.leaves)
+    c.truth.result true c.in_ok-value.ensures.value c.truth.ensures c.if-truth.true)
 
-pub one_turn-returns-clause-members : goal.one_turn-returns-clause-members
-one_turn-returns-clause-members t c = record {
-  by = λ judge right.
-      let m = c.args.self.now in
-      let evaluator = evaluator_at m judge in
-      let here = context_at m c.args.position in
-      let n = c.turn.new.self.turns in
-      let counted = c.in_ok-turn.ensures.counted in
-      let go : ℕ → Outcome MemberDesigns = λ turns. then_with (body_design evaluator Union here (body_seen c.args.body) turns m.leaves) (λ turns made. Gives turns (as_member true made)) in
-      along (turn_counted c.args.place m.evaluation.turns go counted.0 ∙ ap go (sym counted.1))
-      (first_outcome true c.no_members.result 0 c.body-made.result c.with_made.result _ _ (go n) c.no_members.ensures c.with_made.ensures
-      (as_member_outcome true (meets_after (stays_kept m _ refl c.turn.ensures.kept) c.body-made.ensures.made judge right)));
-}
+pub one_or_other-returns : goal.one_or_other-returns
+one_or_other-returns t c =
+    let m = c.args.self.now in
+    told_after (stays_kept m _ refl c.evaluate.ensures.kept) c.body-2.ensures (λ judge right.
+    chosen_by (λ b turns. body_design (evaluator_at m judge) Union (context_at m c.args.position) (if b then body_seen c.args.body else body_seen c.args.other) turns m.leaves)
+    c.truth.result false c.in_ok-value.ensures.value c.truth.ensures c.if-truth.false)
 
-pub turns-returns-in-Some-of-clause-members : goal.turns-returns-in-Some-of-clause-members
-turns-returns-in-Some-of-clause-members t c = record {
-  by = λ judge right.
-      let m = c.args.self.now in
-      let evaluator = evaluator_at m judge in
-      let here = context_at m c.args.position in
-      let n = c.evaluate.new.evaluation.turns in
-      let binder = c.in-Some.binder.now in
-      let turned : List ℕ → Val → ℕ → ℕ → Outcome MemberDesigns = λ name item. each_turn evaluator c.args.place (map binder_of c.in-Some.rest.now) (body_seen c.args.body) (in_loop here name item) in
-      along (ap (λ (bs : List Binder). each_turn evaluator c.args.place (map binder_of bs) (body_seen c.args.body) here m.evaluation.turns m.leaves) c.in-Some.ensures.cases.0)
-      (then_outcome _ (told_outcome bounded_val (Ok c.in_ok-value-in-Some.value) n m.leaves _ c.in_ok-value-in-Some.ensures.value)
-      (along (ap (λ (o : Option Vals). or_fault o TypeMismatch c.args.place (λ items. each_step c.args.place (turned binder.name) items n m.leaves)) (sym c.in-Some-of.ensures)
-      ∙ ap (λ (name : List ℕ). each_step c.args.place (turned name) (remaining_in c.in-Some-of.items.remaining) n m.leaves) (sym c.items.ensures))
-      (meets_after (stays_kept m _ refl c.evaluate.ensures.kept) c.each_item.ensures.members judge right)));
-}
+pub one_turn-returns : goal.one_turn-returns
+one_turn-returns t c =
+    let m = c.args.self.now in
+    let counted = c.in_ok-turn.ensures.counted in
+    let f = told_there (stays_kept m _ refl c.turn.ensures.kept) c.body-made.ensures in
+    record {
+      equation = λ judge right.
+          let go : ℕ → Outcome MemberDesigns = λ turns. then_with (body_design (evaluator_at m judge) Union (context_at m c.args.position) (body_seen c.args.body) turns m.leaves) (λ turns made. Gives turns (as_member true made)) in
+          along (turn_counted c.args.place m.evaluation.turns go counted.0 ∙ ap go (sym counted.1))
+          (first_outcome true c.no_members.result 0 c.body-made.result c.with_made.result _ _ (go c.turn.new.self.turns) c.no_members.ensures c.with_made.ensures
+          (as_member_outcome true (f.equation judge right)));
+      kept = lengthened_kept (one_member_of true) c.no_members.result c.body-made.result c.with_made.result _ c.with_made.ensures f.kept;
+    }
+
+pub turns-returns-in-Some-of : goal.turns-returns-in-Some-of
+turns-returns-in-Some-of t c =
+    let m = c.args.self.now in
+    let n = c.evaluate.new.evaluation.turns in
+    let binder = c.in-Some.binder.now in
+    told_after (stays_kept m _ refl c.evaluate.ensures.kept) c.each_item.ensures (λ judge right.
+    let evaluator = evaluator_at m judge in
+    let here = context_at m c.args.position in
+    let turned : List ℕ → Val → ℕ → ℕ → Outcome MemberDesigns = λ name item. each_turn evaluator c.args.place (map binder_of c.in-Some.rest.now) (body_seen c.args.body) (in_loop here name item) in
+    ap (λ (bs : List Binder). each_turn evaluator c.args.place (map binder_of bs) (body_seen c.args.body) here m.evaluation.turns m.leaves) c.in-Some.ensures.cases.0
+    ∙ ap (λ o. then_with o (λ turns value. or_fault (items_of value) TypeMismatch c.args.place (λ items. each_step c.args.place (turned binder.name) items turns m.leaves))) c.in_ok-value-in-Some.ensures.value
+    ∙ ap (λ (o : Option Vals). or_fault o TypeMismatch c.args.place (λ items. each_step c.args.place (turned binder.name) items n m.leaves)) (sym c.in-Some-of.ensures)
+    ∙ ap (λ (name : List ℕ). each_step c.args.place (turned name) (remaining_in c.in-Some-of.items.remaining) n m.leaves) (sym c.items.ensures))
 
 pub each_item-each-init : goal.each_item-each-init
 each_item-each-init t c = record {
@@ -908,18 +764,19 @@ pub each_item-step-next-requires : goal.each_item-step-next-requires
 each_item-step-next-requires t c =
     let m = c.args.self.now in
     let k = c.each.invariant.stays in (
-      omega (arith, work_same c.each.self.evaluation.depth m.evaluation.depth k.depth, c.decreases),
-      body_still m _ k.unit k.source c.requires.stands,
+      omega (arith, work_same c.each.self.evaluation.depth m.evaluation.depth k.evaluation.depth, c.decreases),
+      body_still m _ k.unit k.evaluation.source c.requires,
     )
 
-pub each_item-returns-in_err-members-clause-members : goal.each_item-returns-in_err-members-clause-members
-each_item-returns-in_err-members-clause-members t c =
+pub each_item-returns-in_err-members : goal.each_item-returns-in_err-members
+each_item-returns-in_err-members t c =
     let p = err_from_is_err_and c.from_residual.result c.from_residual.ensures.1 in
     let m = c.args.self.now in
     let mid = c.each.self in
     let inv = c.each.invariant in
+    let f = told_there inv.stays c.step-next.ensures in
     rw (p.1, p.2) (record {
-      by = λ judge right.
+      equation = λ judge right.
           let evaluator = evaluator_at m judge in
           let here = context_at m c.args.position in
           let turned : Val → ℕ → ℕ → Outcome MemberDesigns = λ item. each_turn evaluator c.args.place (map binder_of c.args.rest.now) (body_seen c.args.body) (in_loop here c.args.name.now item) in
@@ -930,7 +787,8 @@ each_item-returns-in_err-members-clause-members t c =
           (inv.told judge right)
           (ap (λ vs. each_step c.args.place turned vs mid.evaluation.turns mid.leaves) c.in-Some.ensures.next)
           c.step-next.result c.in_err-members.field-0.0 _ _ _ _ c.in_err-members.ensures
-          (meets_after inv.stays c.step-next.ensures.members judge right);
+          (f.equation judge right);
+      kept = tt;
     })
 
 pub each_item-each-preserved : goal.each_item-each-preserved
@@ -938,8 +796,9 @@ each_item-each-preserved t c =
     let m = c.args.self.now in
     let mid = c.each.self in
     let inv = c.each.invariant in
+    let f = told_there inv.stays c.step-next.ensures in
     record {
-      stays = stays_then inv.stays (lengthened_on member_designs_of c.each.members c.step-next.result c.in_ok-members.members _ c.in_ok-members.ensures c.step-next.ensures.stays);
+      stays = lengthened_kept member_designs_of c.each.members c.step-next.result (Ok c.in_ok-members.members) _ c.in_ok-members.ensures f.kept;
       told = λ judge right.
           let evaluator = evaluator_at m judge in
           let here = context_at m c.args.position in
@@ -951,60 +810,53 @@ each_item-each-preserved t c =
           (inv.told judge right)
           (ap (λ vs. each_step c.args.place turned vs mid.evaluation.turns mid.leaves) c.in-Some.ensures.next)
           c.step-next.result c.in_ok-members.members _ _ c.in_ok-members.ensures
-          (meets_after inv.stays c.step-next.ensures.members judge right);
+          (f.equation judge right);
     }
 
-pub step-returns-in_err-members-clause-members : goal.step-returns-in_err-members-clause-members
-step-returns-in_err-members-clause-members t c =
+pub step-returns-in_err-members : goal.step-returns-in_err-members
+step-returns-in_err-members t c =
     let p = err_from_is_err_and c.from_residual.result c.from_residual.ensures.1 in
-    rw (p.1, p.2) (record {
-      by = λ judge right.
-          stop_outcome (λ turns ms. after_step c.args.place ms.designs turns (λ turns. Gives turns ms)) (c.in_err-members.ensures.members.by judge right);
-    })
+    rw (p.1, p.2) (stops (λ judge turns ms. after_step c.args.place ms.designs turns (λ turns. Gives turns ms)) c.in_err-members.ensures (λ judge right. refl) tt)
 
 pub turns_with-turns-requires : goal.turns_with-turns-requires
 turns_with-turns-requires t c =
     let m = c.args.self.now in
     let e = c.bind.ensures.binds.entered m.evaluation c.in_ok-before.before c.in_ok-before.ensures.entered in (
       omega (arith, work_same c.bind.new.self.depth m.evaluation.depth e.depth, c.decreases),
-      body_still m _ refl e.source c.requires.stands,
+      body_still m _ refl e.source c.requires,
     )
 
-pub turns_with-returns-in_err-members-clause-members : goal.turns_with-returns-in_err-members-clause-members
-turns_with-returns-in_err-members-clause-members t c =
+-- the turns of a loop in the scope of a variable
+variable_meant : (judge : Judge) (m mid : InstanceEvaluator) (position : Position) (before : ℕ) (place : Place) (name : List ℕ) (rest : List BinderTerm) (body : BodyTerm) (value : Val)
+    {empty : Env} → Enters m mid before → env_here mid.evaluation ≡ with_value name value empty → empty ≡ Within [] [] [] no_call (env_here m.evaluation)
+    → mid.evaluation.turns ≡ m.evaluation.turns
+    → meant_at m position judge (λ evaluator here. each_turn evaluator place rest body (in_loop here name value)) ≡ meant_at mid position judge (λ evaluator. each_turn evaluator place rest body)
+variable_meant judge m mid position before place name rest body value e bound inside turns =
+    entered_meant (λ (x : Source) evaluator. each_turn evaluator place rest body) judge m mid position before
+    (Within ((name, value) ∷ []) [] [] no_call (env_here m.evaluation)) e (bound ∙ ap (λ (x : Env). with_value name value x) inside) turns
+
+pub turns_with-returns-in_err-members : goal.turns_with-returns-in_err-members
+turns_with-returns-in_err-members t c =
     let p = err_from_is_err_and c.from_residual-in_err-members.result c.from_residual-in_err-members.ensures.1 in
     let m = c.args.self.now in
     let e = c.bind.ensures.binds.entered m.evaluation c.in_ok-before.before c.in_ok-before.ensures.entered in
-    rw (p.1, p.2) (record {
-      by = λ judge right.
-          entered_meets (λ (x : Source) evaluator. each_turn evaluator c.args.place (map binder_of c.args.rest.now) (body_seen c.args.body))
-          m _ c.turns.new.self c.args.position c.in_ok-before.before (Within ((c.args.name.now, bounded_val c.args.value) ∷ []) [] [] no_call (scope_here m.evaluation)) (record { unit = refl; leaves = refl; evaluation = e })
-          (c.in_ok-bind.ensures.bound ∙ ap (λ (x : Env). with_variable c.args.name.now (bounded_val c.args.value) x) c.in_ok-before.ensures.inside)
-          (c.bind.ensures.binds.turns ∙ c.enter_empty.ensures.turns) c.in_err-members.ensures.members judge right;
-    })
+    rw (p.1, p.2) (told_from c.in_err-members.ensures
+    (λ judge right. variable_meant judge m (begun_at c.in_err-members.ensures) c.args.position c.in_ok-before.before c.args.place c.args.name.now (map binder_of c.args.rest.now) (body_seen c.args.body) (bounded_val c.args.value)
+    (record { unit = refl; leaves = refl; evaluation = e }) c.in_ok-bind.ensures.binds.bound c.in_ok-before.ensures.inside (c.bind.ensures.binds.turns ∙ c.enter_empty.ensures.turns)) refl refl tt)
 
-pub turns_with-returns-clause-members : goal.turns_with-returns-clause-members
-turns_with-returns-clause-members t c =
+pub turns_with-returns : goal.turns_with-returns
+turns_with-returns t c =
     let m = c.args.self.now in
     let e = c.bind.ensures.binds.entered m.evaluation c.in_ok-before.before c.in_ok-before.ensures.entered in
-    record {
-      by = λ judge right.
-          outcome_with c.leave.ensures.turns
-          (entered_meets (λ (x : Source) evaluator. each_turn evaluator c.args.place (map binder_of c.args.rest.now) (body_seen c.args.body))
-          m _ c.turns.new.self c.args.position c.in_ok-before.before (Within ((c.args.name.now, bounded_val c.args.value) ∷ []) [] [] no_call (scope_here m.evaluation)) (record { unit = refl; leaves = refl; evaluation = e })
-          (c.in_ok-bind.ensures.bound ∙ ap (λ (x : Env). with_variable c.args.name.now (bounded_val c.args.value) x) c.in_ok-before.ensures.inside)
-          (c.bind.ensures.binds.turns ∙ c.enter_empty.ensures.turns) c.in_ok-members.ensures.members judge right);
-    }
-
-pub turns_with-returns-clause-stays : goal.turns_with-returns-clause-stays
-turns_with-returns-clause-stays t c =
-    let m = c.args.self.now in
-    let e = c.bind.ensures.binds.entered m.evaluation c.in_ok-before.before c.in_ok-before.ensures.entered in
-    let k = c.in_ok-members.ensures.stays in
-    stays_kept m _ k.unit (c.leave.ensures.back m.evaluation (scope_entered m c.in_ok-before.before k e))
+    let k = c.in_ok-members.ensures.kept in
+    told_from c.in_ok-members.ensures
+    (λ judge right. variable_meant judge m (begun_at c.in_ok-members.ensures) c.args.position c.in_ok-before.before c.args.place c.args.name.now (map binder_of c.args.rest.now) (body_seen c.args.body) (bounded_val c.args.value)
+    (record { unit = refl; leaves = refl; evaluation = e }) c.in_ok-bind.ensures.binds.bound c.in_ok-before.ensures.inside (c.bind.ensures.binds.turns ∙ c.enter_empty.ensures.turns))
+    c.leave.ensures.turns refl
+    (stays_kept m _ k.unit (c.leave.ensures.back m.evaluation (scope_kept m.evaluation c.in_ok-before.before e k.evaluation)))
 
 pub turns_with-leave-requires : goal.turns_with-leave-requires
 turns_with-leave-requires t c =
     let m = c.args.self.now in
     let e = c.bind.ensures.binds.entered m.evaluation c.in_ok-before.before c.in_ok-before.ensures.entered in
-    omega (arith, e.from, e.number, c.in_ok-members.ensures.stays.stands, m.evaluation.there)
+    omega (arith, e.from, e.number, c.in_ok-members.ensures.kept.evaluation.stands, m.evaluation.there)

@@ -7,8 +7,8 @@ use Rattle.scad_instances.specs.Positions.{term_of_numbered}
 use Rattle.scad_value.specs.Values.{Val, count_of}
 use Rattle.scad_evaluation.specs.Meaning.{Outcome}
 use Rattle.scad_instances.specs.Items.{remaining_in}
-use Rattle.scad_pieces.specs.Seen.{member_designs_of, in_front}
-use Rattle.scad_eval.specs.Keeping.{evaluator_at, context_at, Stays}
+use Rattle.scad_pieces.specs.Seen.{member_designs_of, members_in_front}
+use Rattle.scad_eval.specs.Keeping.{evaluator_at, context_at, Stays, meant_at}
 use Rattle.scad_eval.specs.Within.{body_seen}
 use Rattle.scad_eval.proofs.Work.{work}
 use Rattle.scad_eval.proofs.evaluator.InstanceEvaluator.+instances.Given as goal
@@ -94,8 +94,8 @@ invariant-members-each l =
     record {
       stays : Stays old l.self;
       told : (judge : Judge) → IsRight judge →
-          each_member (evaluator_at old judge) (context_at old l.position) (map term_of_numbered l.instances) old.evaluation.turns old.leaves
-          ≡ in_front (member_designs_of old.leaves l.members)
+          meant_at old l.position judge (λ evaluator here. each_member evaluator here (map term_of_numbered l.instances))
+          ≡ members_in_front (member_designs_of old.leaves l.members)
           (each_member (evaluator_at old judge) (context_at old l.position) (map term_of_numbered (drop l.instance-index l.instances)) l.self.evaluation.turns l.self.leaves);
     }
 
@@ -107,7 +107,7 @@ invariant-each_item-each l =
       told : (judge : Judge) → IsRight judge →
           let turned : Val → ℕ → ℕ → Outcome MemberDesigns = λ item. each_turn (evaluator_at old judge) l.place (map binder_of l.rest) (body_seen l.body) (in_loop (context_at old l.position) l.name item) in
           each_step l.place turned (remaining_in l.fn.items.remaining) old.evaluation.turns old.leaves
-          ≡ in_front (member_designs_of old.leaves l.members) (each_step l.place turned (remaining_in l.remaining.remaining) l.self.evaluation.turns l.self.leaves);
+          ≡ members_in_front (member_designs_of old.leaves l.members) (each_step l.place turned (remaining_in l.remaining.remaining) l.self.evaluation.turns l.self.leaves);
     }
 
 abbrev pub decreases-each_item-each : goal.decreases-each_item-each

@@ -6,7 +6,7 @@ use Rattle.scad_eval.specs.Keeping.{evaluations_left, context_at}
 use Rattle.scad_eval.proofs.Binding.{assigned_next, assigned_stops}
 use Rattle.scad_eval.proofs.Outcomes.{along}
 use Rattle.scad_meaning.proofs.Judges.{some_judge}
-use Rattle.scad_eval.proofs.Contexts.{assigns_then}
+use Rattle.scad_eval.proofs.Contexts.{assigns_then, some_position}
 use Rattle.scad_eval.proofs.evaluator.InstanceEvaluator.assign_all.Goals as goal
 use Rattle.scad_evaluation.specs.Limits.{most_evaluations}
 
@@ -18,18 +18,17 @@ each-preserved c =
     let i = c.each.assignment-index in
     let h : i < length xs = omega (arith, c.each-test.true) in
     let inv = c.each.invariant in
-    let g = c.in_ok-assign.ensures in
     let judge = some_judge in
     record {
-      assigns = assigns_then inv.assigns g.assigns;
-      told = λ s. assigned_next (each_assigned (evaluations_left old) (context_at old s) (map assigned_of xs) old.evaluation.turns)
-          (evaluations_left old) (evaluations_left here) (context_at here s) xs i c.assignment-item.result here.evaluation.turns
-          (inv.told s) (ap (λ n. most_evaluations - n) inv.assigns.depth) h c.assignment-item.is
-          c.assign.new.self.evaluation.turns c.assign.new.self.leaves ((g.assigned s).by judge.0 judge.1);
+      assigns = assigns_then inv.assigns (c.in_ok-assign.ensures some_position).kept;
+      told = λ position. assigned_next (each_assigned (evaluations_left old) (context_at old position) (map assigned_of xs) old.evaluation.turns)
+          (evaluations_left old) (evaluations_left here) (context_at here position) xs i c.assignment-item.result here.evaluation.turns
+          (inv.told position) (ap (λ n. most_evaluations - n) inv.assigns.older.same.depth) h c.assignment-item.is
+          c.assign.new.self.evaluation.turns c.assign.new.self.leaves ((c.in_ok-assign.ensures position).equation judge.0 judge.1);
     }
 
-pub returns-in_err-assign-clause-assigned : goal.returns-in_err-assign-clause-assigned
-returns-in_err-assign-clause-assigned c = λ s.
+pub returns-in_err-assign : goal.returns-in_err-assign
+returns-in_err-assign c = λ position.
     let p = err_from_is_err_and c.from_residual.result c.from_residual.ensures.1 in
     let old = c.args.self.now in
     let here = c.each.self in
@@ -38,11 +37,12 @@ returns-in_err-assign-clause-assigned c = λ s.
     let h : i < length xs = omega (arith, c.each-test.true) in
     let inv = c.each.invariant in
     rw (p.1, p.2) (record {
-      by = λ judge right.
-          along (ap (λ l. each_assigned (evaluations_left old) (context_at old s) l old.evaluation.turns)
-          (sym (c.assignments-assignments.ensures c.requires.whole)))
-          (assigned_stops (each_assigned (evaluations_left old) (context_at old s) (map assigned_of xs) old.evaluation.turns)
-          (evaluations_left old) (evaluations_left here) (context_at here s) xs i c.assignment-item.result here.evaluation.turns
-          (inv.told s) (ap (λ n. most_evaluations - n) inv.assigns.depth) h c.assignment-item.is _ _ _ _
-          ((c.in_err-assign.ensures.assigned s).by judge right));
+      equation = λ judge right.
+          along (ap (λ l. each_assigned (evaluations_left old) (context_at old position) l old.evaluation.turns)
+          (sym (c.assignments-assignments.ensures c.requires)))
+          (assigned_stops (each_assigned (evaluations_left old) (context_at old position) (map assigned_of xs) old.evaluation.turns)
+          (evaluations_left old) (evaluations_left here) (context_at here position) xs i c.assignment-item.result here.evaluation.turns
+          (inv.told position) (ap (λ n. most_evaluations - n) inv.assigns.older.same.depth) h c.assignment-item.is _ _ _ _
+          ((c.in_err-assign.ensures position).equation judge right));
+      kept = tt;
     })

@@ -10,6 +10,6 @@ invariant-each l =
     let old = l.fn.self in
     record {
       assigns : Assigns old l.self;
-      told : (s : Position) → each_assigned (evaluations_left old) (context_at old s) (map assigned_of l.assignments) old.evaluation.turns
-          ≡ each_assigned (evaluations_left old) (context_at l.self s) (map assigned_of (drop l.assignment-index l.assignments)) l.self.evaluation.turns;
+      told : (position : Position) → each_assigned (evaluations_left old) (context_at old position) (map assigned_of l.assignments) old.evaluation.turns
+          ≡ each_assigned (evaluations_left old) (context_at l.self position) (map assigned_of (drop l.assignment-index l.assignments)) l.self.evaluation.turns;
     }
