@@ -21,7 +21,7 @@ use Rattle.scad_evaluation.specs.Definitions.{statements_at, block_scope, IsWhol
 use Rattle.scad_evaluation.specs.declared.source.Source.{Source}
 use Rattle.scad_instances.specs.declared.numbered.NumberedInstance.{NumberedInstance}
 use Rattle.scad_meaning.specs.Bodies.{is_child, evaluated_in, children_in}
-use Rattle.scad_instances.specs.Positions.{term_of_numbered, HasBlocks}
+use Rattle.scad_instances.specs.Positions.{term_of_numbered, HasBlocks, AreNumbered}
 use Rattle.scad_meaning.specs.Loops.{chosen_among}
 use Rattle.scad_meaning.proofs.Choosing.{map_chosen, all_chosen}
 
@@ -41,31 +41,26 @@ module _ (env : Env) (xs found : List NumberedInstance) (n : ℕ) (is : found �
   all_seen : found ≡ filter (is_child_here env) xs
   all_seen = is ∙ ap (filter (is_child_here env)) (take_all n xs h)
 
-  pub children_found : (body : StatementTerms) → map term_of_numbered xs ≡ evaluated_in body
-      → map term_of_numbered found ≡ children_in env body
-  children_found body e = ap (map term_of_numbered) all_seen ∙ map_filtered term_of_numbered (is_child env) xs ∙ ap (filter (is_child env)) e
-
-  pub children_blocks : (text : NumberedText) → All (HasBlocks text) xs → All (HasBlocks text) found
-  children_blocks text all = subst (All (HasBlocks text)) (sym all_seen) (All-filter (is_child_here env) (HasBlocks text) xs all)
+  pub children_numbered : (text : NumberedText) (body : StatementTerms) → AreNumbered text (evaluated_in body) xs
+      → AreNumbered text (children_in env body) found
+  children_numbered text body all = record {
+    found = ap (map term_of_numbered) all_seen ∙ map_filtered term_of_numbered (is_child env) xs ∙ ap (filter (is_child env)) all.found;
+    blocks = subst (All (HasBlocks text)) (sym all_seen) (All-filter (is_child_here env) (HasBlocks text) xs all.blocks);
+  }
 
 -- the chosen ones of some children
 module _ {E : Type 0} (r : Result (Vec NumberedInstance Global) E) (children : List NumberedInstance) (call : ChosenCall)
     (h : IfOk r (λ found. found.items ≡ chosen_among children call)) where
-  pub chosen_found : (xs : List InstanceTerm) → map term_of_numbered children ≡ xs
-      → IfOk r (λ found. map term_of_numbered found.items ≡ chosen_among xs call)
-  chosen_found xs e = go r h
+  pub chosen_numbered : (text : NumberedText) (xs : List InstanceTerm) → AreNumbered text xs children
+      → IfOk r (λ found. AreNumbered text (chosen_among xs call) found.items)
+  chosen_numbered text xs all = go r h
     where
       go : (r : Result (Vec NumberedInstance Global) E) → IfOk r (λ found. found.items ≡ chosen_among children call)
-          → IfOk r (λ found. map term_of_numbered found.items ≡ chosen_among xs call)
-      go (Ok found) h = ap (map term_of_numbered) h ∙ map_chosen term_of_numbered children call ∙ ap (λ l. chosen_among l call) e
-      go (Err stop) h = tt
-
-  pub chosen_blocks : (text : NumberedText) → All (HasBlocks text) children → IfOk r (λ found. All (HasBlocks text) found.items)
-  chosen_blocks text all = go r h
-    where
-      go : (r : Result (Vec NumberedInstance Global) E) → IfOk r (λ found. found.items ≡ chosen_among children call)
-          → IfOk r (λ found. All (HasBlocks text) found.items)
-      go (Ok found) h = subst (All (HasBlocks text)) (sym h) (all_chosen (HasBlocks text) children call all)
+          → IfOk r (λ found. AreNumbered text (chosen_among xs call) found.items)
+      go (Ok found) h = record {
+        found = ap (map term_of_numbered) h ∙ map_chosen term_of_numbered children call ∙ ap (λ l. chosen_among l call) all.found;
+        blocks = subst (All (HasBlocks text)) (sym h) (all_chosen (HasBlocks text) children call all.blocks);
+      }
       go (Err stop) h = tt
 
 -- how many children there are

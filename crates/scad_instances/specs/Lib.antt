@@ -1,4 +1,5 @@
 pub mod BoundedItems
 pub mod Choosing
+pub mod Counting
 pub mod Items
 pub mod Positions

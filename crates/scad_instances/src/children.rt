@@ -1,18 +1,17 @@
 //! Children of calls.
 
-ghost use Rattle.std.specs.Prelude.{◌≡◌, pos, All, IfOk, length, map, is_some, codes, not, ◌||◌, ◌&&◌};
+ghost use Rattle.std.specs.Prelude.{◌≡◌, IfOk, is_some, codes, not, ◌||◌, ◌&&◌};
 ghost use Rattle.std.specs.Str.{bytes_eq};
 ghost use Rattle.scad_ast.specs.StatementView.{instance_of};
-ghost use Rattle.scad_value.specs.Values.{NumberVal};
-ghost use Rattle.scad_value.specs.BoundedView.{bounded_val};
-ghost use Rattle.scad_evaluation.specs.Meaning.{entered_scope, no_call, visible_module};
+ghost use Rattle.scad_evaluation.specs.Meaning.{visible_module};
 ghost use Rattle.scad_evaluation.specs.View.{source_text};
 ghost use Rattle.scad_evaluation.specs.Definitions.{statements_at, IsWhole};
-ghost use Rattle.scad_evaluation.specs.Evaluations.{Keeps, env_here};
+ghost use Rattle.scad_evaluation.specs.Evaluations.{env_here};
 ghost use Rattle.scad_meaning.specs.Bodies.{children_in, is_child};
-ghost use Rattle.scad_instances.specs.Positions.{term_of_numbered, HasBlocks};
 ghost use Rattle.scad_meaning.specs.Meaning.{instances_chosen};
 ghost use Rattle.scad_instances.specs.Choosing.{chosen_seen, IsSafeChosen};
+ghost use Rattle.scad_instances.specs.Counting.{CountsChildren};
+ghost use Rattle.scad_instances.specs.Positions.{AreNumbered};
 
 use crate::chosen::chosen_among;
 use crate::numbered::{NumberedInstance, numbered_instances};
@@ -54,9 +53,8 @@ fn children<'a>(
     block: u32,
 ) -> Result<Vec<NumberedInstance<'a>>, NoMemory>
     requires { IsWhole (source_text evaluation.now.source.now) }
-    ensures found { IfOk result (λ found. map term_of_numbered found.items
-        ≡ children_in (env_here evaluation.now) (statements_at (source_text evaluation.now.source.now) block)) }
-    ensures blocks { IfOk result (λ found. All (HasBlocks (source_text evaluation.now.source.now)) found.items) }
+    ensures { let text = source_text evaluation.now.source.now in
+        IfOk result (λ found. AreNumbered text (children_in (env_here evaluation.now) (statements_at text block)) found.items) }
 {
     let alloc = evaluation.alloc;
     let instances = numbered_instances(alloc, evaluation.source, block)?;
@@ -75,10 +73,7 @@ pub fn count_children(
     block: u32,
 ) -> Result<BoundedValue, NoMemory>
     requires { IsWhole (source_text evaluation.old.source.now) }
-    ensures count { let statements = statements_at (source_text evaluation.old.source.now) block in
-        IfOk result (λ n. bounded_val n ≡ NumberVal (pos (length (children_in (entered_scope statements no_call (env_here evaluation.old)) statements)))) }
-    ensures kept { Keeps evaluation.old evaluation.new }
-    ensures turns { evaluation.new.turns ≡ evaluation.old.turns }
+    ensures { CountsChildren (statements_at (source_text evaluation.old.source.now) block) evaluation.old evaluation.new result }
 {
     let outer = evaluation.scope;
     let before = evaluation.enter_body(outer, block)?;
@@ -101,9 +96,9 @@ pub fn chosen_instances<'a>(
 ) -> Result<Vec<NumberedInstance<'a>>, NoMemory>
     requires whole { IsWhole (source_text evaluation.now.source.now) }
     requires safe { IsSafeChosen chosen }
-    ensures found { IfOk result (λ found. map term_of_numbered found.items
-        ≡ instances_chosen (env_here evaluation.now) (chosen_seen chosen.entry) (statements_at (source_text evaluation.now.source.now) block)) }
-    ensures blocks { IfOk result (λ found. All (HasBlocks (source_text evaluation.now.source.now)) found.items) }
+    ensures { let text = source_text evaluation.now.source.now in
+        let wanted = instances_chosen (env_here evaluation.now) (chosen_seen chosen.entry) (statements_at text block) in
+        IfOk result (λ found. AreNumbered text wanted found.items) }
 {
     let alloc = evaluation.alloc;
     match chosen {

@@ -1,15 +1,15 @@
 //! The instances of a block with the numbers of their bodies' blocks, so that a body is entered by its number. Functions,
 //! modules and bodies are passed over by where their blocks end, and not walked through.
 
-ghost use Rattle.std.specs.Prelude.{◌≡◌, ◌<◌, ◌+◌, ◌++◌, ◌∷◌, [], length, map, slice_index_or, IfOk, OnOk};
+ghost use Rattle.std.specs.Prelude.{◌≡◌, ◌<◌, ◌+◌, ◌++◌, ◌∷◌, [], length, map, IfOk, OnOk};
 ghost use Rattle.std.specs.List.{All, filter};
 ghost use Rattle.scad_ast.specs.Terms.{statements_from};
 ghost use Rattle.scad_ast.specs.StatementView.{core_of, instance_of, statement_of, statements_of};
-ghost use Rattle.scad_blocks.specs.Blocks.{NumberedText, StandAt, beginnings_in, beginnings_of, beginnings_of_instance, count_blocks, nothing_there};
+ghost use Rattle.scad_blocks.specs.Blocks.{NumberedText, StandAt, beginnings_in, beginnings_of, beginnings_of_instance, count_blocks};
 ghost use Rattle.scad_evaluation.specs.Definitions.{statements_at, IsWhole};
 ghost use Rattle.scad_evaluation.specs.View.{source_text};
 ghost use Rattle.scad_meaning.specs.Bodies.{instances_of, evaluated_in, is_on};
-ghost use Rattle.scad_instances.specs.Positions.{term_of_numbered, HasBlocks, has_else};
+ghost use Rattle.scad_instances.specs.Positions.{term_of_numbered, HasBlocks, AreNumbered, Adds, PassesOver, BlocksBegin, has_else};
 
 use crate::marks::is_on;
 use scad_ast::{Core, Instance, Statement, Statements};
@@ -35,8 +35,8 @@ pub fn numbered_instances<'a>(
     block: u32,
 ) -> Result<Vec<NumberedInstance<'a>>, NoMemory>
     requires { IsWhole (source_text source.now) }
-    ensures instances { IfOk result (λ found. map term_of_numbered found.items ≡ evaluated_in (statements_at (source_text source.now) block)) }
-    ensures blocks { IfOk result (λ found. All (HasBlocks (source_text source.now)) found.items) }
+    ensures { let text = source_text source.now in
+        IfOk result (λ found. AreNumbered text (evaluated_in (statements_at text block)) found.items) }
 {
     let mut found = Vec::new(alloc);
     if (block as usize) < source.blocks.count() {
@@ -53,10 +53,8 @@ fn add_block<'a>(
 ) -> Result<(), NoMemory>
     requires whole { IsWhole (source_text source.now) }
     requires there { block < length (source_text source.now).entries }
-    requires before { All (HasBlocks (source_text source.now)) found.old.items }
-    ensures instances { OnOk result (map term_of_numbered found.new.items ≡ map term_of_numbered found.old.items
-        ++ evaluated_in (statements_at (source_text source.now) block)) }
-    ensures blocks { OnOk result (All (HasBlocks (source_text source.now)) found.new.items) }
+    ensures { let text = source_text source.now in
+        Adds text (evaluated_in (statements_at text block)) found.old.items found.new.items result }
 {
     // What stands in a block begins behind it. No program has so many blocks that there is no number.
     let Some(first) = block.checked_add(1) else {
@@ -85,11 +83,8 @@ fn add_all<'a>(
 ) -> Result<u32, NoMemory>
     requires whole { IsWhole (source_text source.now) }
     requires stand { StandAt (source_text source.now) first (beginnings_in (statements_from (statements_of statements.now))) }
-    requires before { All (HasBlocks (source_text source.now)) found.old.items }
-    ensures behind { IfOk result (λ n. n ≡ first + count_blocks (beginnings_in (statements_from (statements_of statements.now)))) }
-    ensures instances { OnOk result (map term_of_numbered found.new.items ≡ map term_of_numbered found.old.items
-        ++ evaluated_in (statements_from (statements_of statements.now))) }
-    ensures blocks { OnOk result (All (HasBlocks (source_text source.now)) found.new.items) }
+    ensures { let terms = statements_from (statements_of statements.now) in
+        PassesOver (source_text source.now) first (beginnings_in terms) (evaluated_in terms) found.old.items found.new.items result }
 {
     let mut next = first;
     'each: for statement in &statements.items {
@@ -107,11 +102,8 @@ fn add<'a>(
 ) -> Result<u32, NoMemory>
     requires whole { IsWhole (source_text source.now) }
     requires stand { StandAt (source_text source.now) first (beginnings_of (statement_of statement.now)) }
-    requires before { All (HasBlocks (source_text source.now)) found.old.items }
-    ensures behind { IfOk result (λ n. n ≡ first + count_blocks (beginnings_of (statement_of statement.now))) }
-    ensures instances { OnOk result (map term_of_numbered found.new.items ≡ map term_of_numbered found.old.items
-        ++ filter is_on (instances_of (statement_of statement.now))) }
-    ensures blocks { OnOk result (All (HasBlocks (source_text source.now)) found.new.items) }
+    ensures { let term = statement_of statement.now in
+        PassesOver (source_text source.now) first (beginnings_of term) (filter is_on (instances_of term)) found.old.items found.new.items result }
 {
     match statement {
         Statement::Block(_, statements) => add_all(source, statements, first, found),
@@ -132,37 +124,22 @@ fn add_instance<'a>(
 ) -> Result<u32, NoMemory>
     requires whole { IsWhole (source_text source.now) }
     requires stand { StandAt (source_text source.now) block (beginnings_of_instance (instance_of instance.now)) }
-    requires before { All (HasBlocks (source_text source.now)) found.old.items }
-    ensures behind { IfOk result (λ n. n ≡ block + count_blocks (beginnings_of_instance (instance_of instance.now))) }
-    ensures instances { OnOk result (map term_of_numbered found.new.items ≡ map term_of_numbered found.old.items
-        ++ filter is_on (instance_of instance.now ∷ [])) }
-    ensures blocks { OnOk result (All (HasBlocks (source_text source.now)) found.new.items) }
+    ensures { let term = instance_of instance.now in
+        PassesOver (source_text source.now) block (beginnings_of_instance term) (filter is_on (term ∷ [])) found.old.items found.new.items result }
 {
-    let numbered = with_blocks(source, instance, block);
-    add_if_on(numbered, found)?;
-    Ok(behind(source, numbered))
-}
-
-// An instance whose blocks begin at a number.
-fn with_blocks<'a>(source: &Source<'a>, instance: &'a Instance, block: u32) -> NumberedInstance<'a>
-    requires whole { IsWhole (source_text source.now) }
-    requires stand { StandAt (source_text source.now) block (beginnings_of_instance (instance_of instance.now)) }
-    ensures same { (term_of_numbered result ≡ instance_of instance.now) × (result.block ≡ block) }
-    ensures other { result.other ≡ (slice_index_or (source_text source.now).entries block nothing_there).behind }
-    ensures blocks { HasBlocks (source_text source.now) result }
-{
-    NumberedInstance {
+    let numbered = NumberedInstance {
         instance,
         block,
         other: source.blocks.behind(block),
-    }
+    };
+    add_if_on(numbered, found)?;
+    Ok(behind(source, numbered))
 }
 
 // The number behind all blocks of an instance.
 fn behind(source: &Source<'_>, numbered: NumberedInstance<'_>) -> u32
     requires whole { IsWhole (source_text source.now) }
-    requires stand { StandAt (source_text source.now) numbered.block (beginnings_of_instance (term_of_numbered numbered)) }
-    requires other { numbered.other ≡ (slice_index_or (source_text source.now).entries numbered.block nothing_there).behind }
+    requires begins { BlocksBegin (source_text source.now) numbered }
     ensures { result ≡ numbered.entry.block + count_blocks (beginnings_of_instance (term_of_numbered numbered.entry)) }
 {
     if has_else(&numbered.instance.core) {

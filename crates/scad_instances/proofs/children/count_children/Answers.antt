@@ -5,17 +5,18 @@ use Rattle.scad_evaluation.specs.Evaluations.{env_here}
 use Rattle.scad_instances.proofs.KeptChildren.{children_counted, number_form}
 use Rattle.scad_instances.proofs.children.count_children.Goals as goal
 
-pub returns-clause-count : goal.returns-clause-count
-returns-clause-count c =
+pub returns : goal.returns
+returns c =
     let e = c.args.evaluation.now in
     let new = c.enter_body.new.self in
     let entered = c.in_ok-before.ensures.entered in
     let count = children_counted e.source.now new.source.now c.args.block (env_here e)
     (env_here new) c.in_ok-children.children.items c.requires entered.source c.in_ok-before.ensures.inside c.in_ok-children.ensures.found in
-    number_form _ ∙ ap NumberVal (omega (arith, ints, count, c.len.ensures, c.len-2.ensures, c.if-len-gt-CHILDREN.false))
-
-pub returns-clause-kept : goal.returns-clause-kept
-returns-clause-kept c = c.leave.ensures.back c.args.evaluation.now c.in_ok-before.ensures.entered
+    record {
+      count = number_form _ ∙ ap NumberVal (omega (arith, ints, count, c.len.ensures, c.len-2.ensures, c.if-len-gt-CHILDREN.false));
+      kept = c.leave.ensures.back e entered;
+      turns = c.leave.ensures.turns ∙ c.in_ok-before.ensures.turns;
+    }
 
 pub leave-requires : goal.leave-requires
 leave-requires c =

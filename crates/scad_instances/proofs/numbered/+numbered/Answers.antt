@@ -18,11 +18,8 @@ add_all-add-requires t c =
       omega (arith, nesting_here c.args.statements.now i s h here, c.decreases),
       (
         c.requires.whole,
-        (
-          here_stands (source_text c.args.source.now) c.args.first c.each.next (statements_from (statements_of c.args.statements.now))
-              (map term_of_numbered c.args.found.now.items) (map term_of_numbered c.each.found.items) ss i s h here c.each.invariant.remaining,
-          c.each.invariant.blocks,
-        ),
+        here_stands (source_text c.args.source.now) c.args.first c.each.next (statements_from (statements_of c.args.statements.now))
+            (map term_of_numbered c.args.found.now.items) (map term_of_numbered c.each.found.items) ss i s h here c.each.invariant.remaining,
       ),
     )
 
@@ -39,8 +36,8 @@ add_all-each-preserved t c =
           (statements_from (statements_of c.args.statements.now)) (statements_from (map statement_of (drop i ss)))
           (map term_of_numbered c.args.found.now.items) (map term_of_numbered c.each.found.items) (map term_of_numbered c.add.new.found.items)
           (statement_of s) (statements_from (map statement_of (drop (i + 1) ss))) c.each.invariant.remaining (statements_here ss i s h here)
-          g.behind g.instances;
-      blocks = g.blocks;
+          g.behind g.adds.instances;
+      blocks = λ before. g.adds.blocks (c.each.invariant.blocks before);
     }
 
 pub add-add_all-requires : goal.add-add_all-requires
@@ -49,9 +46,6 @@ add-add_all-requires t c =
       omega (arith, ap nesting_of is, c.decreases),
       (
         c.requires.whole,
-        (
-          subst (λ (s : StatementTerm). StandAt (source_text c.args.source.now) c.args.first (beginnings_of s)) is c.requires.stand,
-          c.requires.before,
-        ),
+        subst (λ (s : StatementTerm). StandAt (source_text c.args.source.now) c.args.first (beginnings_of s)) is c.requires.stand,
       ),
     )

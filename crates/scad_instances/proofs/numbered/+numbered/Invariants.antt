@@ -12,7 +12,7 @@ invariant-add_all-each l = record {
   remaining : RemainingStatements (source_text l.source) l.first l.next (statements_from (statements_of l.statements))
       (statements_from (map statement_of (drop l.statement-index l.statements.items.items)))
       (map term_of_numbered l.fn.found.items) (map term_of_numbered l.found.items);
-  blocks : All (HasBlocks (source_text l.source)) l.found.items;
+  blocks : All (HasBlocks (source_text l.source)) l.fn.found.items → All (HasBlocks (source_text l.source)) l.found.items;
 }
 
 abbrev pub decreases-add_all : goal.decreases-add_all

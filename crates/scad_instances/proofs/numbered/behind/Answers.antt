@@ -7,11 +7,11 @@ use Rattle.scad_instances.proofs.numbered.behind.Goals as goal
 pub behind-requires : goal.behind-requires
 behind-requires c =
     let n = c.args.numbered in
-    second_is_there (source_text c.args.source.now) c.requires.whole (term_of_numbered n) n.block n.other c.requires.stand (sym c.requires.other)
-    (ap has_else (core_there n.instance.now) ∙ sym c.has_else.ensures ∙ c.if-has_else.true)
+    second_is_there (source_text c.args.source.now) c.requires.whole (term_of_numbered n) n.block n.other c.requires.begins.stand
+    (sym c.requires.begins.other) (ap has_else (core_there n.instance.now) ∙ sym c.has_else.ensures ∙ c.if-has_else.true)
 
 pub returns-then-has_else : goal.returns-then-has_else
 returns-then-has_else c =
     let n = c.args.numbered in
-    c.behind.ensures ∙ second_ends (source_text c.args.source.now) c.requires.whole (term_of_numbered n) n.block n.other c.requires.stand
-    (sym c.requires.other) (ap has_else (core_there n.instance.now) ∙ sym c.has_else.ensures ∙ c.if-has_else.true)
+    c.behind.ensures ∙ second_ends (source_text c.args.source.now) c.requires.whole (term_of_numbered n) n.block n.other c.requires.begins.stand
+    (sym c.requires.begins.other) (ap has_else (core_there n.instance.now) ∙ sym c.has_else.ensures ∙ c.if-has_else.true)
