@@ -74,7 +74,7 @@ pub record EntersModule {E : Type 0} (old new : InstanceEvaluator) (result : Res
   pub inside : OnOk result (env_here new.evaluation ≡ scope)
   pub turns : new.evaluation.turns ≡ old.evaluation.turns
 
--- the newest scope may have more variables, and the chain more names: all else but the turns and the leaves is as before
+-- the newest scope may have more variables, and the chain be another one: all else but the turns and the leaves is as before
 pub record KeepsOlder (old new : InstanceEvaluator) : Type 0 where
   pub unit : new.unit ≡ old.unit
   pub same : SameSetting old.evaluation new.evaluation
@@ -117,7 +117,7 @@ EvaluatesAt see old new position result meaning = EvaluatesKeeping see old new p
 abbrev pub EvaluatesAnywhere : {A B : Type 0} → (ℕ → A → B) → InstanceEvaluator → InstanceEvaluator → Result A Stop → Equation B → Type 0
 EvaluatesAnywhere see old new result meaning = (position : Position) → EvaluatesKeeping see old new position result (Stays old new) meaning
 
--- the same of assignments, which give the context behind them at every position
+-- the same of assignments, unless there was a stop; behind them each position has the context that they give
 abbrev pub AssignsAnywhere : {A : Type 0} → InstanceEvaluator → InstanceEvaluator → Result A Stop → Equation Context → Type 0
 AssignsAnywhere old new result meaning =
     (position : Position) → EvaluatesKeeping (λ leaves done. context_at new position) old new position result (OnOk result (Assigns old new)) meaning

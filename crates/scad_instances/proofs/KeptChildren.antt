@@ -21,7 +21,7 @@ use Rattle.scad_evaluation.specs.Definitions.{statements_at, block_scope, IsWhol
 use Rattle.scad_evaluation.specs.declared.source.Source.{Source}
 use Rattle.scad_instances.specs.declared.numbered.NumberedInstance.{NumberedInstance}
 use Rattle.scad_meaning.specs.Bodies.{is_child, evaluated_in, children_in}
-use Rattle.scad_instances.specs.Positions.{term_of_numbered, HasBlocks, AreNumbered}
+use Rattle.scad_instances.specs.Positions.{term_of_numbered, HasBlocks, HaveBodyBlocks}
 use Rattle.scad_meaning.specs.Loops.{chosen_among}
 use Rattle.scad_meaning.proofs.Choosing.{map_chosen, all_chosen}
 
@@ -41,8 +41,8 @@ module _ (env : Env) (xs found : List NumberedInstance) (n : ℕ) (is : found �
   all_seen : found ≡ filter (is_child_here env) xs
   all_seen = is ∙ ap (filter (is_child_here env)) (take_all n xs h)
 
-  pub children_numbered : (text : NumberedText) (body : StatementTerms) → AreNumbered text (evaluated_in body) xs
-      → AreNumbered text (children_in env body) found
+  pub children_numbered : (text : NumberedText) (body : StatementTerms) → HaveBodyBlocks text (evaluated_in body) xs
+      → HaveBodyBlocks text (children_in env body) found
   children_numbered text body all = record {
     found = ap (map term_of_numbered) all_seen ∙ map_filtered term_of_numbered (is_child env) xs ∙ ap (filter (is_child env)) all.found;
     blocks = subst (All (HasBlocks text)) (sym all_seen) (All-filter (is_child_here env) (HasBlocks text) xs all.blocks);
@@ -51,12 +51,12 @@ module _ (env : Env) (xs found : List NumberedInstance) (n : ℕ) (is : found �
 -- the chosen ones of some children
 module _ {E : Type 0} (r : Result (Vec NumberedInstance Global) E) (children : List NumberedInstance) (call : ChosenCall)
     (h : IfOk r (λ found. found.items ≡ chosen_among children call)) where
-  pub chosen_numbered : (text : NumberedText) (xs : List InstanceTerm) → AreNumbered text xs children
-      → IfOk r (λ found. AreNumbered text (chosen_among xs call) found.items)
+  pub chosen_numbered : (text : NumberedText) (xs : List InstanceTerm) → HaveBodyBlocks text xs children
+      → IfOk r (λ found. HaveBodyBlocks text (chosen_among xs call) found.items)
   chosen_numbered text xs all = go r h
     where
       go : (r : Result (Vec NumberedInstance Global) E) → IfOk r (λ found. found.items ≡ chosen_among children call)
-          → IfOk r (λ found. AreNumbered text (chosen_among xs call) found.items)
+          → IfOk r (λ found. HaveBodyBlocks text (chosen_among xs call) found.items)
       go (Ok found) h = record {
         found = ap (map term_of_numbered) h ∙ map_chosen term_of_numbered children call ∙ ap (λ l. chosen_among l call) all.found;
         blocks = subst (All (HasBlocks text)) (sym h) (all_chosen (HasBlocks text) children call all.blocks);

@@ -37,13 +37,13 @@ pub record BlocksBegin (text : NumberedText) (numbered : NumberedInstance) : Typ
   pub other : numbered.other ≡ (slice_index_or text.entries numbered.block nothing_there).behind
 
 -- these instances in order, each with the blocks of its bodies
-pub record AreNumbered (text : NumberedText) (instances : List InstanceTerm) (numbered : List NumberedInstance) : Type 0 where
+pub record HaveBodyBlocks (text : NumberedText) (instances : List InstanceTerm) (numbered : List NumberedInstance) : Type 0 where
   pub found : map term_of_numbered numbered ≡ instances
   pub blocks : All (HasBlocks text) numbered
 
 -- What adding instances does to those that were found, unless memory runs out: these stand behind them, and where those had
 -- the blocks of their bodies, all have.
-pub record Adds {A E : Type 0} (text : NumberedText) (added : List InstanceTerm) (old new : List NumberedInstance)
+pub record AddsInstances {A E : Type 0} (text : NumberedText) (added : List InstanceTerm) (old new : List NumberedInstance)
     (result : Result A E) : Type 0 where
   pub instances : OnOk result (map term_of_numbered new ≡ map term_of_numbered old ++ added)
   pub blocks : All (HasBlocks text) old → OnOk result (All (HasBlocks text) new)
@@ -53,4 +53,4 @@ pub record Adds {A E : Type 0} (text : NumberedText) (added : List InstanceTerm)
 pub record PassesOver {E : Type 0} (text : NumberedText) (first : ℕ) (beginnings : List Beginning) (added : List InstanceTerm)
     (old new : List NumberedInstance) (result : Result ℕ E) : Type 0 where
   pub behind : IfOk result (λ next. next ≡ first + count_blocks beginnings)
-  pub adds : Adds text added old new result
+  pub adds : AddsInstances text added old new result

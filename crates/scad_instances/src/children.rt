@@ -11,7 +11,7 @@ ghost use Rattle.scad_meaning.specs.Bodies.{children_in, is_child};
 ghost use Rattle.scad_meaning.specs.Meaning.{instances_chosen};
 ghost use Rattle.scad_instances.specs.Choosing.{chosen_seen, IsSafeChosen};
 ghost use Rattle.scad_instances.specs.Counting.{CountsChildren};
-ghost use Rattle.scad_instances.specs.Positions.{AreNumbered};
+ghost use Rattle.scad_instances.specs.Positions.{HaveBodyBlocks};
 
 use crate::chosen::chosen_among;
 use crate::numbered::{NumberedInstance, numbered_instances};
@@ -54,7 +54,7 @@ fn children<'a>(
 ) -> Result<Vec<NumberedInstance<'a>>, NoMemory>
     requires { IsWhole (source_text evaluation.now.source.now) }
     ensures { let text = source_text evaluation.now.source.now in
-        IfOk result (λ found. AreNumbered text (children_in (env_here evaluation.now) (statements_at text block)) found.items) }
+        IfOk result (λ found. HaveBodyBlocks text (children_in (env_here evaluation.now) (statements_at text block)) found.items) }
 {
     let alloc = evaluation.alloc;
     let instances = numbered_instances(alloc, evaluation.source, block)?;
@@ -98,7 +98,7 @@ pub fn chosen_instances<'a>(
     requires safe { IsSafeChosen chosen }
     ensures { let text = source_text evaluation.now.source.now in
         let wanted = instances_chosen (env_here evaluation.now) (chosen_seen chosen.entry) (statements_at text block) in
-        IfOk result (λ found. AreNumbered text wanted found.items) }
+        IfOk result (λ found. HaveBodyBlocks text wanted found.items) }
 {
     let alloc = evaluation.alloc;
     match chosen {

@@ -9,7 +9,7 @@ ghost use Rattle.scad_blocks.specs.Blocks.{NumberedText, StandAt, beginnings_in,
 ghost use Rattle.scad_evaluation.specs.Definitions.{statements_at, IsWhole};
 ghost use Rattle.scad_evaluation.specs.View.{source_text};
 ghost use Rattle.scad_meaning.specs.Bodies.{instances_of, evaluated_in, is_on};
-ghost use Rattle.scad_instances.specs.Positions.{term_of_numbered, HasBlocks, AreNumbered, Adds, PassesOver, BlocksBegin, has_else};
+ghost use Rattle.scad_instances.specs.Positions.{term_of_numbered, HasBlocks, HaveBodyBlocks, AddsInstances, PassesOver, BlocksBegin, has_else};
 
 use crate::marks::is_on;
 use scad_ast::{Core, Instance, Statement, Statements};
@@ -36,7 +36,7 @@ pub fn numbered_instances<'a>(
 ) -> Result<Vec<NumberedInstance<'a>>, NoMemory>
     requires { IsWhole (source_text source.now) }
     ensures { let text = source_text source.now in
-        IfOk result (λ found. AreNumbered text (evaluated_in (statements_at text block)) found.items) }
+        IfOk result (λ found. HaveBodyBlocks text (evaluated_in (statements_at text block)) found.items) }
 {
     let mut found = Vec::new(alloc);
     if (block as usize) < source.blocks.count() {
@@ -54,7 +54,7 @@ fn add_block<'a>(
     requires whole { IsWhole (source_text source.now) }
     requires there { block < length (source_text source.now).entries }
     ensures { let text = source_text source.now in
-        Adds text (evaluated_in (statements_at text block)) found.old.items found.new.items result }
+        AddsInstances text (evaluated_in (statements_at text block)) found.old.items found.new.items result }
 {
     // What stands in a block begins behind it. No program has so many blocks that there is no number.
     let Some(first) = block.checked_add(1) else {

@@ -4,7 +4,7 @@ use Rattle.scad_evaluation.specs.Evaluations.{env_here}
 use Rattle.scad_evaluation.specs.Definitions.{statements_at}
 use Rattle.scad_meaning.specs.Bodies.{evaluated_in}
 use Rattle.scad_instances.specs.declared.numbered.NumberedInstance.{NumberedInstance}
-use Rattle.scad_instances.specs.Positions.{AreNumbered}
+use Rattle.scad_instances.specs.Positions.{HaveBodyBlocks}
 use Rattle.scad_instances.proofs.KeptChildren.{children_numbered}
 use Rattle.scad_instances.proofs.children.children.Goals as goal
 
@@ -16,4 +16,4 @@ returns c =
     let xs = c.deref-instance-items.result.now in
     let end : length xs ≤ c.each.instance-index = omega (arith, c.each-test.false) in
     children_numbered (env_here e) xs c.each.children.items c.each.instance-index c.each.invariant end text body
-    (subst (λ (l : List NumberedInstance). AreNumbered text (evaluated_in body) l) (sym c.deref-instance-items.ensures.value) c.in_ok-instances.ensures)
+    (subst (λ (l : List NumberedInstance). HaveBodyBlocks text (evaluated_in body) l) (sym c.deref-instance-items.ensures.value) c.in_ok-instances.ensures)
