@@ -5,7 +5,7 @@ import re
 import tempfile
 import unittest
 
-import faults
+from scadserve import faults
 from tests.calls import TOP, Calls
 
 WORDS = {*faults.FAULTS, *faults.LIMITS, *faults.COMPLEX, "complex", "nomem", "Empty"}

@@ -12,7 +12,7 @@ from collections import Counter
 from fractions import Fraction
 from unittest import mock
 
-import off2stl
+from scadserve import off2stl
 from tests import tool_case
 from tests.calls import TOP
 from tests.solids import CUT_CUBE, EMPTY, box, gallery, off, split_box
@@ -227,7 +227,7 @@ class Faults(Case):
         self.assertEqual(self.call("-o", self.path("a.stl"), tiny)[0], 0)
 
     def test_want_of_memory_is_told(self):
-        with mock.patch("off2tool.read_file", side_effect=MemoryError):
+        with mock.patch("scadserve.off2tool.read_file", side_effect=MemoryError):
             self.assert_fault(6, [self.path("a.4off")], ": memory ran out\n")
 
     def test_texts(self):

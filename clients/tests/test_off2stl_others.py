@@ -6,7 +6,7 @@ import subprocess
 import unittest
 from concurrent.futures import ThreadPoolExecutor
 
-import off2stl
+from scadserve import off2stl
 from tests import tool_case
 from tests.solids import examples, gallery
 

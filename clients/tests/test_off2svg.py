@@ -8,11 +8,11 @@ import unittest
 import xml.etree.ElementTree as ElementTree
 from fractions import Fraction
 
-import off2svg
-from closing import close, line_through
-from fouroff import flatten, read, turn
-from off2painter import Patch, crossing, divide, outline, painted, side, visible_patches
-from off2svg import Camera
+from scadserve import off2svg
+from scadserve.closing import close, line_through
+from scadserve.fouroff import flatten, read, turn
+from scadserve.off2painter import Patch, crossing, divide, outline, painted, side, visible_patches
+from scadserve.off2svg import Camera
 from tests import tool_case
 from tests.calls import TOP
 from tests.solids import CUT_CUBE, EMPTY, box, comb, examples, gallery, off, split_box

@@ -150,10 +150,10 @@ class Statuses(Calls):
                 self.assertEqual(self.ended_by(number, ignoring=()), status)
 
     def test_an_interrupt_while_a_tool_loads_is_no_traceback(self):
-        os.mkdir(self.path("clients"))
+        os.makedirs(self.path("clients/scadserve"))
         for name in ("scad2off", "off2stl", "off2svg"):
             shutil.copy(os.path.join(TOP, name), self.folder)
-            self.write(f"clients/{name}.py", "import time\nprint(flush=True)\ntime.sleep(60)\n")
+            self.write(f"clients/scadserve/{name}.py", "import time\nprint(flush=True)\ntime.sleep(60)\n")
             pipes = {"stdout": subprocess.PIPE, "stderr": subprocess.PIPE}
             prepare = functools.partial(signal.signal, signal.SIGINT, signal.SIG_DFL)
             tool = subprocess.Popen([sys.executable, "-S", self.path(name)], preexec_fn=prepare, **pipes)

@@ -5,8 +5,8 @@ from __future__ import annotations
 from dataclasses import dataclass
 from typing import Sequence
 
-from faults import COMPLEX, EMPTY, LIMITS, NO_MEMORY, excerpt, what_is_wrong
-from scadserve import Complex, Fault, Reply, Solid
+from .faults import COMPLEX, EMPTY, LIMITS, NO_MEMORY, excerpt, what_is_wrong
+from .server import Complex, Fault, Reply, Solid
 
 
 @dataclass

@@ -7,7 +7,7 @@ import signal
 import sys
 from typing import Callable, NoReturn
 
-from files import say
+from .files import say
 
 PART_FAULT, BAD_CALL, NO_MEMORY, INTERRUPTED, PIPE_CLOSED = 1, 2, 6, 130, 141
 

@@ -12,11 +12,11 @@ import os
 import re
 from typing import Callable, NoReturn, Sequence
 
-import closing
-import fouroff
-import fouroff_measures
-from ending import BAD_CALL, PART_FAULT, ended
-from files import called, identity, read_file, refusal_to_write, say, write_file
+from . import closing
+from . import fouroff
+from . import fouroff_measures
+from .ending import BAD_CALL, PART_FAULT, ended
+from .files import called, identity, read_file, refusal_to_write, say, write_file
 
 
 class BadCall(Exception):

@@ -6,13 +6,13 @@ import os
 from dataclasses import replace
 from typing import Iterator, Sequence
 
-from batches import batches
-from ending import BAD_CALL, NO_MEMORY, PART_FAULT, ended
-from faults import STATUSES, explanation
-from files import called, identity, read_file, refusal_to_write, say, write_file
-from scad2off_told import Part, limit_told, reply_told
-from scad2off_words import HELP, BadCall, Options, options_of, outs_of
-from scadserve import SCRIPT_BYTES, SERVER, Fault, Malformed, NoMemory, Reply, ServerFailed, Solid, passed_limit, run
+from .batches import batches
+from .ending import BAD_CALL, NO_MEMORY, PART_FAULT, ended
+from .faults import STATUSES, explanation
+from .files import called, identity, read_file, refusal_to_write, say, write_file
+from .scad2off_told import Part, limit_told, reply_told
+from .scad2off_words import HELP, BadCall, Options, options_of, outs_of
+from .server import SCRIPT_BYTES, SERVER, Fault, Malformed, NoMemory, Reply, ServerFailed, Solid, passed_limit, run
 
 NO_ANSWER = 125
 

@@ -13,15 +13,15 @@ from argparse import ArgumentTypeError
 from math import cos, radians, sin
 from typing import Callable, Sequence
 
-import closing
-import off2tool
-from closing import Ring
-from ending import PART_FAULT
-from files import called
-from fouroff import Boundary, Corner, Plane
-from fouroff_measures import direction
-from off2painter import Step, outline, painted, visible_patches
-from off2tool import BadSolid
+from . import closing
+from . import off2tool
+from .closing import Ring
+from .ending import PART_FAULT
+from .files import called
+from .fouroff import Boundary, Corner, Plane
+from .fouroff_measures import direction
+from .off2painter import Step, outline, painted, visible_patches
+from .off2tool import BadSolid
 
 MOST_FACES = 5000
 #: The view where none is asked for, in degrees.

@@ -20,8 +20,9 @@ import signal
 import subprocess
 from typing import Iterable, Sequence
 
-from replies import ANSWERED, SOURCE_LINES, Answers, Complex, Fault, Malformed, NoMemory, Ok, Refused, Reply
-from replies import Session, Solid, Text, printed, read
+from .replies import ANSWERED, SOURCE_LINES, Answers, Complex, Fault, Malformed, NoMemory, Ok, Refused, Reply
+from .replies import Session, Solid, Text, printed, read
+from .top import TOP
 
 # What a program that sends scripts needs, the types of replies too.
 __all__ = ["Script", "Client", "run", "passed_limit", "read", "printed", "Answers", "Reply", "Ok", "Refused", "Text", "Solid"]
@@ -34,7 +35,7 @@ CLIENTS = 16
 COMMANDS = 8_192  # (of each client)
 
 NAME = re.compile("[a-z0-9]{1,16}")
-SERVER = (os.path.join(os.path.dirname(os.path.dirname(os.path.realpath(__file__))), "scadserve"),)
+SERVER = (os.path.join(TOP, "scadserve"),)
 
 
 class Limit(ValueError):

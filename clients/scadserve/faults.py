@@ -6,7 +6,9 @@ import os
 import re
 from codecs import BOM_UTF8
 
-DOCUMENT = os.path.join(os.path.dirname(os.path.dirname(os.path.realpath(__file__))), "docs", "FAULTS.md")
+from .top import TOP
+
+DOCUMENT = os.path.join(TOP, "docs", "FAULTS.md")
 
 PAGE = "docs/OPENSCAD.md says what there is, and what to write instead"
 

@@ -11,8 +11,8 @@ from dataclasses import dataclass
 from math import gcd
 from typing import Iterator, Sequence
 
-from closing import Ring, ways
-from fouroff import Boundary, Corner, Plane, flatten, turn
+from .closing import Ring, ways
+from .fouroff import Boundary, Corner, Plane, flatten, turn
 
 #: A corner, and whether the way from it to the next is no edge of the solid, but has a neighbour on the same plane.
 Step = tuple[Corner, bool]

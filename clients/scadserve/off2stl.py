@@ -18,14 +18,14 @@ from argparse import ArgumentTypeError, Namespace
 from fractions import Fraction
 from typing import Sequence
 
-import closing
-import off2tool
-from ending import PART_FAULT
-from files import called, say
-from fouroff import Boundary
-from fouroff_measures import Volume, box, shown
-from off2formats import WRITERS, Mesh, mesh
-from off2tool import BadSolid
+from . import closing
+from . import off2tool
+from .ending import PART_FAULT
+from .files import called, say
+from .fouroff import Boundary
+from .fouroff_measures import Volume, box, shown
+from .off2formats import WRITERS, Mesh, mesh
+from .off2tool import BadSolid
 
 _UNIT = re.compile(r"[0-9]{1,9}(?:\.[0-9]{1,9}|/0*[1-9][0-9]{0,8})?")
 _DESCRIPTION = "Writes the solid of a 4OFF text as a closed surface of triangles."

@@ -17,7 +17,7 @@ from fractions import Fraction
 from math import gcd
 from typing import Iterable, Sequence
 
-from fouroff import Boundary, Corner, Flat, flatten, turn
+from .fouroff import Boundary, Corner, Flat, flatten, turn
 
 #: The direction and the moment of a line, without a common factor, the first number that is not 0 above 0.
 Line = tuple[int, ...]

@@ -7,7 +7,7 @@ from fractions import Fraction
 from math import lcm, sqrt
 from typing import Mapping, NamedTuple, Sequence
 
-from fouroff import Boundary, determinant
+from .fouroff import Boundary, determinant
 
 # A common denominator of more bits belongs to a volume whose exact digits nobody reads.
 _MOST_BITS = 4096

@@ -4,7 +4,7 @@ from __future__ import annotations
 
 from typing import Iterator, NamedTuple, Sequence
 
-from scadserve import Answers, NoMemory, Ok, Reply, Script
+from .server import Answers, NoMemory, Ok, Reply, Script
 
 NAMES = "abcdefghijklmnop"
 

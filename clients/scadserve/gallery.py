@@ -18,13 +18,13 @@ import tempfile
 from dataclasses import dataclass
 from typing import Mapping, Sequence
 
-import closing
-import fouroff
-from files import read_file, say, write_file
-from fouroff_measures import box, shown, volume
-from off2svg import VIEW, Camera, drawing
+from . import closing
+from . import fouroff
+from .files import read_file, say, write_file
+from .fouroff_measures import box, shown, volume
+from .off2svg import VIEW, Camera, drawing
+from .top import TOP
 
-TOP = os.path.dirname(os.path.dirname(os.path.realpath(__file__)))
 #: The parts in the order of the page, with the azimuth and the elevation of the viewer in degrees.
 PARTS: Mapping[str, tuple[float, float]] = {
     "bracket": VIEW,

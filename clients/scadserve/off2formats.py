@@ -15,9 +15,9 @@ from dataclasses import dataclass
 from fractions import Fraction
 from typing import Callable, Sequence
 
-from closing import Ring
-from fouroff import Boundary, Plane
-from fouroff_measures import direction
+from .closing import Ring
+from .fouroff import Boundary, Plane
+from .fouroff_measures import direction
 
 #: A corner as it is printed: three numbers of a text, or three singles.
 Printed = tuple[str, str, str]
