@@ -17,14 +17,14 @@ use Rattle.plane_table.specs.declared.faces.Face.{Face}
 use Rattle.plane_table.specs.Faces.{outline_of}
 use Rattle.bsp_tree.proofs.Sheets.{node_shown}
 use Rattle.bsp_tree.proofs.Growths.{is_fork, make_size}
-use Rattle.bsp_tree.specs.Links.{alike, turned}
+use Rattle.bsp_tree.specs.Links.{is_alike, turned}
 use Rattle.bsp_tree.specs.Shapes.{leaf_of}
-use Rattle.bsp_tree.specs.Growths.{Sheet, tree_on, exchanged}
+use Rattle.bsp_tree.specs.Growths.{Sheet, tree_on, with_sides_exchanged}
 use Rattle.bsp_tree.proofs.Wholes.{leaf_tree, end_exchanged}
 use Rattle.bsp_tree.specs.Partitions.{divide, rows}
-use Rattle.leaf_solids.specs.Combined.{combined}
-use Rattle.bsp_boolean.specs.Merges.{merged}
-use Rattle.bsp_boolean.specs.Branches.{decides, exchanges}
+use Rattle.bsp_boolean.specs.Combined.{combination}
+use Rattle.bsp_boolean.specs.Merges.{merge_of}
+use Rattle.bsp_boolean.specs.Branches.{inside_decides, exchanges}
 
 -- both parts with their leaves exchanged
 abbrev pub both : Tree × Tree → Tree × Tree
@@ -80,38 +80,38 @@ divide_complement (node t b a) s =
     ∙ rows_complement (class_of s t.plane) (class_of t s.plane) s t b a (divide b s) (divide a s) (divide b (part_behind s t.plane)) (divide a (part_ahead s t.plane))))
 
 -- both parts, exchanged or not
-pub divide_exchanged : (turn : Bool) (t : Tree) (s : Outline) → divide (exchanged turn t) s ≡ (exchanged turn (divide t s).0, exchanged turn (divide t s).1)
+pub divide_exchanged : (turn : Bool) (t : Tree) (s : Outline) → divide (with_sides_exchanged turn t) s ≡ (with_sides_exchanged turn (divide t s).0, with_sides_exchanged turn (divide t s).1)
 divide_exchanged true t s = divide_complement t s
 divide_exchanged false t s = refl
 
 -- the merge, by whether the leaf inside decides and whether the right tree's leaves are exchanged
-pub merged_is : (op : Op) (left right : Tree) → merged op left right ≡ combined (decides op) left (exchanged (exchanges op) right)
+pub merged_is : (op : Op) (left right : Tree) → merge_of op left right ≡ combination (inside_decides op) left (with_sides_exchanged (exchanges op) right)
 merged_is Union left right = refl
 merged_is Intersection left right = refl
 merged_is Difference left right = refl
 
 -- which of two leaves decides
-same_side : (x y : Bool) → alike x y ≡ true → x ≡ y
+same_side : (x y : Bool) → is_alike x y ≡ true → x ≡ y
 same_side true true e = refl
 same_side false false e = refl
 same_side true false e = absurd (false≢true e)
 same_side false true e = absurd (false≢true e)
 
-other_side : (x y : Bool) → alike x y ≡ false → x ≡ not y
+other_side : (x y : Bool) → is_alike x y ≡ false → x ≡ not y
 other_side true true e = absurd (true≢false e)
 other_side false false e = absurd (true≢false e)
 other_side true false e = refl
 other_side false true e = refl
 
-left_decides : (d : Bool) (r : Tree) → combined d (leaf_of d) r ≡ leaf_of d
+left_decides : (d : Bool) (r : Tree) → combination d (leaf_of d) r ≡ leaf_of d
 left_decides true r = refl
 left_decides false r = refl
 
-left_gives : (d : Bool) (r : Tree) → combined d (leaf_of (not d)) r ≡ r
+left_gives : (d : Bool) (r : Tree) → combination d (leaf_of (not d)) r ≡ r
 left_gives true r = refl
 left_gives false r = refl
 
-right_decides : (d : Bool) (l : Tree) → combined d l (leaf_of d) ≡ leaf_of d
+right_decides : (d : Bool) (l : Tree) → combination d l (leaf_of d) ≡ leaf_of d
 right_decides true inside = refl
 right_decides true outside = refl
 right_decides true (node s b a) = refl
@@ -119,7 +119,7 @@ right_decides false inside = refl
 right_decides false outside = refl
 right_decides false (node s b a) = refl
 
-right_gives : (d : Bool) (l : Tree) → combined d l (leaf_of (not d)) ≡ l
+right_gives : (d : Bool) (l : Tree) → combination d l (leaf_of (not d)) ≡ l
 right_gives true inside = refl
 right_gives true outside = refl
 right_gives true (node s b a) = refl
@@ -128,49 +128,49 @@ right_gives false outside = refl
 right_gives false (node s b a) = refl
 
 -- the leaf at an end of the left tree decides, or gives the right tree
-pub end_decides : (sheet : Sheet) (side d : Bool) (r : Tree) → alike side d ≡ true → combined d (tree_on sheet (End side)) r ≡ leaf_of side
+pub end_decides : (sheet : Sheet) (side d : Bool) (r : Tree) → is_alike side d ≡ true → combination d (tree_on sheet (End side)) r ≡ leaf_of side
 end_decides sheet side d r e =
     let same = same_side side d e in
-    ap (λ (t : Tree). combined d t r) (leaf_tree sheet.planes sheet.nodes side ∙ ap leaf_of same) ∙ left_decides d r ∙ sym (ap leaf_of same)
+    ap (λ (t : Tree). combination d t r) (leaf_tree sheet.planes sheet.nodes side ∙ ap leaf_of same) ∙ left_decides d r ∙ sym (ap leaf_of same)
 
-pub end_gives : (sheet : Sheet) (side d : Bool) (r : Tree) → alike side d ≡ false → combined d (tree_on sheet (End side)) r ≡ r
+pub end_gives : (sheet : Sheet) (side d : Bool) (r : Tree) → is_alike side d ≡ false → combination d (tree_on sheet (End side)) r ≡ r
 end_gives sheet side d r e =
-    ap (λ (t : Tree). combined d t r) (leaf_tree sheet.planes sheet.nodes side ∙ ap leaf_of (other_side side d e)) ∙ left_gives d r
+    ap (λ (t : Tree). combination d t r) (leaf_tree sheet.planes sheet.nodes side ∙ ap leaf_of (other_side side d e)) ∙ left_gives d r
 
 -- the same of an end of the right tree, whose leaves may be exchanged
-pub right_end_decides : (sheet : Sheet) (side turn d : Bool) (l : Tree) → alike (turned side turn) d ≡ true →
-    combined d l (exchanged turn (tree_on sheet (End side))) ≡ leaf_of d
+pub right_end_decides : (sheet : Sheet) (side turn d : Bool) (l : Tree) → is_alike (turned side turn) d ≡ true →
+    combination d l (with_sides_exchanged turn (tree_on sheet (End side))) ≡ leaf_of d
 right_end_decides sheet side turn d l e =
-    ap (combined d l) (end_exchanged sheet.planes sheet.nodes side turn ∙ ap leaf_of (same_side (turned side turn) d e)) ∙ right_decides d l
+    ap (combination d l) (end_exchanged sheet.planes sheet.nodes side turn ∙ ap leaf_of (same_side (turned side turn) d e)) ∙ right_decides d l
 
-pub right_end_gives : (sheet : Sheet) (side turn d : Bool) (l : Tree) → alike (turned side turn) d ≡ false →
-    combined d l (exchanged turn (tree_on sheet (End side))) ≡ l
+pub right_end_gives : (sheet : Sheet) (side turn d : Bool) (l : Tree) → is_alike (turned side turn) d ≡ false →
+    combination d l (with_sides_exchanged turn (tree_on sheet (End side))) ≡ l
 right_end_gives sheet side turn d l e =
-    ap (combined d l) (end_exchanged sheet.planes sheet.nodes side turn ∙ ap leaf_of (other_side (turned side turn) d e)) ∙ right_gives d l
+    ap (combination d l) (end_exchanged sheet.planes sheet.nodes side turn ∙ ap leaf_of (other_side (turned side turn) d e)) ∙ right_gives d l
 
 -- two nodes: the left one's polygon divides the right tree
 pub nodes_combined : (d turn : Bool) (s t : Outline) (b a c e right : Tree) → right ≡ node t c e →
-    combined d (node s b a) (exchanged turn right)
-    ≡ make s (combined d b (exchanged turn (divide right s).0)) (combined d a (exchanged turn (divide right s).1))
+    combination d (node s b a) (with_sides_exchanged turn right)
+    ≡ make s (combination d b (with_sides_exchanged turn (divide right s).0)) (combination d a (with_sides_exchanged turn (divide right s).1))
 nodes_combined d turn s t b a c e right same =
-    ap (λ (r : Tree). combined d (node s b a) (exchanged turn r)) same ∙ of_node d turn s t b a c e
-    ∙ sym (ap (λ (r : Tree). make s (combined d b (exchanged turn (divide r s).0)) (combined d a (exchanged turn (divide r s).1))) same)
+    ap (λ (r : Tree). combination d (node s b a) (with_sides_exchanged turn r)) same ∙ of_node d turn s t b a c e
+    ∙ sym (ap (λ (r : Tree). make s (combination d b (with_sides_exchanged turn (divide r s).0)) (combination d a (with_sides_exchanged turn (divide r s).1))) same)
   where
-    of_node : (d turn : Bool) (s t : Outline) (b a c e : Tree) → combined d (node s b a) (exchanged turn (node t c e))
-        ≡ make s (combined d b (exchanged turn (divide (node t c e) s).0)) (combined d a (exchanged turn (divide (node t c e) s).1))
-    of_node d true s t b a c e = ap (λ (p : Tree × Tree). make s (combined d b p.0) (combined d a p.1)) (divide_exchanged true (node t c e) s)
+    of_node : (d turn : Bool) (s t : Outline) (b a c e : Tree) → combination d (node s b a) (with_sides_exchanged turn (node t c e))
+        ≡ make s (combination d b (with_sides_exchanged turn (divide (node t c e) s).0)) (combination d a (with_sides_exchanged turn (divide (node t c e) s).1))
+    of_node d true s t b a c e = ap (λ (p : Tree × Tree). make s (combination d b p.0) (combination d a p.1)) (divide_exchanged true (node t c e) s)
     of_node d false s t b a c e = refl
 
 -- two nodes on two sheets
 pub node_merged : (d turn : Bool) (left right : Sheet) (first second : NodeId) (face : Face) (behind ahead : Link) →
     IsNode left.nodes first face behind ahead → AreLinked right.nodes → second.index < length right.nodes →
-    combined d (tree_on left (To first)) (exchanged turn (tree_on right (To second)))
+    combination d (tree_on left (To first)) (with_sides_exchanged turn (tree_on right (To second)))
     ≡ make (outline_of left.planes face)
-    (combined d (tree_on left behind) (exchanged turn (divide (tree_on right (To second)) (outline_of left.planes face)).0))
-    (combined d (tree_on left ahead) (exchanged turn (divide (tree_on right (To second)) (outline_of left.planes face)).1))
+    (combination d (tree_on left behind) (with_sides_exchanged turn (divide (tree_on right (To second)) (outline_of left.planes face)).0))
+    (combination d (tree_on left ahead) (with_sides_exchanged turn (divide (tree_on right (To second)) (outline_of left.planes face)).1))
 node_merged d turn left right first second face behind ahead n l below =
     let fork = is_fork right.planes right.nodes second l below in
-    ap (λ (t : Tree). combined d t (exchanged turn (tree_on right (To second)))) (node_shown left.planes left.nodes first face behind ahead n.tree)
+    ap (λ (t : Tree). combination d t (with_sides_exchanged turn (tree_on right (To second)))) (node_shown left.planes left.nodes first face behind ahead n.tree)
     ∙ nodes_combined d turn (outline_of left.planes face) fork.outline (tree_on left behind) (tree_on left ahead) fork.behind fork.ahead
     (tree_on right (To second)) fork.same
 

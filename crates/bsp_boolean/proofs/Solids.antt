@@ -1,11 +1,11 @@
 -- The solids of trees: they are of the world box, and hold where their trees do.
 use Rattle.std.proofs.Common.{inl, inr, refl, ap₂, ◌∙◌}
-use Rattle.csg_tree.specs.Formulas.{Formula, nothing, leaf, joined, operated}
+use Rattle.csg_tree.specs.Formulas.{Formula, nothing, leaf, joined, truth_of_join}
 use Rattle.csg_tree.specs.ProperTrees.{HasFullLeaves}
 use Rattle.bsp_tree.specs.Cells.{world_box}
 use Rattle.bsp_tree.proofs.Worlds.{open_world}
-use Rattle.leaf_solids.specs.Solids.{IsSolidOf}
-use Rattle.leaf_solids.proofs.Solids.{leaf_is_solid}
+use Rattle.bsp_boolean.specs.LeafSolids.{IsSolidOf}
+use Rattle.bsp_boolean.proofs.LeafSolids.{leaf_is_solid}
 use Rattle.bsp_boolean.specs.Solids.{solid_of}
 use Rattle.bsp_boolean.proofs.Merged.{merge_is}
 
@@ -22,5 +22,5 @@ tree_is_solid (joined op left right) h =
       walks = λ p hw off.
           k.walks world_box (record { left_cell = l.world; right_cell = r.world }) p ((open_world p).1 hw)
           (λ m i. off m (inl (l.planes m i))) (λ m j. off m (inr (r.planes m j)))
-          ∙ ap₂ (operated op) (l.walks p hw (λ m i. off m (inl i))) (r.walks p hw (λ m j. off m (inr j)));
+          ∙ ap₂ (truth_of_join op) (l.walks p hw (λ m i. off m (inl i))) (r.walks p hw (λ m j. off m (inr j)));
     }

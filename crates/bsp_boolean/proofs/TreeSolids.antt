@@ -15,7 +15,7 @@ use Rattle.csg_tree.specs.Nodes.{IsNodeOf}
 use Rattle.bsp_tree.specs.Shapes.{SolidParts}
 use Rattle.bsp_tree.specs.Trees.{outside, size}
 use Rattle.bsp_tree.specs.Shapes.{tree_of}
-use Rattle.bsp_boolean.specs.Merges.{merged}
+use Rattle.bsp_boolean.specs.Merges.{merge_of}
 use Rattle.bsp_boolean.specs.Solids.{solid_of}
 use Rattle.bsp_boolean.specs.TreeSolids.{most_of_one, most_of_all, solid_size, total_size, AreWithin, is_join, joins, merges_of, solid_over, IsOverSolids, IsGrown}
 use Rattle.bsp_boolean.specs.declared.tree_solids.FirstSolids.{FirstSolids}
@@ -96,8 +96,8 @@ pub same_solid : (trees : List Formula) (n : ℕ) (solids : List SolidParts) (no
     solid_over (map tree_of solids) node ≡ solid_of (tree_numbered trees n)
 same_solid trees n solids (Leaf planes) before is = sym (ap solid_of is)
 same_solid trees n solids (Join op left right) before is =
-    ap (λ x. merged op x (get_or (map tree_of solids) (right - 1) outside)) (numbered_before trees n left solids before is.0 is.1)
-    ∙ ap (λ x. merged op (solid_of (tree_numbered trees left)) x) (numbered_before trees n right solids before is.2 is.3)
+    ap (λ x. merge_of op x (get_or (map tree_of solids) (right - 1) outside)) (numbered_before trees n left solids before is.0 is.1)
+    ∙ ap (λ x. merge_of op (solid_of (tree_numbered trees left)) x) (numbered_before trees n right solids before is.2 is.3)
     ∙ sym (ap solid_of is.4)
 
 pub same_merges : (trees : List Formula) (n : ℕ) (node : CsgNode) → IsNodeOf trees n node → merges_of node ≡ is_join (tree_numbered trees n)

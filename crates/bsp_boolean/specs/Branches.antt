@@ -6,10 +6,10 @@ use Rattle.bsp_tree.specs.Growths.{Sheet, Growth}
 use Rattle.bsp_tree.specs.Moves.{Moved}
 
 -- whether the leaf inside decides, and else the leaf outside
-abbrev pub decides : Op → Bool
-decides Union = true
-decides Intersection = false
-decides Difference = false
+abbrev pub inside_decides : Op → Bool
+inside_decides Union = true
+inside_decides Intersection = false
+inside_decides Difference = false
 
 -- whether the right tree's inside and outside are exchanged
 abbrev pub exchanges : Op → Bool

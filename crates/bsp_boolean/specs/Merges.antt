@@ -3,17 +3,17 @@ use Rattle.std.specs.Prelude.{◌≡◌, true, false, List, ◌⊎◌}
 use Rattle.plane_predicate.specs.Space.{Coefficients, Coordinates}
 use Rattle.csg_tree.specs.declared.op.Op.{Op}
 use Rattle.csg_tree.specs.declared.op.Op.TheVariants.{Union, Intersection, Difference}
-use Rattle.csg_tree.specs.Formulas.{operated}
+use Rattle.csg_tree.specs.Formulas.{truth_of_join}
 use Rattle.bsp_tree.specs.Trees.{Tree, walk, complement}
 use Rattle.bsp_tree.specs.Cells.{IsIn, IsOfCell, IsOff, IsPlaneOf}
-use Rattle.leaf_solids.specs.Combined.{combined}
+use Rattle.bsp_boolean.specs.Combined.{combination}
 
 -- the merge of two solids. A difference is the intersection with the inside and the outside of the right
 -- solid exchanged
-abbrev pub merged : Op → Tree → Tree → Tree
-merged Union left right = combined true left right
-merged Intersection left right = combined false left right
-merged Difference left right = combined false left (complement right)
+abbrev pub merge_of : Op → Tree → Tree → Tree
+merge_of Union left right = combination true left right
+merge_of Intersection left right = combination false left right
+merge_of Difference left right = combination false left (complement right)
 
 -- two solids are of one cell
 pub record AreOfOneCell (cell : List Coefficients) (left right : Tree) : Type 0 where
@@ -26,6 +26,6 @@ pub record AreOfOneCell (cell : List Coefficients) (left right : Tree) : Type 0 
 pub record IsOperationOn (op : Op) (left right t : Tree) : Type 0 where
   pub walks : (cell : List Coefficients) → AreOfOneCell cell left right →
       (p : Coordinates) → IsIn cell p → IsOff left p → IsOff right p →
-      walk t p ≡ operated op (walk left p) (walk right p)
+      walk t p ≡ truth_of_join op (walk left p) (walk right p)
   pub cells : (cell : List Coefficients) → AreOfOneCell cell left right → IsOfCell cell t
   pub planes : (m : Coefficients) → IsPlaneOf m t → IsPlaneOf m left ⊎ IsPlaneOf m right

@@ -1,11 +1,11 @@
 -- The solids of trees.
 use Rattle.csg_tree.specs.Formulas.{Formula, nothing, leaf, joined}
 use Rattle.bsp_tree.specs.Trees.{Tree, outside}
-use Rattle.leaf_solids.specs.Solids.{convex}
-use Rattle.bsp_boolean.specs.Merges.{merged}
+use Rattle.bsp_boolean.specs.LeafSolids.{solid_of_leaf}
+use Rattle.bsp_boolean.specs.Merges.{merge_of}
 
 -- the solid of a tree
 abbrev pub solid_of : Formula → Tree
 solid_of nothing = outside
-solid_of (leaf planes) = convex planes
-solid_of (joined op left right) = merged op (solid_of left) (solid_of right)
+solid_of (leaf planes) = solid_of_leaf planes
+solid_of (joined op left right) = merge_of op (solid_of left) (solid_of right)

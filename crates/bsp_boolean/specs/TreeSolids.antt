@@ -8,8 +8,8 @@ use Rattle.csg_tree.specs.Numberings.{tree_numbered, IsNumberIn}
 use Rattle.bsp_tree.specs.Shapes.{SolidParts}
 use Rattle.bsp_tree.specs.Trees.{Tree, outside, size}
 use Rattle.bsp_tree.specs.Shapes.{tree_of}
-use Rattle.bsp_boolean.specs.Merges.{merged}
-use Rattle.leaf_solids.specs.Solids.{convex}
+use Rattle.bsp_boolean.specs.Merges.{merge_of}
+use Rattle.bsp_boolean.specs.LeafSolids.{solid_of_leaf}
 use Rattle.bsp_boolean.specs.Solids.{solid_of}
 use Rattle.bsp_boolean.specs.declared.tree_solids.TreeStop.{TreeStop}
 use Rattle.bsp_boolean.specs.declared.tree_solids.TreeStop.TheVariants.{TooBig, SumTooBig, NoMemory}
@@ -42,6 +42,7 @@ is_join nothing = 0
 is_join (leaf planes) = 0
 is_join (joined op left right) = 1
 
+-- how many joins there are among trees
 abbrev pub joins : List Formula → ℕ
 joins trees = sum_by is_join trees
 
@@ -62,8 +63,8 @@ pub record IsGrown (trees : List Formula) (n : ℕ) (growth : FirstSolids) : Typ
 
 -- the solid of a node, over those of the nodes before it
 abbrev pub solid_over : List Tree → CsgNode → Tree
-solid_over solids (Leaf planes) = convex planes.now
-solid_over solids (Join op left right) = merged op (get_or solids (left - 1) outside) (get_or solids (right - 1) outside)
+solid_over solids (Leaf planes) = solid_of_leaf planes.now
+solid_over solids (Join op left right) = merge_of op (get_or solids (left - 1) outside) (get_or solids (right - 1) outside)
 
 -- a node over solids: a leaf has planes that come in reach, and the two numbers of a join are those of solids
 abbrev pub IsOverSolids : List SolidParts → CsgNode → Type 0

@@ -2,13 +2,13 @@
 
 ghost use Rattle.std.specs.Prelude.{◌≡◌, ℕ, ◌+◌, ◌^◌, ◌<◌, IfOk};
 ghost use Rattle.bsp_tree.specs.Shapes.{tree_of};
-ghost use Rattle.bsp_boolean.specs.Merges.{merged, IsOperationOn};
-ghost use Rattle.leaf_solids.specs.Solids.{IsBuilt};
+ghost use Rattle.bsp_boolean.specs.Merges.{merge_of, IsOperationOn};
+ghost use Rattle.bsp_boolean.specs.LeafSolids.{IsBuilt};
 
+use crate::BuildStop;
 use crate::merging::merge_within;
 use bsp_tree::Solid;
 use csg_tree::Op;
-use leaf_solids::BuildStop;
 use std::alloc::Global;
 use std::marker::Model;
 
@@ -29,7 +29,7 @@ pub trait Builder {
     ) -> Result<Solid, BuildStop>
         requires { builds self.old < 2 ^ 48 }
         ensures counted { builds self.new ≡ builds self.old + 1 }
-        ensures built { IsBuilt (merged op (tree_of left.now) (tree_of right.now)) most result }
+        ensures built { IsBuilt (merge_of op (tree_of left.now) (tree_of right.now)) most result }
         ensures operation { IfOk result (λ s. IsOperationOn op (tree_of left.now) (tree_of right.now) (tree_of s)) };
 }
 

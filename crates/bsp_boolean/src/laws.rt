@@ -6,15 +6,15 @@ ghost use Rattle.csg_tree.specs.Formulas.{Formula};
 ghost use Rattle.csg_tree.specs.ProperTrees.{IsProper};
 ghost use Rattle.csg_tree.specs.Numberings.{tree_numbered, IsNumberIn};
 ghost use Rattle.bsp_tree.specs.Trees.{Tree, outside};
-ghost use Rattle.bsp_boolean.specs.Merges.{merged, IsOperationOn};
-ghost use Rattle.leaf_solids.specs.Solids.{IsSolidOf};
+ghost use Rattle.bsp_boolean.specs.Merges.{merge_of, IsOperationOn};
+ghost use Rattle.bsp_boolean.specs.LeafSolids.{IsSolidOf};
 ghost use Rattle.bsp_boolean.specs.Solids.{solid_of};
 ghost use Rattle.bsp_boolean.specs.TreeSolids.{most_of_one, most_of_all, solid_size, total_size, AreWithin, is_join, joins};
 
 /// The merge of two solids is the operation on them, at each point of a cell that both are of off
 /// all their planes; it is of that cell, and none of its planes is new.
 pub fn merges_are_operations()
-    ensures { (op : Op) (left right : Tree) → IsOperationOn op left right (merged op left right) }
+    ensures { (op : Op) (left right : Tree) → IsOperationOn op left right (merge_of op left right) }
 {}
 
 /// The solid of a proper tree is of the world box, has no other planes than the tree, and holds at

@@ -3,14 +3,14 @@
 ghost use Rattle.std.specs.Prelude.{◌≡◌, ◌-◌, ◌^◌, IfOk};
 ghost use Rattle.bsp_tree.specs.Trees.{Tree};
 ghost use Rattle.bsp_tree.specs.Shapes.{tree_of};
-ghost use Rattle.bsp_boolean.specs.Merges.{merged, IsOperationOn};
-ghost use Rattle.bsp_boolean.specs.Branches.{decides, exchanges};
-ghost use Rattle.leaf_solids.specs.Solids.{IsBuilt};
+ghost use Rattle.bsp_boolean.specs.Merges.{merge_of, IsOperationOn};
+ghost use Rattle.bsp_boolean.specs.Branches.{inside_decides, exchanges};
+ghost use Rattle.bsp_boolean.specs.LeafSolids.{IsBuilt};
 
+use crate::BuildStop;
 use crate::branches::Merge;
 use bsp_tree::{Growing, MovedNodes, Solid, finish, solid_over};
 use csg_tree::Op;
-use leaf_solids::BuildStop;
 use plane_table::{PlaneTable, join};
 use std::alloc::Global;
 use text_place::NoMemory;
@@ -18,7 +18,7 @@ use text_place::NoMemory;
 /// The merge of two solids of one cell: the operation on them, at each point of the cell off all
 /// their planes. Both solids are lent.
 pub fn merge(alloc: Global, op: Op, left: &Solid, right: &Solid) -> Result<Solid, NoMemory>
-    ensures same { IfOk result (λ s. tree_of s ≡ merged op (tree_of left.now) (tree_of right.now)) }
+    ensures same { IfOk result (λ s. tree_of s ≡ merge_of op (tree_of left.now) (tree_of right.now)) }
     ensures operation { IfOk result (λ s. IsOperationOn op (tree_of left.now) (tree_of right.now) (tree_of s)) }
 {
     in_all_memory(merge_within(alloc, op, left, right, u64::MAX))
@@ -35,7 +35,7 @@ pub fn merge_within(
     right: &Solid,
     most: u64,
 ) -> Result<Solid, BuildStop>
-    ensures built { IsBuilt (merged op (tree_of left.now) (tree_of right.now)) most result }
+    ensures built { IsBuilt (merge_of op (tree_of left.now) (tree_of right.now)) most result }
     ensures operation { IfOk result (λ s. IsOperationOn op (tree_of left.now) (tree_of right.now) (tree_of s)) }
 {
     merged_within(alloc, op, left, right, most)
@@ -62,7 +62,7 @@ fn merged_within(
     right: &Solid,
     most: u64,
 ) -> Result<Solid, BuildStop>
-    ensures { IsBuilt (merged op (tree_of left.now) (tree_of right.now)) most result }
+    ensures { IsBuilt (merge_of op (tree_of left.now) (tree_of right.now)) most result }
 {
     let (left_planes, left_forest, left_root) = left.parts();
     let (right_planes, right_forest, right_root) = right.parts();
@@ -97,7 +97,7 @@ fn room(nodes: usize, most: u64) -> usize {
 
 // Whether an operation is a union, in which the leaf inside decides.
 fn is_union(op: Op) -> bool
-    ensures { result ≡ decides op }
+    ensures { result ≡ inside_decides op }
 {
     match op {
         Op::Union => true,

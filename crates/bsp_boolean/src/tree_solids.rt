@@ -6,14 +6,14 @@ ghost use Rattle.csg_tree.specs.ProperTrees.{IsProper};
 ghost use Rattle.csg_tree.specs.Numberings.{tree_numbered, IsNumberIn};
 ghost use Rattle.csg_tree.specs.Nodes.{IsNodeOf};
 ghost use Rattle.bsp_tree.specs.Shapes.{tree_of};
-ghost use Rattle.leaf_solids.specs.Solids.{IsBuilt};
+ghost use Rattle.bsp_boolean.specs.LeafSolids.{IsBuilt};
 ghost use Rattle.bsp_boolean.specs.Solids.{solid_of};
 ghost use Rattle.bsp_boolean.specs.TreeSolids.{most_of_one, joins, merges_of, solid_over, AreWithin, IsGrown, IsOverSolids, IsTreeStop};
 
 use crate::building::Builder;
+use crate::{BuildStop, leaf_solid};
 use bsp_tree::Solid;
 use csg_tree::{CsgNode, CsgStore};
-use leaf_solids::{BuildStop, leaf_solid};
 use std::alloc::Global;
 use text_place::NoMemory;
 

@@ -5,7 +5,7 @@ ghost use Rattle.link_forest.specs.Forests.{IsLinkOf};
 ghost use Rattle.link_forest.specs.declared.link.Link.TheVariants.{To};
 ghost use Rattle.plane_polygon.specs.declared.classes.Class.TheVariants.{Across};
 ghost use Rattle.plane_polygon.specs.Parts.{class_of, part_ahead, part_behind};
-ghost use Rattle.plane_table.specs.Tables.{named};
+ghost use Rattle.plane_table.specs.Tables.{plane_named};
 ghost use Rattle.plane_table.specs.Cuts.{part_in, IsCrossing};
 ghost use Rattle.plane_table.specs.Faces.{outline_of, AreSidesWhereAcross, IsFaceOver};
 ghost use Rattle.bsp_tree.specs.Trees.{make};
@@ -109,9 +109,9 @@ fn side_parts(
 ) -> Result<((Link, Link), (Link, Link)), NoMemory>
     requires node { IsForkOn nodes.old node.now }
     requires face { IsFaceOver nodes.old.planes by.now }
-    requires sides { AreSidesWhereAcross (outline_of nodes.old.planes by.now) (named nodes.old.planes node.now.face.plane) of_by.now }
+    requires sides { AreSidesWhereAcross (outline_of nodes.old.planes by.now) (plane_named nodes.old.planes node.now.face.plane) of_by.now }
     requires across { of_by.now.class ≡ Across }
-    ensures { IfOk result (λ r. HasSideParts nodes.old nodes.new r (divide (tree_on nodes.old node.now.behind) (part_behind (outline_of nodes.old.planes by.now) (named nodes.old.planes node.now.face.plane))) (divide (tree_on nodes.old node.now.ahead) (part_ahead (outline_of nodes.old.planes by.now) (named nodes.old.planes node.now.face.plane)))) }
+    ensures { IfOk result (λ r. HasSideParts nodes.old nodes.new r (divide (tree_on nodes.old node.now.behind) (part_behind (outline_of nodes.old.planes by.now) (plane_named nodes.old.planes node.now.face.plane))) (divide (tree_on nodes.old node.now.ahead) (part_ahead (outline_of nodes.old.planes by.now) (plane_named nodes.old.planes node.now.face.plane)))) }
 {
     let by = Crossing {
         face: by,
@@ -134,7 +134,7 @@ fn half_parts(
 ) -> Result<(Link, Link), NoMemory>
     requires link { IsLinkOf nodes.old.nodes at }
     requires crossing { IsCrossing nodes.old.planes by }
-    ensures { IfOk result (λ r. HasParts nodes.old nodes.new r (divide (tree_on nodes.old at) (part_in half (outline_of nodes.old.planes by.entry.face.now) (named nodes.old.planes by.entry.number)))) }
+    ensures { IfOk result (λ r. HasParts nodes.old nodes.new r (divide (tree_on nodes.old at) (part_in half (outline_of nodes.old.planes by.entry.face.now) (plane_named nodes.old.planes by.entry.number)))) }
 {
     match at {
         Link::End(_) => Ok((at, at)),
@@ -156,7 +156,7 @@ fn made_across(
 ) -> Result<(Link, Link), NoMemory>
     requires own { IsFaceOver nodes.old.planes face.now }
     requires face { IsFaceOver nodes.old.planes by.now }
-    requires sides { AreSidesWhereAcross (outline_of nodes.old.planes face.now) (named nodes.old.planes by.now.plane) of_own.now }
+    requires sides { AreSidesWhereAcross (outline_of nodes.old.planes face.now) (plane_named nodes.old.planes by.now.plane) of_own.now }
     requires across { of_own.now.class ≡ Across }
     requires links { AreLinksOf nodes.old parts }
     ensures { IfOk result (λ r. HasParts nodes.old nodes.new r (across_row (outline_of nodes.old.planes by.now) (outline_of nodes.old.planes face.now) (trees_on nodes.old parts.0) (trees_on nodes.old parts.1))) }
@@ -184,7 +184,7 @@ fn make_half(
     requires crossing { IsCrossing nodes.old.planes own }
     requires behind { IsLinkOf nodes.old.nodes behind }
     requires ahead { IsLinkOf nodes.old.nodes ahead }
-    ensures { IfOk result (λ l. HasMade nodes.old nodes.new l (make (part_in half (outline_of nodes.old.planes own.entry.face.now) (named nodes.old.planes own.entry.number)) (tree_on nodes.old behind) (tree_on nodes.old ahead))) }
+    ensures { IfOk result (λ l. HasMade nodes.old nodes.new l (make (part_in half (outline_of nodes.old.planes own.entry.face.now) (plane_named nodes.old.planes own.entry.number)) (tree_on nodes.old behind) (tree_on nodes.old ahead))) }
 {
     if is_same_leaf(behind, ahead) {
         return Ok(behind);

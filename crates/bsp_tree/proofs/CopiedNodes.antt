@@ -13,7 +13,7 @@ use Rattle.link_forest.proofs.Numbers.{stays, behind_all}
 use Rattle.plane_table.specs.declared.faces.Face.{Face}
 use Rattle.plane_table.specs.Faces.{outline_of}
 use Rattle.plane_table.specs.Joins.{AreNumbersOf, AreNumbersOfUsed, IsMarked}
-use Rattle.bsp_tree.specs.Shapes.{shown, tree_of, tree_over, AreFacesOver, IsWhole, SolidParts}
+use Rattle.bsp_tree.specs.Shapes.{tree_of_branch, tree_of, tree_over, AreFacesOver, IsWhole, SolidParts}
 use Rattle.bsp_tree.specs.Trees.{size}
 use Rattle.bsp_tree.specs.Growths.{Sheet, tree_on, HasTree, HasGrownWhole}
 use Rattle.bsp_tree.specs.Copies.{AreCopied, AreFoundOver, AreUsed}
@@ -35,9 +35,9 @@ added_tree : (planes : List Coefficients) (nodes : List (Entry Face)) (old new :
     AreCopied planes nodes at.index old → IsNode nodes at face behind ahead → Adds old.nodes new.nodes copy behind ahead id →
     new.planes ≡ old.planes → outline_of old.planes copy ≡ outline_of planes face → tree_on new (To id) ≡ tree_over planes nodes (To at)
 added_tree planes nodes old new face copy behind ahead at id h n d p same =
-    ap₂ shown p d.tree
+    ap₂ tree_of_branch p d.tree
     ∙ node_same same (h.trees behind n.behind_before) (h.trees ahead n.ahead_before)
-    ∙ sym (ap (shown planes) n.tree)
+    ∙ sym (ap (tree_of_branch planes) n.tree)
 
 -- the node of a number
 same_node : (nodes : List (Entry Face)) (at index : ℕ) (face : Face) (behind ahead : Link) (node : Entry Face) → at ≡ index →
@@ -72,7 +72,7 @@ copied_more planes nodes old new face copy behind ahead at id h n d p same = rec
     trees (To other) k = elim (cases_lt other.index at.index) [
       | inl low ↦
           let there : least_nodes (To other) ≤ length old.nodes = omega (arith, h.count_is) in
-          ap₂ shown p (d.extends.trees (To other) there) ∙ h.trees (To other) (omega arith)
+          ap₂ tree_of_branch p (d.extends.trees (To other) there) ∙ h.trees (To other) (omega arith)
       | inr high ↦
           let last : other ≡ id = same_id other id (omega (arith, d.number, h.count_is)) in
           let first : other ≡ at = same_id other at (omega arith) in

@@ -19,9 +19,9 @@ use Rattle.bsp_tree.proofs.Apart.{apart}
 use Rattle.bsp_tree.proofs.Ways.{is_way, way_of}
 
 -- ---- cells with one plane more or less
-exchanged : (t : Tree) (m n : Coefficients) (cell : List Coefficients) → IsOfCell (m ∷ n ∷ cell) t →
+with_sides_exchanged : (t : Tree) (m n : Coefficients) (cell : List Coefficients) → IsOfCell (m ∷ n ∷ cell) t →
     IsOfCell (n ∷ m ∷ cell) t
-exchanged t m n cell h = same_of_cell t (m ∷ n ∷ cell) (n ∷ m ∷ cell) (same_exchanged m n cell) h
+with_sides_exchanged t m n cell h = same_of_cell t (m ∷ n ∷ cell) (n ∷ m ∷ cell) (same_exchanged m n cell) h
 
 with_plane : (t : Tree) (m n : Coefficients) (cell : List Coefficients) → ((p : Coordinates) → IsIn cell p →
     value n p <ℤ pos 0 → value m p <ℤ pos 0) → IsOfCell (n ∷ cell) t → IsOfCell (n ∷ m ∷ cell) t
@@ -61,14 +61,14 @@ row_cells cell s t b a low high low_part high_part Across Across ex ey r hs ht h
     let m = s.plane in let n = opposite_of s.plane in let q = t.plane in let o = opposite_of t.plane in
     let l = kbp refl in let h = kap refl in (
       make_cell (m ∷ cell) (part_behind t m) low_part.0 high_part.0 (across_part cell t m ht ey)
-          (exchanged low_part.0 m q cell l.0) (exchanged high_part.0 m o cell h.0),
+          (with_sides_exchanged low_part.0 m q cell l.0) (with_sides_exchanged high_part.0 m o cell h.0),
       make_cell (n ∷ cell) (part_ahead t m) low_part.1 high_part.1 (across_part cell t n ht
-          (across_opposite t m ey)) (exchanged low_part.1 n q cell l.1) (exchanged high_part.1 n o cell h.1),
+          (across_opposite t m ey)) (with_sides_exchanged low_part.1 n q cell l.1) (with_sides_exchanged high_part.1 n o cell h.1),
     )
 row_cells cell s t b a low high low_part high_part Behind Behind ex ey r hs ht hb ha kb ka kbp kap =
     let m = s.plane in let n = opposite_of s.plane in let q = t.plane in let o = opposite_of t.plane in
     let bs = lies_behind s q ex in let bt = lies_behind t m ey in let l = kb bs in (
-      make_cell (m ∷ cell) t low.0 a (lying cell t m ht bt) (exchanged low.0 m q cell l.0)
+      make_cell (m ∷ cell) t low.0 a (lying cell t m ht bt) (with_sides_exchanged low.0 m q cell l.0)
           (with_plane a m o cell (λ p hp k. apart cell t s m q ht hs bt bs (λ z e. e) (λ z e. e) p hp
           (behind_opposite_above q p k)) ha),
       without_plane low.1 q n cell (λ p hp k. apart cell s t q m hs ht bs bt (λ z e. e) (λ z e. e) p hp
@@ -79,7 +79,7 @@ row_cells cell s t b a low high low_part high_part Behind Ahead ex ey r hs ht hb
     let bs = lies_behind s q ex in let bt = lies_ahead t m ey in let l = kb bs in (
       without_plane low.0 q m cell (λ p hp k. apart cell s t q n hs ht bs bt (λ z e. e) (opposite_zero m) p hp
           (opposite_above m p k)) l.0,
-      make_cell (n ∷ cell) t low.1 a (lying cell t n ht bt) (exchanged low.1 n q cell l.1)
+      make_cell (n ∷ cell) t low.1 a (lying cell t n ht bt) (with_sides_exchanged low.1 n q cell l.1)
           (with_plane a n o cell (λ p hp k. apart cell t s n q ht hs bt bs (opposite_back m) (λ z e. e) p hp
           (behind_opposite_above q p k)) ha),
     )
@@ -89,7 +89,7 @@ row_cells cell s t b a low high low_part high_part Ahead Behind ex ey r hs ht hb
       make_cell (m ∷ cell) t b high.0 (lying cell t m ht bt)
           (with_plane b m q cell (λ p hp k. apart cell t s m o ht hs bt bs (λ z e. e) (opposite_zero q) p hp
           (opposite_above q p k)) hb)
-          (exchanged high.0 m o cell h.0),
+          (with_sides_exchanged high.0 m o cell h.0),
       without_plane high.1 o n cell (λ p hp k. apart cell s t o m hs ht bs bt (opposite_back q) (λ z e. e) p
           hp (behind_opposite_above m p k)) h.1,
     )
@@ -101,7 +101,7 @@ row_cells cell s t b a low high low_part high_part Ahead Ahead ex ey r hs ht hb 
       make_cell (n ∷ cell) t b high.1 (lying cell t n ht bt)
           (with_plane b n q cell (λ p hp k. apart cell t s n o ht hs bt bs (opposite_back m) (opposite_zero q)
           p hp (opposite_above q p k)) hb)
-          (exchanged high.1 n o cell h.1),
+          (with_sides_exchanged high.1 n o cell h.1),
     )
 row_cells cell s t b a low high low_part high_part Across Behind ex ey r hs ht hb ha kb ka kbp kap =
     absurd (true≢false (sym r))

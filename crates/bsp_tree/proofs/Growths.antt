@@ -12,11 +12,11 @@ use Rattle.link_forest.specs.Forests.{Adds, AreLinked, IsLinkOf}
 use Rattle.link_forest.proofs.Longer.{is_node}
 use Rattle.link_forest.proofs.Reaching.{ends_reach_none, reached_by_added}
 use Rattle.plane_table.specs.declared.faces.Face.{Face}
-use Rattle.plane_table.specs.Tables.{named}
+use Rattle.plane_table.specs.Tables.{plane_named}
 use Rattle.plane_table.specs.Faces.{outline_of, face_size}
 use Rattle.bsp_tree.specs.Trees.{Tree, inside, outside, node, make, size}
 use Rattle.bsp_tree.specs.Links.{same_leaf}
-use Rattle.bsp_tree.specs.Shapes.{leaf_of, shown, tree_over}
+use Rattle.bsp_tree.specs.Shapes.{leaf_of, tree_of_branch, tree_over}
 use Rattle.bsp_tree.specs.Growths.{Sheet, Growth, tree_on, HasTree, HasGrown, GrowsBy}
 use Rattle.bsp_tree.specs.declared.growing.GrowStop.{GrowStop}
 use Rattle.bsp_tree.specs.declared.growing.GrowStop.TheVariants.{TooBig, NoMemory}
@@ -48,7 +48,7 @@ node_grows start middle old new face behind ahead b a id hb ha d p s m = record 
       (stood_on middle.sheet old.sheet behind ha.longer hb.stands.there ∙ hb.stands.same) ha.stands.same;
   reached = reached_by_added (length start.sheet.nodes) middle.sheet.nodes old.sheet.nodes new.sheet.nodes face behind ahead id
       ha.longer.extends hb.reached ha.reached d;
-  size = omega (arith, s, ha.size, hb.size, length-map face.edges (named old.sheet.planes));
+  size = omega (arith, s, ha.size, hb.size, length-map face.edges (plane_named old.sheet.planes));
   most = m ∙ ha.most ∙ hb.most;
 }
 
@@ -57,7 +57,7 @@ pub node_stops : (start middle old : Growth) (face : Face) (behind ahead : Link)
     HasGrown start middle behind b → HasGrown middle old ahead a → old.most < old.size + face_size face →
     start.most < start.size + size (node (outline_of old.sheet.planes face) b a)
 node_stops start middle old face behind ahead b a hb ha h =
-    omega (arith, hb.size, ha.size, hb.most, ha.most, length-map face.edges (named old.sheet.planes))
+    omega (arith, hb.size, ha.size, hb.most, ha.most, length-map face.edges (plane_named old.sheet.planes))
 
 -- two leaves of one kind are that leaf, and no node was added for them
 leaf_tree : (sheet : Sheet) (side : Bool) (t : Tree) → HasTree sheet (End side) t → t ≡ leaf_of side
@@ -168,7 +168,7 @@ is_fork planes nodes id l below =
       outline = outline_of planes there.0.payload;
       behind = tree_over planes nodes there.0.behind;
       ahead = tree_over planes nodes there.0.ahead;
-      same = ap (shown planes) n.tree;
+      same = ap (tree_of_branch planes) n.tree;
     }
 
 no_leaf : (planes : List Coefficients) (nodes : List (Entry Face)) (id : NodeId) (side : Bool) → AreLinked nodes → id.index < length nodes →

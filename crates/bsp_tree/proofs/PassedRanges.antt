@@ -14,10 +14,10 @@ use Rattle.link_forest.specs.Forests.{entry, node_id, IsLinkOf, IsNode}
 use Rattle.plane_table.specs.declared.faces.Face.{Face}
 use Rattle.plane_table.specs.Faces.{outline_of}
 use Rattle.bsp_tree.specs.Trees.{Tree, node, size}
-use Rattle.bsp_tree.specs.Shapes.{shown}
+use Rattle.bsp_tree.specs.Shapes.{tree_of_branch}
 use Rattle.bsp_tree.specs.Growths.{Sheet, Growth, tree_on, HasGrown, GrowsBy}
 use Rattle.bsp_tree.specs.Moves.{Moved, IsMovedNode}
-use Rattle.bsp_tree.specs.Ranges.{Spans, none, all, shifted, AreFirsts, CanShift, IsNext}
+use Rattle.bsp_tree.specs.Ranges.{Spans, none, all, link_shifted_by, AreFirsts, CanShift, IsNext}
 use Rattle.bsp_tree.specs.declared.growing.GrowStop.{GrowStop}
 use Rattle.bsp_tree.proofs.Growths.{leaf_grows, stops, stops_after}
 use Rattle.bsp_tree.proofs.Wholes.{leaf_tree, node_same, same_id}
@@ -93,7 +93,7 @@ pub record HasPassed (own : Sheet) (first start : ℕ) (old now : Growth) (at : 
   pub present : history at ≡ now
   pub count : length now.sheet.nodes ≡ start + (at - first)
   pub grown : (s e : ℕ) (link : Link) → first ≤ s → e ≤ at → Spans own.nodes s link e →
-      HasGrown (history s) (history e) (shifted link e (start + (e - first))) (tree_on own link)
+      HasGrown (history s) (history e) (link_shifted_by link e (start + (e - first))) (tree_on own link)
 
 end_grows : (own : Sheet) (growth : Growth) (side : Bool) → HasGrown growth growth (End side) (tree_on own (End side))
 end_grows own growth side = rw (leaf_tree own.planes own.nodes side) (leaf_grows growth side)
@@ -107,7 +107,7 @@ passed_none own first start old count = record {
   grown = nothing;
 }
   where
-    nothing : (s e : ℕ) (link : Link) → first ≤ s → e ≤ first → Spans own.nodes s link e → HasGrown old old (shifted link e (start + (e - first))) (tree_on own link)
+    nothing : (s e : ℕ) (link : Link) → first ≤ s → e ≤ first → Spans own.nodes s link e → HasGrown old old (link_shifted_by link e (start + (e - first))) (tree_on own link)
     nothing _ _ _ low high (none at side) = end_grows own old side
     nothing _ _ _ low high (all s middle id payload b a n sb sa) =
         absurd (omega (arith, spans_up own.nodes s b middle sb, spans_up own.nodes middle a id.index sa))
@@ -119,14 +119,14 @@ Adding old new face behind ahead result = (start middle : Growth) (b a : Tree) �
 
 -- a link is moved by the same offset from each number
 shifted_same : (first start at s : ℕ) (link : Link) (e : ℕ) → Within s link e → first ≤ s → e ≤ at →
-    shifted link e (start + (e - first)) ≡ shifted link at (start + (at - first))
+    link_shifted_by link e (start + (e - first)) ≡ link_shifted_by link at (start + (at - first))
 shifted_same first start at s (End side) e w low high = refl
 shifted_same first start at s (To id) e w low high = ap (λ (k : ℕ). To (node_id k)) (omega (arith, w.0, w.1))
 
 -- the tree of the next node
 next_grows : (moved : Moved) (first start : ℕ) (old now new : Growth) (at : NodeId) (face : Face) (behind ahead : Link) (result : Result Link GrowStop) (begin : ℕ) →
     now.sheet.planes ≡ moved.planes → IsMovedNode moved at face behind ahead → (p : HasPassed moved.own first start old now at.index) →
-    Adding now new face (shifted behind at.index (length now.sheet.nodes)) (shifted ahead at.index (length now.sheet.nodes)) result →
+    Adding now new face (link_shifted_by behind at.index (length now.sheet.nodes)) (link_shifted_by ahead at.index (length now.sheet.nodes)) result →
     first ≤ begin → IsOver moved.own.nodes begin behind ahead at.index →
     GrowsBy (p.history begin) new (tree_on moved.own (To at)) result
 next_grows moved first start old now new at face behind ahead result begin planes m p adding low over =
@@ -134,18 +134,18 @@ next_grows moved first start old now new at face behind ahead result begin plane
     let up : begin ≤ over.middle = spans_up own.nodes begin behind over.middle over.of_behind in
     let below : over.middle ≤ at.index = spans_up own.nodes over.middle ahead at.index over.of_ahead in
     let late : first ≤ over.middle = omega arith in
-    let eb : shifted behind over.middle (start + (over.middle - first)) ≡ shifted behind at.index (length now.sheet.nodes) =
+    let eb : link_shifted_by behind over.middle (start + (over.middle - first)) ≡ link_shifted_by behind at.index (length now.sheet.nodes) =
     shifted_same first start at.index begin behind over.middle (spans_within own.nodes begin behind over.middle over.of_behind) low below
-    ∙ ap (shifted behind at.index) (sym p.count) in
-    let ea : shifted ahead at.index (start + (at.index - first)) ≡ shifted ahead at.index (length now.sheet.nodes) = ap (shifted ahead at.index) (sym p.count) in
+    ∙ ap (link_shifted_by behind at.index) (sym p.count) in
+    let ea : link_shifted_by ahead at.index (start + (at.index - first)) ≡ link_shifted_by ahead at.index (length now.sheet.nodes) = ap (link_shifted_by ahead at.index) (sym p.count) in
     let hb = subst (λ (l : Link). HasGrown (p.history begin) (p.history over.middle) l (tree_on own behind)) eb
     (p.grown begin over.middle behind low below over.of_behind) in
     let ha = subst (λ (l : Link). HasGrown (p.history over.middle) now l (tree_on own ahead)) ea
-    (subst (λ (g : Growth). HasGrown (p.history over.middle) g (shifted ahead at.index (start + (at.index - first))) (tree_on own ahead)) p.present
+    (subst (λ (g : Growth). HasGrown (p.history over.middle) g (link_shifted_by ahead at.index (start + (at.index - first))) (tree_on own ahead)) p.present
     (p.grown over.middle at.index ahead late (omega arith) over.of_ahead)) in
     let outline : outline_of now.sheet.planes face ≡ outline_of own.planes m.own = ap (λ (ps : List Coefficients). outline_of ps face) planes ∙ m.outline in
     let whole : node (outline_of now.sheet.planes face) (tree_on own behind) (tree_on own ahead) ≡ tree_on own (To at) =
-    node_same outline refl refl ∙ sym (ap (shown own.planes) m.node.tree) in
+    node_same outline refl refl ∙ sym (ap (tree_of_branch own.planes) m.node.tree) in
     subst (λ (t : Tree). GrowsBy (p.history begin) new t result) whole
     (adding (p.history begin) (p.history over.middle) (tree_on own behind) (tree_on own ahead) hb ha)
 
@@ -161,7 +161,7 @@ later_new history at new k above = grind (arith, nat_tests)
 
 pub passed_more : (moved : Moved) (first start : ℕ) (old now new : Growth) (at : NodeId) (face : Face) (behind ahead link : Link) →
     first ≤ at.index → now.sheet.planes ≡ moved.planes → IsMovedNode moved at face behind ahead → HasPassed moved.own first start old now at.index →
-    Adding now new face (shifted behind at.index (length now.sheet.nodes)) (shifted ahead at.index (length now.sheet.nodes)) (Ok link) →
+    Adding now new face (link_shifted_by behind at.index (length now.sheet.nodes)) (link_shifted_by ahead at.index (length now.sheet.nodes)) (Ok link) →
     IsNext now new link → HasPassed moved.own first start old new (at.index + 1)
 passed_more moved first start old now new at face behind ahead link low planes m p adding next = record {
   history = later p.history at.index new;
@@ -178,7 +178,7 @@ passed_more moved first start old now new at face behind ahead link low planes m
 }
   where
     grown_last : (s e : ℕ) (l : Link) → first ≤ s → e ≤ at.index + 1 → at.index < e → Spans moved.own.nodes s l e →
-        HasGrown (later p.history at.index new s) (later p.history at.index new e) (shifted l e (start + (e - first))) (tree_on moved.own l)
+        HasGrown (later p.history at.index new s) (later p.history at.index new e) (link_shifted_by l e (start + (e - first))) (tree_on moved.own l)
     grown_last _ _ _ from to last (none place side) = end_grows moved.own (later p.history at.index new place) side
     grown_last _ _ _ from to last (all s middle id payload b a n sb sa) =
         let here : id.index ≡ at.index = omega arith in
@@ -188,7 +188,7 @@ passed_more moved first start old now new at face behind ahead link low planes m
         let g = next_grows moved first start old now new at face behind ahead (Ok link) s planes m p adding from over in
         let es = later_old p.history at.index new s (omega arith) in
         let ee = later_new p.history at.index new (id.index + 1) last in
-        let leads : link ≡ shifted (To id) (id.index + 1) (start + (id.index + 1 - first)) =
+        let leads : link ≡ link_shifted_by (To id) (id.index + 1) (start + (id.index + 1 - first)) =
         next.leads ∙ ap (λ (k : ℕ). To (node_id k)) (omega (arith, p.count)) in
         let same : at ≡ id = same_id at id (sym here) in
         rw (es, ee) (rw (← leads) (rw (← same) g))
@@ -197,13 +197,13 @@ passed_more moved first start old now new at face behind ahead link low planes m
 node_size : (own : Sheet) (id : NodeId) (face : Face) (behind ahead : Link) → IsNode own.nodes id face behind ahead →
     size (tree_on own behind) + size (tree_on own ahead) ≤ size (tree_on own (To id))
 node_size own id face behind ahead n =
-    let e : tree_on own (To id) ≡ node (outline_of own.planes face) (tree_on own behind) (tree_on own ahead) = ap (shown own.planes) n.tree in
+    let e : tree_on own (To id) ≡ node (outline_of own.planes face) (tree_on own behind) (tree_on own ahead) = ap (tree_of_branch own.planes) n.tree in
     omega (arith, ap size e)
 
 -- what stops the next node stops each tree in whose range it stands
 whole_stops : (moved : Moved) (first start : ℕ) (old now new : Growth) (at : NodeId) (face : Face) (behind ahead : Link) (stop : GrowStop) →
     now.sheet.planes ≡ moved.planes → IsMovedNode moved at face behind ahead → (p : HasPassed moved.own first start old now at.index) →
-    Adding now new face (shifted behind at.index (length now.sheet.nodes)) (shifted ahead at.index (length now.sheet.nodes)) (Err stop) →
+    Adding now new face (link_shifted_by behind at.index (length now.sheet.nodes)) (link_shifted_by ahead at.index (length now.sheet.nodes)) (Err stop) →
     (s e : ℕ) (link : Link) → first ≤ s → s ≤ at.index → at.index < e → Spans moved.own.nodes s link e →
     GrowsBy (p.history s) new (tree_on moved.own link) (Err stop)
 whole_stops moved first start old now new at face behind ahead stop planes m p adding _ _ _ from low high (none place side) = absurd (omega arith)
@@ -217,7 +217,7 @@ whole_stops moved first start old now new at face behind ahead stop planes m p a
           (whole_stops moved first start old now new at face behind ahead stop planes m p adding s middle b from low before sb)
       | inr after ↦ elim (cases_lt at.index id.index) [
         | inl earlier ↦
-            stops_after (p.history s) (p.history middle) new new (shifted b middle (start + (middle - first))) (tree_on own b) (tree_on own a) (tree_on own (To id)) stop sizes
+            stops_after (p.history s) (p.history middle) new new (link_shifted_by b middle (start + (middle - first))) (tree_on own b) (tree_on own a) (tree_on own (To id)) stop sizes
             (p.grown s middle b from after sb)
             (whole_stops moved first start old now new at face behind ahead stop planes m p adding middle id.index a (omega arith) after earlier sa)
         | inr last ↦
@@ -231,7 +231,7 @@ whole_stops moved first start old now new at face behind ahead stop planes m p a
 
 pub range_stops : (moved : Moved) (first start : ℕ) (old now new : Growth) (at : NodeId) (face : Face) (behind ahead : Link) (stop : GrowStop) →
     now.sheet.planes ≡ moved.planes → IsMovedNode moved at face behind ahead → HasPassed moved.own first start old now at.index →
-    Adding now new face (shifted behind at.index (length now.sheet.nodes)) (shifted ahead at.index (length now.sheet.nodes)) (Err stop) →
+    Adding now new face (link_shifted_by behind at.index (length now.sheet.nodes)) (link_shifted_by ahead at.index (length now.sheet.nodes)) (Err stop) →
     (end : ℕ) (link : Link) → first ≤ at.index → at.index < end → Spans moved.own.nodes first link end →
     GrowsBy old new (tree_on moved.own link) (Err stop)
 range_stops moved first start old now new at face behind ahead stop planes m p adding end link low high d =
@@ -240,7 +240,7 @@ range_stops moved first start old now new at face behind ahead stop planes m p a
 
 -- the whole range
 pub passed_whole : (own : Sheet) (first start : ℕ) (old now : Growth) (link : Link) (end : ℕ) → HasPassed own first start old now end →
-    Spans own.nodes first link end → HasGrown old now (shifted link end (length now.sheet.nodes)) (tree_on own link)
+    Spans own.nodes first link end → HasGrown old now (link_shifted_by link end (length now.sheet.nodes)) (tree_on own link)
 passed_whole own first start old now link end p d =
     let g = p.grown first end link (omega arith) (omega arith) d in
     rw (p.count, ← p.began, ← p.present) g
@@ -259,7 +259,7 @@ can_shift nodes first start s e at next (To id) d low high count =
     let w = spans_within nodes s (To id) e d in (omega (arith, w.0, w.1), omega (arith, w.0, w.1))
 
 shifted_link : (nodes more : List (Entry Face)) (first start s e at : ℕ) (link : Link) → Spans nodes s link e → first ≤ s → e ≤ at →
-    length more ≡ start + (at - first) → IsLinkOf more (shifted link at (length more))
+    length more ≡ start + (at - first) → IsLinkOf more (link_shifted_by link at (length more))
 shifted_link nodes more first start s e at (End side) d low high count = omega arith
 shifted_link nodes more first start s e at (To id) d low high count =
     let w = spans_within nodes s (To id) e d in omega (arith, w.0, w.1)
@@ -307,7 +307,7 @@ range_shifts own first start old now end next link p d same =
     can_shift own.nodes first start first end end next link d (omega arith) (omega arith) (same ∙ p.count)
 
 pub next_link : (own : Sheet) (first start : ℕ) (old now : Growth) (at : ℕ) (link : Link) → HasPassed own first start old now at →
-    IsPassed own.nodes first at link → IsLinkOf now.sheet.nodes (shifted link at (length now.sheet.nodes))
+    IsPassed own.nodes first at link → IsLinkOf now.sheet.nodes (link_shifted_by link at (length now.sheet.nodes))
 next_link own first start old now at link p i =
     shifted_link own.nodes now.sheet.nodes first start i.begin i.end at link i.range i.late i.early p.count
 

@@ -10,7 +10,7 @@ use Rattle.link_forest.proofs.Longer.{extends_itself, extends_twice, tree_of_end
 use Rattle.plane_table.specs.declared.faces.Face.{Face}
 use Rattle.plane_table.specs.Faces.{outline_of}
 use Rattle.bsp_tree.specs.Trees.{Tree, node}
-use Rattle.bsp_tree.specs.Shapes.{leaf_of, shown, tree_over}
+use Rattle.bsp_tree.specs.Shapes.{leaf_of, tree_of_branch, tree_over}
 use Rattle.bsp_tree.specs.Growths.{Sheet, tree_on, HasTree, IsLonger}
 
 pub longer_itself : (sheet : Sheet) → IsLonger sheet sheet
@@ -26,22 +26,22 @@ longer_twice first second third f s = record {
 pub still : (old new : Sheet) (link : Link) (tree : Tree) → IsLonger old new → HasTree old link tree → HasTree new link tree
 still old new link tree l h = record {
   there = l.extends.links link h.there;
-  same = ap₂ shown l.planes (l.extends.trees link h.there) ∙ h.same;
+  same = ap₂ tree_of_branch l.planes (l.extends.trees link h.there) ∙ h.same;
 }
 
 -- the tree at a link, as it stood
 pub stood_on : (old new : Sheet) (link : Link) → IsLonger old new → IsLinkOf old.nodes link → tree_on new link ≡ tree_on old link
-stood_on old new link l k = ap₂ shown l.planes (l.extends.trees link k)
+stood_on old new link l k = ap₂ tree_of_branch l.planes (l.extends.trees link k)
 
 -- a leaf stands on each sheet
 pub leaf_stands : (sheet : Sheet) (side : Bool) → HasTree sheet (End side) (leaf_of side)
-leaf_stands sheet side = record { there = omega arith; same = ap (shown sheet.planes) (tree_of_end sheet.nodes side) }
+leaf_stands sheet side = record { there = omega arith; same = ap (tree_of_branch sheet.planes) (tree_of_end sheet.nodes side) }
 
 -- the tree of a node
 pub node_shown : (planes : List Coefficients) (nodes : List (Entry Face)) (id : NodeId) (face : Face) (behind ahead : Link) →
     tree_at nodes (To id) ≡ fork face (tree_at nodes behind) (tree_at nodes ahead) →
     tree_over planes nodes (To id) ≡ node (outline_of planes face) (tree_over planes nodes behind) (tree_over planes nodes ahead)
-node_shown planes nodes id face behind ahead e = ap (shown planes) e
+node_shown planes nodes id face behind ahead e = ap (tree_of_branch planes) e
 
 -- a node that was added
 pub adds_longer : (old new : Sheet) (face : Face) (behind ahead : Link) (id : NodeId) → new.planes ≡ old.planes →
@@ -53,5 +53,5 @@ pub adds_tree : (old new : Sheet) (face : Face) (behind ahead : Link) (id : Node
     HasTree new (To id) (node (outline_of old.planes face) b a)
 adds_tree old new face behind ahead id b a p d eb ea = record {
   there = d.link;
-  same = ap₂ shown p d.tree ∙ ap₂ (node (outline_of old.planes face)) eb ea;
+  same = ap₂ tree_of_branch p d.tree ∙ ap₂ (node (outline_of old.planes face)) eb ea;
 }

@@ -16,9 +16,9 @@ use Rattle.plane_table.specs.declared.numbering.OwnFace.{OwnFace}
 use Rattle.plane_table.specs.Joins.{IsFaceOf}
 use Rattle.plane_polygon.specs.Polygons.{Outline}
 use Rattle.bsp_tree.specs.Trees.{Tree, inside, outside, node, size, walk}
-use Rattle.bsp_tree.specs.Shapes.{leaf_of, shown, tree_over, tree_of, AreFacesOver, IsWhole, SolidParts}
+use Rattle.bsp_tree.specs.Shapes.{leaf_of, tree_of_branch, tree_over, tree_of, AreFacesOver, IsWhole, SolidParts}
 use Rattle.bsp_tree.specs.Kept.{IsKept}
-use Rattle.bsp_tree.specs.Growths.{Sheet, tree_on, exchanged, HasGrownWhole}
+use Rattle.bsp_tree.specs.Growths.{Sheet, tree_on, with_sides_exchanged, HasGrownWhole}
 use Rattle.bsp_tree.specs.Links.{turned}
 use Rattle.bsp_tree.proofs.SheetFaces.{faces_more}
 
@@ -38,7 +38,7 @@ whole_kept solid kept h e = record { whole = h; size_is = e }
 
 -- the tree of a leaf
 pub leaf_tree : (planes : List Coefficients) (nodes : List (Entry Face)) (side : Bool) → tree_over planes nodes (End side) ≡ leaf_of side
-leaf_tree planes nodes side = ap (shown planes) (tree_of_end nodes side)
+leaf_tree planes nodes side = ap (tree_of_branch planes) (tree_of_end nodes side)
 
 leaf_size : (side : Bool) → size (leaf_of side) ≡ 0
 leaf_size true = refl
@@ -101,7 +101,7 @@ pub one_node_tree : (s : Outline) (own : OwnFace) (old new : List (Entry Face)) 
 unfolding tree_of
 one_node_tree s own old new id solid h none d e =
     ap (λ (t : SolidParts). tree_over t.planes t.nodes t.root) e
-    ∙ ap (shown own.planes.items) d.tree
+    ∙ ap (tree_of_branch own.planes.items) d.tree
     ∙ node_same h.outline (leaf_tree own.planes.items old true) (leaf_tree own.planes.items old false)
 
 -- a whole solid's tree is the one on its sheet
@@ -123,16 +123,16 @@ end_walk planes nodes side p = leaf_walk side p ∙ sym (ap (λ (t : Tree). walk
 
 -- the leaf that stands where leaves are exchanged
 pub end_exchanged : (planes : List Coefficients) (nodes : List (Entry Face)) (side turn : Bool) →
-    exchanged turn (tree_over planes nodes (End side)) ≡ leaf_of (turned side turn)
-end_exchanged planes nodes side turn = ap (exchanged turn) (leaf_tree planes nodes side) ∙ leaf_exchanged side turn
+    with_sides_exchanged turn (tree_over planes nodes (End side)) ≡ leaf_of (turned side turn)
+end_exchanged planes nodes side turn = ap (with_sides_exchanged turn) (leaf_tree planes nodes side) ∙ leaf_exchanged side turn
   where
-    leaf_exchanged : (side turn : Bool) → exchanged turn (leaf_of side) ≡ leaf_of (turned side turn)
+    leaf_exchanged : (side turn : Bool) → with_sides_exchanged turn (leaf_of side) ≡ leaf_of (turned side turn)
     leaf_exchanged true true = refl
     leaf_exchanged false true = refl
     leaf_exchanged true false = refl
     leaf_exchanged false false = refl
 
 -- a node whose leaves are exchanged
-pub node_exchanged : (s : Outline) (b a : Tree) (turn : Bool) → exchanged turn (node s b a) ≡ node s (exchanged turn b) (exchanged turn a)
+pub node_exchanged : (s : Outline) (b a : Tree) (turn : Bool) → with_sides_exchanged turn (node s b a) ≡ node s (with_sides_exchanged turn b) (with_sides_exchanged turn a)
 node_exchanged s b a true = refl
 node_exchanged s b a false = refl

@@ -7,7 +7,7 @@ use Rattle.plane_polygon.specs.Polygons.{Outline}
 use Rattle.plane_polygon.specs.declared.classes.Class.{Class}
 use Rattle.plane_polygon.specs.declared.classes.Class.TheVariants.{Behind, Ahead, On, Across}
 use Rattle.plane_polygon.specs.Parts.{class_of}
-use Rattle.plane_polygon.specs.Boxes.{high_x, low_x, high_y, low_y, high_z, low_z, turned, box_outline, box_over_x, box_over_y, box_over_z, trimmed, trimmed_to}
+use Rattle.plane_polygon.specs.Boxes.{high_x, low_x, high_y, low_y, high_z, low_z, turned, box_outline, box_over_x, box_over_y, box_over_z, trimmed_outline, outline_trimmed_to}
 use Rattle.plane_polygon.proofs.BoxPoints.{value_high_x, value_low_x, value_high_y, value_low_y, value_high_z, value_low_z, in_world, world_in, reach_in, box_polygon_is}
 use Rattle.bsp_tree.specs.Trees.{half_space}
 use Rattle.bsp_tree.specs.Cells.{IsIn, IsInClosed, IsAcross, IsOfWorld, world_box}
@@ -88,14 +88,14 @@ reach_in_box p h = let k = reach_in p h in record {
 }
 
 -- ---- the plane of a box polygon
-trimmed_to_plane : (c : Class) (s : Outline) (m : Coefficients) → (trimmed_to c s m).plane ≡ s.plane
+trimmed_to_plane : (c : Class) (s : Outline) (m : Coefficients) → (outline_trimmed_to c s m).plane ≡ s.plane
 trimmed_to_plane Across s m = refl
 trimmed_to_plane Behind s m = refl
 trimmed_to_plane Ahead s m = refl
 trimmed_to_plane On s m = refl
 
-trimmed_twice : (s : Outline) (m n : Coefficients) → (trimmed (trimmed s m) n).plane ≡ s.plane
-trimmed_twice s m n = trimmed_to_plane (class_of (trimmed s m) n) (trimmed s m) n ∙
+trimmed_twice : (s : Outline) (m n : Coefficients) → (trimmed_outline (trimmed_outline s m) n).plane ≡ s.plane
+trimmed_twice s m n = trimmed_to_plane (class_of (trimmed_outline s m) n) (trimmed_outline s m) n ∙
     trimmed_to_plane (class_of s m) s m
 
 either_plane : (c d : Bool) (x y z : Outline) (m : Coefficients) → x.plane ≡ m → y.plane ≡ m → z.plane ≡ m →

@@ -30,9 +30,9 @@ pub record IsLonger (old new : Sheet) : Type 0 where
   pub extends : Extends old.nodes new.nodes
 
 -- a tree, or its complement
-abbrev pub exchanged : Bool → Tree → Tree
-exchanged true tree = complement tree
-exchanged false tree = tree
+abbrev pub with_sides_exchanged : Bool → Tree → Tree
+with_sides_exchanged true tree = complement tree
+with_sides_exchanged false tree = tree
 
 -- a solid in the making: nodes over a table, a size, which grows with each tree that is added, and the most that it may be
 pub record Growth : Type 0 where

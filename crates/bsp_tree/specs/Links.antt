@@ -4,13 +4,13 @@ use Rattle.link_forest.specs.declared.link.Link.{Link}
 use Rattle.link_forest.specs.declared.link.Link.TheVariants.{End, To}
 
 -- both are so, or neither
-abbrev pub alike : Bool → Bool → Bool
-alike true other = other
-alike false other = not other
+abbrev pub is_alike : Bool → Bool → Bool
+is_alike true other = other
+is_alike false other = not other
 
 -- the link is an end of this kind
 abbrev pub is_leaf : Bool → Link → Bool
-is_leaf side (End other) = alike side other
+is_leaf side (End other) = is_alike side other
 is_leaf side (To id) = false
 
 -- both are ends of one kind

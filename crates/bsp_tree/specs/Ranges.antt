@@ -19,9 +19,9 @@ pub record AreFirsts {A : Type 0} (nodes : List (Entry A)) (firsts : List ℕ) :
   pub each : (id : NodeId) (first : ℕ) → slice_get firsts id.index ≡ Some first → Spans nodes first (To id) (id.index + 1)
 
 -- the link that reaches as far back from the second number as this one does from the first
-abbrev pub shifted : Link → ℕ → ℕ → Link
-shifted (End side) from to = End side
-shifted (To id) from to = To (node_id (to - (from - id.index)))
+abbrev pub link_shifted_by : Link → ℕ → ℕ → Link
+link_shifted_by (End side) from to = End side
+link_shifted_by (To id) from to = To (node_id (to - (from - id.index)))
 
 -- a link can be shifted so: its node has at most the first number, and the second one is at least as large as the distance
 -- between them

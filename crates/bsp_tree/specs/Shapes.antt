@@ -15,14 +15,14 @@ leaf_of true = inside
 leaf_of false = outside
 
 -- the tree of a branch of faces, with each number replaced by the plane that it names
-abbrev pub shown : List Coefficients → Branch Face → Tree
-shown planes (end side) = leaf_of side
-shown planes (fork face behind ahead) =
-    node (outline_of planes face) (shown planes behind) (shown planes ahead)
+abbrev pub tree_of_branch : List Coefficients → Branch Face → Tree
+tree_of_branch planes (end side) = leaf_of side
+tree_of_branch planes (fork face behind ahead) =
+    node (outline_of planes face) (tree_of_branch planes behind) (tree_of_branch planes ahead)
 
 -- the tree at a link of a forest of faces
 abbrev pub tree_over : List Coefficients → List (Entry Face) → Link → Tree
-tree_over planes nodes link = shown planes (tree_at nodes link)
+tree_over planes nodes link = tree_of_branch planes (tree_at nodes link)
 
 -- a solid as contracts see it: a table of planes, a forest of faces over it, and the link at which its tree begins
 pub record SolidParts : Type 0 where

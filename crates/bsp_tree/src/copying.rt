@@ -4,7 +4,7 @@ ghost use Rattle.std.specs.Prelude.{◌≡◌, IfOk, length};
 ghost use Rattle.link_forest.specs.Forests.{IsLinkOf};
 ghost use Rattle.plane_table.specs.Joins.{AreNumbersOf};
 ghost use Rattle.bsp_tree.specs.Shapes.{tree_of, AreFacesOver};
-ghost use Rattle.bsp_tree.specs.Growths.{exchanged, tree_on, GrowsBy, HasTree};
+ghost use Rattle.bsp_tree.specs.Growths.{with_sides_exchanged, tree_on, GrowsBy, HasTree};
 ghost use Rattle.bsp_tree.specs.Copies.{AreCopied, AreFoundOver};
 
 use crate::growing::{GrowStop, Growing};
@@ -28,7 +28,7 @@ pub fn add_branch(
 ) -> Result<Link, GrowStop>
     requires table { growing.old.sheet.planes ≡ from.now.planes }
     requires link { IsLinkOf from.now.nodes at }
-    ensures { GrowsBy growing.old growing.new (exchanged is_exchanged (tree_on from.now at)) result }
+    ensures { GrowsBy growing.old growing.new (with_sides_exchanged is_exchanged (tree_on from.now at)) result }
 {
     match at {
         Link::End(is_inside) => Ok(Link::End(turned(is_inside, is_exchanged))),

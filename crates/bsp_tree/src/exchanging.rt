@@ -20,11 +20,11 @@ pub fn exchange(alloc: Global, solid: &Solid) -> Result<Solid, NoMemory>
     ensures planes { IfOk result (λ s. HasPlanesOf (tree_of s) (tree_of solid.now)) }
     ensures cells { IfOk result (λ s. (cell : _) → IsOfCell cell (tree_of solid.now) → IsOfCell cell (tree_of s)) }
 {
-    exchanged(alloc, solid)
+    with_sides_exchanged(alloc, solid)
 }
 
 // A solid with In and Out exchanged.
-fn exchanged(alloc: Global, solid: &Solid) -> Result<Solid, NoMemory>
+fn with_sides_exchanged(alloc: Global, solid: &Solid) -> Result<Solid, NoMemory>
     ensures { IfOk result (λ s. tree_of s ≡ complement (tree_of solid.now)) }
 {
     let (planes, _, root) = solid.parts();

@@ -3,7 +3,7 @@
 ghost use Rattle.std.specs.Prelude.{◌≡◌, length, IfOk};
 ghost use Rattle.link_forest.specs.Forests.{IsLinkOf};
 ghost use Rattle.bsp_tree.specs.Shapes.{tree_of};
-ghost use Rattle.bsp_tree.specs.Growths.{exchanged, tree_on, HasGrownWhole};
+ghost use Rattle.bsp_tree.specs.Growths.{with_sides_exchanged, tree_on, HasGrownWhole};
 ghost use Rattle.bsp_tree.specs.Copies.{AreUsed};
 
 use crate::copying::{add_branch, nodes_over};
@@ -24,7 +24,7 @@ pub fn solid_at(
     is_exchanged: bool,
 ) -> Result<Solid, NoMemory>
     requires { IsLinkOf nodes.now.nodes at }
-    ensures { IfOk result (λ s. tree_of s ≡ exchanged is_exchanged (tree_on nodes.now at)) }
+    ensures { IfOk result (λ s. tree_of s ≡ with_sides_exchanged is_exchanged (tree_on nodes.now at)) }
 {
     let mut growing = Growing::new(alloc, nodes.table(), u64::MAX);
     // A solid above that limit is larger than any memory: each node and each edge takes more than one byte.

@@ -1,7 +1,7 @@
 //! Leaves as ends of links.
 
 ghost use Rattle.std.specs.Prelude.{◌≡◌};
-ghost use Rattle.bsp_tree.specs.Links.{alike, is_leaf, same_leaf, turned};
+ghost use Rattle.bsp_tree.specs.Links.{is_alike, is_leaf, same_leaf, turned};
 
 use link_forest::Link;
 
@@ -20,14 +20,14 @@ fn is_leaf(link: Link, is_inside: bool) -> bool
     ensures { result ≡ is_leaf is_inside link }
 {
     match link {
-        Link::End(other) => alike(is_inside, other),
+        Link::End(other) => is_alike(is_inside, other),
         Link::To(_) => false,
     }
 }
 
 /// Whether both are so, or neither.
-pub fn alike(one: bool, other: bool) -> bool
-    ensures { result ≡ alike one other }
+pub fn is_alike(one: bool, other: bool) -> bool
+    ensures { result ≡ is_alike one other }
 {
     if one { other } else { !other }
 }

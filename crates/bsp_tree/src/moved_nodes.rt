@@ -6,7 +6,7 @@ ghost use Rattle.bsp_tree.specs.Growths.{tree_on, GrowsBy};
 ghost use Rattle.bsp_tree.specs.Ranges.{Spans};
 
 use crate::growing::{GrowStop, Growing};
-use crate::ranges::{Ranges, shifted};
+use crate::ranges::{Ranges, link_shifted_by};
 use crate::solid::Solid;
 use link_forest::{Link, NodeId};
 use plane_predicate::Plane;
@@ -123,9 +123,9 @@ fn add_range(
         let next = growing.len();
         growing.add(
             face,
-            shifted(behind, index, next),
-            shifted(ahead, index, next),
+            link_shifted_by(behind, index, next),
+            link_shifted_by(ahead, index, next),
         )?;
     }
-    Ok(shifted(at, end, growing.len()))
+    Ok(link_shifted_by(at, end, growing.len()))
 }

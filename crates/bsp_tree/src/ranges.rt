@@ -5,7 +5,7 @@ ghost use Rattle.link_forest.specs.declared.forest.Entry.{Entry};
 ghost use Rattle.link_forest.specs.Forests.{node_id, IsNode};
 ghost use Rattle.link_forest.specs.declared.link.Link.TheVariants.{To};
 ghost use Rattle.plane_table.specs.declared.faces.Face.{Face};
-ghost use Rattle.bsp_tree.specs.Ranges.{shifted, AreFirsts, CanShift, Spans};
+ghost use Rattle.bsp_tree.specs.Ranges.{link_shifted_by, AreFirsts, CanShift, Spans};
 
 use link_forest::{Forest, Link, NodeId};
 use plane_table::Face;
@@ -108,9 +108,9 @@ fn first_before(firsts: &[usize], link: Link, end: usize) -> Option<usize>
 }
 
 /// The link that reaches as far back from the number `to` as this one does from the number `from`.
-pub fn shifted(link: Link, from: usize, to: usize) -> Link
+pub fn link_shifted_by(link: Link, from: usize, to: usize) -> Link
     requires { CanShift link from to }
-    ensures { result ≡ shifted link from to }
+    ensures { result ≡ link_shifted_by link from to }
 {
     match link {
         Link::End(_) => link,

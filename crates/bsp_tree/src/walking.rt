@@ -2,7 +2,7 @@
 
 ghost use Rattle.std.specs.Prelude.{◌≡◌};
 ghost use Rattle.link_forest.specs.Forests.{IsLinkOf};
-ghost use Rattle.plane_table.specs.Tables.{named, IsNumberIn};
+ghost use Rattle.plane_table.specs.Tables.{plane_named, IsNumberIn};
 ghost use Rattle.plane_polygon.specs.Parts.{is_behind};
 ghost use Rattle.bsp_tree.specs.Trees.{walk};
 ghost use Rattle.bsp_tree.specs.Shapes.{tree_of, tree_over, AreFacesOver};
@@ -44,7 +44,7 @@ fn holds_at(planes: &[Plane], forest: &Forest<Face>, at: Link, point: &Point) ->
 #[tactic(auto, unfolding(plane_table::specs::Tables::turned_by_number))]
 fn plane_named(planes: &[Plane], number: u32) -> Plane
     requires { IsNumberIn planes.now number }
-    ensures { result ≡ named planes.now number }
+    ensures { result ≡ plane_named planes.now number }
 {
     let plane = planes[(number / 2) as usize];
     if number % 2 == 0 {

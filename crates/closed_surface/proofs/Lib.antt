@@ -7,3 +7,13 @@ pub mod Parallels
 pub mod EdgeLines
 pub mod Multiples
 pub mod Printing
+pub mod Edges
+pub mod Counting
+pub mod Near
+pub mod Slides
+pub mod Covers
+pub mod Lines
+pub mod Walks
+pub mod Shares
+pub mod Balanced
+pub mod Closing

@@ -8,11 +8,12 @@ use Rattle.closed_surface.specs.Ways.{Direction}
 abbrev pub turn_about : Direction → Coefficients → Coefficients → ℤ
 turn_about d m n = determinant m.a m.b m.c n.a n.b n.c d.x d.y d.z
 
--- no two of the planes are parallel
+-- n is parallel to none of the planes, all of which go through a line of this direction
 abbrev pub IsApartFrom : Direction → Coefficients → List Coefficients → Type 0
 IsApartFrom d n [] = Unit {0}
 IsApartFrom d n (m ∷ planes) = (turn_about d n m ≢ pos 0) × IsApartFrom d n planes
 
+-- no two of the planes, all of which go through a line of this direction, are parallel
 abbrev pub AreApart : Direction → List Coefficients → Type 0
 AreApart d [] = Unit {0}
 AreApart d (n ∷ planes) = IsApartFrom d n planes × AreApart d planes

@@ -18,10 +18,11 @@ edges_of corners = zip corners (drop 1 corners ++ take 1 corners)
 abbrev pub runs_through : Edge → Coordinates → Bool
 runs_through e q = is_same_way (way e.0 q) (way q e.1)
 
--- how many edges run through the point the way of v, and how many the opposite way
+-- how many edges run through the point the way of v
 abbrev pub along : List Edge → Coordinates → Direction → ℕ
 along edges q v = count_by (λ e. runs_through e q && is_same_way (way e.0 e.1) v) edges
 
+-- how many edges run through the point the way against v
 abbrev pub against : List Edge → Coordinates → Direction → ℕ
 against edges q v = count_by (λ e. runs_through e q && is_opposite_way (way e.0 e.1) v) edges
 

@@ -3,6 +3,7 @@ use Rattle.std.specs.Prelude.{Bool, ◌&&◌, ℤ, pos, ◌+ℤ◌, ◌-ℤ◌, 
 use Rattle.std.specs.Ordering.{int_eq}
 use Rattle.plane_predicate.specs.Space.{Coefficients, Coordinates, minor}
 
+-- a direction in space, in whole numbers
 pub record Direction : Type 0 where
   pub x : ℤ
   pub y : ℤ
@@ -16,6 +17,7 @@ way p q = record { x = p.w *ℤ q.x -ℤ q.w *ℤ p.x; y = p.w *ℤ q.y -ℤ q.w
 abbrev pub is_same_place : Coordinates → Coordinates → Bool
 is_same_place p q = int_eq (way p q).x (pos 0) && (int_eq (way p q).y (pos 0) && int_eq (way p q).z (pos 0))
 
+-- the cross product of two directions
 abbrev pub cross : Direction → Direction → Direction
 cross u v = record { x = minor u.y u.z v.y v.z; y = minor u.z u.x v.z v.x; z = minor u.x u.y v.x v.y }
 
@@ -23,6 +25,7 @@ cross u v = record { x = minor u.y u.z v.y v.z; y = minor u.z u.x v.z v.x; z = m
 abbrev pub is_parallel : Direction → Direction → Bool
 is_parallel u v = int_eq (cross u v).x (pos 0) && (int_eq (cross u v).y (pos 0) && int_eq (cross u v).z (pos 0))
 
+-- the product of two directions
 abbrev pub dot : Direction → Direction → ℤ
 dot u v = u.x *ℤ v.x +ℤ u.y *ℤ v.y +ℤ u.z *ℤ v.z
 

@@ -9,7 +9,7 @@ use Rattle.csg_tree.specs.declared.node.StoredNode.TheVariants.{Leaf, Join}
 use Rattle.csg_tree.specs.Formulas.{Formula, joined}
 use Rattle.csg_tree.specs.Numberings.{tree_numbered, IsNumberIn, HasNumber}
 use Rattle.csg_tree.specs.Nodes.{node_of, tree_over, IsOver, trees_of_lent, AreLinkedLent}
-use Rattle.csg_tree.specs.Interned.{TheyStay, IsPlaced, IsReady, renumbered}
+use Rattle.csg_tree.specs.Interned.{TheyStay, IsPlaced, IsReady, renumbered_node}
 use Rattle.csg_tree.proofs.Interning.{tree_of_number}
 
 -- the tree of the number of a part
@@ -24,12 +24,12 @@ lent_number parts n d linked within =
     (subst (λ (node : StoredNode). IsOver ps node) read at.0, at.1 ∙ ap (tree_over ps) read)
 
 -- a node that is ready, with its numbers among the nodes
-pub ready_over : (ps ts : List Formula) (ns : List ℕ) (node : StoredNode) → IsReady ps ts ns node → IsOver ts (renumbered ns node)
+pub ready_over : (ps ts : List Formula) (ns : List ℕ) (node : StoredNode) → IsReady ps ts ns node → IsOver ts (renumbered_node ns node)
 ready_over ps ts ns (Leaf planes) ready = tt
 ready_over ps ts ns (Join op l r) ready = (ready.0.0, ready.1.0)
 
 pub ready_tree : (ps ts : List Formula) (ns : List ℕ) (node : StoredNode) → IsReady ps ts ns node →
-    tree_over ts (renumbered ns node) ≡ tree_over ps node
+    tree_over ts (renumbered_node ns node) ≡ tree_over ps node
 ready_tree ps ts ns (Leaf planes) ready = refl
 ready_tree ps ts ns (Join op l r) ready = ap₂ (joined op) ready.0.1 ready.1.1
 

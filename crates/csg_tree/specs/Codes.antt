@@ -19,11 +19,13 @@ op_number Union = 1
 op_number Intersection = 2
 op_number Difference = 3
 
+-- the operation that a number stands for
 abbrev op_numbered : ℕ → Op
 op_numbered (suc zero) = Union
 op_numbered (suc (suc zero)) = Intersection
 op_numbered _ = Difference
 
+-- an operation is the one that its number stands for
 pub op_back : (op : Op) → op_numbered (op_number op) ≡ op
 op_back Union = refl
 op_back Intersection = refl
@@ -33,21 +35,25 @@ op_back Difference = refl
 abbrev Cell : Type 0
 Cell = List Coefficients ⊎ ℕ
 
+-- a tree as a list of cells, each behind the cells of its sides
 abbrev cells : Formula → List Cell
 cells nothing = inr 0 ∷ []
 cells (leaf planes) = inl planes ∷ []
 cells (joined op left right) = cells left ++ (cells right ++ inr (op_number op) ∷ [])
 
+-- the trees on top of a stack put together by an operation
 abbrev put_together : ℕ → List Formula → List Formula
 put_together zero stack = nothing ∷ stack
 put_together (suc n) (right ∷ left ∷ stack) = joined (op_numbered (suc n)) left right ∷ stack
 put_together (suc n) stack = stack
 
+-- the stack of trees after some cells were read
 abbrev built : List Cell → List Formula → List Formula
 built [] stack = stack
 built (inl planes ∷ cs) stack = built cs (leaf planes ∷ stack)
 built (inr n ∷ cs) stack = built cs (put_together n stack)
 
+-- the tree on top of a stack
 abbrev top : List Formula → Formula
 top [] = nothing
 top (t ∷ ts) = t
@@ -67,8 +73,10 @@ built-cells (joined op left right) cs stack =
     ∙ built-cells right (inr (op_number op) ∷ cs) (left ∷ stack)
     ∙ ap (built cs) (put_joined op left right stack)
 
+-- a tree is what its cells build
 pub back : (t : Formula) → top (built (cells t) []) ≡ t
 back t = ap (λ x. top (built x [])) (sym (append-nil (cells t))) ∙ ap top (built-cells t [] [])
 
+-- trees are told apart by their cells
 abbrev pub coded_formula : Coded Formula
 coded_formula = code_by (List Cell) (coded_list (coded⊎ (coded_list coded_plane) coded_ℕ)) cells (λ cs. top (built cs [])) back

@@ -24,5 +24,5 @@ abbrev pub just_ahead : Coefficients → Coordinates → Assignment
 just_ahead n p m = if is_same m n then false else if is_same m (opposite_of n) then true else sides_of p m
 
 -- solid just behind the point, seen from n, and empty just ahead of it
-abbrev pub bounds : Formula → Coefficients → Coordinates → Bool
-bounds f n p = holds f (just_behind n p) && not (holds f (just_ahead n p))
+abbrev pub is_boundary_at : Formula → Coefficients → Coordinates → Bool
+is_boundary_at f n p = holds f (just_behind n p) && not (holds f (just_ahead n p))

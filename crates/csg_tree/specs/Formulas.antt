@@ -16,16 +16,16 @@ abbrev pub Assignment : Type 0
 Assignment = Coefficients → Bool
 
 -- an operation on two truths: one of them, both, or the first without the second
-abbrev pub operated : Op → Bool → Bool → Bool
-operated Union left right = left || right
-operated Intersection left right = left && right
-operated Difference left right = left && not right
+abbrev pub truth_of_join : Op → Bool → Bool → Bool
+truth_of_join Union left right = left || right
+truth_of_join Intersection left right = left && right
+truth_of_join Difference left right = left && not right
 
 -- whether the formula holds under an assignment of sides to its planes
 abbrev pub holds : Formula → Assignment → Bool
 holds nothing sides = false
 holds (leaf planes) sides = list_all sides planes
-holds (joined op left right) sides = operated op (holds left sides) (holds right sides)
+holds (joined op left right) sides = truth_of_join op (holds left sides) (holds right sides)
 
 -- the sides of a point: whether it is strictly behind each plane
 abbrev pub sides_of : Coordinates → Assignment

@@ -23,6 +23,7 @@ abbrev pub numbers_cmp : PlaneNumbers → PlaneNumbers → Ordering
 numbers_cmp p q =
     ordering_then (int_cmp p.a q.a) (ordering_then (int_cmp p.b q.b) (ordering_then (int_cmp p.c q.c) (int_cmp p.d q.d)))
 
+-- the order of operations
 abbrev pub op_cmp : Op → Op → Ordering
 op_cmp Union Union = Equal
 op_cmp Union _ = Less
@@ -32,6 +33,7 @@ op_cmp Intersection Difference = Less
 op_cmp Difference Difference = Equal
 op_cmp Difference _ = Greater
 
+-- the order of nodes: leaves by their planes, then joins by operation and sides
 abbrev pub key_cmp : NodeKey → NodeKey → Ordering
 key_cmp (keys.Leaf planes) (keys.Leaf more) = slice_cmp numbers_cmp planes.items more.items
 key_cmp (keys.Leaf planes) (keys.Join op left right) = Less
@@ -59,6 +61,7 @@ abbrev pub number_from : ℕ → List StoredNode → StoredNode → Option ℕ
 number_from n [] node = None
 number_from n (first ∷ nodes) node = if is_same_node first node then Some n else number_from (suc n) nodes node
 
+-- the number that a node has among nodes, from 1, where it is there
 abbrev pub number_in : List StoredNode → StoredNode → Option ℕ
 number_in nodes node = number_from 1 nodes node
 
@@ -93,6 +96,6 @@ AreReady parts trees numbers level = (j : ℕ) → j < length level →
     × ((d : CsgNode) → IsReady (trees_of_lent parts) trees numbers (node_of (get_or parts (get_or level j 0 - 1) d)))
 
 -- a node with the numbers of its two trees among the nodes
-abbrev pub renumbered : List ℕ → StoredNode → StoredNode
-renumbered numbers (Leaf planes) = Leaf planes
-renumbered numbers (Join op left right) = Join op (get_or numbers (left - 1) 0) (get_or numbers (right - 1) 0)
+abbrev pub renumbered_node : List ℕ → StoredNode → StoredNode
+renumbered_node numbers (Leaf planes) = Leaf planes
+renumbered_node numbers (Join op left right) = Join op (get_or numbers (left - 1) 0) (get_or numbers (right - 1) 0)

@@ -11,9 +11,11 @@ use Rattle.csg_tree.specs.Formulas.{Formula, nothing, leaf, joined}
 unfoldable pub number_bytes : ℤ → List ℕ
 number_bytes n = to_be_bytes w64 (cast_unsigned w64 n)
 
+-- the bytes of a plane: its four numbers
 abbrev pub plane_bytes : Coefficients → List ℕ
 plane_bytes m = number_bytes m.a ++ number_bytes m.b ++ number_bytes m.c ++ number_bytes m.d
 
+-- the byte of an operation
 abbrev pub op_byte : Op → ℕ
 op_byte Union = 2
 op_byte Intersection = 3

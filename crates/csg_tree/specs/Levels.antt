@@ -11,6 +11,7 @@ numbers_from n h [] = []
 numbers_from n h (tree ∷ trees) =
     if nat_eq (height tree) h then n ∷ numbers_from (suc n) h trees else numbers_from (suc n) h trees
 
+-- the numbers of the trees of this height, in order
 abbrev pub numbers_of_height : ℕ → List Formula → List ℕ
 numbers_of_height h trees = numbers_from 1 h trees
 

@@ -11,3 +11,6 @@ pub mod Numberings
 pub mod Levels
 pub mod Nodes
 pub mod Earlier
+pub mod Fronts
+pub mod JoinNames
+pub mod Rows

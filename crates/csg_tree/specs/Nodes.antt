@@ -28,6 +28,7 @@ abbrev pub trees_behind : List Formula → List StoredNode → List Formula
 trees_behind trees [] = trees
 trees_behind trees (node ∷ nodes) = trees_behind (trees ++ tree_over trees node ∷ []) nodes
 
+-- the trees of nodes, in the order of their numbers
 abbrev pub trees_of : List StoredNode → List Formula
 trees_of nodes = trees_behind [] nodes
 
@@ -36,6 +37,7 @@ abbrev pub AreLinkedBehind : List Formula → List StoredNode → Type 0
 AreLinkedBehind trees [] = Unit {0}
 AreLinkedBehind trees (node ∷ nodes) = IsOver trees node × AreLinkedBehind (trees ++ tree_over trees node ∷ []) nodes
 
+-- each join's sides are nodes before it
 abbrev pub AreLinked : List StoredNode → Type 0
 AreLinked nodes = AreLinkedBehind [] nodes
 
@@ -43,6 +45,7 @@ AreLinked nodes = AreLinkedBehind [] nodes
 abbrev pub trees_of_lent : List CsgNode → List Formula
 trees_of_lent nodes = trees_of (map node_of nodes)
 
+-- the same of nodes that are lent
 abbrev pub AreLinkedLent : List CsgNode → Type 0
 AreLinkedLent nodes = AreLinked (map node_of nodes)
 

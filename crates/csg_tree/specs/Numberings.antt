@@ -25,6 +25,7 @@ abbrev pub by_height : ℕ → List Formula → List Formula
 by_height zero trees = []
 by_height (suc n) trees = by_height n trees ++ filter (λ tree. nat_eq (height tree) n) trees
 
+-- whether two operations are equal
 abbrev pub is_same_op : Op → Op → Bool
 is_same_op Union Union = true
 is_same_op Intersection Intersection = true

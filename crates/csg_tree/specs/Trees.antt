@@ -10,5 +10,6 @@ formula_step Nothing = nothing
 formula_step (Leaf planes) = leaf planes
 formula_step (Join op left right) = joined op left.value right.value
 
+-- the tree as contracts see it
 abbrev pub formula_of : CsgTree → Formula
 formula_of = fold-CsgTree Formula formula_step

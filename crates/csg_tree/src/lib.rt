@@ -1,26 +1,31 @@
-//! Trees of constructive solid geometry over half spaces, what they mean, how they are joined, and
-//! their distinct subtrees as nodes that are linked by number.
+//! Trees of constructive solid geometry over half spaces: what they mean, how they are joined, and their distinct subtrees as
+//! nodes by number, with the names of these.
 #![tactic(auto)]
 
 mod earlier;
+mod front_hash;
 mod interner;
 mod joining;
 mod key;
 mod laws;
 mod levels;
+mod named_store;
 mod naming;
 mod node;
 mod numbering;
 mod op;
 mod parts;
 mod planes;
+mod row_names;
 mod store;
 mod tree;
 mod tree_key;
+mod workers;
 
 pub use joining::{balanced, join};
 pub use key::byte_of;
 pub use laws::{balanced_by_halves, joins_are_proper, joins_keep_the_meaning};
+pub use named_store::NamedStore;
 pub use naming::{feed_tree, name_of_node};
 pub use node::CsgNode;
 pub use op::Op;

@@ -6,7 +6,7 @@ ghost use Rattle.csg_tree.specs.Formulas.{Formula};
 ghost use Rattle.csg_tree.specs.Numberings.{by_height, distinct, tree_numbered, HaveOneNumber, IsNumberIn};
 ghost use Rattle.csg_tree.specs.Nodes.{node_of, trees_of, trees_of_lent, AreLinked, AreLinkedLent, IsOver};
 ghost use Rattle.csg_tree.specs.Levels.{level_at, numbers_of_height};
-ghost use Rattle.csg_tree.specs.Interned.{renumbered, AreInterned, AreReady, IsPlaced, IsReady, StayPlaced};
+ghost use Rattle.csg_tree.specs.Interned.{renumbered_node, AreInterned, AreReady, IsPlaced, IsReady, StayPlaced};
 
 use crate::interner::Interner;
 use crate::node::{CsgNode, StoredNode};
@@ -92,7 +92,7 @@ fn number_part(
 // A part with the numbers of its two trees among the nodes.
 fn linked<'a>(part: CsgNode<'a>, numbers: &[u32]) -> CsgNode<'a>
     requires { IsOver numbers.now (node_of part) }
-    ensures { node_of result ≡ renumbered numbers.now (node_of part.entry) }
+    ensures { node_of result ≡ renumbered_node numbers.now (node_of part.entry) }
 {
     match part {
         CsgNode::Leaf(planes) => CsgNode::Leaf(planes),

@@ -1,5 +1,5 @@
 -- What a call of a session answers and leaves.
-use Rattle.std.specs.Prelude.{◌≡◌, ℕ, ◌⊎◌, length, Some, None}
+use Rattle.std.specs.Prelude.{◌≡◌, ◌≢◌, ℕ, ◌⊎◌, length, Some, None}
 use Rattle.script_reader.specs.declared.script.Command.{Command}
 use Rattle.script_reader.specs.declared.script.Command.TheVariants.{Put, Set, Cut, Show, Export}
 use Rattle.edit_session.specs.declared.fault.SessionFault.{SessionFault}
@@ -14,11 +14,17 @@ pub record Edits (old : State) (c : Command) (new : State) (count : ℕ) : Type 
   pub done : new ≡ accepted old c
   pub lines : count ≡ length new.lines
 
--- a command was refused, for the reason of the table or for want of memory, and nothing changed
+-- memory may run out at a command: the session does not refuse it, and it is no cut, which takes no memory
+abbrev pub MayWantMemory : State → Command → Type 0
+MayWantMemory s (Cut from upto) = ⊥
+MayWantMemory s c = refusal s c ≡ None
+
+-- a command was refused, for the reason of the table, or where memory may run out for want of it, and nothing changed
 pub record Refuses (old : State) (c : Command) (new : State) (why : SessionFault) : Type 0 where
-  pub reason : (refusal old c ≡ Some why) ⊎ (why ≡ NoMemory)
+  pub reason : ((refusal old c ≡ Some why) × (why ≢ NoMemory)) ⊎ ((why ≡ NoMemory) × MayWantMemory old c)
   pub same : new ≡ old
 
+-- a command is an edit
 abbrev pub IsEdit : Command → Type 0
 IsEdit (Put line text) = Unit {0}
 IsEdit (Set line text) = Unit {0}

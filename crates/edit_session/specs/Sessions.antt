@@ -12,6 +12,7 @@ pub record State : Type 0 where
   pub shows : ℕ
   pub exports : ℕ
 
+-- a session at its beginning: no lines, and nothing answered
 abbrev pub start : State
 start = record { lines = []; shows = 0; exports = 0 }
 
@@ -19,6 +20,7 @@ start = record { lines = []; shows = 0; exports = 0 }
 abbrev pub source_of : State → List ℕ
 source_of s = flat_map (λ line. line ++ newline) s.lines
 
+-- whether a number is between two others, which count
 abbrev pub is_within : ℕ → ℕ → ℕ → Bool
 is_within low n high = nat_le low n && nat_le n high
 

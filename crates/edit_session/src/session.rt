@@ -109,7 +109,7 @@ impl Session {
     /// changes nothing. Takes no memory.
     pub fn cut(&mut self, from: u32, upto: u32) -> Result<u32, SessionFault>
         ensures done { IfOk result (λ count. Edits self.old (Cut from upto) self.new count) }
-        ensures refused { IfErr result (λ why. (refusal self.old (Cut from upto) ≡ Some why) × (self.new ≡ self.old)) }
+        ensures refused { IfErr result (λ why. Refuses self.old (Cut from upto) self.new why) }
     {
         let first = from as usize;
         let last = upto as usize;

@@ -11,7 +11,7 @@ use Rattle.plane_polygon.proofs.CornerSides.{less, not_less}
 use Rattle.bsp_tree.specs.Trees.{Tree, inside, outside, node, walk}
 use Rattle.bsp_tree.specs.Cells.{IsIn, IsInClosed, IsAcross, IsOfCell, IsPlaneOf, IsOff}
 use Rattle.bsp_tree.proofs.Opposites.{opposite_zero, opposite_back, opposite_above, opposite_below, opposite_twice}
-use Rattle.facet_cut.specs.Facets.{facing, facets_ahead, facets_between, facets_of}
+use Rattle.facet_cut.specs.Facets.{facets_facing, facets_ahead, facets_between, facets_of}
 use Rattle.facet_cut.specs.Sides.{walk_by, AreJustBehind, AreJustAhead, CoversFacing, IsFacetOf, HasNone, HasOneWhere, Bound}
 use Rattle.facet_cut.proofs.Reversals.{within_reversed, within_back}
 use Rattle.facet_cut.proofs.Counts.{where_left, where_right, none_append}
@@ -114,7 +114,7 @@ takes_ahead s b a sides e = ap (λ (c : Bool). if c then walk_by b sides else wa
 
 -- ---- the facets on the polygon of the plane
 none_facing : (n : Coefficients) (p : Coordinates) (i j : Bool) (r : Outline) → pos 0 <ℤ p.w →
-    (Covers r p → ⊥) → HasNone (CoversFacing n p) (facing i j r)
+    (Covers r p → ⊥) → HasNone (CoversFacing n p) (facets_facing i j r)
 none_facing n p true true r w missed = tt
 none_facing n p false false r w missed = tt
 none_facing n p true false r w missed = (λ c. missed (within_covered r p w c.within), tt)
@@ -123,12 +123,12 @@ none_facing n p false true r w missed = (λ c. missed (within_covered r p w (wit
 none_ahead_of : (n : Coefficients) (p : Coordinates) (i : Bool) (a : Tree) (r : Outline) → pos 0 <ℤ p.w →
     IsPolygon r → (Covers r p → ⊥) → HasNone (CoversFacing n p) (facets_ahead i a r)
 none_ahead_of n p i a r w h missed =
-    none_pieces a (CoversFacing n p) (λ q. facing i q.is_inside q.part) p r h missed
+    none_pieces a (CoversFacing n p) (λ q. facets_facing i q.is_inside q.part) p r h missed
     (λ q o k. none_facing n p i q.is_inside q.part w k)
 
 -- the one that faces the polygon's plane, where n is the plane
 facing_itself : (n : Coefficients) (p : Coordinates) (i j : Bool) (r : Outline) → n ≢ opposite_of n →
-    r.plane ≡ n → IsStrictlyWithin r p → HasOneWhere (i && not j) (CoversFacing n p) (facing i j r)
+    r.plane ≡ n → IsStrictlyWithin r p → HasOneWhere (i && not j) (CoversFacing n p) (facets_facing i j r)
 facing_itself n p true true r d e h = tt
 facing_itself n p false false r d e h = tt
 facing_itself n p true false r d e h = inl (record { faces = e; within = h }, tt)
@@ -137,7 +137,7 @@ facing_itself n p false true r d e h = (λ c. d (sym c.faces ∙ ap opposite_of 
 -- the one that faces its opposite, where n is that
 facing_opposite : (n : Coefficients) (p : Coordinates) (i j : Bool) (r : Outline) → n ≢ opposite_of n →
     r.plane ≡ opposite_of n → IsStrictlyWithin r p →
-    HasOneWhere (j && not i) (CoversFacing n p) (facing i j r)
+    HasOneWhere (j && not i) (CoversFacing n p) (facets_facing i j r)
 facing_opposite n p true true r d e h = tt
 facing_opposite n p false false r d e h = tt
 facing_opposite n p true false r d e h = (λ c. d (sym c.faces ∙ e), tt)
@@ -149,7 +149,7 @@ one_between : (counts : Bool → Bool → Bool) (n : Coefficients) (cell : List 
     (b a : Tree) (p : Coordinates) →
     IsAcross cell s → IsIn cell p → value s.plane p ≡ pos 0 → IsOff b p → IsOff a p →
     ((i j : Bool) (r : Outline) → r.plane ≡ s.plane → IsStrictlyWithin r p →
-    HasOneWhere (counts i j) (CoversFacing n p) (facing i j r)) →
+    HasOneWhere (counts i j) (CoversFacing n p) (facets_facing i j r)) →
     HasOneWhere (counts (walk b p) (walk a p)) (CoversFacing n p) (facets_between b a s)
 one_between counts n cell s b a p h hp on off_b off_a k =
     one_piece b (counts (walk b p) (walk a p)) (CoversFacing n p) (λ q. facets_ahead q.is_inside a q.part)
@@ -158,9 +158,9 @@ one_between counts n cell s b a p h hp on off_b off_a k =
     subst (λ (i : Bool). HasOneWhere (counts i (walk a p)) (CoversFacing n p)
     (facets_ahead q.is_inside a q.part)) g.leaf
     (one_piece a (counts q.is_inside (walk a p)) (CoversFacing n p)
-    (λ r. facing q.is_inside r.is_inside r.part) g.cell q.part p g.across g.point_in on_q off_a
+    (λ r. facets_facing q.is_inside r.is_inside r.part) g.cell q.part p g.across g.point_in on_q off_a
     (λ r f. subst (λ (j : Bool). HasOneWhere (counts q.is_inside j) (CoversFacing n p)
-    (facing q.is_inside r.is_inside r.part)) f.leaf
+    (facets_facing q.is_inside r.is_inside r.part)) f.leaf
     (k q.is_inside r.is_inside r.part (f.plane ∙ g.plane)
     (within_cell f.cell r.part p f.across f.point_in
     (from_either r.part.plane q.part.plane p (inl f.plane) on_q))))

@@ -2,7 +2,7 @@
 use Rattle.std.proofs.Common.{◌≡◌, ◌≢◌, Bool, true, false, not, if◌then◌else◌, sym, ap, ◌∙◌, List, [], ◌∷◌, ◌++◌, length, map, reverse, refl, ℤ, pos, negsuc, neg_ℤ}
 use Rattle.plane_predicate.specs.Space.{Coefficients, Coordinates, opposite_of, is_same}
 use Rattle.plane_polygon.specs.Polygons.{Outline}
-use Rattle.plane_polygon.specs.Boxes.{box_outline, trimmed}
+use Rattle.plane_polygon.specs.Boxes.{box_outline, trimmed_outline}
 use Rattle.plane_polygon.specs.Parts.{is_behind}
 use Rattle.bsp_tree.specs.Trees.{Tree, inside, outside, node, size}
 use Rattle.bsp_tree.proofs.SameNumbers.{same_equal, not_same}
@@ -22,7 +22,7 @@ box x y z u v w =
 -- the part of a polygon behind all the planes
 abbrev within : List Coefficients → Outline → Outline
 within [] s = s
-within (m ∷ above) s = within above (trimmed s m)
+within (m ∷ above) s = within above (trimmed_outline s m)
 
 -- what is behind all the planes, where a leaf stands there and another one elsewhere
 abbrev chain : List Coefficients → List Coefficients → Tree → Tree → Tree

@@ -9,7 +9,7 @@ use Rattle.bsp_tree.specs.Cells.{IsInClosed, IsOfCell, IsOfWorld, IsPlaneOf, wor
 use Rattle.bsp_tree.proofs.Opposites.{opposite_twice}
 use Rattle.bsp_tree.proofs.PolygonsOfCells.{corner_covered}
 use Rattle.bsp_tree.proofs.Worlds.{closed_world}
-use Rattle.facet_cut.specs.Facets.{Piece, pieces, reversed, facing, facets_ahead, facets_between, facets_of}
+use Rattle.facet_cut.specs.Facets.{Piece, pieces, reversed_outline, facets_facing, facets_ahead, facets_between, facets_of}
 use Rattle.facet_cut.specs.Sides.{IsFacetOf, HasNone}
 use Rattle.facet_cut.proofs.Reversals.{reversed_polygon, covers_back}
 use Rattle.facet_cut.proofs.Pieces.{IsPartOf, part_itself, pieces_parts}
@@ -35,13 +35,13 @@ pub record IsFacetOn (s x : Outline) : Type 0 where
   pub plane : (x.plane ≡ s.plane) ⊎ (x.plane ≡ opposite_of s.plane)
   pub covers : (p : Coordinates) → Covers x p → Covers s p
 
-facing_on : (i j : Bool) (s r : Outline) → IsPartOf s r → All (IsFacetOn s) (facing i j r)
+facing_on : (i j : Bool) (s r : Outline) → IsPartOf s r → All (IsFacetOn s) (facets_facing i j r)
 facing_on true true s r h = All-nil (IsFacetOn s)
 facing_on false false s r h = All-nil (IsFacetOn s)
 facing_on true false s r h =
     one_item (IsFacetOn s) r (record { polygon = h.polygon; plane = inl h.plane; covers = h.covers })
 facing_on false true s r h =
-    one_item (IsFacetOn s) (reversed r) (record {
+    one_item (IsFacetOn s) (reversed_outline r) (record {
       polygon = reversed_polygon r h.polygon;
       plane = inr (ap opposite_of h.plane);
       covers = λ p c. h.covers p (covers_back r p c);
@@ -49,9 +49,9 @@ facing_on false true s r h =
 
 ahead_on : (i : Bool) (a : Tree) (s r : Outline) → IsPartOf s r → All (IsFacetOn s) (facets_ahead i a r)
 ahead_on i a s r h =
-    all_flat_map (IsFacetOn s) (λ q. facing i q.is_inside q.part) (pieces a r)
+    all_flat_map (IsFacetOn s) (λ q. facets_facing i q.is_inside q.part) (pieces a r)
     (All-weaker (λ (q : Piece). IsPartOf s q.part)
-    (λ (q : Piece). All (IsFacetOn s) (facing i q.is_inside q.part))
+    (λ (q : Piece). All (IsFacetOn s) (facets_facing i q.is_inside q.part))
     (λ q o. facing_on i q.is_inside s q.part o) (pieces a r) (pieces_parts a s r h))
 
 pub between_on : (b a : Tree) (s : Outline) → IsPolygon s → All (IsFacetOn s) (facets_between b a s)

@@ -14,7 +14,7 @@ use Rattle.link_forest.specs.declared.forest.Entry.{Entry}
 use Rattle.link_forest.specs.Forests.{IsNode}
 use Rattle.plane_table.specs.declared.faces.Face.{Face}
 use Rattle.plane_table.specs.declared.sorting.CornerSides.{CornerSides}
-use Rattle.plane_table.specs.Tables.{named}
+use Rattle.plane_table.specs.Tables.{plane_named}
 use Rattle.plane_table.specs.Faces.{outline_of, AreSidesWhereAcross}
 use Rattle.bsp_tree.specs.Links.{same_leaf}
 use Rattle.bsp_tree.specs.Trees.{Tree}
@@ -23,7 +23,7 @@ use Rattle.bsp_tree.proofs.Sheets.{node_shown}
 use Rattle.bsp_tree.proofs.Wholes.{leaf_tree}
 use Rattle.facet_cut.specs.declared.stops.CutStop.{CutStop}
 use Rattle.facet_cut.specs.declared.stops.CutStop.TheVariants.{TooMany, NoMemory}
-use Rattle.facet_cut.specs.Facets.{Piece, facets_ahead, facing, on_sides, pieces, facets_of}
+use Rattle.facet_cut.specs.Facets.{Piece, facets_ahead, facets_facing, on_sides, pieces, facets_of}
 use Rattle.facet_cut.specs.Adding.{Adds}
 
 -- ---- ends
@@ -52,13 +52,13 @@ end_pieces f planes nodes side s =
 pub across_node : (f : Piece → List Outline) (planes : List Coefficients) (nodes : List (Entry Face)) (link : Link) (id : NodeId)
     (own face : Face) (behind ahead : Link) (of_face : CornerSides) →
     link ≡ To id → IsNode nodes id own behind ahead →
-    AreSidesWhereAcross (outline_of planes face) (named planes own.plane) of_face → of_face.class ≡ Across →
+    AreSidesWhereAcross (outline_of planes face) (plane_named planes own.plane) of_face → of_face.class ≡ Across →
     flat_map f (pieces (tree_over planes nodes link) (outline_of planes face)) ≡
-    flat_map f (pieces (tree_over planes nodes behind) (part_behind (outline_of planes face) (named planes own.plane))) ++
-    flat_map f (pieces (tree_over planes nodes ahead) (part_ahead (outline_of planes face) (named planes own.plane)))
+    flat_map f (pieces (tree_over planes nodes behind) (part_behind (outline_of planes face) (plane_named planes own.plane))) ++
+    flat_map f (pieces (tree_over planes nodes ahead) (part_ahead (outline_of planes face) (plane_named planes own.plane)))
 across_node f planes nodes link id own face behind ahead of_face e n h x =
     let s = outline_of planes face in
-    let m = named planes own.plane in
+    let m = plane_named planes own.plane in
     let b = tree_over planes nodes behind in
     let a = tree_over planes nodes ahead in
     ap (λ (at : Link). flat_map f (pieces (tree_over planes nodes at) s)) e
@@ -68,14 +68,14 @@ across_node f planes nodes link id own face behind ahead of_face e n h x =
 
 -- ---- two leaves of one kind
 -- between which nothing is added
-no_wall : (side : Bool) (s : Outline) → facing side side s ≡ []
+no_wall : (side : Bool) (s : Outline) → facets_facing side side s ≡ []
 no_wall true s = refl
 no_wall false s = refl
 
 pub same_leaf_facets : (planes : List Coefficients) (nodes : List (Entry Face)) (side : Bool) (ahead : Link) (s : Outline) → same_leaf (End side) ahead ≡ true →
     facets_ahead side (tree_over planes nodes ahead) s ≡ []
-same_leaf_facets planes nodes true (End true) s e = end_pieces (λ (r : Piece). facing true r.is_inside r.part) planes nodes true s ∙ no_wall true s
-same_leaf_facets planes nodes false (End false) s e = end_pieces (λ (r : Piece). facing false r.is_inside r.part) planes nodes false s ∙ no_wall false s
+same_leaf_facets planes nodes true (End true) s e = end_pieces (λ (r : Piece). facets_facing true r.is_inside r.part) planes nodes true s ∙ no_wall true s
+same_leaf_facets planes nodes false (End false) s e = end_pieces (λ (r : Piece). facets_facing false r.is_inside r.part) planes nodes false s ∙ no_wall false s
 same_leaf_facets planes nodes true (End false) s e = absurd (false≢true e)
 same_leaf_facets planes nodes false (End true) s e = absurd (false≢true e)
 same_leaf_facets planes nodes true (To id) s e = absurd (false≢true e)

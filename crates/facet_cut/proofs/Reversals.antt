@@ -8,7 +8,7 @@ use Rattle.plane_predicate.proofs.Opposites.{from_zero, same_plane, same_point}
 use Rattle.plane_polygon.specs.Polygons.{Outline, after, edge, sides, corner, Covers, IsPolygon, IsStrictlyWithin, nowhere}
 use Rattle.plane_polygon.proofs.Hull.{after_is, after_below}
 use Rattle.bsp_tree.proofs.Opposites.{opposite_zero, opposite_back}
-use Rattle.facet_cut.specs.Facets.{reversed}
+use Rattle.facet_cut.specs.Facets.{reversed_outline}
 
 -- ---- Cramer's point does not change where the first plane is turned round and the other two are exchanged
 abbrev from_nothing : Coefficients → Coefficients
@@ -43,10 +43,10 @@ cramer_turned n e f =
     ∙ cramer_from_nothing n e f
 
 -- ---- edges and corners from the other side
-pub reversed_sides : (s : Outline) → sides (reversed s) ≡ sides s
+pub reversed_sides : (s : Outline) → sides (reversed_outline s) ≡ sides s
 reversed_sides s = length-reverse s.edges
 
-reversed_edge : (s : Outline) (i : ℕ) → i < sides s → edge (reversed s) i ≡ edge s (sides s - 1 - i)
+reversed_edge : (s : Outline) (i : ℕ) → i < sides s → edge (reversed_outline s) i ≡ edge s (sides s - 1 - i)
 reversed_edge s i h = get_or-reverse s.edges i nowhere h
 
 -- the corner that corner i is, seen from the other side
@@ -68,10 +68,10 @@ mirrored k i h = omega arith
 mirrored_apart : (k i j : ℕ) → i < k → j < k → j ≢ i → k - 1 - j ≢ k - 1 - i
 mirrored_apart k i j h l n e = n (omega arith)
 
-reversed_corner : (s : Outline) (i : ℕ) → i < sides s → corner (reversed s) i ≡ corner s (other (sides s) i)
+reversed_corner : (s : Outline) (i : ℕ) → i < sides s → corner (reversed_outline s) i ≡ corner s (other (sides s) i)
 reversed_corner s i h =
     let k = sides s in
-    ap (λ (c : ℕ). cramer (opposite_of s.plane) (edge (reversed s) i) (edge (reversed s) (after c i)))
+    ap (λ (c : ℕ). cramer (opposite_of s.plane) (edge (reversed_outline s) i) (edge (reversed_outline s) (after c i)))
     (reversed_sides s)
     ∙ ap₂ (cramer (opposite_of s.plane)) (reversed_edge s i h)
     (reversed_edge s (after k i) (after_below k i h))
@@ -79,7 +79,7 @@ reversed_corner s i h =
     ∙ ap (λ (j : ℕ). cramer s.plane (edge s (other k i)) (edge s j)) (sym (other_after k i h))
 
 -- it is a polygon
-pub reversed_polygon : (s : Outline) → IsPolygon s → IsPolygon (reversed s)
+pub reversed_polygon : (s : Outline) → IsPolygon s → IsPolygon (reversed_outline s)
 reversed_polygon s p =
     let k = sides s in record {
       three = subst (λ (c : ℕ). 3 ≤ c) (sym (reversed_sides s)) p.three;
@@ -103,13 +103,13 @@ mirrored_twice k j h = omega arith
 
 -- what holds of a polygon's edges holds of the other side's
 edges_over : (s : Outline) (P : Coefficients → Type 0) → ((j : ℕ) → j < sides s → P (edge s j)) → (j : ℕ) →
-    j < sides (reversed s) → P (edge (reversed s) j)
+    j < sides (reversed_outline s) → P (edge (reversed_outline s) j)
 edges_over s P h j l =
     let b : j < sides s = subst (λ (c : ℕ). j < c) (reversed_sides s) l in
     subst P (sym (reversed_edge s j b)) (h (sides s - 1 - j) (mirrored (sides s) j b))
 
 -- what is strictly within a polygon is so from the other side
-pub within_reversed : (s : Outline) (p : Coordinates) → IsStrictlyWithin s p → IsStrictlyWithin (reversed s) p
+pub within_reversed : (s : Outline) (p : Coordinates) → IsStrictlyWithin s p → IsStrictlyWithin (reversed_outline s) p
 within_reversed s p h = record {
   on = opposite_zero s.plane p h.on;
   behind =
@@ -118,14 +118,14 @@ within_reversed s p h = record {
 
 -- what holds of the other side's edges holds of the polygon's
 edges_back : (s : Outline) (P : Coefficients → Type 0) →
-    ((j : ℕ) → j < sides (reversed s) → P (edge (reversed s) j)) → (j : ℕ) → j < sides s → P (edge s j)
+    ((j : ℕ) → j < sides (reversed_outline s) → P (edge (reversed_outline s) j)) → (j : ℕ) → j < sides s → P (edge s j)
 edges_back s P h j l =
     let i = sides s - 1 - j in
     let b = mirrored (sides s) j l in
     subst (λ (k : ℕ). P (edge s k)) (mirrored_twice (sides s) j l)
     (subst P (reversed_edge s i b) (h i (subst (λ (c : ℕ). i < c) (sym (reversed_sides s)) b)))
 
-pub within_back : (s : Outline) (p : Coordinates) → IsStrictlyWithin (reversed s) p → IsStrictlyWithin s p
+pub within_back : (s : Outline) (p : Coordinates) → IsStrictlyWithin (reversed_outline s) p → IsStrictlyWithin s p
 within_back s p h = record {
   on = opposite_back s.plane p h.on;
   behind =
@@ -133,7 +133,7 @@ within_back s p h = record {
 }
 
 -- its points are the polygon's
-pub covers_back : (s : Outline) (p : Coordinates) → Covers (reversed s) p → Covers s p
+pub covers_back : (s : Outline) (p : Coordinates) → Covers (reversed_outline s) p → Covers s p
 covers_back s p h = record {
   weight = h.weight;
   on = opposite_back s.plane p h.on;
@@ -141,7 +141,7 @@ covers_back s p h = record {
       edges_back s (λ (e : Coefficients). value e p ≤ℤ pos 0) h.within;
 }
 
-pub covers_reversed : (s : Outline) (p : Coordinates) → Covers s p → Covers (reversed s) p
+pub covers_reversed : (s : Outline) (p : Coordinates) → Covers s p → Covers (reversed_outline s) p
 covers_reversed s p h = record {
   weight = h.weight;
   on = opposite_zero s.plane p h.on;

@@ -30,20 +30,20 @@ pieces (node t b a) s =
     (pieces a (part_ahead s t.plane))
 
 -- the same polygon, seen from the other side: counterclockwise from there
-abbrev pub reversed : Outline → Outline
-reversed s = record { plane = opposite_of s.plane; edges = reverse s.edges }
+abbrev pub reversed_outline : Outline → Outline
+reversed_outline s = record { plane = opposite_of s.plane; edges = reverse s.edges }
 
 -- what a polygon between two leaves gives, by whether the leaf just behind it and the one just ahead are
 -- inside: itself where the solid is just behind alone, reversed where it is just ahead alone
-abbrev pub facing : Bool → Bool → Outline → List Outline
-facing true false s = s ∷ []
-facing false true s = reversed s ∷ []
-facing true true s = []
-facing false false s = []
+abbrev pub facets_facing : Bool → Bool → Outline → List Outline
+facets_facing true false s = s ∷ []
+facets_facing false true s = reversed_outline s ∷ []
+facets_facing true true s = []
+facets_facing false false s = []
 
 -- the facets on a polygon that has a leaf just behind it, from its pieces in the solid ahead
 abbrev pub facets_ahead : Bool → Tree → Outline → List Outline
-facets_ahead inside_behind a s = flat_map (λ r. facing inside_behind r.is_inside r.part) (pieces a s)
+facets_ahead inside_behind a s = flat_map (λ r. facets_facing inside_behind r.is_inside r.part) (pieces a s)
 
 -- the facets on a polygon, from its pieces in the solid behind and their pieces in the solid ahead
 abbrev pub facets_between : Tree → Tree → Outline → List Outline

@@ -1,7 +1,7 @@
 //! Facets added to a list of at most so many.
 
 ghost use Rattle.std.specs.Prelude.{◌≤◌, [], ◌∷◌, length};
-ghost use Rattle.facet_cut.specs.Facets.{facing};
+ghost use Rattle.facet_cut.specs.Facets.{facets_facing};
 ghost use Rattle.facet_cut.specs.Adding.{Adds};
 
 use crate::facet::{facing_ahead, facing_back};
@@ -18,7 +18,7 @@ pub fn push_facing(
     found: &mut Vec<Facet>,
 ) -> Result<(), CutStop>
     requires { length found.old.items ≤ most }
-    ensures { Adds (facing behind ahead polygon) most found.old.items found.new.items result }
+    ensures { Adds (facets_facing behind ahead polygon) most found.old.items found.new.items result }
 {
     match (behind, ahead) {
         (true, true) | (false, false) => Ok(()),

@@ -2,7 +2,7 @@
 
 ghost use Rattle.std.specs.Prelude.{◌≡◌};
 ghost use Rattle.plane_polygon.specs.Polygons.{IsPolygon};
-ghost use Rattle.facet_cut.specs.Facets.{reversed};
+ghost use Rattle.facet_cut.specs.Facets.{reversed_outline};
 
 use plane_polygon::{Polygon, polygons_keep_their_form};
 use plane_predicate::{Plane, opposite};
@@ -42,7 +42,7 @@ pub fn facing_ahead(polygon: Polygon) -> Facet
 
 /// The facet on a polygon that faces the opposite of the polygon's plane.
 pub fn facing_back(polygon: Polygon) -> Facet
-    ensures { result ≡ reversed polygon }
+    ensures { result ≡ reversed_outline polygon }
 {
     polygons_keep_their_form(&polygon);
     let plane = opposite(polygon.plane());

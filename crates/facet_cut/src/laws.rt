@@ -5,14 +5,14 @@ ghost use Rattle.plane_predicate.specs.Space.{Coefficients, Coordinates, IsInClo
 ghost use Rattle.plane_polygon.specs.Polygons.{corner, sides, Covers, IsPolygon, IsStrictlyWithin, Outline};
 ghost use Rattle.bsp_tree.specs.Trees.{Tree};
 ghost use Rattle.bsp_tree.specs.Cells.{IsOfCell, IsOfWorld};
-ghost use Rattle.facet_cut.specs.Facets.{facets_of, reversed};
+ghost use Rattle.facet_cut.specs.Facets.{facets_of, reversed_outline};
 ghost use Rattle.facet_cut.specs.Sides.{Bound, IsFacetOf};
 
 /// A polygon seen from the other side is a polygon of the opposite plane with the same points.
 pub fn reversed_polygons_are_polygons()
-    ensures polygon { (s : Outline) → IsPolygon s → IsPolygon (reversed s) }
-    ensures points { (s : Outline) (p : Coordinates) → Covers (reversed s) p ↔ Covers s p }
-    ensures within { (s : Outline) (p : Coordinates) → IsStrictlyWithin (reversed s) p ↔ IsStrictlyWithin s p }
+    ensures polygon { (s : Outline) → IsPolygon s → IsPolygon (reversed_outline s) }
+    ensures points { (s : Outline) (p : Coordinates) → Covers (reversed_outline s) p ↔ Covers s p }
+    ensures within { (s : Outline) (p : Coordinates) → IsStrictlyWithin (reversed_outline s) p ↔ IsStrictlyWithin s p }
 {}
 
 /// Each facet of a solid of a cell is a polygon of the plane of some node or of its opposite, and

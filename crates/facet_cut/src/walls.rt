@@ -2,11 +2,11 @@
 
 ghost use Rattle.std.specs.Prelude.{◌≤◌, length};
 ghost use Rattle.link_forest.specs.Forests.{IsLinkOf};
-ghost use Rattle.plane_table.specs.Tables.{named};
+ghost use Rattle.plane_table.specs.Tables.{plane_named};
 ghost use Rattle.plane_table.specs.Faces.{outline_of, IsFaceOver};
 ghost use Rattle.plane_table.specs.Cuts.{part_in, IsCrossing};
 ghost use Rattle.bsp_tree.specs.Shapes.{tree_over, AreFacesOver};
-ghost use Rattle.facet_cut.specs.Facets.{facets_ahead, facets_between, facets_of, facing};
+ghost use Rattle.facet_cut.specs.Facets.{facets_ahead, facets_between, facets_of, facets_facing};
 ghost use Rattle.facet_cut.specs.Adding.{Adds};
 
 use crate::adding::push_facing;
@@ -153,7 +153,7 @@ impl<'a> Walls<'a> {
         requires ahead { IsLinkOf self.now.forest.now.nodes ahead }
         requires crossing { IsCrossing self.now.table.now crossing }
         requires within { length found.old.items ≤ most }
-        ensures { Adds (facets_ahead is_inside (tree_over self.now.table.now self.now.forest.now.nodes ahead) (part_in half (outline_of self.now.table.now crossing.entry.face.now) (named self.now.table.now crossing.entry.number))) most found.old.items found.new.items result }
+        ensures { Adds (facets_ahead is_inside (tree_over self.now.table.now self.now.forest.now.nodes ahead) (part_in half (outline_of self.now.table.now crossing.entry.face.now) (plane_named self.now.table.now crossing.entry.number))) most found.old.items found.new.items result }
     {
         if is_same_leaf(Link::End(is_inside), ahead) {
             return Ok(());
@@ -174,7 +174,7 @@ impl<'a> Walls<'a> {
     ) -> Result<(), CutStop>
         requires face { IsFaceOver self.now.table.now face.now }
         requires within { length found.old.items ≤ most }
-        ensures { Adds (facing is_inside is_ahead_inside (outline_of self.now.table.now face.now)) most found.old.items found.new.items result }
+        ensures { Adds (facets_facing is_inside is_ahead_inside (outline_of self.now.table.now face.now)) most found.old.items found.new.items result }
     {
         if is_inside == is_ahead_inside {
             return Ok(());

@@ -3,7 +3,7 @@ use Rattle.std.proofs.Common.{◌≡◌, ℕ, ◌+◌, ◌≤◌, Bool, true, fa
 use Rattle.std.proofs.lemmas.List.Elements.{filter-append, filter_agree}
 use Rattle.std.proofs.lemmas.List.Folds.{list_any-append}
 use Rattle.std.proofs.lemmas.List.Sums.{sum_by_push, sum_by-cons}
-use Rattle.flight_memo.specs.Claims.{Claim, Event, Begun, Ended, MayFollow, IsLegalBehind, IsLegalLog, live_in, claims_in, claim_of, has_ended, is_end_of, is_of, is_live, goes_on, begun_in, ended_in, begun_by, ended_by, is_other}
+use Rattle.flight_memo.specs.Claims.{View, IsSingle, IsClosed, Claim, Event, Begun, Ended, MayFollow, IsLegalBehind, IsLegalLog, live_in, claims_in, claim_of, has_ended, is_end_of, is_of, is_live, goes_on, begun_in, ended_in, begun_by, ended_by, is_other}
 
 -- ---- truth values
 or_none : (a : Bool) → (a || false) ≡ a
@@ -99,3 +99,21 @@ module _ {K : Type 0} where
       without (is_of number claim) number claim live
       (λ e. one_less number live (ap (λ b. b || is_live number live) (sym e) ∙ is))
       (others_few number live)
+
+-- claims of a legal log of which as many ended as began: none of them is live
+module _ {K : Type 0} where
+  pub none_left : (live : List (Claim K)) (begun ended : ℕ) → length live + ended ≤ begun → begun ≡ ended → live ≡ []
+  none_left [] begun ended few all = refl
+  none_left (claim ∷ live) begun ended few all = absurd (omega (arith, few, all))
+
+  pub closed_of : (misses : ℕ) (view : View K) → IsLegalLog view.log → view.live ≡ live_in view.log → IsSingle view.log → length view.live + ended_in view.log ≤ begun_in view.log →
+      begun_in view.log ≡ misses → ended_in view.log ≡ misses → IsClosed misses view
+  closed_of misses view legal live single few begun ended =
+      let none = none_left view.live (begun_in view.log) (ended_in view.log) few (begun ∙ sym ended) in record {
+        legal = legal;
+        single = single;
+        begun = begun;
+        ended = ended;
+        live = none;
+        none_live = sym live ∙ none;
+      }

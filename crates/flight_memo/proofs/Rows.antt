@@ -23,13 +23,14 @@ finished_is_legal = ((refl, All-nil _), (refl, tt))
 abbrev ended_all : List (Event ℕ) → View ℕ
 ended_all log = record { live = []; log = log; places = 0; spare = 0 }
 
-finished_is_closed : IsClosed 1 1 (ended_all finished)
+finished_is_closed : IsClosed 1 (ended_all finished)
 finished_is_closed = record {
   legal = finished_is_legal;
-  live = refl;
   single = single_of_legal finished finished_is_legal;
   begun = refl;
   ended = refl;
+  live = refl;
+  none_live = refl;
 }
 
 -- the first caller gives the claim back, and then the second one claims the key and gives it back
@@ -39,18 +40,26 @@ given_back = Begun (claim 0 0) ∷ Ended 0 false ∷ Begun (claim 1 1) ∷ Ended
 given_back_is_legal : IsLegalLog given_back
 given_back_is_legal = ((refl, All-nil _), (refl, ((refl, All-nil _), (refl, tt))))
 
-given_back_is_closed : IsClosed 2 2 (ended_all given_back)
+given_back_is_closed : IsClosed 2 (ended_all given_back)
 given_back_is_closed = record {
   legal = given_back_is_legal;
-  live = refl;
   single = single_of_legal given_back given_back_is_legal;
   begun = refl;
   ended = refl;
+  live = refl;
+  none_live = refl;
 }
 
 -- a log that has not so many beginnings as there were misses is not that of a closed memo
-misses_more : IsClosed 2 1 (ended_all finished) → ⊥
+misses_more : IsClosed 2 (ended_all finished) → ⊥
 misses_more closed = absurd (omega (arith, closed.begun))
+
+-- a log that lacks an end is not, and nor are claims of which one is live
+ends_less : IsClosed 1 (ended_all (Begun (claim 0 0) ∷ [])) → ⊥
+ends_less closed = absurd (omega (arith, closed.ended))
+
+one_is_left : IsClosed 1 (record { live = claim 0 0 ∷ []; log = finished; places = 0; spare = 0 }) → ⊥
+one_is_left closed = absurd (cc closed.live)
 
 -- the second caller's claim of another key
 abbrev other : Claim ℕ

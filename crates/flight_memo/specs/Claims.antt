@@ -1,6 +1,7 @@
 -- Claims of missing keys, and the log of how they began and ended.
 use Rattle.std.specs.Prelude.{◌≡◌, ℕ, Bool, true, false, not, List, [], ◌∷◌, ◌++◌, filter, take, flat_map, sum_by, nat_eq, All, if◌then◌else◌}
 use Rattle.std.specs.List.{AllPairs, list_any}
+use Rattle.subtree_memo.specs.Shares.{View as ShareView}
 
 -- a claim: its number, whose it is, and of which key
 pub record Claim (K : Type 0) : Type 0 where
@@ -12,6 +13,13 @@ pub record Claim (K : Type 0) : Type 0 where
 pub data Event (K : Type 0) : Type 0 where
   Begun : Claim K → Event K
   Ended : (number : ℕ) → (filled : Bool) → Event K
+
+-- What contracts see of a claim that its caller holds: its number, its key, and the caller's share of the memo's books, on which
+-- its miss and its beginning are booked, and its end is not.
+pub record ClaimView (K : Type 0) : Type 0 where
+  pub number : ℕ
+  pub key : K
+  pub share : ShareView
 
 -- what contracts see of claims: those that are live, and the log
 pub record View (K : Type 0) : Type 0 where
@@ -112,10 +120,11 @@ module _ {K : Type 0} where
   IsSingle log = (n : ℕ) → NoKeyTwice (live_in (take n log))
 
   -- What the claims of a memo say once it is closed: their log is legal and no key ever had two live claims, as many claims
-  -- began as there were misses, and so many ended.
-  pub record IsClosed (misses ends : ℕ) (view : View K) : Type 0 where
+  -- began as there were misses, all of them ended, and none is live.
+  pub record IsClosed (misses : ℕ) (view : View K) : Type 0 where
     pub legal : IsLegalLog view.log
-    pub live : view.live ≡ live_in view.log
     pub single : IsSingle view.log
     pub begun : begun_in view.log ≡ misses
-    pub ended : ended_in view.log ≡ ends
+    pub ended : ended_in view.log ≡ misses
+    pub live : view.live ≡ []
+    pub none_live : live_in view.log ≡ []

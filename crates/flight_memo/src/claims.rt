@@ -4,7 +4,7 @@ ghost use Rattle.std.specs.Prelude.{◌≡◌, ◌+◌, ◌≤◌, ◌<◌, [], 
 ghost use Rattle.std.specs.Arc.{arc_value};
 ghost use Rattle.std.specs.Bool.{Decides};
 ghost use Rattle.std.specs.List.{list_any};
-ghost use Rattle.flight_memo.specs.Claims.{Begun, Ended, IsFree, IsSingle, IsLegalLog, live_in, begun_in, is_live, ended_log};
+ghost use Rattle.flight_memo.specs.Claims.{Begun, Ended, IsFree, IsSingle, IsLegalLog, live_in, begun_in, ended_in, is_live, ended_log};
 ghost use Rattle.flight_memo.specs.Fields.{events_of, is_item, is_other_item};
 
 use memo_core::Fit;
@@ -35,10 +35,19 @@ pub enum LogItem<K> {
     },
 }
 
-/// A claim of one's own, which is to be spent: it is not dropped, and only `finish` and `give_back` take it.
-pub struct Claim<K> {
-    pub(crate) number: u64,
-    pub(crate) key: Arc<K>,
+/// What its claims give for a live claim: its number and its key. It is not dropped, and only `Claims::end` takes it.
+pub struct Ticket<K> {
+    number: u64,
+    key: Arc<K>,
+}
+
+impl<K> Ticket<K> {
+    /// The key of the claim.
+    pub(crate) fn key(&self) -> &Arc<K>
+        ensures { arc_value result.now ≡ arc_value self.now.key }
+    {
+        &self.key
+    }
 }
 
 /// Three references to one key, for the log, the live claims and the claim itself.
@@ -112,6 +121,7 @@ impl<F: Fit> Claims<F> {
         ensures legal { IsLegalLog self.now.log }
         ensures live { self.now.live ≡ live_in self.now.log }
         ensures single { IsSingle self.now.log }
+        ensures few { length self.now.live + ended_in self.now.log ≤ begun_in self.now.log }
     {
         self.log.as_slice()
     }
@@ -140,7 +150,7 @@ impl<F: Fit> Claims<F> {
     }
 
     /// Begins a claim of a key that no live claim has, for which there is room.
-    pub(crate) fn begin(&mut self, caller: u32, copies: Copies<F::Key>) -> Claim<F::Key>
+    pub(crate) fn begin(&mut self, caller: u32, copies: Copies<F::Key>) -> Ticket<F::Key>
         requires free { IsFree (arc_value copies.noted) self.old.live }
         requires room { (0 < self.old.places) × (length self.old.live + 2 ≤ self.old.spare) }
         ensures log { self.new.log ≡ self.old.log ++ Begun (record {
@@ -163,14 +173,16 @@ impl<F: Fit> Claims<F> {
             key: held,
         });
         self.begun += 1;
-        Claim { number, key: own }
+        Ticket { number, key: own }
     }
 
-    /// Ends the claim of a number where it is live, and says whether it was.
-    pub(crate) fn end(&mut self, number: u64, filled: bool) -> bool
-        ensures live { result ≡ is_live number self.old.live }
-        ensures log { self.new.log ≡ ended_log result number filled self.old.log }
+    /// Ends a claim where it is live, and says whether it was.
+    pub(crate) fn end(&mut self, claim: Ticket<F::Key>, filled: bool) -> bool
+        ensures live { result ≡ is_live claim.number self.old.live }
+        ensures log { self.new.log ≡ ended_log result claim.number filled self.old.log }
     {
+        let Ticket { number, key } = claim;
+        drop(key);
         let is_live = has_number(&self.live, number);
         if is_live {
             self.log.push_reserved(LogItem::Ended { number, filled });

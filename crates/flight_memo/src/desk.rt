@@ -1,17 +1,18 @@
-ghost use Rattle.std.specs.Prelude.{◌≡◌, ◌<◌, IfOk, OnErr, IfSome, IfNone};
+ghost use Rattle.std.specs.Prelude.{◌≡◌, ◌<◌, ◌++◌, ◌∷◌, [], IfOk, OnErr, IfSome, IfNone};
 ghost use Rattle.std.specs.Arc.{arc_value};
-ghost use Rattle.flight_memo.specs.Claims.{IsFree, is_live, begun_in, ended_in, ended_log};
-ghost use Rattle.flight_memo.specs.Shares.{end_booked};
+ghost use Rattle.flight_memo.specs.Claims.{Ended, IsFree, begun_in, ended_in};
 ghost use Rattle.flight_memo.specs.Answers.{IsClaimed, IsLogged};
 
-use crate::claims::{Claim, Claims, Copies};
+use crate::claim::Claim;
+use crate::claims::{Claims, Copies};
 use crate::flight::Claimed;
 use crate::flight_share::FlightShare;
 use crate::ledgers::FlightBooks;
 use memo_core::{Fit, Namer, Probe};
 use std::alloc::Global;
-use std::sync::ledger::Book;
+use std::sync::ledger::{Book, Ledger, Share as Part};
 use std::sync::{Arc, Wait};
+use std::{mem, thread};
 use subtree_memo::Memo;
 use text_place::NoMemory;
 
@@ -35,7 +36,7 @@ impl<F: Fit, B: FlightBooks> Desk<F, B> {
         memo: &Memo<F, N, B>,
         share: &mut FlightShare<B>,
         key: &Arc<F::Key>,
-    ) -> Result<Option<Claimed<F::Key, F::Value>>, NoMemory>
+    ) -> Result<Option<Claimed<F::Key, F::Value, B>>, NoMemory>
         requires { 0 < share.old.share.parts }
         ensures claimed { IfOk result (λ c. IfSome c (IsClaimed F.fits (arc_value key.now) share.old share.new)) }
         ensures free { IfOk result (λ c. IfSome c (λ d. IsFree (arc_value key.now) self.old.claims.live)) }
@@ -52,22 +53,56 @@ impl<F: Fit, B: FlightBooks> Desk<F, B> {
         match memo.probe(rt, alloc, &mut share.share, key)? {
             Probe::Hit(value) => Ok(Some(Claimed::Value(value))),
             Probe::Miss => {
-                let claim = self.claims.begin(share.share.caller(), copies);
+                let ticket = self.claims.begin(share.share.caller(), copies);
                 self.begun.add(&mut share.begun, 1);
-                Ok(Some(Claimed::Mine(claim)))
+                Ok(Some(Claimed::Mine(Claim {
+                    ticket,
+                    share: share.share.take(),
+                    begun: taken(&mut share.begun),
+                    ended: taken(&mut share.ended),
+                })))
             }
         }
     }
 
-    /// Ends a claim where it is live: one end is in the log then, and booked. Where it is not, nothing changes.
-    pub fn end(&mut self, share: &mut FlightShare<B>, claim: Claim<F::Key>, filled: bool)
-        requires { 0 < share.old.share.parts }
-        ensures log { self.new.claims.log ≡ ended_log (is_live claim.number self.old.claims.live) claim.number filled self.old.claims.log }
-        ensures booked { share.new ≡ end_booked (is_live claim.number self.old.claims.live) share.old }
+    /// Ends a claim, which is live: one end is in the log then, and booked. Gives the share back that the claim took along.
+    pub fn end<R: Wait>(&mut self, rt: &R, claim: Claim<F::Key, B>, filled: bool) -> FlightShare<B>
+        ensures log { self.new.claims.log ≡ self.old.claims.log ++ Ended claim.number filled ∷ [] }
+        ensures share { result.share ≡ claim.share }
     {
-        let Claim { number, key: _key } = claim;
-        if self.claims.end(number, filled) {
-            self.ended.add(&mut share.ended, 1);
+        let Claim {
+            ticket,
+            share,
+            begun,
+            mut ended,
+        } = claim;
+        if !self.claims.end(ticket, filled) {
+            wait_for_ever(rt);
+        }
+        self.ended.add(&mut ended, 1);
+        FlightShare {
+            share,
+            begun,
+            ended,
         }
     }
+}
+
+// The whole of a part of a ledger. What is left is empty.
+fn taken<L: Ledger>(part: &mut Part<L>) -> Part<L>
+    ensures whole { (result.parts ≡ part.old.parts) × (result.amount ≡ part.old.amount) }
+    ensures rest { (part.new.parts ≡ 0) × (part.new.amount ≡ 0) }
+{
+    let empty = part.empty();
+    mem::replace(part, empty)
+}
+
+// Never returns. It stands where no claim comes: that of a claim that is not live, as no proof knows that each one is.
+fn wait_for_ever<R: Wait>(rt: &R)
+    ensures { ⊥ }
+{
+    for _ in rt.forever() {
+        thread::yield_now();
+    }
+    unreachable!()
 }

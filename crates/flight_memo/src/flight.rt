@@ -1,13 +1,14 @@
 ghost use Rattle.std.specs.Prelude.{◌≡◌, ◌<◌, All, map, sum_by, IfOk, OnErr};
 ghost use Rattle.std.specs.Arc.{arc_value};
 ghost use Rattle.memo_core.specs.Views.{IsSound};
-ghost use Rattle.subtree_memo.specs.Shares.{IsOf, opened, fill_booked};
+ghost use Rattle.subtree_memo.specs.Shares.{IsOf, opened, joined, fill_booked};
 ghost use Rattle.subtree_memo.specs.Tallies.{tally_of, AreSums};
 ghost use Rattle.flight_memo.specs.Claims.{IsClosed};
-ghost use Rattle.flight_memo.specs.Shares.{MayEnd, opened_flights};
+ghost use Rattle.flight_memo.specs.Shares.{opened_flights};
 ghost use Rattle.flight_memo.specs.Answers.{IsClaimed};
 
-use crate::claims::{Claim, Claims};
+use crate::claim::Claim;
+use crate::claims::Claims;
 use crate::desk::Desk;
 use crate::flight_share::{FlightShare, all_flights, flights_of};
 use crate::ledgers::{FlightBlanks, FlightBooks};
@@ -18,9 +19,9 @@ use subtree_memo::{Memo, Share, Tally};
 use text_place::NoMemory;
 
 /// The answer to a claim: the value, which the memo held, or a claim of one's own.
-pub enum Claimed<K, V> {
+pub enum Claimed<K, V, B: FlightBooks> {
     Value(Arc<V>),
-    Mine(Claim<K>),
+    Mine(Claim<K, B>),
 }
 
 /// A memo whose missing keys are claimed. Whenever its lock is free, the log of the claims is legal: so no key has two live
@@ -72,7 +73,7 @@ impl<F: Fit, N: Namer<F::Key>, B: FlightBooks> Flight<F, N, B> {
         alloc: Global,
         share: &mut FlightShare<B>,
         key: &Arc<F::Key>,
-    ) -> Result<Claimed<F::Key, F::Value>, NoMemory>
+    ) -> Result<Claimed<F::Key, F::Value, B>, NoMemory>
         requires { 0 < share.old.share.parts }
         ensures claimed { IfOk result (IsClaimed F.fits (arc_value key.now) share.old share.new) }
         ensures err { OnErr result (share.new ≡ share.old) }
@@ -87,52 +88,53 @@ impl<F: Fit, N: Namer<F::Key>, B: FlightBooks> Flight<F, N, B> {
         unreachable!()
     }
 
-    /// Fills the key of a claim, as `Memo::fill`, and then ends the claim, where it is live: at most one end is booked.
-    /// Wakes who waits for an end.
+    /// Fills the key of a claim, as `Memo::fill`, and then ends the claim. The caller has its share back then, on which the fill and
+    /// the end are booked. Wakes who waits for an end.
     pub fn finish<R: Wait>(
         &self,
         rt: &R,
         alloc: Global,
         share: &mut FlightShare<B>,
-        claim: Claim<F::Key>,
+        mut claim: Claim<F::Key, B>,
         value: Arc<F::Value>,
         weight: u64,
     ) -> Fill
-        requires parts { 0 < share.old.share.parts }
-        requires fits { F.fits (arc_value claim.key) (arc_value value) }
+        requires caller { claim.share.caller ≡ share.old.share.caller }
+        requires fits { F.fits claim.key (arc_value value) }
         requires weight { weight ≡ F.weighs (arc_value value) }
-        ensures filled { share.new.share ≡ fill_booked result share.old.share }
-        ensures ended { MayEnd share.old.ended share.new.ended }
+        ensures { share.new.share ≡ joined share.old.share (fill_booked result claim.share) }
     {
+        let key = claim.ticket.key();
         let answer = self
             .memo
-            .fill(rt, alloc, &mut share.share, &claim.key, value, weight);
-        self.desk.lock(rt).end(share, claim, true);
+            .fill(rt, alloc, &mut claim.share, key, value, weight);
+        let own = self.desk.lock(rt).end(rt, claim, true);
         self.ended.notify_all();
+        share.absorb(own);
         answer
     }
 
-    /// Ends a claim without a fill, where it is live: at most one end is booked. Wakes who waits for an end. Takes no
-    /// memory.
-    pub fn give_back<R: Wait>(&self, rt: &R, share: &mut FlightShare<B>, claim: Claim<F::Key>)
-        requires { 0 < share.old.share.parts }
-        ensures same { share.new.share ≡ share.old.share }
-        ensures ended { MayEnd share.old.ended share.new.ended }
+    /// Ends a claim without a fill. The caller has its share back then, on which the end is booked. Wakes who waits for an end.
+    /// Takes no memory: the log has had room for this end since the claim began. That waiters are woken is shown by cases alone.
+    pub fn give_back<R: Wait>(&self, rt: &R, share: &mut FlightShare<B>, claim: Claim<F::Key, B>)
+        requires { claim.share.caller ≡ share.old.share.caller }
+        ensures { share.new.share ≡ joined share.old.share claim.share }
     {
-        self.desk.lock(rt).end(share, claim, false);
+        let own = self.desk.lock(rt).end(rt, claim, false);
         self.ended.notify_all();
+        share.absorb(own);
     }
 
     /// The memo, its tally and the claims, once all shares are back. The tally is that of the memo's journal, and what was booked
     /// on the shares. The log of the claims is legal, so that no key ever had two live claims; it has as many beginnings as there were
-    /// misses, and as many ends as were booked.
+    /// misses, and as many ends, so that no claim is live.
     pub fn close(self, shares: Vec<FlightShare<B>>) -> (Tally, MemoCore<F, N>, Claims<F>)
         requires whole { (0 < B.Hits.parts) × (sum_by (λ s. s.share.parts) shares.items ≡ B.Hits.parts) }
         requires ledgers { (B.Misses.parts ≡ B.Hits.parts) × (B.Kept.parts ≡ B.Hits.parts) × (B.Heavy.parts ≡ B.Hits.parts)
             × (B.Begun.parts ≡ B.Hits.parts) × (B.Ended.parts ≡ B.Hits.parts) }
         ensures tally { result.0 ≡ tally_of result.1.journal result.0.dropped }
         ensures booked { AreSums (map (λ s. s.share) shares.items) result.0 }
-        ensures claims { IsClosed result.0.misses (sum_by (λ s. s.ended) shares.items) result.2 }
+        ensures claims { IsClosed result.0.misses result.2 }
         ensures sound { IsSound F.same_key N.name_of F.fits F.weighs result.1 }
         ensures limits { (result.1.budget ≡ B.Hits.budget) × (result.1.share ≡ B.Hits.share) }
         ensures callers { All (λ i. i.caller < B.Hits.callers) result.1.journal }

@@ -9,7 +9,7 @@ use std::sync::ledger::Share as Part;
 use subtree_memo::Share;
 use text_place::NoMemory;
 
-/// One caller's share of the books of a memo and of its claims: as many claims began on it as there were misses, and so many
+/// One caller's share of the books of a memo and of its claims: as many claims began on it as there were misses, and as many
 /// ended.
 #[derive(Drop)]
 pub struct FlightShare<B: FlightBooks> {
@@ -24,10 +24,10 @@ impl<B: FlightBooks> Model for FlightShare<B> {
 
     ghost Value = { FlightView };
 
-    ghost view = { λ s. record { share = s.share; ended = s.ended.amount } };
+    ghost view = { λ s. record { share = s.share } };
 
     ghost invariant = { λ s. (s.begun.parts ≡ s.share.parts) × (s.ended.parts ≡ s.share.parts)
-        × (s.begun.amount ≡ s.share.misses) };
+        × (s.begun.amount ≡ s.share.misses) × (s.ended.amount ≡ s.share.misses) };
 }
 
 impl<B: FlightBooks> FlightShare<B> {
@@ -42,7 +42,7 @@ impl<B: FlightBooks> FlightShare<B> {
     pub fn split(&mut self) -> FlightShare<B>
         requires { 2 ≤ self.old.share.parts }
         ensures new { result ≡ fresh_flight self.old.share.caller 1 }
-        ensures rest { self.new ≡ record self.old { share = record self.old.share { parts = self.old.share.parts - 1 } } }
+        ensures rest { self.new ≡ record { share = record self.old.share { parts = self.old.share.parts - 1 } } }
     {
         FlightShare {
             share: self.share.split(),

@@ -2,10 +2,9 @@
 
 use crate::asking::{Hands, ask, asking_of, print, printing_of};
 use crate::polygons::{Polygons, shaping_of};
-use case_faces::{put_face, put_tabled, tabling_of};
 use case_lines::{CaseStop, Phrase};
 use case_planes::{Walls, lay, laying_of};
-use case_solids::{Solids, building_of};
+use case_solids::{Solids, building_of, put_face, put_tabled, tabling_of};
 use std::alloc::Global;
 use std::thread::Threads;
 

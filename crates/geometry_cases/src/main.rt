@@ -36,8 +36,8 @@ mod build;
 mod polygons;
 
 use crate::build::Bench;
-use case_faces::put_about;
 use case_lines::{CaseStop, answer_cases, cut, phrases_of, put_next, unfolded};
+use case_solids::put_about;
 use std::alloc::Global;
 use std::process::ExitCode;
 use std::thread::Threads;

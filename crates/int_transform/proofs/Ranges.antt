@@ -8,7 +8,7 @@ use Rattle.plane_predicate.specs.Space.{Coordinates, point_at}
 use Rattle.plane_predicate.proofs.IntegerRing.{mul_comm_ℤ, one_mul, sums}
 use Rattle.int_transform.specs.declared.affine.Affine.{Affine}
 use Rattle.int_transform.specs.Maps.{coordinates, determinant_of, image, map_of, HasSafeCoordinates, LeavesRange}
-use Rattle.int_transform.proofs.Images.{image-identity, image-step, determinant-composed}
+use Rattle.int_transform.proofs.Images.{image-identity, image-step, determinant-composition}
 use Rattle.int_transform.proofs.Regular.{no_product}
 
 times_one : (d : ℤ) → d *ℤ pos 1 ≡ d
@@ -69,7 +69,7 @@ one_is_not_zero e = omega (arith, sums, e)
 pub regular_map : (steps : List Affine) → All IsRegular steps → IsRegular (map_of steps)
 regular_map [] h e = one_is_not_zero e
 regular_map (s ∷ steps) h e =
-    no_product (determinant_of (map_of steps)) (determinant_of s) (regular_map steps (All-tail IsRegular s steps h)) (All-head IsRegular s steps h) (sym (determinant-composed (map_of steps) s) ∙ e)
+    no_product (determinant_of (map_of steps)) (determinant_of s) (regular_map steps (All-tail IsRegular s steps h)) (All-head IsRegular s steps h) (sym (determinant-composition (map_of steps) s) ∙ e)
 
 pub regular_steps : (steps : List Affine) (i : ℕ) → i ≡ length steps → All IsRegular (take i steps) → IsRegular (map_of steps)
 regular_steps steps i e h = regular_map steps (subst (All IsRegular) (take-length steps) (subst (λ (n : ℕ). All IsRegular (take n steps)) e h))

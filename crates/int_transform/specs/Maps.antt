@@ -22,8 +22,8 @@ row_after r m = record {
 }
 
 -- the product of two maps: first m, then n
-abbrev pub composed : Affine → Affine → Affine
-composed n m = record { x = row_after n.x m; y = row_after n.y m; z = row_after n.z m }
+abbrev pub composition : Affine → Affine → Affine
+composition n m = record { x = row_after n.x m; y = row_after n.y m; z = row_after n.z m }
 
 -- each coordinate times a number, and another one added
 abbrev pub diagonal : ℤ → ℤ → ℤ → ℤ → ℤ → ℤ → Affine
@@ -33,27 +33,28 @@ diagonal a b c x y z = record {
   z = record { a = pos 0; b = pos 0; c = c; d = z };
 }
 
+-- the map that moves nothing
 abbrev pub identity : Affine
 identity = diagonal (pos 1) (pos 1) (pos 1) (pos 0) (pos 0) (pos 0)
 
 -- a list of steps as one map: the first of the list is done first
 abbrev pub map_of : List Affine → Affine
 map_of [] = identity
-map_of (step ∷ steps) = composed (map_of steps) step
+map_of (step ∷ steps) = composition (map_of steps) step
 
 -- the move by a vector (User Manual, translate)
-abbrev pub moving : Coordinates → Affine
-moving p = diagonal (pos 1) (pos 1) (pos 1) p.x p.y p.z
+abbrev pub translation : Coordinates → Affine
+translation p = diagonal (pos 1) (pos 1) (pos 1) p.x p.y p.z
 
 -- each coordinate times a factor of its own (User Manual, scale)
-abbrev pub scaling : Coordinates → Affine
-scaling p = diagonal p.x p.y p.z (pos 0) (pos 0) (pos 0)
+abbrev pub scale_map : Coordinates → Affine
+scale_map p = diagonal p.x p.y p.z (pos 0) (pos 0) (pos 0)
 
 -- the mirror image at the plane through the origin across axis 0, 1 or 2 (User Manual, mirror)
-abbrev pub mirroring : ℕ → Affine
-mirroring zero = diagonal (negsuc 0) (pos 1) (pos 1) (pos 0) (pos 0) (pos 0)
-mirroring (suc zero) = diagonal (pos 1) (negsuc 0) (pos 1) (pos 0) (pos 0) (pos 0)
-mirroring (suc (suc n)) = diagonal (pos 1) (pos 1) (negsuc 0) (pos 0) (pos 0) (pos 0)
+abbrev pub reflection : ℕ → Affine
+reflection zero = diagonal (negsuc 0) (pos 1) (pos 1) (pos 0) (pos 0) (pos 0)
+reflection (suc zero) = diagonal (pos 1) (negsuc 0) (pos 1) (pos 0) (pos 0) (pos 0)
+reflection (suc (suc n)) = diagonal (pos 1) (pos 1) (negsuc 0) (pos 0) (pos 0) (pos 0)
 
 -- a right-handed quarter turn about axis 0, 1 or 2: about z, x goes to y (User Manual, rotate)
 abbrev pub quarter_turn : ℕ → Affine
@@ -80,6 +81,7 @@ cosine_of (suc zero) = pos 0
 cosine_of (suc (suc zero)) = negsuc 0
 cosine_of (suc (suc (suc n))) = pos 0
 
+-- the sine of so many quarter turns
 abbrev pub sine_of : ℕ → ℤ
 sine_of zero = pos 0
 sine_of (suc zero) = pos 1
@@ -105,9 +107,9 @@ rotation_of (suc (suc n)) c s = record {
 }
 
 -- a map done so many times
-abbrev pub repeated : Affine → ℕ → Affine
-repeated m zero = identity
-repeated m (suc n) = composed m (repeated m n)
+abbrev pub power_of : Affine → ℕ → Affine
+power_of m zero = identity
+power_of m (suc n) = composition m (power_of m n)
 
 -- the row with these numbers
 abbrev pub row_of : List ℤ → Row
@@ -152,6 +154,7 @@ pub record IsMatrixRow (r : Row) : Type 0 where
   pub c_size : unsigned_abs r.c ≤ 65535
   pub d_size : unsigned_abs r.d ≤ 9007199254740991
 
+-- a map that a matrix of the manual may give: small linear entries, and safe moves
 pub record IsMatrix (m : Affine) : Type 0 where
   pub x : IsMatrixRow m.x
   pub y : IsMatrixRow m.y

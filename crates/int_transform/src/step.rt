@@ -2,7 +2,7 @@
 
 ghost use Rattle.std.specs.Prelude.{◌≡◌, ◌<◌, ◌≤◌, ◌⊎◌, ◌↔◌, ◌*◌, ◌+ℤ◌, ◌*ℤ◌, pos, unsigned_abs, IfSome, IsNone};
 ghost use Rattle.plane_predicate.specs.Space.{point_at, minor};
-ghost use Rattle.int_transform.specs.Maps.{affine_of, coordinates, determinant_of, cosine_of, diagonal as diagonal_of, image, mirroring, moving, quarter_turn, repeated, rotation_of, row_of, scaling, sine_of, HasSafeCoordinates, IsMatrix};
+ghost use Rattle.int_transform.specs.Maps.{affine_of, coordinates, determinant_of, cosine_of, diagonal as diagonal_of, image, reflection, translation, quarter_turn, power_of, rotation_of, row_of, scale_map, sine_of, HasSafeCoordinates, IsMatrix};
 
 use crate::affine::{Affine, Row};
 use crate::sums::safe_value;
@@ -34,7 +34,7 @@ impl Step {
     /// The move by a vector.
     pub fn move_by(by: [i64; 3]) -> Step
         requires { HasSafeCoordinates (point_at by) }
-        ensures { result ≡ moving (point_at by) }
+        ensures { result ≡ translation (point_at by) }
     {
         Step {
             map: diagonal([1, 1, 1], by),
@@ -45,7 +45,7 @@ impl Step {
     pub fn quarter(axis: u8, turns: u8) -> Step
         requires axis_is { axis < 3 }
         requires turns_are { turns < 4 }
-        ensures { result ≡ repeated (quarter_turn axis) turns }
+        ensures { result ≡ power_of (quarter_turn axis) turns }
     {
         Step {
             map: rotation(axis, cosine(turns), sine(turns)),
@@ -55,7 +55,7 @@ impl Step {
     /// The mirror image across axis 0, 1 or 2.
     pub fn mirror(axis: u8) -> Step
         requires { axis < 3 }
-        ensures { result ≡ mirroring axis }
+        ensures { result ≡ reflection axis }
     {
         let by = match axis {
             0 => [-1, 1, 1],
@@ -70,7 +70,7 @@ impl Step {
     /// Each coordinate times its factor. `None` exactly where a factor is 0.
     pub fn scale(by: [i64; 3]) -> Option<Step>
         requires { HasSafeCoordinates (point_at by) }
-        ensures some { IfSome result (λ step. step ≡ scaling (point_at by)) }
+        ensures some { IfSome result (λ step. step ≡ scale_map (point_at by)) }
         ensures none { IsNone result ↔ (((point_at by).x ≡ pos 0) ⊎ (((point_at by).y ≡ pos 0) ⊎ ((point_at by).z ≡ pos 0))) }
     {
         if by[0] == 0 || by[1] == 0 || by[2] == 0 {

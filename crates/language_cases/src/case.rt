@@ -1,9 +1,11 @@
 //! One case and its answer.
 
+use crate::places::{put_behind, put_places};
+use crate::program::{put_program, put_reads};
+use crate::tokens::put_tokens;
 use crate::tree::put_meaning;
 use crate::value::put_value_after;
 use case_lines::{cut, put, unfolded};
-use case_syntax::{put_behind, put_places, put_program, put_reads, put_tokens};
 use plane_predicate::Unit;
 use std::alloc::Global;
 use text_place::{NoMemory, read_decimal};

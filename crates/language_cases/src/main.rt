@@ -13,6 +13,10 @@
 #![tactic(auto)]
 
 mod case;
+mod places;
+mod program;
+mod text;
+mod tokens;
 mod tree;
 mod value;
 

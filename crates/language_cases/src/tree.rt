@@ -3,13 +3,13 @@
 
 ghost use Rattle.std.specs.Prelude.{◌≤◌, ◌^◌, length};
 
+use crate::text::put_stop;
 use case_lines::{put, put_number};
 use case_planes::put_planes;
-use case_syntax::put_stop;
 use csg_tree::{CsgTree, Op};
 use plane_predicate::{Plane, Unit};
 use scad_eval::evaluate;
-use scad_source::with_program;
+use scad_parser::with_program;
 use std::alloc::Global;
 use text_place::NoMemory;
 

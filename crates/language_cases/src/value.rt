@@ -2,11 +2,10 @@
 
 ghost use Rattle.std.specs.Prelude.{◌≤◌, ◌^◌, length};
 
+use crate::program::put_of_program;
 use case_lines::{put, put_number};
-use case_syntax::put_of_program;
 use scad_ast::{Expr, Program, Statement};
-use scad_evaluation::Meter;
-use scad_func::value_of;
+use scad_func::{Meter, value_of};
 use scad_scope::{Blocks, Scopes};
 use scad_value::{Value, Values};
 use std::alloc::Global;

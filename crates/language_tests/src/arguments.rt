@@ -1,11 +1,10 @@
 use crate::reading::at;
-use compact_bytes::CompactBytes;
 use scad_ast::{Arg, Expr, Param};
 use scad_scope::{Matching, arguments};
 use std::alloc::Global;
 use std::process::Abort;
 use std::test::Fail;
-use text_place::{NoMemory, Place, Stop};
+use text_place::{CompactBytes, NoMemory, Place, Stop};
 
 fn bytes(alloc: Global, name: &[u8]) -> Result<CompactBytes, NoMemory> {
     Ok(CompactBytes::of(alloc, name)?)

@@ -29,7 +29,7 @@ fn numbers_blocks(rt: &impl Abort, blocks: &Blocks<'_>) {
     for (block, wanted, behind) in cases {
         assert_eq!(rt; stands(blocks, block), wanted);
         assert!(rt; (block as usize) < blocks.count());
-        assert_eq!(rt; blocks.behind(block), behind);
+        assert_eq!(rt; blocks.block_end(block), behind);
     }
     assert_eq!(rt; stands(blocks, 5), b"past".as_slice());
 }

@@ -7,10 +7,10 @@ mod arguments;
 #[cfg(test)]
 mod blocks;
 #[cfg(test)]
+mod dynamic;
+#[cfg(test)]
 mod reading;
 #[cfg(test)]
 mod scopes;
-#[cfg(test)]
-mod specials;
 #[cfg(test)]
 mod values;

@@ -2,7 +2,7 @@ ghost use Rattle.std.specs.Prelude.{◌<◌, length};
 ghost use Rattle.scad_scope.specs.Table.{rows_of};
 
 use crate::reading::{at, read};
-use scad_scope::{Blocks, Found, ModuleCall, Scopes};
+use scad_scope::{Blocks, Found, ModuleActivation, Scopes};
 use scad_value::Value;
 use std::alloc::Global;
 use std::process::Abort;
@@ -159,10 +159,10 @@ fn call(
     alloc: Global,
     scopes: &mut Scopes,
     blocks: &Blocks<'_>,
-    call: ModuleCall,
+    call: ModuleActivation,
 ) -> Result<u32, NoMemory> {
     is_there(rt, scopes, call.caller);
-    scopes.enter_call(alloc, call.caller, blocks, 3, call)
+    scopes.enter_activation(alloc, call.caller, blocks, 3, call)
 }
 
 // Scope 8 is module m's body for a call in scope 1, whose children are block 7; scope 9 stands inside, and scope 10
@@ -173,13 +173,13 @@ fn tells_the_innermost_call(
     scopes: &mut Scopes,
     blocks: &Blocks<'_>,
 ) -> Result<(), NoMemory> {
-    let outer = ModuleCall {
+    let outer = ModuleActivation {
         children: 7,
         caller: 1,
     };
     assert!(rt; call(rt, alloc, scopes, blocks, outer)? == 8);
     assert!(rt; enter_empty(rt, alloc, scopes, 8)? == 9);
-    let inner = ModuleCall {
+    let inner = ModuleActivation {
         children: 8,
         caller: 9,
     };
@@ -193,7 +193,7 @@ fn tells_the_innermost_call(
     ];
     for (scope, wanted) in cases {
         is_there(rt, scopes, scope);
-        assert!(rt; scopes.call_of(scope) == wanted);
+        assert!(rt; scopes.activation_of(scope) == wanted);
     }
     assert!(rt; function(rt, scopes, 10, b"g") == found(10, 2));
     Ok(())

@@ -1,7 +1,7 @@
 //! What callers do, and what they are answered.
 
+use crate::calls::put_fill;
 use case_lines::{CaseStop, Phrase, found, phrases_of, put, put_number, put_separated};
-use case_memos::put_fill;
 use memo_core::Fill;
 use std::alloc::Global;
 use text_place::NoMemory;

@@ -1,13 +1,14 @@
 //! Two callers that share a memo, and claim the keys that they miss.
 
-ghost use Rattle.std.specs.Prelude.{◌≡◌, ◌*◌, ◌<◌, ◌≤◌, []};
+ghost use Rattle.std.specs.Prelude.{◌≡◌, ◌+◌, ◌*◌, ◌<◌, ◌≤◌, []};
 ghost use Rattle.subtree_memo.specs.Shares.{IsOf};
 
 use crate::acts::{Act, Answer, acts_of};
+use crate::limits::Limits;
 use crate::meeting::Meeting;
+use crate::pieces::{LastDigits, Piece, Pieces};
 use crate::told::{Ended, put_ended};
 use case_lines::{CaseStop, Phrase, found, put_runs};
-use case_memos::{LastDigits, Limits, Piece, Pieces};
 use flight_memo::{Claim, Claimed, Flight, FlightBlanks, FlightBooks, FlightLedgers, FlightShare};
 use memo_core::MemoCore;
 use std::alloc::Global;
@@ -51,11 +52,11 @@ fn end_claim<B: FlightBooks, R: Wait>(
     alloc: Global,
     flight: &Flight<Pieces, LastDigits, B>,
     share: &mut FlightShare<B>,
-    claim: Claim<u32>,
+    claim: Claim<u32, B>,
     piece: Option<Arc<Piece>>,
 ) -> Answer
-    requires { 0 < share.old.share.parts }
-    ensures parts { share.new.share.parts ≡ share.old.share.parts }
+    requires { claim.share.caller ≡ share.old.share.caller }
+    ensures parts { share.new.share.parts ≡ share.old.share.parts + claim.share.parts }
     ensures caller { share.new.share.caller ≡ share.old.share.caller }
 {
     match piece {

@@ -1,4 +1,6 @@
-//! Answers cases of the memo, in the form of `case_lines`. A case is a list of phrases, a comma and a space between two
+//! Answers cases of the memo: calls, journals, clients step by step, and callers at the same time who claim keys.
+//!
+//! The form is that of `case_lines`. A case is a list of phrases, a comma and a space between two
 //! of them. The first phrase says what the case is of, with the budget of a memo and the share of each caller, which is 0
 //! where it isn't given. Keys are numbers, and two of them have one name where their last four digits are the same, as 1
 //! and 10001. Values are pieces, each with a weight.
@@ -31,12 +33,20 @@
 
 mod acts;
 mod callers;
+mod calls;
+mod clients;
+mod journals;
+mod limits;
 mod meeting;
+mod pieces;
 mod told;
 
 use crate::callers::put_callers;
+use crate::calls::put_calls;
+use crate::clients::put_clients;
+use crate::journals::put_verdict;
+use crate::limits::limits_of;
 use case_lines::{CaseStop, answer_cases, found, parts_of, phrases_of, unfolded};
-use case_memos::{limits_of, put_calls, put_clients, put_verdict};
 use std::alloc::Global;
 use std::process::ExitCode;
 use std::sync::Wait;

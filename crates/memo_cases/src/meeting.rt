@@ -5,7 +5,7 @@ use std::sync::atomic::Ordering::SeqCst;
 use std::thread;
 
 // The most turns for which one waits.
-const MOST_TURNS: u32 = 10_000_000;
+const MOST_TURNS: u32 = 100_000_000;
 
 /// How many have come so far.
 #[derive(Drop)]

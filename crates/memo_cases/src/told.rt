@@ -1,8 +1,8 @@
 //! What is told of callers.
 
 use crate::acts::{Answer, put_answers};
+use crate::pieces::Pieces;
 use case_lines::{put, put_number, put_numbers, put_separated, put_tally};
-use case_memos::Pieces;
 use flight_memo::{Claims, LogItem};
 use std::alloc::Global;
 use subtree_memo::Tally;
@@ -46,18 +46,7 @@ fn put_log(alloc: Global, out: &mut Vec<u8>, log: &[LogItem<u32>]) -> Result<(),
 
 // The tally, what the entries weigh, and how long the journal is.
 fn put_counts(alloc: Global, out: &mut Vec<u8>, ended: &Ended) -> Result<(), NoMemory> {
-    let tally = &ended.tally;
-    let counts = [
-        tally.probes,
-        tally.hits,
-        tally.misses,
-        tally.offered,
-        tally.kept,
-        tally.heavy,
-        tally.dropped,
-        tally.evicted,
-    ];
-    put_tally(alloc, out, &counts, ended.weight)?;
+    put_tally(alloc, out, &ended.tally.numbers(), ended.weight)?;
     put(out, b" items ")?;
     put_number(alloc, out, ended.items as i128)
 }

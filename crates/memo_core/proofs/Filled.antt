@@ -6,7 +6,7 @@ use Rattle.std.specs.List.{IsDistinct}
 use Rattle.std.specs.Map.{keys_of}
 use Rattle.std.proofs.lemmas.List.{length-map, map-append, length-append}
 use Rattle.memo_core.specs.Memo.{evicted_by, evicted_in, brought_to_front, same_name, has_key, holds, itself, Entry, Mark, Item, Said, Fill_said, item, offered_where, offered, placed_where, placed, DropsFrom, filled, fill_said, after_said, says_at, replay, entries_max}
-use Rattle.memo_core.specs.Views.{Core, IsSound, mark_in, marks, new_entry, after_fill}
+use Rattle.memo_core.specs.Views.{Core, IsSound, MaySay, mark_in, marks, new_entry, after_fill}
 use Rattle.memo_core.specs.Fields.{entry_of, entries_of, item_of, items_of}
 use Rattle.memo_core.specs.Plans.{IsKept, IsShelf, slot_mark}
 use Rattle.memo_core.specs.declared.slots.Slot.{Slot}
@@ -14,7 +14,7 @@ use Rattle.memo_core.specs.declared.slots.Shelf.{Shelf}
 use Rattle.memo_core.specs.declared.journal.JournalItem.{JournalItem}
 use Rattle.memo_core.proofs.Lists.{brought_map}
 use Rattle.memo_core.proofs.Maps.{where_map, sum_by_map}
-use Rattle.memo_core.proofs.Journals.{evicted_more, replay_more, legal_more}
+use Rattle.memo_core.proofs.Journals.{evicted_more, replay_more, legal_more, all_more}
 use Rattle.memo_core.proofs.Drops.{drops_map, placed_map}
 use Rattle.memo_core.proofs.Kept.{core_is, holds_marks, names_are}
 use Rattle.memo_core.proofs.Shares.{all_filled, filled_shorter}
@@ -78,6 +78,15 @@ module _ {K V : Type 0} (same : K → K → Bool) (name_of : K → List ℕ) (bu
     go None = refl
     go (Some x) = refl
 
+-- what a fill says of a key, where the value that it offers fits the key
+may_say : {K V : Type 0} (same : K → K → Bool) (name_of : K → List ℕ) (fits : K → V → Type 0) (weighs : V → ℕ) (budget share caller : ℕ) (key : K) (value : V) (weight : ℕ) (es : List (Entry K V))
+    → fits key value → weight ≡ weighs value → MaySay fits weighs key (fill_said same mark_in budget share (new_entry name_of caller key value weight) es)
+may_say {K} {V} same name_of fits weighs budget share caller key value weight es f w = go (offered same mark_in budget share (new_entry name_of caller key value weight) es) where
+  go : (o : Option (List (Entry K V)))
+      → MaySay {K = K} {V = V} fits weighs key (option_map_or (λ kept. Fill_said weight true (cond (holds same mark_in key es) 0 (length es + 1 - length kept))) o (Fill_said weight false 0))
+  go None = (value, f, w)
+  go (Some kept) = (value, f, w)
+
 module _ {K V : Type 0} (same : K → K → Bool) (name_of : K → List ℕ) where
   pub after_fill_sound : (fits : K → V → Type 0) (weighs : V → ℕ) (g : List (Entry K V)) (caller : ℕ) (key : K) (value : V) (weight : ℕ) (core : Core K V)
       → IsSound same name_of fits weighs core → fits key value → weight ≡ weighs value
@@ -103,6 +112,8 @@ module _ {K V : Type 0} (same : K → K → Bool) (name_of : K → List ℕ) whe
             sym (filled_marks same core.budget core.share new core.entries) ∙ ap (filled same itself core.budget core.share new.mark) s.replayed
             ∙ sym (after_case same name_of core.budget core.share caller key value weight core.entries before)
             ∙ sym (replay_more same name_of core.budget core.share [] core.journal i);
+        offers = all_more (λ j. MaySay fits weighs j.key j.said) core.journal i s.offers
+            (may_say same name_of fits weighs core.budget core.share caller key value weight core.entries f w);
       }
 
 module _ {K V : Type 0} (same : K → K → Bool) (name_of : K → List ℕ) (caller : ℕ) (key : K) (value : V) (weight : ℕ) (b h s t : ℕ) (g g' : List (Entry K V)) (shelf shelf' : Shelf K V) where

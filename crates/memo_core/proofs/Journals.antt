@@ -1,6 +1,7 @@
 -- A journal with one item more.
 use Rattle.std.proofs.Common.{◌≡◌, ℕ, ◌+◌, Bool, List, [], ◌∷◌, ◌++◌, refl}
 use Rattle.memo_core.specs.Memo.{Mark, Item, after_said, says_at, replay, IsLegal, Said, count_in, evicted_by, evicted_in}
+use Rattle.std.specs.List.{AllByRecursion}
 use Rattle.std.proofs.lemmas.List.Sums.{sum_by_push}
 
 -- every count adds what the item counts
@@ -18,3 +19,8 @@ module _ {K : Type 0} (same : K → K → Bool) (name_of : K → List ℕ) (budg
   pub legal_more : (es : List (Mark K)) (is : List (Item K)) (i : Item K) → IsLegal same name_of budget share es is → i.said ≡ says_at same name_of budget share i.caller i.key i.said (replay same name_of budget share es is) → IsLegal same name_of budget share es (is ++ i ∷ [])
   legal_more es [] i l h = (h, tt)
   legal_more es (x ∷ xs) i l h = (l.0, legal_more (after_said same name_of budget share x.caller x.key x.said es) xs i l.1 h)
+
+-- what is true of each item of a journal, and of one item more
+pub all_more : {K : Type 0} (P : Item K → Type 0) (is : List (Item K)) (i : Item K) → AllByRecursion P is → P i → AllByRecursion P (is ++ i ∷ [])
+all_more P [] i all p = (p, tt)
+all_more P (x ∷ xs) i all p = (all.0, all_more P xs i all.1 p)

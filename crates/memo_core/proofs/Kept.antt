@@ -5,12 +5,12 @@ use Rattle.std.specs.List.{AllByRecursion, IsDistinct}
 use Rattle.std.specs.Map.{keys_of}
 use Rattle.lru.specs.LruCache.{promoted}
 use Rattle.memo_core.specs.Memo.{first_with, brought_to_front, same_name, has_key, holds, itself, Entry, Item, Probe_said, item, replay}
-use Rattle.memo_core.specs.Views.{Core, IsSound, mark_in, marks, after_probe}
+use Rattle.memo_core.specs.Views.{Core, IsSound, MaySay, mark_in, marks, after_probe}
 use Rattle.memo_core.specs.Fields.{entry_of, entries_of}
 use Rattle.memo_core.specs.declared.slots.Slot.{Slot}
 use Rattle.memo_core.proofs.Lists.{first_map, brought_map, brought_agree, all_brought, sum_brought, length_brought}
 use Rattle.memo_core.proofs.Shelves.{promoted_brought}
-use Rattle.memo_core.proofs.Journals.{replay_more, legal_more}
+use Rattle.memo_core.proofs.Journals.{replay_more, legal_more, all_more}
 
 module _ {K V : Type 0} where
   pub core_is : {e f g : List (Entry K V)} {b h : ℕ} {j k : List (Item K)} {s t : ℕ} → e ≡ f → j ≡ k → s ≡ t → ◌≡◌ {A = Core K V} (record { entries = e; dropped = g; budget = b; share = h; journal = j; spare = s }) (record { entries = f; dropped = g; budget = b; share = h; journal = k; spare = t })
@@ -45,6 +45,7 @@ module _ {K V : Type 0} where
               sym (brought_map mark_in (has_key same itself key) core.entries)
               ∙ ap (brought_to_front (has_key same itself key)) s.replayed
               ∙ sym (replay_more same name_of core.budget core.share [] core.journal (item caller key (Probe_said (holds same mark_in key core.entries))));
+          offers = all_more (λ i. MaySay fits weighs i.key i.said) core.journal (item caller key (Probe_said (holds same mark_in key core.entries))) s.offers tt;
         }
 
     -- the entries after the cache's promotion of a name at which the key was found

@@ -1,7 +1,7 @@
 -- What contracts see of a memo, and its steps.
 use Rattle.std.specs.Prelude.{◌≡◌, ℕ, ◌-◌, ◌≤◌, Bool, List, [], ◌∷◌, ◌++◌, map, length, sum_by, is_some}
 use Rattle.std.specs.List.{AllByRecursion, IsDistinct}
-use Rattle.memo_core.specs.Memo.{Entry, Item, Mark, item, same_name, Probe_said, brought_to_front, holds, has_key, offered, placed, DropsFrom, filled, fill_said, replay, IsLegal, entries_max, mark_of}
+use Rattle.memo_core.specs.Memo.{Entry, Item, Mark, Said, item, same_name, Probe_said, Fill_said, brought_to_front, holds, has_key, offered, placed, DropsFrom, filled, fill_said, replay, IsLegal, entries_max, mark_of}
 
 -- what contracts see of a memo
 pub record Core (K V : Type 0) : Type 0 where
@@ -28,10 +28,16 @@ module _ {K V : Type 0} where
   abbrev pub new_entry : (K → List ℕ) → ℕ → K → V → ℕ → Entry K V
   new_entry name_of caller key value weight = record { mark = mark_of name_of caller key weight; value = value }
 
+  -- what a call may say of a key: a fill offers the weight of some value that fits the key
+  abbrev pub MaySay : (K → V → Type 0) → (V → ℕ) → K → Said → Type 0
+  MaySay fits weighs key (Probe_said hit) = Unit {0}
+  MaySay fits weighs key (Fill_said weight kept evicted) = (value : V) × fits key value × (weight ≡ weighs value)
+
   module _ (same : K → K → Bool) (name_of : K → List ℕ) where
     -- what every memo keeps: held values fit their keys and weigh what their entries say; names are
     -- those of the keys, and distinct; the weights sum to at most the budget, and there are not too many
-    -- entries; the journal is legal, and its replay is the list of entries
+    -- entries; the journal is legal, and its replay is the list of entries; and what its fills offered,
+    -- kept or not, weighed what some value weighs that fits the key
     pub record IsSound (fits : K → V → Type 0) (weighs : V → ℕ) (core : Core K V) : Type 0 where
       pub fit : AllByRecursion (λ e. fits e.mark.key e.value) core.entries
       pub weighed : AllByRecursion (λ e. e.mark.weight ≡ weighs e.value) core.entries
@@ -41,6 +47,7 @@ module _ {K V : Type 0} where
       pub few : length core.entries ≤ entries_max
       pub legal : IsLegal same name_of core.budget core.share [] core.journal
       pub replayed : marks core.entries ≡ replay same name_of core.budget core.share [] core.journal
+      pub offers : AllByRecursion (λ i. MaySay fits weighs i.key i.said) core.journal
 
     -- whether a fill is kept
     abbrev pub keeps : ℕ → K → V → ℕ → Core K V → Bool

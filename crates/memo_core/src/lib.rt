@@ -1,5 +1,6 @@
-//! The sequential memo: a list of entries, most recent first, that is searched from its front. A
-//! cache of names stands behind it, and a journal says what each call said.
+//! The sequential memo: entries with the most recent one in front, and a journal of what each call said.
+//!
+//! It is seen as a list that is searched from its front; a cache of names stands behind it.
 #![tactic(auto)]
 
 mod dropped;

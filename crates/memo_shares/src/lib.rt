@@ -1,5 +1,4 @@
-//! Shares of a memo: what a caller's entries weigh, and whether a journal is one of the sequential
-//! memo.
+//! What a caller's entries in a memo weigh, and whether a journal is one of the sequential memo.
 #![tactic(auto)]
 
 mod again;

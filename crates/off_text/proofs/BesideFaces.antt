@@ -17,7 +17,7 @@ use Rattle.bsp_tree.proofs.Openness.{often, in_near}
 use Rattle.bsp_tree.proofs.Opposites.{opposite_above, opposite_below, opposite_back, opposite_twice}
 use Rattle.bsp_tree.proofs.SameNumbers.{same_equal, not_same}
 use Rattle.bsp_tree.proofs.Worlds.{open_world}
-use Rattle.csg_tree.specs.Formulas.{Formula, nothing, leaf, joined, Assignment, holds, operated, sides_of}
+use Rattle.csg_tree.specs.Formulas.{Formula, nothing, leaf, joined, Assignment, holds, truth_of_join, sides_of}
 use Rattle.csg_tree.specs.Formulas as formulas
 use Rattle.csg_tree.specs.FacePlanes.{IsFacePlane, IsOnOneFacePlane, just_behind, just_ahead}
 use Rattle.csg_tree.specs.ProperTrees.{IsLeafPlane, HasFullLeaves}
@@ -35,7 +35,7 @@ holds_alike : (f : Formula) (a b : Assignment) → ((m : Coefficients) → formu
 holds_alike nothing a b h = refl
 holds_alike (leaf planes) a b h = all_alike planes a b h
 holds_alike (joined op left right) a b h =
-    ap₂ (operated op) (holds_alike left a b (λ m k. h m (inl k))) (holds_alike right a b (λ m k. h m (inr k)))
+    ap₂ (truth_of_join op) (holds_alike left a b (λ m k. h m (inl k))) (holds_alike right a b (λ m k. h m (inr k)))
 
 -- a walk by the sides of a point is its walk
 either_alike : (x y : Bool) (a b c d : Bool) → x ≡ y → a ≡ c → b ≡ d → (if x then a else b) ≡ (if y then c else d)

@@ -8,7 +8,7 @@ use Rattle.plane_predicate.specs.Space.{Coordinates, IsPointTimes, IsInClosedWor
 use Rattle.plane_predicate.specs.InUnits.{in_steps, in_units}
 use Rattle.plane_predicate.proofs.Signs.{pos_cancel, pos_pos}
 use Rattle.off_text.proofs.Scaled.{AreOnePoint, printed_is}
-use Rattle.lowest_terms.proofs.Factors.{size_above}
+use Rattle.off_text.proofs.Factors.{size_above}
 
 cancel : (k a b : ℕ) → 0 < k → k * a ≤ k * b → a ≤ b
 cancel k a b h l = le_of_mul-le-mul_left l h

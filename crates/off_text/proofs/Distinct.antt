@@ -6,9 +6,9 @@ use Rattle.std.proofs.lemmas.Bool.{false≢true}
 use Rattle.std.proofs.lemmas.List.Folds.{list_any-append}
 use Rattle.indexmap.specs.IndexSet.{insert_key}
 use Rattle.plane_predicate.specs.Space.{Coordinates}
-use Rattle.off_text.specs.Texts.{same_point, distinct}
-use Rattle.off_text.specs.Numbering.{grown}
-use Rattle.off_text.proofs.Numbers.{Known, AllKnown, same_itself, same_equal, grown_knows, grown-append}
+use Rattle.off_text.specs.Texts.{same_point, distinct_points}
+use Rattle.off_text.specs.Numbering.{with_points}
+use Rattle.off_text.proofs.Numbers.{Known, AllKnown, same_itself, same_equal, grown_knows, with_points-append}
 
 -- the point is not numbered yet
 abbrev is_new : List Coordinates → Coordinates → Bool
@@ -79,13 +79,13 @@ grown_step p vertices rest false e =
     ∙ ap (λ (b : Bool). not (list_any (same_point q) vertices || (b || false))) (same_alike q p)
     ∙ neither (list_any (same_point q) vertices) (same_point p q)) rest)
 
-grown-distinct : (points vertices : List Coordinates) → grown vertices points ≡ vertices ++ filter (is_new vertices) (distinct points)
-grown-distinct [] vertices = sym (append-nil vertices)
-grown-distinct (p ∷ points) vertices =
-    grown-distinct points (insert_key same_point vertices p) ∙ grown_step p vertices (distinct points) (list_any (same_point p) vertices) refl
+with_points-distinct_points : (points vertices : List Coordinates) → with_points vertices points ≡ vertices ++ filter (is_new vertices) (distinct_points points)
+with_points-distinct_points [] vertices = sym (append-nil vertices)
+with_points-distinct_points (p ∷ points) vertices =
+    with_points-distinct_points points (insert_key same_point vertices p) ∙ grown_step p vertices (distinct_points points) (list_any (same_point p) vertices) refl
 
-pub grown_from_none : (points : List Coordinates) → grown [] points ≡ distinct points
-grown_from_none points = grown-distinct points [] ∙ filter-all (distinct points)
+pub grown_from_none : (points : List Coordinates) → with_points [] points ≡ distinct_points points
+grown_from_none points = with_points-distinct_points points [] ∙ filter-all (distinct_points points)
 
 known_step : (vertices : List Coordinates) (p q : Coordinates) (b t : Bool) → same_point p q ≡ b → Known vertices q → (t ≡ true → Known vertices p) → (b || t) ≡ true → Known vertices p
 known_step vertices p q true t e h more any = subst (λ (r : Coordinates). Known vertices r) (sym (same_equal p q e)) h
@@ -97,14 +97,14 @@ known_among vertices [] p h e = absurd (false≢true e)
 known_among vertices (q ∷ points) p h e = known_step vertices p q (same_point p q) (list_any (same_point p) points) refl h.0 (known_among vertices points p h.1) e
 
 inserted_step : (vertices points : List Coordinates) (p : Coordinates) (b : Bool) → list_any (same_point p) points ≡ b →
-    grown vertices (cond b points (points ++ p ∷ [])) ≡ insert_key same_point (grown vertices points) p
+    with_points vertices (cond b points (points ++ p ∷ [])) ≡ insert_key same_point (with_points vertices points) p
 inserted_step vertices points p true e =
-    sym (ap (λ (b : Bool). cond b (grown vertices points) (grown vertices points ++ p ∷ [])) (known_among (grown vertices points) points p (grown_knows points vertices) e))
-inserted_step vertices points p false e = grown-append points (p ∷ []) vertices
+    sym (ap (λ (b : Bool). cond b (with_points vertices points) (with_points vertices points ++ p ∷ [])) (known_among (with_points vertices points) points p (grown_knows points vertices) e))
+inserted_step vertices points p false e = with_points-append points (p ∷ []) vertices
 
 -- the vertices of points are put to others as the points are
-pub grown_twice : (points vertices known : List Coordinates) → grown vertices (grown known points) ≡ grown (grown vertices known) points
+pub grown_twice : (points vertices known : List Coordinates) → with_points vertices (with_points known points) ≡ with_points (with_points vertices known) points
 grown_twice [] vertices known = refl
 grown_twice (p ∷ points) vertices known =
     grown_twice points vertices (insert_key same_point known p)
-    ∙ ap (λ (v : List Coordinates). grown v points) (inserted_step vertices known p (list_any (same_point p) known) refl)
+    ∙ ap (λ (v : List Coordinates). with_points v points) (inserted_step vertices known p (list_any (same_point p) known) refl)

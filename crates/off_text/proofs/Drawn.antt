@@ -12,7 +12,7 @@ use Rattle.closed_surface.specs.Closed.{corners_at}
 use Rattle.closed_surface.specs.Printing.{IsRoundOf}
 use Rattle.off_text.specs.Reading.{IsVertex, IsFace, off_text}
 use Rattle.off_text.specs.Boundaries.{origin, corner, grid_corner, after, Faces, Covers}
-use Rattle.off_text.specs.Texts.{same_point, distinct, number_among, from_least, printed_corners, vertices_of, faces_of, AreCornersOf, IsTextOf}
+use Rattle.off_text.specs.Texts.{same_point, distinct_points, number_among, from_least, printed_corners, vertices_of, faces_of, AreCornersOf, IsTextOf}
 use Rattle.off_text.specs.Numbering.{AreNumbered}
 use Rattle.off_text.specs.Prints.{IsFaceOf, AreFacesOf, Prints}
 use Rattle.off_text.proofs.Numbers.{Known, AllKnown, place_below, known_at, grown_knows}
@@ -135,11 +135,11 @@ faces_drawn unit (s ∷ polygons) (f ∷ found) vertices h c k =
     )
 
 -- ---- all vertices
-distinct_all : (points : List Coordinates) → All IsVertex points → All IsVertex (distinct points)
+distinct_all : (points : List Coordinates) → All IsVertex points → All IsVertex (distinct_points points)
 distinct_all [] h = h
 distinct_all (p ∷ points) h =
-    more_all IsVertex p (filter (λ q. not (same_point p q)) (distinct points)) (first_of IsVertex p points h)
-    (All-filter (λ q. not (same_point p q)) IsVertex (distinct points) (distinct_all points (rest_of IsVertex p points h)))
+    more_all IsVertex p (filter (λ q. not (same_point p q)) (distinct_points points)) (first_of IsVertex p points h)
+    (All-filter (λ q. not (same_point p q)) IsVertex (distinct_points points) (distinct_all points (rest_of IsVertex p points h)))
 
 joined_all : (unit : LengthUnit) (polygons : List Outline) (found : List (List Coordinates)) → All IsPolygon polygons → AreCornersOf unit polygons found → All IsVertex (joined (printed_corners found))
 joined_all unit [] [] h c = none_all IsVertex

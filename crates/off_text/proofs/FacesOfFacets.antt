@@ -7,11 +7,11 @@ use Rattle.plane_predicate.specs.Space.{Coefficients, Coordinates, opposite_of, 
 use Rattle.plane_predicate.specs.InUnits.{in_steps}
 use Rattle.plane_polygon.specs.Polygons.{Outline, sides, corner as corner_of}
 use Rattle.csg_tree.specs.Formulas.{Formula}
-use Rattle.csg_tree.specs.FacePlanes.{IsFacePlane, IsOnOneFacePlane, just_behind, just_ahead, bounds}
+use Rattle.csg_tree.specs.FacePlanes.{IsFacePlane, IsOnOneFacePlane, just_behind, just_ahead, is_boundary_at}
 use Rattle.csg_tree.specs.ProperTrees.{IsProper}
 use Rattle.bsp_tree.specs.Cells.{world_box, IsPlaneOf}
 use Rattle.bsp_tree.proofs.Worlds.{open_world}
-use Rattle.leaf_solids.specs.Solids.{IsSolidOf}
+use Rattle.bsp_boolean.specs.LeafSolids.{IsSolidOf}
 use Rattle.bsp_boolean.specs.Solids.{solid_of}
 use Rattle.bsp_boolean.proofs.Solids.{tree_is_solid}
 use Rattle.facet_cut.specs.Facets.{facets_of}
@@ -22,7 +22,7 @@ use Rattle.plane_polygon.specs.Parts.{corners}
 use Rattle.closed_surface.specs.Closed.{corners_at}
 use Rattle.closed_surface.specs.Printing.{AreRoundsOf}
 use Rattle.closed_surface.proofs.Printing.{printed_closed}
-use Rattle.closed_facets.proofs.Closing.{facets_closed}
+use Rattle.closed_surface.proofs.Closing.{facets_closed}
 use Rattle.off_text.specs.Boundaries.{corner, Covers, OneExactlyWhere}
 use Rattle.off_text.specs.Prints.{IsFaceOf, AreFacesOf, Prints}
 use Rattle.off_text.specs.Bounding.{IsBoundaryFace, IsBoundary}
@@ -79,7 +79,7 @@ on_one_plane f n p solid h =
 
 covered_where : (unit : LengthUnit) (f : Formula) (bytes : List ℕ) → IsProper f → IsSolidOf f (solid_of f) →
     (text : Prints unit (facets_of (solid_of f)) bytes) → BesideLeaves f → (n : Coefficients) (p : Coordinates) →
-    IsOnOneFacePlane f n (in_steps unit p) → OneExactlyWhere (bounds f n (in_steps unit p)) (Covers unit text.vertices n p) text.faces
+    IsOnOneFacePlane f n (in_steps unit p) → OneExactlyWhere (is_boundary_at f n (in_steps unit p)) (Covers unit text.vertices n p) text.faces
 covered_where unit f bytes h solid text beside n p o =
     let t = solid_of f in
     let q = in_steps unit p in

@@ -7,8 +7,8 @@ use Rattle.plane_predicate.specs.declared.unit.Unit.{Unit as LengthUnit}
 use Rattle.plane_predicate.specs.Space.{Coordinates}
 use Rattle.plane_polygon.specs.Polygons.{Outline, IsPolygon}
 use Rattle.off_text.specs.Texts.{from_least, number_among, printed_corners, vertices_of, AreCornersOf}
-use Rattle.off_text.specs.Numbering.{grown, AddsFace, AreNumbered}
-use Rattle.off_text.proofs.Numbers.{AllKnown, all_kept, grown_knows, grown-append}
+use Rattle.off_text.specs.Numbering.{with_points, AddsFace, AreNumbered}
+use Rattle.off_text.proofs.Numbers.{AllKnown, all_kept, grown_knows, with_points-append}
 use Rattle.off_text.proofs.Distinct.{grown_from_none}
 
 -- all corners of faces, face by face
@@ -20,7 +20,7 @@ pub record AreGathered (unit : LengthUnit) (polygons : List Outline) (vertices :
   pub all_polygons : All IsPolygon polygons
   pub found : List (List Coordinates)
   pub corners : AreCornersOf unit polygons found
-  pub vertices_are : vertices ≡ grown [] (joined (printed_corners found))
+  pub vertices_are : vertices ≡ with_points [] (joined (printed_corners found))
   pub faces_are : faces ≡ map (map (number_among vertices)) (printed_corners found)
 
 pub corners_append : (unit : LengthUnit) (polygons others : List Outline) (found more : List (List Coordinates)) → AreCornersOf unit polygons found → AreCornersOf unit others more → AreCornersOf unit (polygons ++ others) (found ++ more)
@@ -33,7 +33,7 @@ pub known_parts : (xs ys vertices : List Coordinates) → AllKnown vertices (xs 
 known_parts [] ys vertices h = (tt, h)
 known_parts (x ∷ xs) ys vertices h = let rest = known_parts xs ys vertices h.1 in ((h.0, rest.0), rest.1)
 
-faces_kept : (faces : List (List Coordinates)) (vertices more : List Coordinates) → AllKnown vertices (joined faces) → map (map (number_among (grown vertices more))) faces ≡ map (map (number_among vertices)) faces
+faces_kept : (faces : List (List Coordinates)) (vertices more : List Coordinates) → AllKnown vertices (joined faces) → map (map (number_among (with_points vertices more))) faces ≡ map (map (number_among vertices)) faces
 faces_kept [] vertices more h = refl
 faces_kept (f ∷ faces) vertices more h =
     let parts = known_parts f (joined faces) vertices h in
@@ -49,11 +49,11 @@ gathered_more unit polygons vertices faces h s new face a =
       all_polygons = All-append IsPolygon polygons (s ∷ []) h.all_polygons (All-cons IsPolygon s [] a.polygon (All-nil IsPolygon));
       found = h.found ++ a.found ∷ [];
       corners = corners_append unit polygons (s ∷ []) h.found (a.found ∷ []) h.corners (a.corners, tt);
-      vertices_are = a.grows ∙ ap (λ (v : List Coordinates). grown v (from_least a.found)) h.vertices_are
-          ∙ sym (grown-append (joined (printed_corners h.found)) (from_least a.found) [])
-          ∙ ap (λ (l : List Coordinates). grown [] (joined (printed_corners h.found) ++ l)) (sym (append-nil (from_least a.found)))
-          ∙ ap (grown []) (sym (flat_map-append (λ corners. corners) (printed_corners h.found) (from_least a.found ∷ [])))
-          ∙ ap (λ (l : List (List Coordinates)). grown [] (joined l)) (sym (map-append from_least h.found (a.found ∷ [])));
+      vertices_are = a.grows ∙ ap (λ (v : List Coordinates). with_points v (from_least a.found)) h.vertices_are
+          ∙ sym (with_points-append (joined (printed_corners h.found)) (from_least a.found) [])
+          ∙ ap (λ (l : List Coordinates). with_points [] (joined (printed_corners h.found) ++ l)) (sym (append-nil (from_least a.found)))
+          ∙ ap (with_points []) (sym (flat_map-append (λ corners. corners) (printed_corners h.found) (from_least a.found ∷ [])))
+          ∙ ap (λ (l : List (List Coordinates)). with_points [] (joined l)) (sym (map-append from_least h.found (a.found ∷ [])));
       faces_are = ap₂ (λ (l : List (List ℕ)) (f : List ℕ). l ++ f ∷ [])
           (h.faces_are ∙ sym (faces_kept (printed_corners h.found) vertices (from_least a.found) known) ∙ ap (λ (v : List Coordinates). map (map (number_among v)) (printed_corners h.found)) (sym a.grows)) a.numbers
           ∙ sym (map-append (map (number_among new)) (printed_corners h.found) (from_least a.found ∷ []))

@@ -23,3 +23,4 @@ pub mod Boxed
 pub mod BesideFaces
 pub mod FacesOfFacets
 pub mod Bounds
+pub mod Factors

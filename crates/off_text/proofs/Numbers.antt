@@ -12,7 +12,7 @@ use Rattle.plane_predicate.specs.Space.{Coordinates}
 use Rattle.plane_predicate.proofs.Opposites.{same_point as equal_points}
 use Rattle.off_text.specs.Boundaries.{origin}
 use Rattle.off_text.specs.Texts.{same_point, number_among}
-use Rattle.off_text.specs.Numbering.{grown}
+use Rattle.off_text.specs.Numbering.{with_points}
 use Rattle.off_text.specs.FaceNumbers.{numbers_among}
 
 -- the point is numbered
@@ -62,7 +62,7 @@ pub inserted_keeps : (p q : Coordinates) (vertices : List Coordinates) → Known
 inserted_keeps p q vertices h = inserted_step p q vertices (list_any (same_point p) vertices) h
 
 pub grown_keeps : (q : Coordinates) (points vertices : List Coordinates) → Known vertices q →
-    Known (grown vertices points) q × (number_among (grown vertices points) q ≡ number_among vertices q)
+    Known (with_points vertices points) q × (number_among (with_points vertices points) q ≡ number_among vertices q)
 grown_keeps q [] vertices h = (h, refl)
 grown_keeps q (p ∷ points) vertices h =
     let one = inserted_keeps p q vertices h in
@@ -101,57 +101,57 @@ AllKnown vertices [] = Unit {0}
 AllKnown vertices (q ∷ points) = Known vertices q × AllKnown vertices points
 
 pub all_kept : (more vertices points : List Coordinates) → AllKnown vertices points →
-    AllKnown (grown vertices more) points × (map (number_among (grown vertices more)) points ≡ map (number_among vertices) points)
+    AllKnown (with_points vertices more) points × (map (number_among (with_points vertices more)) points ≡ map (number_among vertices) points)
 all_kept more vertices [] h = (tt, refl)
 all_kept more vertices (q ∷ points) h =
     let one = grown_keeps q more vertices h.0 in
     let rest = all_kept more vertices points h.1 in
     ((one.0, rest.0), ap₂ (λ (n : ℕ) (l : List ℕ). n ∷ l) one.1 rest.1)
 
-pub grown_knows : (points vertices : List Coordinates) → AllKnown (grown vertices points) points
+pub grown_knows : (points vertices : List Coordinates) → AllKnown (with_points vertices points) points
 grown_knows [] vertices = tt
 grown_knows (p ∷ points) vertices =
     ((grown_keeps p points (insert_key same_point vertices p) (inserted_itself p vertices).0).0, grown_knows points (insert_key same_point vertices p))
 
-pub grown-append : (xs ys vertices : List Coordinates) → grown vertices (xs ++ ys) ≡ grown (grown vertices xs) ys
-grown-append [] ys vertices = refl
-grown-append (x ∷ xs) ys vertices = grown-append xs ys (insert_key same_point vertices x)
+pub with_points-append : (xs ys vertices : List Coordinates) → with_points vertices (xs ++ ys) ≡ with_points (with_points vertices xs) ys
+with_points-append [] ys vertices = refl
+with_points-append (x ∷ xs) ys vertices = with_points-append xs ys (insert_key same_point vertices x)
 
 -- one more point of those that are still to be numbered
 numbers_step : (vertices rest : List Coordinates) (numbers : List ℕ) (p : Coordinates) →
-    (numbers ++ number_among vertices p ∷ []) ++ numbers_among (grown (insert_key same_point vertices p) rest) rest
-    ≡ numbers ++ numbers_among (grown vertices (p ∷ rest)) (p ∷ rest)
+    (numbers ++ number_among vertices p ∷ []) ++ numbers_among (with_points (insert_key same_point vertices p) rest) rest
+    ≡ numbers ++ numbers_among (with_points vertices (p ∷ rest)) (p ∷ rest)
 numbers_step vertices rest numbers p =
     let own = inserted_itself p vertices in
     let kept = grown_keeps p rest (insert_key same_point vertices p) own.0 in
-    append_assoc numbers (number_among vertices p ∷ []) (numbers_among (grown (insert_key same_point vertices p) rest) rest)
-    ∙ ap (λ (n : ℕ). numbers ++ n ∷ numbers_among (grown (insert_key same_point vertices p) rest) rest) (sym (kept.1 ∙ own.1))
+    append_assoc numbers (number_among vertices p ∷ []) (numbers_among (with_points (insert_key same_point vertices p) rest) rest)
+    ∙ ap (λ (n : ℕ). numbers ++ n ∷ numbers_among (with_points (insert_key same_point vertices p) rest) rest) (sym (kept.1 ∙ own.1))
 
 module _ (vertices new corners : List Coordinates) (i : ℕ) (p : Coordinates) (h : i < length corners) (is : p ≡ get_or corners i p) (grows : new ≡ insert_key same_point vertices p) where
   next_left : drop i corners ≡ p ∷ drop (i + 1) corners
   next_left = drop-cons corners i p h ∙ ap₂ (λ (c : Coordinates) (l : List Coordinates). c ∷ l) (sym is) (ap (λ (n : ℕ). drop n corners) (sym (add-one i)))
 
   -- a corner more is numbered
-  pub corner_grows : (whole : List Coordinates) → grown vertices (drop i corners) ≡ whole → grown new (drop (i + 1) corners) ≡ whole
-  corner_grows whole e = ap (λ (v : List Coordinates). grown v (drop (i + 1) corners)) grows ∙ ap (grown vertices) (sym next_left) ∙ e
+  pub corner_grows : (whole : List Coordinates) → with_points vertices (drop i corners) ≡ whole → with_points new (drop (i + 1) corners) ≡ whole
+  corner_grows whole e = ap (λ (v : List Coordinates). with_points v (drop (i + 1) corners)) grows ∙ ap (with_points vertices) (sym next_left) ∙ e
 
   -- and its number is put down
   pub corner_numbers : (numbers more whole : List ℕ) → more ≡ numbers ++ number_among vertices p ∷ [] →
-      numbers ++ numbers_among (grown vertices (drop i corners)) (drop i corners) ≡ whole →
-      more ++ numbers_among (grown new (drop (i + 1) corners)) (drop (i + 1) corners) ≡ whole
+      numbers ++ numbers_among (with_points vertices (drop i corners)) (drop i corners) ≡ whole →
+      more ++ numbers_among (with_points new (drop (i + 1) corners)) (drop (i + 1) corners) ≡ whole
   corner_numbers numbers more whole m e =
-      ap₂ (λ (l : List ℕ) (v : List Coordinates). l ++ numbers_among (grown v (drop (i + 1) corners)) (drop (i + 1) corners)) m grows
+      ap₂ (λ (l : List ℕ) (v : List Coordinates). l ++ numbers_among (with_points v (drop (i + 1) corners)) (drop (i + 1) corners)) m grows
       ∙ numbers_step vertices (drop (i + 1) corners) numbers p
-      ∙ ap (λ (l : List Coordinates). numbers ++ numbers_among (grown vertices l) l) (sym next_left)
+      ∙ ap (λ (l : List Coordinates). numbers ++ numbers_among (with_points vertices l) l) (sym next_left)
       ∙ e
 
 -- two parts of a face, numbered one after the other
-pub face_grows : (old new last back front : List Coordinates) → new ≡ grown old back → last ≡ grown new front → last ≡ grown old (back ++ front)
-face_grows old new last back front e f = f ∙ ap (λ (v : List Coordinates). grown v front) e ∙ sym (grown-append back front old)
+pub face_grows : (old new last back front : List Coordinates) → new ≡ with_points old back → last ≡ with_points new front → last ≡ with_points old (back ++ front)
+face_grows old new last back front e f = f ∙ ap (λ (v : List Coordinates). with_points v front) e ∙ sym (with_points-append back front old)
 
 -- and their numbers, put down in two parts
 pub face_numbers : (old new last back front : List Coordinates) (before half whole : List ℕ) →
-    new ≡ grown old back → last ≡ grown new front → half ≡ before ++ numbers_among new back → whole ≡ half ++ numbers_among last front →
+    new ≡ with_points old back → last ≡ with_points new front → half ≡ before ++ numbers_among new back → whole ≡ half ++ numbers_among last front →
     whole ≡ before ++ numbers_among last (back ++ front)
 face_numbers old new last back front before half whole e f h w =
     let known : AllKnown new back = subst (λ (v : List Coordinates). AllKnown v back) (sym e) (grown_knows back old) in

@@ -9,7 +9,7 @@ use Rattle.off_text.specs.Reading.{face_line}
 use Rattle.off_text.specs.Boundaries.{origin}
 use Rattle.off_text.specs.Texts.{same_point, number_among}
 use Rattle.off_text.specs.Numbering.{HaveLines}
-use Rattle.off_text.specs.FaceNumbers.{sides_of, all_numbers, numbers_among, renamed, lines_from, lines_of, HaveNumbers}
+use Rattle.off_text.specs.FaceNumbers.{sides_of, all_numbers, numbers_among, new_number, lines_from, lines_of, HaveNumbers}
 use Rattle.off_text.proofs.Numbers.{Known, AllKnown, place_below, known_at}
 use Rattle.off_text.proofs.Gathered.{joined, known_parts}
 
@@ -21,27 +21,27 @@ own_back : (face rest : List ℕ) → drop (length face) (face ++ rest) ≡ rest
 own_back face rest = let whole : length face ≤ length face = omega arith in drop-append-le (length face) face rest whole ∙ ap (λ (ns : List ℕ). ns ++ rest) (drop_all (length face) face whole)
 
 -- the lines of faces whose vertices have names
-pub lines_named : (names : List ℕ) (faces : List (List ℕ)) → lines_from names (sides_of faces) (all_numbers faces) ≡ flat_map face_line (map (map (renamed names)) faces)
+pub lines_named : (names : List ℕ) (faces : List (List ℕ)) → lines_from names (sides_of faces) (all_numbers faces) ≡ flat_map face_line (map (map (new_number names)) faces)
 lines_named names [] = refl
 lines_named names (face ∷ faces) =
     ap₂ (λ (x y : List ℕ). x ++ y)
-    (ap (λ (ns : List ℕ). face_line (map (renamed names) ns)) (own_front face (all_numbers faces)))
+    (ap (λ (ns : List ℕ). face_line (map (new_number names) ns)) (own_front face (all_numbers faces)))
     (ap (lines_from names (sides_of faces)) (own_back face (all_numbers faces)) ∙ lines_named names faces)
 
 -- ---- names among all vertices
-point_renamed : (keys all : List Coordinates) (p : Coordinates) → Known keys p → renamed (numbers_among all keys) (number_among keys p) ≡ number_among all p
+point_renamed : (keys all : List Coordinates) (p : Coordinates) → Known keys p → new_number (numbers_among all keys) (number_among keys p) ≡ number_among all p
 point_renamed keys all p h =
     let i = number_among keys p in
     get_or-map (number_among all) keys i origin i (place_below (same_point p) keys h) ∙ ap (number_among all) (known_at keys p h)
 
 points_renamed : (keys all points : List Coordinates) → AllKnown keys points →
-    map (renamed (numbers_among all keys)) (map (number_among keys) points) ≡ map (number_among all) points
+    map (new_number (numbers_among all keys)) (map (number_among keys) points) ≡ map (number_among all) points
 points_renamed keys all [] h = refl
 points_renamed keys all (p ∷ points) h = ap₂ (λ (n : ℕ) (ns : List ℕ). n ∷ ns) (point_renamed keys all p h.0) (points_renamed keys all points h.1)
 
 -- faces that have numbers among some vertices have these names among all
 loops_renamed : (keys all : List Coordinates) (loops : List (List Coordinates)) → AllKnown keys (joined loops) →
-    map (map (renamed (numbers_among all keys))) (map (map (number_among keys)) loops) ≡ map (map (number_among all)) loops
+    map (map (new_number (numbers_among all keys))) (map (map (number_among keys)) loops) ≡ map (map (number_among all)) loops
 loops_renamed keys all [] h = refl
 loops_renamed keys all (points ∷ loops) h =
     let parts = known_parts points (joined loops) keys h in
@@ -56,11 +56,11 @@ part_lines keys all loops faces h sides numbers =
     ∙ ap (flat_map face_line) (loops_renamed keys all loops h)
 
 -- ---- no names
-own_numbers : (face : List ℕ) → map (renamed []) face ≡ face
+own_numbers : (face : List ℕ) → map (new_number []) face ≡ face
 own_numbers [] = refl
 own_numbers (i ∷ face) = ap (λ (ns : List ℕ). i ∷ ns) (own_numbers face)
 
-own_faces : (faces : List (List ℕ)) → map (map (renamed [])) faces ≡ faces
+own_faces : (faces : List (List ℕ)) → map (map (new_number [])) faces ≡ faces
 own_faces [] = refl
 own_faces (face ∷ faces) = ap₂ (λ (ns : List ℕ) (rest : List (List ℕ)). ns ∷ rest) (own_numbers face) (own_faces faces)
 

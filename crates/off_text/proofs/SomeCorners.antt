@@ -17,7 +17,7 @@ use Rattle.plane_polygon.specs.Polygons.{Outline, sides, corner, IsPolygon, AreR
 use Rattle.plane_polygon.specs.Parts.{up_to}
 use Rattle.plane_polygon.proofs.CornerSides.{reduced_step}
 use Rattle.off_text.specs.Texts.{corners_in_units, AreCornersOf}
-use Rattle.lowest_terms.proofs.Factors.{size_above}
+use Rattle.off_text.proofs.Factors.{size_above}
 
 -- two numbers have a greatest common divisor, and so have four
 two_factor : (a b : ℕ) → (g : ℕ) × IsGcd a b g

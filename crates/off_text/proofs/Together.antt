@@ -12,10 +12,10 @@ use Rattle.off_text.specs.declared.part.Part.{Part}
 use Rattle.off_text.specs.declared.parts.NamedPart.{NamedPart}
 use Rattle.off_text.specs.Reading.{face_line}
 use Rattle.off_text.specs.Texts.{from_least, number_among, printed_corners, AreCornersOf}
-use Rattle.off_text.specs.Numbering.{grown, HaveLines}
+use Rattle.off_text.specs.Numbering.{with_points, HaveLines}
 use Rattle.off_text.specs.FaceNumbers.{sides_of, all_numbers, numbers_among, lines_of, HaveNumbers}
-use Rattle.off_text.specs.Parts.{AreCut, vertices_in, named_in, named, lines_in}
-use Rattle.off_text.proofs.Numbers.{AllKnown, all_kept, grown_knows, grown-append}
+use Rattle.off_text.specs.Parts.{AreCut, vertices_in, faces_and_names_in, faces_and_names, lines_in}
+use Rattle.off_text.proofs.Numbers.{AllKnown, all_kept, grown_knows, with_points-append}
 use Rattle.off_text.proofs.Distinct.{grown_from_none, grown_twice}
 use Rattle.off_text.proofs.Gathered.{joined, corners_append, gathered_all}
 use Rattle.off_text.proofs.Renamed.{part_lines}
@@ -29,7 +29,7 @@ record AreTogether (unit : LengthUnit) (polygons : List Outline) (before all : L
   all_polygons : All IsPolygon polygons
   found : List (List Coordinates)
   corners : AreCornersOf unit polygons found
-  grows : all ≡ grown before (joined (printed_corners found))
+  grows : all ≡ with_points before (joined (printed_corners found))
   lines_are : lines ≡ flat_map face_line (map (map (number_among all)) (printed_corners found))
 
 -- the lines of a part among all vertices
@@ -38,7 +38,7 @@ lines_among all part = lines_of (numbers_among all part.vertices.keys) part.face
 
 -- a part before others
 module _ (unit : LengthUnit) (front back : List Outline) (part : Part) (is : IsPart unit front part) (before all : List Coordinates) where
-  keys_are : part.vertices.keys ≡ grown [] (joined (printed_corners is.numbered.found))
+  keys_are : part.vertices.keys ≡ with_points [] (joined (printed_corners is.numbered.found))
   keys_are = is.numbered.vertices_are ∙ sym (grown_from_none (joined (printed_corners is.numbered.found)))
 
   keys_known : AllKnown part.vertices.keys (joined (printed_corners is.numbered.found))
@@ -50,7 +50,7 @@ module _ (unit : LengthUnit) (front back : List Outline) (part : Part) (is : IsP
   own : lines_among all part ≡ flat_map face_line (map (map (number_among all)) (printed_corners is.numbered.found))
   own = part_lines part.vertices.keys all (printed_corners is.numbered.found) part.faces keys_known (is.sides ∙ ap sides_of faces_are) (is.numbers ∙ ap all_numbers faces_are)
 
-  together_more : (lines : List ℕ) → AreTogether unit back (grown before part.vertices.keys) all lines → AreTogether unit (front ++ back) before all (lines_among all part ++ lines)
+  together_more : (lines : List ℕ) → AreTogether unit back (with_points before part.vertices.keys) all lines → AreTogether unit (front ++ back) before all (lines_among all part ++ lines)
   together_more lines rest =
       let found = is.numbered.found in
       let both : printed_corners (found ++ rest.found) ≡ printed_corners found ++ printed_corners rest.found = map-append from_least found rest.found in
@@ -59,26 +59,26 @@ module _ (unit : LengthUnit) (front back : List Outline) (part : Part) (is : IsP
         found = found ++ rest.found;
         corners = corners_append unit front back found rest.found is.numbered.corners rest.corners;
         grows = rest.grows
-            ∙ ap (λ (v : List Coordinates). grown v (joined (printed_corners rest.found))) (ap (grown before) keys_are ∙ grown_twice (joined (printed_corners found)) before [])
-            ∙ sym (grown-append (joined (printed_corners found)) (joined (printed_corners rest.found)) before)
-            ∙ ap (grown before) (sym (ap joined both ∙ flat_map-append (λ corners. corners) (printed_corners found) (printed_corners rest.found)));
+            ∙ ap (λ (v : List Coordinates). with_points v (joined (printed_corners rest.found))) (ap (with_points before) keys_are ∙ grown_twice (joined (printed_corners found)) before [])
+            ∙ sym (with_points-append (joined (printed_corners found)) (joined (printed_corners rest.found)) before)
+            ∙ ap (with_points before) (sym (ap joined both ∙ flat_map-append (λ corners. corners) (printed_corners found) (printed_corners rest.found)));
         lines_are = ap₂ (λ (x y : List ℕ). x ++ y) own rest.lines_are
             ∙ sym (flat_map-append face_line (map (map (number_among all)) (printed_corners found)) (map (map (number_among all)) (printed_corners rest.found)))
             ∙ ap (flat_map face_line) (sym (ap (map (map (number_among all))) both ∙ map-append (map (number_among all)) (printed_corners found) (printed_corners rest.found)));
       }
 
 all_together : (unit : LengthUnit) (all : List Coordinates) (polygons : List Outline) (parts : List Part) (before : List Coordinates) → AreCut (IsPart unit) polygons parts →
-    all ≡ grown before (vertices_in parts) → AreTogether unit polygons before all (flat_map (lines_among all) parts)
+    all ≡ with_points before (vertices_in parts) → AreTogether unit polygons before all (flat_map (lines_among all) parts)
 all_together unit all polygons [] before h e =
     subst (λ (ps : List Outline). AreTogether unit ps before all []) (sym h) (record { all_polygons = All-nil IsPolygon; found = []; corners = tt; grows = e; lines_are = refl })
 all_together unit all polygons (part ∷ parts) before h e =
     subst (λ (ps : List Outline). AreTogether unit ps before all (lines_among all part ++ flat_map (lines_among all) parts)) (sym h.2)
     (together_more unit h.0 h.1 part h.3 before all (flat_map (lines_among all) parts)
-    (all_together unit all h.1 parts (grown before part.vertices.keys) h.4 (e ∙ grown-append part.vertices.keys (vertices_in parts) before)))
+    (all_together unit all h.1 parts (with_points before part.vertices.keys) h.4 (e ∙ with_points-append part.vertices.keys (vertices_in parts) before)))
 
 -- parts that are put together are numbered as their polygons are, one after another
 pub parts_numbered : (unit : LengthUnit) (all : List Coordinates) (polygons : List Outline) (parts : List Part) (others : List NamedPart) → AreCut (IsPart unit) polygons parts →
-    all ≡ grown [] (vertices_in parts) → map named others ≡ map (named_in all) parts → HaveLines unit polygons all (lines_in others)
+    all ≡ with_points [] (vertices_in parts) → map faces_and_names others ≡ map (faces_and_names_in all) parts → HaveLines unit polygons all (lines_in others)
 parts_numbered unit all polygons parts others h e names =
     let t = all_together unit all polygons parts [] h e in
     let faces = map (map (number_among all)) (printed_corners t.found) in
@@ -86,7 +86,7 @@ parts_numbered unit all polygons parts others h e names =
     record {
       faces = faces;
       numbered = gathered_all unit polygons all faces (record { all_polygons = t.all_polygons; found = t.found; corners = t.corners; vertices_are = t.grows; faces_are = refl });
-      lines_are = sym (flat_map-map text named others) ∙ ap (flat_map text) names ∙ flat_map-map text (named_in all) parts ∙ t.lines_are;
+      lines_are = sym (flat_map-map text faces_and_names others) ∙ ap (flat_map text) names ∙ flat_map-map text (faces_and_names_in all) parts ∙ t.lines_are;
     }
 
 -- ---- one part after another
@@ -96,36 +96,36 @@ put_down begun items vertices points keys e none same = e ∙ ap₂ (λ (ns : Li
 
 -- the names of a part stay, whatever comes after it
 names_stay : (rest : List Part) (part : Part) (vertices : List Coordinates) →
-    numbers_among (grown (grown vertices part.vertices.keys) (vertices_in rest)) part.vertices.keys ≡ numbers_among (grown vertices part.vertices.keys) part.vertices.keys
-names_stay rest part vertices = (all_kept (vertices_in rest) (grown vertices part.vertices.keys) part.vertices.keys (grown_knows part.vertices.keys vertices)).1
+    numbers_among (with_points (with_points vertices part.vertices.keys) (vertices_in rest)) part.vertices.keys ≡ numbers_among (with_points vertices part.vertices.keys) part.vertices.keys
+names_stay rest part vertices = (all_kept (vertices_in rest) (with_points vertices part.vertices.keys) part.vertices.keys (grown_knows part.vertices.keys vertices)).1
 
-module _ (whole left rest : List Part) (part : Part) (e : left ≡ part ∷ rest) (vertices new : List Coordinates) (grows : new ≡ grown vertices part.vertices.keys) where
+module _ (whole left rest : List Part) (part : Part) (e : left ≡ part ∷ rest) (vertices new : List Coordinates) (grows : new ≡ with_points vertices part.vertices.keys) where
   -- a part more is put to those before
-  pub part_grows : grown vertices (vertices_in left) ≡ grown [] (vertices_in whole) → grown new (vertices_in rest) ≡ grown [] (vertices_in whole)
+  pub part_grows : with_points vertices (vertices_in left) ≡ with_points [] (vertices_in whole) → with_points new (vertices_in rest) ≡ with_points [] (vertices_in whole)
   part_grows h =
-      ap (λ (v : List Coordinates). grown v (vertices_in rest)) grows ∙ sym (grown-append part.vertices.keys (vertices_in rest) vertices)
-      ∙ ap (λ (ps : List Part). grown vertices (vertices_in ps)) (sym e) ∙ h
+      ap (λ (v : List Coordinates). with_points v (vertices_in rest)) grows ∙ sym (with_points-append part.vertices.keys (vertices_in rest) vertices)
+      ∙ ap (λ (ps : List Part). with_points vertices (vertices_in ps)) (sym e) ∙ h
 
   -- and its vertices have the names that they have among all
-  pub part_named : (before more : List NamedPart) (one : NamedPart) → more ≡ before ++ one ∷ [] → grown vertices (vertices_in left) ≡ grown [] (vertices_in whole) →
+  pub part_named : (before more : List NamedPart) (one : NamedPart) → more ≡ before ++ one ∷ [] → with_points vertices (vertices_in left) ≡ with_points [] (vertices_in whole) →
       one.faces ≡ part.faces → one.names.items ≡ numbers_among new part.vertices.keys →
-      (names : List (FaceNumbers × List ℕ)) → map named before ++ map (named_in (grown [] (vertices_in whole))) left ≡ names →
-      map named more ++ map (named_in (grown [] (vertices_in whole))) rest ≡ names
+      (names : List (FaceNumbers × List ℕ)) → map faces_and_names before ++ map (faces_and_names_in (with_points [] (vertices_in whole))) left ≡ names →
+      map faces_and_names more ++ map (faces_and_names_in (with_points [] (vertices_in whole))) rest ≡ names
   part_named before more one m h w n names all =
-      let last = grown [] (vertices_in whole) in
+      let last = with_points [] (vertices_in whole) in
       let own : numbers_among new part.vertices.keys ≡ numbers_among last part.vertices.keys =
       ap (λ (v : List Coordinates). numbers_among v part.vertices.keys) grows ∙ sym (names_stay rest part vertices)
-      ∙ ap (λ (v : List Coordinates). numbers_among v part.vertices.keys) (ap (λ (v : List Coordinates). grown v (vertices_in rest)) (sym grows) ∙ part_grows h) in
-      ap (λ (ns : List NamedPart). map named ns ++ map (named_in last) rest) m
-      ∙ ap (λ (ns : List (FaceNumbers × List ℕ)). ns ++ map (named_in last) rest) (map-append named before (one ∷ []))
-      ∙ append_assoc (map named before) (named one ∷ []) (map (named_in last) rest)
-      ∙ ap₂ (λ (x : FaceNumbers) (y : List ℕ). map named before ++ (x, y) ∷ map (named_in last) rest) w (n ∙ own)
-      ∙ ap (λ (ps : List Part). map named before ++ map (named_in last) ps) (sym e)
+      ∙ ap (λ (v : List Coordinates). numbers_among v part.vertices.keys) (ap (λ (v : List Coordinates). with_points v (vertices_in rest)) (sym grows) ∙ part_grows h) in
+      ap (λ (ns : List NamedPart). map faces_and_names ns ++ map (faces_and_names_in last) rest) m
+      ∙ ap (λ (ns : List (FaceNumbers × List ℕ)). ns ++ map (faces_and_names_in last) rest) (map-append faces_and_names before (one ∷ []))
+      ∙ append_assoc (map faces_and_names before) (faces_and_names one ∷ []) (map (faces_and_names_in last) rest)
+      ∙ ap₂ (λ (x : FaceNumbers) (y : List ℕ). map faces_and_names before ++ (x, y) ∷ map (faces_and_names_in last) rest) w (n ∙ own)
+      ∙ ap (λ (ps : List Part). map faces_and_names before ++ map (faces_and_names_in last) ps) (sym e)
       ∙ all
 
 -- the same of what was made of them, if it was
 pub both_made : {V E : Type 0} (unit : LengthUnit) (polygons : List Outline) (parts : List Part) → AreCut (IsPart unit) polygons parts →
-    (keys : V → List Coordinates) (others : V → List NamedPart) (r : Result V E) → IfOk r (λ v. keys v ≡ grown [] (vertices_in parts)) →
-    IfOk r (λ v. map named (others v) ≡ map (named_in (keys v)) parts) → IfOk r (λ v. HaveLines unit polygons (keys v) (lines_in (others v)))
+    (keys : V → List Coordinates) (others : V → List NamedPart) (r : Result V E) → IfOk r (λ v. keys v ≡ with_points [] (vertices_in parts)) →
+    IfOk r (λ v. map faces_and_names (others v) ≡ map (faces_and_names_in (keys v)) parts) → IfOk r (λ v. HaveLines unit polygons (keys v) (lines_in (others v)))
 both_made unit polygons parts h keys others (Ok v) e names = parts_numbered unit (keys v) polygons parts (others v) h e names
 both_made unit polygons parts h keys others (Err stop) e names = tt

@@ -10,7 +10,7 @@ use Rattle.plane_predicate.proofs.Opposites.{same_point}
 use Rattle.plane_predicate.proofs.Signs.{zero_cancel}
 use Rattle.plane_predicate.proofs.Coprime.{same_numbers}
 use Rattle.plane_polygon.specs.Polygons.{Outline, AreReducedFrom}
-use Rattle.lowest_terms.proofs.Factors.{size_above}
+use Rattle.off_text.proofs.Factors.{size_above}
 use Rattle.off_text.specs.Texts.{corners_in_units, AreCornersOf, IsTextOf, text_of}
 
 abbrev size_at : Coordinates → ℕ → ℕ

@@ -9,6 +9,7 @@ use Rattle.plane_predicate.specs.InUnits.{in_steps}
 abbrev pub after : ℕ → ℕ → ℕ
 after length i = if suc i == length then 0 else suc i
 
+-- the origin of space
 abbrev pub origin : Coordinates
 origin = record { x = pos 0; y = pos 0; z = pos 0; w = pos 1 }
 

@@ -5,7 +5,7 @@ use Rattle.plane_predicate.specs.declared.unit.Unit.{Unit as LengthUnit}
 use Rattle.plane_predicate.specs.Space.{Coefficients, Coordinates, IsInClosedWorld}
 use Rattle.plane_predicate.specs.InUnits.{in_steps}
 use Rattle.csg_tree.specs.Formulas.{Formula}
-use Rattle.csg_tree.specs.FacePlanes.{IsFacePlane, IsOnOneFacePlane, bounds}
+use Rattle.csg_tree.specs.FacePlanes.{IsFacePlane, IsOnOneFacePlane, is_boundary_at}
 use Rattle.closed_surface.specs.Closed.{Closed}
 use Rattle.off_text.specs.Reading.{Reads}
 use Rattle.off_text.specs.Boundaries.{grid_corner, Faces, Covers, OneExactlyWhere}
@@ -27,5 +27,5 @@ pub record IsBoundary (unit : LengthUnit) (bytes : List ℕ) (f : Formula) : Typ
   pub read : Reads bytes vertices faces
   pub bounding : All (IsBoundaryFace unit f vertices) faces
   pub covered : (n : Coefficients) (p : Coordinates) → IsOnOneFacePlane f n (in_steps unit p) →
-      OneExactlyWhere (bounds f n (in_steps unit p)) (Covers unit vertices n p) faces
+      OneExactlyWhere (is_boundary_at f n (in_steps unit p)) (Covers unit vertices n p) faces
   pub closed : Closed unit vertices faces

@@ -35,13 +35,13 @@ pub record HaveNumbers (unit : LengthUnit) (polygons : List Outline) (vertices :
   pub numbers : all.numbers.items ≡ all_numbers faces
 
 -- the name at a vertex's number, or the number where there is no name
-abbrev pub renamed : List ℕ → ℕ → ℕ
-renamed names i = slice_index_or names i i
+abbrev pub new_number : List ℕ → ℕ → ℕ
+new_number names i = slice_index_or names i i
 
 -- the lines of faces that have so many corners, one face after another, by these numbers of vertices with these names
 abbrev pub lines_from : List ℕ → List ℕ → List ℕ → List ℕ
 lines_from names [] numbers = []
-lines_from names (count ∷ sides) numbers = face_line (map (renamed names) (take count numbers)) ++ lines_from names sides (drop count numbers)
+lines_from names (count ∷ sides) numbers = face_line (map (new_number names) (take count numbers)) ++ lines_from names sides (drop count numbers)
 
 -- the lines of faces whose vertices have these names
 abbrev pub lines_of : List ℕ → FaceNumbers → List ℕ

@@ -27,16 +27,16 @@ pub record IsVertexAt (unit : LengthUnit) (p v : Coordinates) : Type 0 where
   pub reduced : IsReduced p → IsReduced v
 
 -- the vertices once these points are numbered too
-abbrev pub grown : List Coordinates → List Coordinates → List Coordinates
-grown vertices [] = vertices
-grown vertices (p ∷ points) = grown (insert_key same_point vertices p) points
+abbrev pub with_points : List Coordinates → List Coordinates → List Coordinates
+with_points vertices [] = vertices
+with_points vertices (p ∷ points) = with_points (insert_key same_point vertices p) points
 
 -- a polygon's corners are numbered too, and these are their numbers
 pub record AddsFace (unit : LengthUnit) (s : Outline) (old new : List Coordinates) (face : List ℕ) : Type 0 where
   pub polygon : IsPolygon s
   pub found : List Coordinates
   pub corners : AreReducedFrom (corners_in_units unit s) found
-  pub grows : new ≡ grown old (from_least found)
+  pub grows : new ≡ with_points old (from_least found)
   pub numbers : face ≡ map (number_among new) (from_least found)
 
 -- the vertices and the faces of the text of these polygons

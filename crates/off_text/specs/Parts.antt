@@ -16,12 +16,12 @@ abbrev pub vertices_in : List Part → List Coordinates
 vertices_in parts = flat_map (λ part. part.vertices.keys) parts
 
 -- the faces of a part, and the numbers of its vertices among all
-abbrev pub named_in : List Coordinates → Part → FaceNumbers × List ℕ
-named_in vertices part = (part.faces, numbers_among vertices part.vertices.keys)
+abbrev pub faces_and_names_in : List Coordinates → Part → FaceNumbers × List ℕ
+faces_and_names_in vertices part = (part.faces, numbers_among vertices part.vertices.keys)
 
 -- the faces that a part has, and the names of its vertices
-abbrev pub named : NamedPart → FaceNumbers × List ℕ
-named part = (part.faces, part.names.items)
+abbrev pub faces_and_names : NamedPart → FaceNumbers × List ℕ
+faces_and_names part = (part.faces, part.names.items)
 
 -- the lines of all parts
 abbrev pub lines_in : List NamedPart → List ℕ

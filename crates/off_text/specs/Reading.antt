@@ -4,9 +4,11 @@ use Prim.Native.Nat.{◌∣◌}
 use Rattle.text_place.specs.Decimals.{numeral, signed_numeral}
 use Rattle.plane_predicate.specs.Space.{Coordinates}
 
+-- the byte between numbers
 abbrev pub space : List ℕ
 space = 32 ∷ []
 
+-- the byte at the end of a line
 abbrev pub newline : List ℕ
 newline = 10 ∷ []
 
@@ -20,9 +22,11 @@ pub record IsFace (vertices : ℕ) (indices : List ℕ) : Type 0 where
   pub three : 3 ≤ length indices
   pub known : All (λ i. i < vertices) indices
 
+-- the line of a vertex: its four numbers
 abbrev pub vertex_line : Coordinates → List ℕ
 vertex_line p = signed_numeral p.x ++ space ++ signed_numeral p.y ++ space ++ signed_numeral p.z ++ space ++ signed_numeral p.w ++ newline
 
+-- the line of a face: how many corners it has, and their numbers
 abbrev pub face_line : List ℕ → List ℕ
 face_line indices = numeral (length indices) ++ flat_map (λ i. space ++ numeral i) indices ++ newline
 

@@ -25,13 +25,14 @@ place_of_least corners = position_or_len (is_least corners) corners
 abbrev pub from_least : List Coordinates → List Coordinates
 from_least corners = drop (place_of_least corners) corners ++ take (place_of_least corners) corners
 
+-- whether two points have the same four numbers
 abbrev pub same_point : Coordinates → Coordinates → Bool
 same_point p q = int_eq p.x q.x && (int_eq p.y q.y && (int_eq p.z q.z && int_eq p.w q.w))
 
 -- each point once, by first appearance
-abbrev pub distinct : List Coordinates → List Coordinates
-distinct [] = []
-distinct (p ∷ points) = p ∷ filter (λ q. not (same_point p q)) (distinct points)
+abbrev pub distinct_points : List Coordinates → List Coordinates
+distinct_points [] = []
+distinct_points (p ∷ points) = p ∷ filter (λ q. not (same_point p q)) (distinct_points points)
 
 -- the number of a point among numbered vertices, from 0
 abbrev pub number_among : List Coordinates → Coordinates → ℕ
@@ -43,7 +44,7 @@ printed_corners faces = map from_least faces
 
 -- the vertices by first appearance, face by face
 abbrev pub vertices_of : List (List Coordinates) → List Coordinates
-vertices_of faces = distinct (flat_map (λ corners. corners) (printed_corners faces))
+vertices_of faces = distinct_points (flat_map (λ corners. corners) (printed_corners faces))
 
 -- the faces as numbers of vertices
 abbrev pub faces_of : List (List Coordinates) → List (List ℕ)

@@ -6,8 +6,8 @@ ghost use Rattle.plane_predicate.specs.InUnits.{in_units};
 ghost use Rattle.plane_polygon.specs.Polygons.{corner, AreReducedFrom, IsPolygon};
 ghost use Rattle.off_text.specs.Texts.{corners_in_units};
 
+use crate::lowest_terms;
 use crate::vertex::Vertex;
-use lowest_terms::lowest_terms;
 use plane_polygon::{Polygon, meeting_of, next_index, polygons_keep_their_form};
 use plane_predicate::{Plane, Unit};
 use std::alloc::AllocError;

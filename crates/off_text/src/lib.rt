@@ -3,6 +3,7 @@
 
 mod corners;
 mod laws;
+mod lowest;
 mod numbering;
 mod part;
 mod parts;
@@ -15,4 +16,5 @@ pub use laws::{
     printed_corners_stay_in_the_world, some_corners, texts_are_boundaries, texts_print_polygons,
     vertices_are_corners,
 };
+pub use lowest::lowest_terms;
 pub use text::{OffStop, off_bytes, off_bytes_by};

@@ -1,7 +1,7 @@
 //! The numbers of vertices, by first appearance, and faces by the numbers of their vertices.
 
 ghost use Rattle.std.specs.Prelude.{◌≡◌, ◌≤◌, ◌++◌, ◌∷◌, [], length, drop, take, OnOk};
-ghost use Rattle.off_text.specs.Numbering.{grown};
+ghost use Rattle.off_text.specs.Numbering.{with_points};
 ghost use Rattle.off_text.specs.FaceNumbers.{numbers_among};
 
 use crate::vertex::Vertex;
@@ -33,7 +33,7 @@ pub fn push_numbers(
     numbers: &mut Vec<u32>,
     corners: &[Vertex],
 ) -> Result<(), NoMemory>
-    ensures vertices { OnOk result (vertices.new.keys ≡ grown vertices.old.keys corners.now) }
+    ensures vertices { OnOk result (vertices.new.keys ≡ with_points vertices.old.keys corners.now) }
     ensures numbers { OnOk result (numbers.new.items ≡ numbers.old.items ++ numbers_among vertices.new.keys corners.now) }
 {
     for corner in corners {
@@ -51,7 +51,7 @@ pub fn push_face(
     start: usize,
 ) -> Result<(), NoMemory>
     requires { start ≤ length corners.now }
-    ensures vertices { OnOk result (vertices.new.keys ≡ grown vertices.old.keys (drop start corners.now ++ take start corners.now)) }
+    ensures vertices { OnOk result (vertices.new.keys ≡ with_points vertices.old.keys (drop start corners.now ++ take start corners.now)) }
     ensures sides { OnOk result (faces.new.sides.items ≡ faces.old.sides.items ++ length corners.now ∷ []) }
     ensures numbers { OnOk result (faces.new.numbers.items ≡ faces.old.numbers.items ++ numbers_among vertices.new.keys (drop start corners.now ++ take start corners.now)) }
 {

@@ -3,9 +3,9 @@
 ghost use Rattle.std.specs.Prelude.{◌≡◌, ◌++◌, ◌∷◌, [], ◌<◌, codes, flat_map, map, length, OnOk, IfOk, Ok};
 ghost use Rattle.text_place.specs.Decimals.{numeral};
 ghost use Rattle.off_text.specs.Reading.{vertex_line};
-ghost use Rattle.off_text.specs.Numbering.{grown, HaveLines};
+ghost use Rattle.off_text.specs.Numbering.{with_points, HaveLines};
 ghost use Rattle.off_text.specs.FaceNumbers.{HaveNumbers};
-ghost use Rattle.off_text.specs.Parts.{AreCut, vertices_in, named_in, named, lines_in};
+ghost use Rattle.off_text.specs.Parts.{AreCut, vertices_in, faces_and_names_in, faces_and_names, lines_in};
 
 use crate::numbering::{FaceNumbers, push_numbers};
 use crate::part::{Part, numbered};
@@ -74,8 +74,8 @@ fn parts_by<R: Threads + Sync>(
 
 // Puts the vertices of parts together, one part after another, and names them.
 fn put_together(alloc: Global, parts: Vec<Part>) -> Result<Merged, NoMemory>
-    ensures vertices { IfOk result (λ merged. merged.vertices.keys ≡ grown [] (vertices_in parts.items)) }
-    ensures parts { IfOk result (λ merged. map named merged.parts.items ≡ map (named_in merged.vertices.keys) parts.items) }
+    ensures vertices { IfOk result (λ merged. merged.vertices.keys ≡ with_points [] (vertices_in parts.items)) }
+    ensures parts { IfOk result (λ merged. map faces_and_names merged.parts.items ≡ map (faces_and_names_in merged.vertices.keys) parts.items) }
 {
     let mut merged = Merged {
         vertices: IndexSet::new(alloc),

@@ -3,7 +3,7 @@
 ghost use Rattle.std.specs.Prelude.{◌≡◌, ◌++◌, ◌∷◌, [], codes, map, flat_map, length, OnOk, IfOk};
 ghost use Rattle.text_place.specs.Decimals.{numeral};
 ghost use Rattle.off_text.specs.Reading.{vertex_line, face_line};
-ghost use Rattle.off_text.specs.FaceNumbers.{renamed, lines_of};
+ghost use Rattle.off_text.specs.FaceNumbers.{new_number, lines_of};
 
 use crate::numbering::FaceNumbers;
 use crate::vertex::Vertex;
@@ -43,8 +43,8 @@ pub fn push_vertices(alloc: Global, out: &mut Vec<u8>, vertices: &[Vertex]) -> R
 }
 
 // The name at a vertex's number, among the names that are given, or the number where there is no name.
-fn renamed(number: u32, names: &[u32]) -> u32
-    ensures { result ≡ renamed names.now number }
+fn new_number(number: u32, names: &[u32]) -> u32
+    ensures { result ≡ new_number names.now number }
 {
     match names.get(number as usize) {
         Some(name) => *name,
@@ -54,12 +54,12 @@ fn renamed(number: u32, names: &[u32]) -> u32
 
 // Appends the line of a face with these numbers, whose vertices have these names.
 fn push_line(alloc: Global, out: &mut Vec<u8>, face: &[u32], names: &[u32]) -> Result<(), NoMemory>
-    ensures { OnOk result (out.new.items ≡ out.old.items ++ face_line (map (renamed names.now) face.now)) }
+    ensures { OnOk result (out.new.items ≡ out.old.items ++ face_line (map (new_number names.now) face.now)) }
 {
     push_count(alloc, out, face.len())?;
     for number in face {
         out.push(b' ')?;
-        push_count(alloc, out, renamed(*number, names) as usize)?;
+        push_count(alloc, out, new_number(*number, names) as usize)?;
     }
     out.push(b'\n')?;
     Ok(())

@@ -1,7 +1,7 @@
 -- What is counted for joins, put together.
 use Rattle.std.proofs.Common.{◌≡◌, ℕ, ◌+◌, ◌≤◌, refl, ◌∙◌, arith}
 use Rattle.subtree_memo.specs.Shares.{View}
-use Rattle.join_solids.specs.Joins.{AreAnswered, AreBegun, AreAsked}
+use Rattle.parallel_eval.specs.Joins.{AreAnswered, AreBegun, AreAsked}
 
 pub none_begun : (a b n : ℕ) (s : View) → a ≤ b → AreBegun a b s s n n
 none_begun a b n s h = record {

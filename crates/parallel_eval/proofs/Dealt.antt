@@ -6,7 +6,7 @@ use Rattle.pair_work.specs.Pairs.{EachReady}
 use Rattle.subtree_memo.specs.Shares.{View, fresh}
 use Rattle.subtree_memo.specs.declared.ledgers.MemoLedger.{Ghosts}
 use Rattle.parallel_eval.specs.declared.lane.Lane.{Lane}
-use Rattle.join_solids.specs.Joins.{AreAnswered, AreBegun}
+use Rattle.parallel_eval.specs.Joins.{AreAnswered, AreBegun}
 use Rattle.parallel_eval.specs.Runs.{AreAtMost, IsLaneReady, AreFreshLanes}
 
 module _ {B S T H M K E : Type 0} {g : Ghosts H} where

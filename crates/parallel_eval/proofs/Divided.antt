@@ -8,7 +8,7 @@ use Rattle.pair_work.specs.Pairs.{EachWorked}
 use Rattle.subtree_memo.specs.Shares.{View, dropped_max}
 use Rattle.subtree_memo.specs.declared.ledgers.MemoLedger.{Ghosts}
 use Rattle.parallel_eval.specs.declared.lane.Lane.{Lane}
-use Rattle.join_solids.specs.Joins.{AreAnswered, AreBegun, AreAsked}
+use Rattle.parallel_eval.specs.Joins.{AreAnswered, AreBegun, AreAsked}
 use Rattle.parallel_eval.specs.Runs.{joins_to, AreAtMost, IsLaneDone, AreFreshLanes, AreLanes, AreComplete, AreOfCaller, with_lanes}
 use Rattle.parallel_eval.proofs.Dealt.{begun_beside, answered_beside, begun_with_parts, answered_with_parts}
 use Rattle.parallel_eval.proofs.Worked.{lanes_begun, lanes_answered, lanes_parts, lanes_order, lanes_at_most, lanes_of, lanes_caller, same_lengths}

@@ -6,7 +6,7 @@ use Rattle.bsp_boolean.specs.TreeSolids.{is_join}
 use Rattle.subtree_memo.specs.declared.ledgers.MemoLedger.{Ghosts}
 use Rattle.parallel_eval.specs.declared.growth.NodeOutcome.{NodeOutcome}
 use Rattle.parallel_eval.specs.declared.lane.Lane.{Lane}
-use Rattle.join_solids.specs.Joins.{AreAsked}
+use Rattle.parallel_eval.specs.Joins.{AreAsked}
 use Rattle.parallel_eval.specs.Runs.{joins_to, IsNodeOutcome, IsMade, AreMade, AreNodeOutcomes, IsComplete, IsLaneAt, IsLaneDone}
 use Rattle.parallel_eval.proofs.Books.{asked_behind, asked_up_to}
 use Rattle.parallel_eval.proofs.Steps.{outcomes_more, made_but_last}

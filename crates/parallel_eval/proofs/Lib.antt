@@ -5,3 +5,5 @@ mod Laned
 mod Running
 mod Steps
 mod Worked
+mod Knowing
+pub mod Shared

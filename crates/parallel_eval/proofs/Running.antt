@@ -15,7 +15,7 @@ use Rattle.bsp_tree.specs.Shapes.{SolidParts}
 use Rattle.bsp_tree.specs.Trees.{outside}
 use Rattle.bsp_tree.specs.Shapes.{tree_of}
 use Rattle.bsp_boolean.specs.Solids.{solid_of}
-use Rattle.known_store.proofs.Shared.{get_or-read}
+use Rattle.parallel_eval.proofs.Shared.{get_or-read}
 use Rattle.parallel_eval.specs.Runs.{IsBelow, IsRunNode, AreRunNodes, IsRunWork}
 
 pub run_more : (trees : List Formula) (start before number : ℕ) (nodes : List CsgNode) (node : CsgNode) → AreRunNodes trees start before nodes →

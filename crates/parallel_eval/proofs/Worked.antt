@@ -7,7 +7,7 @@ use Rattle.pair_work.specs.Pairs.{EachWorked}
 use Rattle.subtree_memo.specs.Shares.{View, fresh, joined, dropped_max}
 use Rattle.subtree_memo.specs.declared.ledgers.MemoLedger.{Ghosts}
 use Rattle.parallel_eval.specs.declared.lane.Lane.{Lane}
-use Rattle.join_solids.specs.Joins.{AreAnswered, AreBegun}
+use Rattle.parallel_eval.specs.Joins.{AreAnswered, AreBegun}
 use Rattle.parallel_eval.specs.Runs.{joins_to, AreAtMost, AreNodeOutcomes, IsComplete, IsLaneDone, AreFreshLanes, AreLanes, AreComplete, AreOfCaller, with_lanes}
 use Rattle.parallel_eval.proofs.Books.{none_begun, none_answered, few_dropped, few_builds}
 

@@ -15,8 +15,8 @@ use Rattle.bsp_boolean.specs.Solids.{solid_of}
 use Rattle.bsp_boolean.specs.TreeSolids.{most_of_one, solid_size, total_size, joins, AreWithin}
 use Rattle.subtree_memo.specs.Shares.{View, fresh, joined}
 use Rattle.subtree_memo.specs.declared.ledgers.MemoLedger.{Ghosts}
-use Rattle.known_store.specs.Known.{shared_solids}
-use Rattle.join_solids.specs.Joins.{AreAsked}
+use Rattle.parallel_eval.specs.Known.{shared_solids}
+use Rattle.parallel_eval.specs.Joins.{AreAsked}
 use Rattle.parallel_eval.specs.declared.growth.Growth.{Growth}
 use Rattle.parallel_eval.specs.declared.growth.NodeOutcome.{NodeOutcome}
 use Rattle.parallel_eval.specs.declared.growth.NodeOutcome.TheVariants.{Made, TooBig}

@@ -6,19 +6,18 @@ ghost use Rattle.plane_predicate.specs.Space.{ComesInReach};
 ghost use Rattle.csg_tree.specs.Formulas.{leaf};
 ghost use Rattle.csg_tree.specs.Numberings.{tree_numbered, IsNumberIn};
 ghost use Rattle.bsp_tree.specs.Shapes.{tree_of};
-ghost use Rattle.leaf_solids.specs.Solids.{convex};
+ghost use Rattle.bsp_boolean.specs.LeafSolids.{solid_of_leaf};
 ghost use Rattle.bsp_boolean.specs.Solids.{solid_of};
-ghost use Rattle.join_solids.specs.Joins.{Gives, HasRoom, AreAsked};
+ghost use Rattle.parallel_eval.specs.Joins.{Gives, HasRoom, AreAsked};
 ghost use Rattle.parallel_eval.specs.Runs.{joins_to, IsRunWork, IsRunNode, IsNodeOutcome, HasMade, IsLaneReady, IsLaneDone};
 
 use crate::growth::NodeOutcome;
 use crate::lane::Lane;
+use crate::{Builds, Gate, JoinNode, KnownStore, SolidFit};
 use bsp_boolean::{BuildStop, Builder, MOST_OF_ONE, leaf_solid, one_tree_more};
 use bsp_tree::Solid;
 use csg_tree::{CsgNode, TreeKey};
 use flight_memo::{FlightBooks, FlightShare};
-use join_solids::{Builds, Gate, JoinNode, SolidFit};
-use known_store::KnownStore;
 use memo_core::Namer;
 use pair_work::PairWork;
 use plane_predicate::Plane;
@@ -156,7 +155,7 @@ impl<'a, 'b, N: Namer<TreeKey>, B: FlightBooks, G: Gate, R: Wait> RunWork<'a, 'b
         requires leaf { tree_numbered self.now.store.now number ≡ leaf planes.now }
         requires some { 0 < length planes.now }
         requires reach { All ComesInReach planes.now }
-        ensures { Gives (convex planes.now) result }
+        ensures { Gives (solid_of_leaf planes.now) result }
     {
         if let Some(known) = self.store.leaf(number)? {
             return Ok(known);

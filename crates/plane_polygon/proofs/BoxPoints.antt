@@ -8,7 +8,7 @@ use Rattle.plane_predicate.proofs.Polynomials.{var, num, times, minus, ring}
 use Rattle.plane_predicate.proofs.Vectors.{place, of_point, valueP}
 use Rattle.plane_predicate.proofs.Signs.{signs}
 use Rattle.plane_polygon.specs.Polygons.{Outline, IsPolygon, Covers}
-use Rattle.plane_polygon.specs.Boxes.{high_x, low_x, high_y, low_y, high_z, low_z, trimmed, turned, box_over_x, box_over_y, box_over_z, box_outline}
+use Rattle.plane_polygon.specs.Boxes.{high_x, low_x, high_y, low_y, high_z, low_z, trimmed_outline, turned, box_over_x, box_over_y, box_over_z, box_outline}
 use Rattle.plane_polygon.proofs.BoxStarts.{FourTurns, four, four_polygon, four_covers, over_x_above, over_x_below, over_y_above, over_y_below, over_z_above, over_z_below, HX, LX, HY, LY, HZ, LZ}
 use Rattle.plane_polygon.proofs.Trims.{trims}
 
@@ -97,8 +97,8 @@ pub record SixSides (n e f g h hi lo : Coefficients) (p : Coordinates) : Type 0 
   pub low : value lo p ≤ℤ pos 0
 
 pub record IsBoxed (n e f g h hi lo : Coefficients) : Type 0 where
-  pub polygon : IsPolygon (trimmed (trimmed (four n e f g h) hi) lo)
-  pub points : (p : Coordinates) → Covers (trimmed (trimmed (four n e f g h) hi) lo) p ↔ SixSides n e f g h hi lo p
+  pub polygon : IsPolygon (trimmed_outline (trimmed_outline (four n e f g h) hi) lo)
+  pub points : (p : Coordinates) → Covers (trimmed_outline (trimmed_outline (four n e f g h) hi) lo) p ↔ SixSides n e f g h hi lo p
 
 most : (x : ℤ) → x <ℤ pos 0 → x ≤ℤ pos 0
 most x h = omega (arith, sums)
@@ -108,7 +108,7 @@ boxed n e f g h hi lo t q w on qe qf qg qh qhi qlo =
     let s : Outline = four n e f g h in
     let c = four_covers n e f g h q w on (most _ qe) (most _ qf) (most _ qg) (most _ qh) in
     let first = trims s hi (four_polygon n e f g h t) q c qhi in
-    let second = trims (trimmed s hi) lo first.polygon q ((first.points q).1 (c, most _ qhi)) qlo in record {
+    let second = trims (trimmed_outline s hi) lo first.polygon q ((first.points q).1 (c, most _ qhi)) qlo in record {
       polygon = second.polygon;
       points = λ p. (
         λ k. (
@@ -124,7 +124,7 @@ pub record IsBoxPolygon (m : Coefficients) (s : Outline) : Type 0 where
   pub polygon : IsPolygon s
   pub points : (p : Coordinates) → Covers s p ↔ ((value m p ≡ pos 0) × IsInClosedWorld p)
 
-z_above : (m : Coefficients) → pos 0 <ℤ m.c → ComesInReach m → IsBoxPolygon m (trimmed (trimmed (four m low_x low_y high_x high_y) high_z) low_z)
+z_above : (m : Coefficients) → pos 0 <ℤ m.c → ComesInReach m → IsBoxPolygon m (trimmed_outline (trimmed_outline (four m low_x low_y high_x high_y) high_z) low_z)
 z_above m h r =
     let q = reach_in r.point r.reach in
     let b = boxed m low_x low_y high_x high_y high_z low_z (over_z_above m h) r.point r.reach.weight r.on q.low_x_side q.low_y_side q.high_x_side q.high_y_side q.high_z_side q.low_z_side in record {
@@ -135,7 +135,7 @@ z_above m h r =
       );
     }
 
-z_below : (m : Coefficients) → m.c <ℤ pos 0 → ComesInReach m → IsBoxPolygon m (trimmed (trimmed (four m low_x high_y high_x low_y) high_z) low_z)
+z_below : (m : Coefficients) → m.c <ℤ pos 0 → ComesInReach m → IsBoxPolygon m (trimmed_outline (trimmed_outline (four m low_x high_y high_x low_y) high_z) low_z)
 z_below m h r =
     let q = reach_in r.point r.reach in
     let b = boxed m low_x high_y high_x low_y high_z low_z (over_z_below m h) r.point r.reach.weight r.on q.low_x_side q.high_y_side q.high_x_side q.low_y_side q.high_z_side q.low_z_side in record {
@@ -146,7 +146,7 @@ z_below m h r =
       );
     }
 
-y_above : (m : Coefficients) → pos 0 <ℤ m.b → ComesInReach m → IsBoxPolygon m (trimmed (trimmed (four m low_x high_z high_x low_z) high_y) low_y)
+y_above : (m : Coefficients) → pos 0 <ℤ m.b → ComesInReach m → IsBoxPolygon m (trimmed_outline (trimmed_outline (four m low_x high_z high_x low_z) high_y) low_y)
 y_above m h r =
     let q = reach_in r.point r.reach in
     let b = boxed m low_x high_z high_x low_z high_y low_y (over_y_above m h) r.point r.reach.weight r.on q.low_x_side q.high_z_side q.high_x_side q.low_z_side q.high_y_side q.low_y_side in record {
@@ -157,7 +157,7 @@ y_above m h r =
       );
     }
 
-y_below : (m : Coefficients) → m.b <ℤ pos 0 → ComesInReach m → IsBoxPolygon m (trimmed (trimmed (four m low_x low_z high_x high_z) high_y) low_y)
+y_below : (m : Coefficients) → m.b <ℤ pos 0 → ComesInReach m → IsBoxPolygon m (trimmed_outline (trimmed_outline (four m low_x low_z high_x high_z) high_y) low_y)
 y_below m h r =
     let q = reach_in r.point r.reach in
     let b = boxed m low_x low_z high_x high_z high_y low_y (over_y_below m h) r.point r.reach.weight r.on q.low_x_side q.low_z_side q.high_x_side q.high_z_side q.high_y_side q.low_y_side in record {
@@ -168,7 +168,7 @@ y_below m h r =
       );
     }
 
-x_above : (m : Coefficients) → pos 0 <ℤ m.a → ComesInReach m → IsBoxPolygon m (trimmed (trimmed (four m low_y low_z high_y high_z) high_x) low_x)
+x_above : (m : Coefficients) → pos 0 <ℤ m.a → ComesInReach m → IsBoxPolygon m (trimmed_outline (trimmed_outline (four m low_y low_z high_y high_z) high_x) low_x)
 x_above m h r =
     let q = reach_in r.point r.reach in
     let b = boxed m low_y low_z high_y high_z high_x low_x (over_x_above m h) r.point r.reach.weight r.on q.low_y_side q.low_z_side q.high_y_side q.high_z_side q.high_x_side q.low_x_side in record {
@@ -179,7 +179,7 @@ x_above m h r =
       );
     }
 
-x_below : (m : Coefficients) → m.a <ℤ pos 0 → ComesInReach m → IsBoxPolygon m (trimmed (trimmed (four m low_y high_z high_y low_z) high_x) low_x)
+x_below : (m : Coefficients) → m.a <ℤ pos 0 → ComesInReach m → IsBoxPolygon m (trimmed_outline (trimmed_outline (four m low_y high_z high_y low_z) high_x) low_x)
 x_below m h r =
     let q = reach_in r.point r.reach in
     let b = boxed m low_y high_z high_y low_z high_x low_x (over_x_below m h) r.point r.reach.weight r.on q.low_y_side q.high_z_side q.high_y_side q.low_z_side q.high_x_side q.low_x_side in record {
@@ -223,23 +223,23 @@ start_x m h = elim (signs m.a) [
 
 pub box_z : (m : Coefficients) → m.c ≢ pos 0 → ComesInReach m → IsBoxPolygon m (box_over_z m)
 box_z m h r = elim (signs m.c) [
-  | inl k ↦ subst (λ (es : List Coefficients). IsBoxPolygon m (trimmed (trimmed (record { plane = m; edges = es }) high_z) low_z)) (sym (turned_below m.c low_x low_y high_x high_y k)) (z_below m k r)
+  | inl k ↦ subst (λ (es : List Coefficients). IsBoxPolygon m (trimmed_outline (trimmed_outline (record { plane = m; edges = es }) high_z) low_z)) (sym (turned_below m.c low_x low_y high_x high_y k)) (z_below m k r)
   | inr (inl k) ↦ absurd (h k)
-  | inr (inr k) ↦ subst (λ (es : List Coefficients). IsBoxPolygon m (trimmed (trimmed (record { plane = m; edges = es }) high_z) low_z)) (sym (turned_above m.c low_x low_y high_x high_y k)) (z_above m k r)
+  | inr (inr k) ↦ subst (λ (es : List Coefficients). IsBoxPolygon m (trimmed_outline (trimmed_outline (record { plane = m; edges = es }) high_z) low_z)) (sym (turned_above m.c low_x low_y high_x high_y k)) (z_above m k r)
 ]
 
 pub box_y : (m : Coefficients) → m.b ≢ pos 0 → ComesInReach m → IsBoxPolygon m (box_over_y m)
 box_y m h r = elim (signs m.b) [
-  | inl k ↦ subst (λ (es : List Coefficients). IsBoxPolygon m (trimmed (trimmed (record { plane = m; edges = es }) high_y) low_y)) (sym (turned_below m.b low_x high_z high_x low_z k)) (y_below m k r)
+  | inl k ↦ subst (λ (es : List Coefficients). IsBoxPolygon m (trimmed_outline (trimmed_outline (record { plane = m; edges = es }) high_y) low_y)) (sym (turned_below m.b low_x high_z high_x low_z k)) (y_below m k r)
   | inr (inl k) ↦ absurd (h k)
-  | inr (inr k) ↦ subst (λ (es : List Coefficients). IsBoxPolygon m (trimmed (trimmed (record { plane = m; edges = es }) high_y) low_y)) (sym (turned_above m.b low_x high_z high_x low_z k)) (y_above m k r)
+  | inr (inr k) ↦ subst (λ (es : List Coefficients). IsBoxPolygon m (trimmed_outline (trimmed_outline (record { plane = m; edges = es }) high_y) low_y)) (sym (turned_above m.b low_x high_z high_x low_z k)) (y_above m k r)
 ]
 
 pub box_x : (m : Coefficients) → m.a ≢ pos 0 → ComesInReach m → IsBoxPolygon m (box_over_x m)
 box_x m h r = elim (signs m.a) [
-  | inl k ↦ subst (λ (es : List Coefficients). IsBoxPolygon m (trimmed (trimmed (record { plane = m; edges = es }) high_x) low_x)) (sym (turned_below m.a low_y low_z high_y high_z k)) (x_below m k r)
+  | inl k ↦ subst (λ (es : List Coefficients). IsBoxPolygon m (trimmed_outline (trimmed_outline (record { plane = m; edges = es }) high_x) low_x)) (sym (turned_below m.a low_y low_z high_y high_z k)) (x_below m k r)
   | inr (inl k) ↦ absurd (h k)
-  | inr (inr k) ↦ subst (λ (es : List Coefficients). IsBoxPolygon m (trimmed (trimmed (record { plane = m; edges = es }) high_x) low_x)) (sym (turned_above m.a low_y low_z high_y high_z k)) (x_above m k r)
+  | inr (inr k) ↦ subst (λ (es : List Coefficients). IsBoxPolygon m (trimmed_outline (trimmed_outline (record { plane = m; edges = es }) high_x) low_x)) (sym (turned_above m.a low_y low_z high_y high_z k)) (x_above m k r)
 ]
 
 -- ---- which of the three it is

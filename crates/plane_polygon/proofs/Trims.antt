@@ -7,7 +7,7 @@ use Rattle.plane_predicate.proofs.IntegerRing.{sums}
 use Rattle.plane_predicate.proofs.Vectors.{value-opposite}
 use Rattle.plane_polygon.specs.Polygons.{Outline, sides, corner, IsPolygon, Covers}
 use Rattle.plane_polygon.specs.Parts.{up_to, corners, some_of, is_behind, is_ahead, class_by, class_of}
-use Rattle.plane_polygon.specs.Boxes.{trimmed, trimmed_to}
+use Rattle.plane_polygon.specs.Boxes.{trimmed_outline, outline_trimmed_to}
 use Rattle.plane_polygon.specs.declared.classes.Class.{Class}
 use Rattle.plane_polygon.specs.declared.classes.Class.TheVariants.{Behind, Ahead, On, Across}
 use Rattle.plane_polygon.proofs.CornerSides.{some_more}
@@ -79,12 +79,12 @@ pub record Trims (s t : Outline) (m : Coefficients) : Type 0 where
 unchanged : (s : Outline) (m : Coefficients) → IsPolygon s → some_of (is_ahead m) (corners s) ≡ false → Trims s s m
 unchanged s m h e = record { polygon = h; points = λ p. (λ c. (c, none_ahead s m h e p c), λ (c, b). c) }
 
-trim_case : (s : Outline) (m : Coefficients) → IsPolygon s → (q : Coordinates) → Covers s q → value m q <ℤ pos 0 → (k : Class) → class_of s m ≡ k → Trims s (trimmed_to k s m) m
+trim_case : (s : Outline) (m : Coefficients) → IsPolygon s → (q : Coordinates) → Covers s q → value m q <ℤ pos 0 → (k : Class) → class_of s m ≡ k → Trims s (outline_trimmed_to k s m) m
 trim_case s m h q c b Across e = record { polygon = behind_polygon s m h e; points = behind_points s m h e }
 trim_case s m h q c b Behind e = unchanged s m h (behind_by (some_of (is_behind m) (corners s)) (some_of (is_ahead m) (corners s)) e)
 trim_case s m h q c b On e = unchanged s m h (on_by (some_of (is_behind m) (corners s)) (some_of (is_ahead m) (corners s)) e)
 trim_case s m h q c b Ahead e = absurd (opposed (value m q) (value (opposite_of m) q) (value-opposite m q) (none_behind s m h (ahead_by (some_of (is_behind m) (corners s)) (some_of (is_ahead m) (corners s)) e) q c) b)
 
 -- where some point of a polygon is strictly behind m
-pub trims : (s : Outline) (m : Coefficients) → IsPolygon s → (q : Coordinates) → Covers s q → value m q <ℤ pos 0 → Trims s (trimmed s m) m
+pub trims : (s : Outline) (m : Coefficients) → IsPolygon s → (q : Coordinates) → Covers s q → value m q <ℤ pos 0 → Trims s (trimmed_outline s m) m
 trims s m h q c b = trim_case s m h q c b (class_of s m) refl

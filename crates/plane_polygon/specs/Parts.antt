@@ -46,19 +46,19 @@ before k (suc i) = i
 
 -- what an edge gives to the part behind m, by whether its first and its last corner are strictly behind m: itself where
 -- one of them is, and m after it where it goes from such a corner to one that isn't
-abbrev pub kept_by : Bool → Bool → Coefficients → Coefficients → List Coefficients
-kept_by true true e m = e ∷ []
-kept_by true false e m = e ∷ m ∷ []
-kept_by false true e m = e ∷ []
-kept_by false false e m = []
+abbrev pub edges_kept_by : Bool → Bool → Coefficients → Coefficients → List Coefficients
+edges_kept_by true true e m = e ∷ []
+edges_kept_by true false e m = e ∷ m ∷ []
+edges_kept_by false true e m = e ∷ []
+edges_kept_by false false e m = []
 
 -- what edge i gives to the part behind m
-abbrev pub kept : Outline → Coefficients → ℕ → List Coefficients
-kept s m i = kept_by (is_behind m (corner s (before (sides s) i))) (is_behind m (corner s i)) (edge s i) m
+abbrev pub edges_kept_at : Outline → Coefficients → ℕ → List Coefficients
+edges_kept_at s m i = edges_kept_by (is_behind m (corner s (before (sides s) i))) (is_behind m (corner s i)) (edge s i) m
 
 -- the part of a polygon behind a plane that it is across
 abbrev pub part_behind : Outline → Coefficients → Outline
-part_behind s m = record { plane = s.plane; edges = flat_map (kept s m) (up_to (sides s)) }
+part_behind s m = record { plane = s.plane; edges = flat_map (edges_kept_at s m) (up_to (sides s)) }
 
 -- the part ahead is the part behind the opposite plane
 abbrev pub part_ahead : Outline → Coefficients → Outline

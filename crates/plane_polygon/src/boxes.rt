@@ -3,7 +3,7 @@
 ghost use Rattle.std.specs.Prelude.{◌≡◌, ◌≢◌, ◌↔◌, pos, IfOk};
 ghost use Rattle.plane_predicate.specs.Space.{Coordinates, value, IsInClosedWorld, ComesInReach};
 ghost use Rattle.plane_polygon.specs.Polygons.{Covers, IsPolygon};
-ghost use Rattle.plane_polygon.specs.Boxes.{box_outline, box_over_x, box_over_y, box_over_z, trimmed, turned};
+ghost use Rattle.plane_polygon.specs.Boxes.{box_outline, box_over_x, box_over_y, box_over_z, trimmed_outline, turned};
 
 use crate::planes::{high_x, high_y, high_z, low_x, low_y, low_z};
 use crate::{Class, Polygon, cut, sort_by};
@@ -85,7 +85,7 @@ fn four_edges(
 
 // The part behind a plane where the polygon is across it, else the polygon.
 fn trim(alloc: Global, polygon: Polygon, plane: &Plane) -> Result<Polygon, NoMemory>
-    ensures { IfOk result (λ s. s ≡ trimmed polygon plane.now) }
+    ensures { IfOk result (λ s. s ≡ trimmed_outline polygon plane.now) }
 {
     match sort_by(&polygon, plane) {
         Class::Across => {

@@ -3,7 +3,7 @@
 ghost use Rattle.std.specs.Prelude.{◌≡◌, ◌++◌, ◌↔◌, ◌≤ℤ◌, pos, IfOk, OnOk};
 ghost use Rattle.plane_predicate.specs.Space.{Coordinates, value};
 ghost use Rattle.plane_polygon.specs.Polygons.{Covers, IsPolygon};
-ghost use Rattle.plane_polygon.specs.Parts.{class_of, kept_by, part_ahead, part_behind};
+ghost use Rattle.plane_polygon.specs.Parts.{class_of, edges_kept_by, part_ahead, part_behind};
 ghost use Rattle.plane_polygon.specs.declared.classes.Class.TheVariants.{Across};
 
 use crate::Polygon;
@@ -79,7 +79,7 @@ fn push_kept(
     edge: &Plane,
     m: &Plane,
 ) -> Result<(), AllocError>
-    ensures { OnOk result (found.new.items ≡ found.old.items ++ kept_by from to edge.now m.now) }
+    ensures { OnOk result (found.new.items ≡ found.old.items ++ edges_kept_by from to edge.now m.now) }
 {
     if from || to {
         found.push(*edge)?;

@@ -13,3 +13,5 @@ pub mod Coprime
 pub mod SamePlanes
 pub mod InUnits
 mod Rows
+pub mod Places
+pub mod Spots

@@ -3,16 +3,23 @@
 
 mod arithmetic;
 mod laws;
+mod line;
 mod meeting;
+mod place;
 mod reduction;
 mod sides;
+mod small;
+mod small_arithmetic;
 mod through;
 mod unit;
 
 pub use laws::{planes_with_the_same_points, points_in_units_and_grid_steps};
+pub use line::{Line, line_of};
 pub use meeting::{meet, opposite, point_side, side};
+pub use place::{Place, place_on, side_between};
 pub use reduction::reduce;
 pub use sides::Side;
+pub use small::{are_small, is_small};
 use std::marker::Model;
 pub use through::{plane_of, plane_through};
 pub use unit::Unit;

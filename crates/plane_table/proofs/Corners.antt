@@ -15,7 +15,7 @@ use Rattle.plane_polygon.specs.Parts.{up_to, corners, some_of, is_behind, is_ahe
 use Rattle.plane_table.specs.declared.faces.Face.{Face}
 use Rattle.plane_table.specs.declared.sorting.CornerSide.{CornerSide}
 use Rattle.plane_table.specs.declared.sorting.CornerSides.{CornerSides}
-use Rattle.plane_table.specs.Tables.{named}
+use Rattle.plane_table.specs.Tables.{plane_named}
 use Rattle.plane_table.specs.Faces.{outline_of, side_against, AreFourSides, AreSidesOf, AreSidesWhereAcross, IsFaceOver, IsSideAt}
 use Rattle.plane_table.proofs.Numbers.{get_map}
 
@@ -85,11 +85,11 @@ sides_map s m = map_map (side_against m) (corner s) (up_to (sides s))
 
 -- ---- the corners of a face
 pub corner_is : (planes : List Coefficients) (face : Face) (i : ℕ) → i < length face.edges → after (length face.edges) i < length face.edges →
-    corner (outline_of planes face) i ≡ cramer (named planes face.plane) (named planes (get_or face.edges i 0)) (named planes (get_or face.edges (after (length face.edges) i) 0))
+    corner (outline_of planes face) i ≡ cramer (plane_named planes face.plane) (plane_named planes (get_or face.edges i 0)) (plane_named planes (get_or face.edges (after (length face.edges) i) 0))
 corner_is planes face i h k =
-    let n = length-map face.edges (named planes) in
-    ap (λ (j : ℕ). cramer (named planes face.plane) (get_or (map (named planes) face.edges) i nowhere) (get_or (map (named planes) face.edges) (after j i) nowhere)) n
-    ∙ ap₂ (λ (p q : Coefficients). cramer (named planes face.plane) p q) (get_map (named planes) face.edges i 0 nowhere h) (get_map (named planes) face.edges (after (length face.edges) i) 0 nowhere k)
+    let n = length-map face.edges (plane_named planes) in
+    ap (λ (j : ℕ). cramer (plane_named planes face.plane) (get_or (map (plane_named planes) face.edges) i nowhere) (get_or (map (plane_named planes) face.edges) (after j i) nowhere)) n
+    ∙ ap₂ (λ (p q : Coefficients). cramer (plane_named planes face.plane) p q) (get_map (plane_named planes) face.edges i 0 nowhere h) (get_map (plane_named planes) face.edges (after (length face.edges) i) 0 nowhere k)
 
 -- all corners
 pub class_end : (planes : List Coefficients) (face : Face) (m : Coefficients) (b a : Bool) →
@@ -98,7 +98,7 @@ pub class_end : (planes : List Coefficients) (face : Face) (m : Coefficients) (b
     class_by b a ≡ class_of (outline_of planes face) m
 class_end planes face m b a p q =
     let s : Outline = outline_of planes face in
-    let n = length-map face.edges (named planes) in
+    let n = length-map face.edges (plane_named planes) in
     ap₂ class_by
     (p ∙ ap (λ (k : ℕ). some_of (is_behind m) (map (corner s) (up_to k))) (sym n))
     (q ∙ ap (λ (k : ℕ). some_of (is_ahead m) (map (corner s) (up_to k))) (sym n))
@@ -109,7 +109,7 @@ pub sides_end : (planes : List Coefficients) (face : Face) (m : Coefficients) (f
 sides_end planes face m found e =
     let s : Outline = outline_of planes face in
     e
-    ∙ ap (λ (k : ℕ). map (λ i. side_against m (corner s i)) (up_to k)) (sym (length-map face.edges (named planes)))
+    ∙ ap (λ (k : ℕ). map (λ i. side_against m (corner s i)) (up_to k)) (sym (length-map face.edges (plane_named planes)))
     ∙ sym (sides_map s m)
 
 -- where all corners are listed, those of an outline that is across are
@@ -141,17 +141,17 @@ one_of ends begins known P choose b c = elim choose [
 -- by the two edge planes that meet there
 pub known_at : (planes : List Coefficients) (face : Face) (m : Coefficients) (i : ℕ) (ends begins known : Option Side) →
     IsFaceOver planes face → i < length face.edges →
-    IfSome ends (HasAllOn (named planes (get_or face.edges i 0)) m) →
-    IfSome begins (HasAllOn (named planes (get_or face.edges (after (length face.edges) i) 0)) m) →
+    IfSome ends (HasAllOn (plane_named planes (get_or face.edges i 0)) m) →
+    IfSome begins (HasAllOn (plane_named planes (get_or face.edges (after (length face.edges) i) 0)) m) →
     (known ≡ ends) ⊎ (known ≡ begins) →
     IfSome known (IsSideAt planes face m i)
 known_at planes face m i ends begins known h l b c choose =
-    let p = named planes face.plane in
-    let q = named planes (get_or face.edges i 0) in
-    let r = named planes (get_or face.edges (after (length face.edges) i) 0) in
+    let p = plane_named planes face.plane in
+    let q = plane_named planes (get_or face.edges i 0) in
+    let r = plane_named planes (get_or face.edges (after (length face.edges) i) 0) in
     let e = corner_is planes face i l (after_in (length face.edges) i l) in
     let v = cramer p q r in
-    let w : pos 0 <ℤ v.w = subst (λ (x : Coordinates). pos 0 <ℤ x.w) e (h.polygon.turns_left i (let n = length-map face.edges (named planes) in omega arith)) in
+    let w : pos 0 <ℤ v.w = subst (λ (x : Coordinates). pos 0 <ℤ x.w) e (h.polygon.turns_left i (let n = length-map face.edges (plane_named planes) in omega arith)) in
     subst (λ (x : Coordinates). IfSome known (λ s. s ≡ side_of (value m x))) (sym e)
     (one_of ends begins known (λ s. s ≡ side_of (value m v)) choose
     (some_on q m ends v w (cramer_on_second p q r) b) (some_on r m begins v w (cramer_on_third p q r) c))
@@ -167,7 +167,7 @@ all_of p f b (suc n) h =
     let before = ap (λ (k : ℕ). some_of p (map f (up_to k))) (sym (add-one n)) ∙ all_of p f b n (λ i l. h i (omega arith)) in
     sym (some_step p f (suc n) b b (sym before) (sym (h (suc n) (omega arith)))) ∙ or_itself b
 
-pub all_of_class : (planes : List Coefficients) (face : Face) (m : Coefficients) (side : Side) → IsFaceOver planes face → HasAllOn (named planes face.plane) m side →
+pub all_of_class : (planes : List Coefficients) (face : Face) (m : Coefficients) (side : Side) → IsFaceOver planes face → HasAllOn (plane_named planes face.plane) m side →
     class_by (is_side_behind side) (is_side_ahead side) ≡ class_of (outline_of planes face) m
 all_of_class planes face m side h k =
     let s : Outline = outline_of planes face in
@@ -187,13 +187,13 @@ one_side Ahead e = cc
 -- ---- four corners
 -- by the edge that ends at a corner, and by the one that begins there
 pub ends_at : (planes : List Coefficients) (face : Face) (m : Coefficients) (i : ℕ) (side : Side) → IsFaceOver planes face → i < length face.edges →
-    HasAllOn (named planes (get_or face.edges i 0)) m side → IsSideAt planes face m i side
+    HasAllOn (plane_named planes (get_or face.edges i 0)) m side → IsSideAt planes face m i side
 ends_at planes face m i side f l h = known_at planes face m i (Some side) None (Some side) f l h tt (inl refl)
 
 pub begins_at : (planes : List Coefficients) (face : Face) (m : Coefficients) (i j : ℕ) (side : Side) → IsFaceOver planes face → i < length face.edges →
-    after (length face.edges) i ≡ j → HasAllOn (named planes (get_or face.edges j 0)) m side → IsSideAt planes face m i side
+    after (length face.edges) i ≡ j → HasAllOn (plane_named planes (get_or face.edges j 0)) m side → IsSideAt planes face m i side
 begins_at planes face m i j side f l e h =
-    known_at planes face m i None (Some side) (Some side) f l tt (subst (λ (k : ℕ). HasAllOn (named planes (get_or face.edges k 0)) m side) (sym e) h) (inr refl)
+    known_at planes face m i None (Some side) (Some side) f l tt (subst (λ (k : ℕ). HasAllOn (plane_named planes (get_or face.edges k 0)) m side) (sym e) h) (inr refl)
 
 or_four : (a b c d w x y z : Bool) → a ≡ w → b ≡ x → c ≡ y → d ≡ z → (a || (b || (c || d))) ≡ (w || (x || (y || (z || false))))
 or_four a b c d w x y z p q r s = ap₂ (λ (u v : Bool). u || v) p (ap₂ (λ (u v : Bool). u || v) q (ap₂ (λ (u v : Bool). u || v) r (s ∙ sym (or_last z))))
@@ -206,7 +206,7 @@ pub four_end : (planes : List Coefficients) (face : Face) (m : Coefficients) (a 
     AreFourSides a b c d sides → AreSidesWhereAcross (outline_of planes face) m sides
 four_end planes face m a b c d found four x y z w h =
     let s : Outline = outline_of planes face in
-    let n : sides s ≡ 4 = length-map face.edges (named planes) ∙ four in
+    let n : sides s ≡ 4 = length-map face.edges (plane_named planes) ∙ four in
     let at : ℕ → Coordinates = corner s in
     let behind = or_four _ _ _ _ _ _ _ _ (ap is_side_behind x ∙ side_behind (value m (at 0))) (ap is_side_behind y ∙ side_behind (value m (at 1)))
     (ap is_side_behind z ∙ side_behind (value m (at 2))) (ap is_side_behind w ∙ side_behind (value m (at 3))) in

@@ -8,14 +8,14 @@ use Rattle.std.proofs.lemmas.List.Elements.{All-append, All-nil, All-cons}
 use Rattle.plane_predicate.specs.Space.{Coefficients, Coordinates, value, opposite_of}
 use Rattle.plane_predicate.proofs.Vectors.{value-opposite}
 use Rattle.plane_polygon.specs.Polygons.{Outline, corner, sides, nowhere, IsPolygon}
-use Rattle.plane_polygon.specs.Parts.{up_to, before, kept, kept_by, corners, is_behind, is_ahead, part_behind, part_ahead}
+use Rattle.plane_polygon.specs.Parts.{up_to, before, edges_kept_at, edges_kept_by, corners, is_behind, is_ahead, part_behind, part_ahead}
 use Rattle.plane_table.specs.declared.faces.Face.{Face}
 use Rattle.plane_table.specs.declared.sorting.CornerSide.{CornerSide}
-use Rattle.plane_table.specs.Tables.{named, IsNumberIn}
+use Rattle.plane_table.specs.Tables.{plane_named, IsNumberIn}
 use Rattle.plane_table.specs.Faces.{outline_of, side_against, IsFaceOver}
 use Rattle.plane_table.specs.declared.cutting.Half.{Half}
 use Rattle.plane_table.specs.declared.cutting.Half.TheVariants.{Behind, Ahead}
-use Rattle.plane_table.specs.Cuts.{is_within, kept_in, kept_numbers, on_the_plane, part_in, side_number}
+use Rattle.plane_table.specs.Cuts.{is_within, numbers_kept_at, kept_numbers, on_the_plane, part_in, side_number}
 use Rattle.plane_table.proofs.Numbers.{get_map, named_opposite, opposite_in}
 use Rattle.plane_table.proofs.Corners.{get_up_to, length-up_to, sides_map}
 
@@ -55,7 +55,7 @@ behind_opposite : (m : Coefficients) (p : Coordinates) → is_behind (opposite_o
 behind_opposite m p = less_opposite (value m p) (value (opposite_of m) p) (value-opposite m p)
 
 -- ---- what an edge gives
-kept_named : (f : ℕ → Coefficients) (b c : Bool) (e m : ℕ) → map f (kept_numbers b c e m) ≡ kept_by b c (f e) (f m)
+kept_named : (f : ℕ → Coefficients) (b c : Bool) (e m : ℕ) → map f (kept_numbers b c e m) ≡ edges_kept_by b c (f e) (f m)
 kept_named f true true e m = refl
 kept_named f true false e m = refl
 kept_named f false true e m = refl
@@ -88,7 +88,7 @@ within_is : (half : Half) (m : Coefficients) (p : Coordinates) → is_within hal
 within_is Behind m p = refl
 within_is Ahead m p = sym (behind_opposite m p)
 
-named_side : (half : Half) (planes : List Coefficients) (m : ℕ) → named planes (side_number half m) ≡ half_plane half (named planes m)
+named_side : (half : Half) (planes : List Coefficients) (m : ℕ) → plane_named planes (side_number half m) ≡ half_plane half (plane_named planes m)
 named_side Behind planes m = refl
 named_side Ahead planes m = named_opposite planes m
 
@@ -102,26 +102,26 @@ part_behind_it Ahead s m = refl
 
 -- ---- the part
 part_is : (half : Half) (planes : List Coefficients) (face : Face) (m : ℕ) (found : List CornerSide) →
-    found ≡ map (side_against (named planes m)) (corners (outline_of planes face)) →
-    map (named planes) (flat_map (kept_in half face.edges m found) (up_to (length face.edges))) ≡ (part_behind (outline_of planes face) (half_plane half (named planes m))).edges
+    found ≡ map (side_against (plane_named planes m)) (corners (outline_of planes face)) →
+    map (plane_named planes) (flat_map (numbers_kept_at half face.edges m found) (up_to (length face.edges))) ≡ (part_behind (outline_of planes face) (half_plane half (plane_named planes m))).edges
 part_is half planes face m found e =
     let s : Outline = outline_of planes face in
-    let n = length-map face.edges (named planes) in
-    let q = named planes m in
+    let n = length-map face.edges (plane_named planes) in
+    let q = plane_named planes m in
     let t = half_plane half q in
-    map_flat (named planes) (kept_in half face.edges m found) (kept s t) (length face.edges) (λ i l.
-    kept_named (named planes) (is_within half (get_or found (before (length face.edges) i) on_the_plane)) (is_within half (get_or found i on_the_plane)) (get_or face.edges i 0) (side_number half m)
-    ∙ ap (kept_by (is_within half (get_or found (before (length face.edges) i) on_the_plane)) (is_within half (get_or found i on_the_plane)) (named planes (get_or face.edges i 0))) (named_side half planes m)
-    ∙ ap₂ (λ (b c : Bool). kept_by b c (named planes (get_or face.edges i 0)) t)
+    map_flat (plane_named planes) (numbers_kept_at half face.edges m found) (edges_kept_at s t) (length face.edges) (λ i l.
+    kept_named (plane_named planes) (is_within half (get_or found (before (length face.edges) i) on_the_plane)) (is_within half (get_or found i on_the_plane)) (get_or face.edges i 0) (side_number half m)
+    ∙ ap (edges_kept_by (is_within half (get_or found (before (length face.edges) i) on_the_plane)) (is_within half (get_or found i on_the_plane)) (plane_named planes (get_or face.edges i 0))) (named_side half planes m)
+    ∙ ap₂ (λ (b c : Bool). edges_kept_by b c (plane_named planes (get_or face.edges i 0)) t)
     (ap (λ (k : ℕ). is_within half (get_or found (before k i) on_the_plane)) (sym n) ∙ ap (is_within half) (side_in s q found (before (sides s) i) e (before_in (sides s) i (omega arith))) ∙ within_is half q (corner s (before (sides s) i)))
     (ap (is_within half) (side_in s q found i e (omega arith)) ∙ within_is half q (corner s i))
-    ∙ ap (λ (p : Coefficients). kept_by (is_behind t (corner s (before (sides s) i))) (is_behind t (corner s i)) p t) (sym (get_map (named planes) face.edges i 0 nowhere l)))
-    ∙ ap (λ (k : ℕ). flat_map (kept s t) (up_to k)) (sym n)
+    ∙ ap (λ (p : Coefficients). edges_kept_by (is_behind t (corner s (before (sides s) i))) (is_behind t (corner s i)) p t) (sym (get_map (plane_named planes) face.edges i 0 nowhere l)))
+    ∙ ap (λ (k : ℕ). flat_map (edges_kept_at s t) (up_to k)) (sym n)
 
 numbers_in : (half : Half) (planes : List Coefficients) (edges : List ℕ) (m : ℕ) (found : List CornerSide) → All (IsNumberIn planes) edges → IsNumberIn planes m →
-    All (IsNumberIn planes) (flat_map (kept_in half edges m found) (up_to (length edges)))
+    All (IsNumberIn planes) (flat_map (numbers_kept_at half edges m found) (up_to (length edges)))
 numbers_in half planes edges m found h k =
-    all_flat (IsNumberIn planes) (kept_in half edges m found) (length edges) (λ i l.
+    all_flat (IsNumberIn planes) (numbers_kept_at half edges m found) (length edges) (λ i l.
     all_kept (IsNumberIn planes) (is_within half (get_or found (before (length edges) i) on_the_plane)) (is_within half (get_or found i on_the_plane)) (get_or edges i 0) (side_number half m) (h i 0 l) (side_in_range half planes m k))
 
 -- ---- the parts as faces
@@ -132,15 +132,15 @@ pub sides_count : (planes : List Coefficients) (face : Face) (m : Coefficients) 
     found ≡ map (side_against m) (corners (outline_of planes face)) → length found ≡ length face.edges
 sides_count planes face m found e =
     let s : Outline = outline_of planes face in
-    ap length (e ∙ sides_map s m) ∙ length-map (up_to (sides s)) (λ i. side_against m (corner s i)) ∙ length-up_to (sides s) ∙ length-map face.edges (named planes)
+    ap length (e ∙ sides_map s m) ∙ length-map (up_to (sides s)) (λ i. side_against m (corner s i)) ∙ length-up_to (sides s) ∙ length-map face.edges (plane_named planes)
 
 pub outline_in : (half : Half) (planes : List Coefficients) (face : Face) (m : ℕ) (found : List CornerSide) (edges : List ℕ) →
-    found ≡ map (side_against (named planes m)) (corners (outline_of planes face)) →
-    edges ≡ flat_map (kept_in half face.edges m found) (up_to (length face.edges)) →
-    outline_of planes (record { plane = face.plane; edges = edges }) ≡ part_in half (outline_of planes face) (named planes m)
+    found ≡ map (side_against (plane_named planes m)) (corners (outline_of planes face)) →
+    edges ≡ flat_map (numbers_kept_at half face.edges m found) (up_to (length face.edges)) →
+    outline_of planes (record { plane = face.plane; edges = edges }) ≡ part_in half (outline_of planes face) (plane_named planes m)
 outline_in half planes face m found edges e k =
-    let f = ap (map (named planes)) k ∙ part_is half planes face m found e in
-    (λ i. record { plane = named planes face.plane; edges = f i }) ∙ sym (part_behind_it half (outline_of planes face) (named planes m))
+    let f = ap (map (plane_named planes)) k ∙ part_is half planes face m found e in
+    (λ i. record { plane = plane_named planes face.plane; edges = f i }) ∙ sym (part_behind_it half (outline_of planes face) (plane_named planes m))
 
 pub polygon_in : (half : Half) (s : Outline) (m : Coefficients) → IsPolygon (part_behind s m) → IsPolygon (part_ahead s m) → IsPolygon (part_in half s m)
 polygon_in Behind s m b a = b
@@ -148,9 +148,9 @@ polygon_in Ahead s m b a = a
 
 pub face_in : (half : Half) (planes : List Coefficients) (face : Face) (m : ℕ) (found : List CornerSide) (edges : List ℕ) →
     IsFaceOver planes face → IsNumberIn planes m →
-    found ≡ map (side_against (named planes m)) (corners (outline_of planes face)) →
-    edges ≡ flat_map (kept_in half face.edges m found) (up_to (length face.edges)) →
-    IsPolygon (part_in half (outline_of planes face) (named planes m)) →
+    found ≡ map (side_against (plane_named planes m)) (corners (outline_of planes face)) →
+    edges ≡ flat_map (numbers_kept_at half face.edges m found) (up_to (length face.edges)) →
+    IsPolygon (part_in half (outline_of planes face) (plane_named planes m)) →
     IsFaceOver planes (record { plane = face.plane; edges = edges })
 face_in half planes face m found edges h i e k p = record {
   plane = h.plane;

@@ -8,7 +8,7 @@ use Rattle.std.proofs.lemmas.List.Elements.{All-append, All-head, All-tail, All-
 use Rattle.plane_predicate.specs.Space.{Coefficients, opposite_of}
 use Rattle.plane_polygon.specs.Polygons.{nowhere, Outline, IsPolygon}
 use Rattle.plane_table.specs.declared.faces.Face.{Face}
-use Rattle.plane_table.specs.Tables.{named, turned_by_number, opposite_number, AreApart, HasNoTwoAlike, IsNumberIn}
+use Rattle.plane_table.specs.Tables.{plane_named, turned_by_number, opposite_number, AreApart, HasNoTwoAlike, IsNumberIn}
 use Rattle.plane_table.specs.Faces.{outline_of, IsFaceOver}
 use Rattle.plane_table.specs.Joins.{Finds, AreFirstNumbersOf, AreNumbersOf, AreNumbersOfUsed, KeepsNumbers, IsNumbered, IsFound, IsKept, IsMarked, number_among}
 use Rattle.plane_table.proofs.Numbers.{even, odd, parity, get_map, named_more, named_last, named_opposite, opposite_in}
@@ -51,12 +51,12 @@ apart_more planes m h k =
 
 -- ---- a plane at some index
 pub found_at : (planes : List Coefficients) (i n : ℕ) (other plane : Coefficients) → i < length planes → other ≡ get_or planes i other → n / 2 ≡ i → plane ≡ turned_by_number n other →
-    IsNumberIn planes n × (named planes n ≡ plane)
+    IsNumberIn planes n × (plane_named planes n ≡ plane)
 found_at planes i n other plane h r e t =
     let k : n / 2 < length planes = omega arith in
     (omega arith, ap (λ (j : ℕ). turned_by_number n (get_or planes j nowhere)) e ∙ ap (turned_by_number n) (sym (get_or_read planes i other h r nowhere)) ∙ sym t)
 
-pub numbered_old : (plane : Coefficients) (planes : List Coefficients) (n : ℕ) → HasNoTwoAlike planes → IsNumberIn planes n × (named planes n ≡ plane) → IsNumbered plane planes planes n
+pub numbered_old : (plane : Coefficients) (planes : List Coefficients) (n : ℕ) → HasNoTwoAlike planes → IsNumberIn planes n × (plane_named planes n ≡ plane) → IsNumbered plane planes planes n
 numbered_old plane planes n h k = record { apart = h; keeps = keeps_itself planes; in_range = k.0; same = k.1 }
 
 pub numbered_new : (plane : Coefficients) (planes new : List Coefficients) (n : ℕ) → HasNoTwoAlike planes → ((i : ℕ) → i < length planes → AreApart (get_or planes i nowhere) plane) →
@@ -89,10 +89,10 @@ numbers_on old new numbers from h f = record { count = f.count; each = λ k l. f
 pub finds_more : (planes : List Coefficients) (numbers : List ℕ) (n : ℕ) (from : List Coefficients) (k : ℕ) → k < length numbers → Finds planes numbers from k → Finds planes (numbers ++ n ∷ []) from k
 finds_more planes numbers n from k l f =
     let e = get_or_append_left numbers (n ∷ []) 0 k l in
-    record { in_range = rw e f.in_range; same = ap (named planes) e ∙ f.same }
+    record { in_range = rw e f.in_range; same = ap (plane_named planes) e ∙ f.same }
 
 pub first_more : (old new : List Coefficients) (numbers : List ℕ) (from : List Coefficients) (n : ℕ) → AreFirstNumbersOf old numbers from → KeepsNumbers old new →
-    length numbers < length from → IsNumberIn new n → named new n ≡ get_or from (length numbers) nowhere → AreFirstNumbersOf new (numbers ++ n ∷ []) from
+    length numbers < length from → IsNumberIn new n → plane_named new n ≡ get_or from (length numbers) nowhere → AreFirstNumbersOf new (numbers ++ n ∷ []) from
 first_more old new numbers from n f h l i s =
     let e = length_push numbers n in
     record {
@@ -100,7 +100,7 @@ first_more old new numbers from n f h l i s =
       each = λ k x. elim (cases_lt k (length numbers)) [
         | inl a ↦ finds_more new numbers n from k a (finds_on old new numbers from k h (f.each k a))
         | inr a ↦ (let p : length numbers ≡ k = omega arith in let q = get_or_push numbers n 0 k p in
-            record { in_range = rw q i; same = ap (named new) q ∙ s ∙ ap (λ (j : ℕ). get_or from j nowhere) p })
+            record { in_range = rw q i; same = ap (plane_named new) q ∙ s ∙ ap (λ (j : ℕ). get_or from j nowhere) p })
       ];
     }
 
@@ -124,12 +124,12 @@ alike_first planes numbers more from m other i n f l r h o e t p =
     rw p last
 
 -- ---- a polygon's planes
-pub numbers_map : (planes : List Coefficients) (numbers : List ℕ) (from : List Coefficients) → AreNumbersOf planes numbers from → map (named planes) numbers ≡ from
+pub numbers_map : (planes : List Coefficients) (numbers : List ℕ) (from : List Coefficients) → AreNumbersOf planes numbers from → map (plane_named planes) numbers ≡ from
 numbers_map planes numbers from f =
     let c = f.count in
-    let n = length-map numbers (named planes) in
-    same_lists (map (named planes) numbers) from (n ∙ c) (λ k d l.
-    get_map (named planes) numbers k 0 d (omega arith) ∙ (f.each k (omega arith)).same ∙ get_or_default from k nowhere d (omega arith))
+    let n = length-map numbers (plane_named planes) in
+    same_lists (map (plane_named planes) numbers) from (n ∙ c) (λ k d l.
+    get_map (plane_named planes) numbers k 0 d (omega arith) ∙ (f.each k (omega arith)).same ∙ get_or_default from k nowhere d (omega arith))
 
 pub numbers_in : (planes : List Coefficients) (numbers : List ℕ) (from : List Coefficients) → AreNumbersOf planes numbers from → All (IsNumberIn planes) numbers
 numbers_in planes numbers from f k d l =
@@ -137,15 +137,15 @@ numbers_in planes numbers from f k d l =
     subst (IsNumberIn planes) (get_or_default numbers k 0 d l) (f.each k (omega arith)).in_range
 
 pub own_outline : (s : Outline) (first planes : List Coefficients) (n : ℕ) (numbers es : List ℕ) (m : Coefficients) (ms : List Coefficients) →
-    IsNumberIn first n → named first n ≡ m → m ≡ s.plane → KeepsNumbers first planes → AreNumbersOf planes numbers ms → ms ≡ s.edges → es ≡ numbers →
+    IsNumberIn first n → plane_named first n ≡ m → m ≡ s.plane → KeepsNumbers first planes → AreNumbersOf planes numbers ms → ms ≡ s.edges → es ≡ numbers →
     outline_of planes (record { plane = n; edges = es }) ≡ s
 own_outline s first planes n numbers es m ms i e f k a g h =
-    same_outline (named planes n) s.plane (map (named planes) es) s.edges
+    same_outline (plane_named planes n) s.plane (map (plane_named planes) es) s.edges
     (k.same n i ∙ e ∙ f)
-    (ap (map (named planes)) h ∙ numbers_map planes numbers ms a ∙ g)
+    (ap (map (plane_named planes)) h ∙ numbers_map planes numbers ms a ∙ g)
 
 pub own_face : (s : Outline) (first planes : List Coefficients) (n : ℕ) (numbers es : List ℕ) (m : Coefficients) (ms : List Coefficients) →
-    IsNumberIn first n → named first n ≡ m → m ≡ s.plane → KeepsNumbers first planes → AreNumbersOf planes numbers ms → ms ≡ s.edges → es ≡ numbers → IsPolygon s →
+    IsNumberIn first n → plane_named first n ≡ m → m ≡ s.plane → KeepsNumbers first planes → AreNumbersOf planes numbers ms → ms ≡ s.edges → es ≡ numbers → IsPolygon s →
     IsFaceOver planes (record { plane = n; edges = es })
 own_face s first planes n numbers es m ms i e f k a g h p = record {
   plane = k.in_range n i;
@@ -155,7 +155,7 @@ own_face s first planes n numbers es m ms i e f k a g h p = record {
 
 -- ---- faces over a list that grew
 pub numbers_kept : (old new : List Coefficients) (numbers : List ℕ) → KeepsNumbers old new → All (IsNumberIn old) numbers →
-    All (IsNumberIn new) numbers × (map (named new) numbers ≡ map (named old) numbers)
+    All (IsNumberIn new) numbers × (map (plane_named new) numbers ≡ map (plane_named old) numbers)
 numbers_kept old new [] k h = (All-nil (IsNumberIn new), refl)
 numbers_kept old new (n ∷ numbers) k h =
     let first = All-head (IsNumberIn old) n numbers h in
@@ -166,7 +166,7 @@ pub face_kept : (old new : List Coefficients) (face : Face) → KeepsNumbers old
     IsFaceOver new face × (outline_of new face ≡ outline_of old face)
 face_kept old new face k h =
     let edges = numbers_kept old new face.edges k h.edges in
-    let same = same_outline (named new face.plane) (named old face.plane) (map (named new) face.edges) (map (named old) face.edges) (k.same face.plane h.plane) edges.1 in
+    let same = same_outline (plane_named new face.plane) (plane_named old face.plane) (map (plane_named new) face.edges) (map (plane_named old) face.edges) (k.same face.plane h.plane) edges.1 in
     (record { plane = k.in_range face.plane h.plane; edges = edges.0; polygon = subst IsPolygon (sym same) h.polygon }, same)
 
 pub faces_kept : (old new : List Coefficients) (faces : List Face) → KeepsNumbers old new → All (IsFaceOver old) faces →
@@ -195,19 +195,19 @@ both_ok (Err y) P Q R f p q = tt
 
 -- ---- faces over another list
 pub among_found : (planes : List Coefficients) (numbers : List ℕ) (from : List Coefficients) (n : ℕ) → Finds planes numbers from (n / 2) →
-    IsNumberIn planes (number_among numbers n) × (named planes (number_among numbers n) ≡ named from n)
+    IsNumberIn planes (number_among numbers n) × (plane_named planes (number_among numbers n) ≡ plane_named from n)
 unfolding number_among
 among_found planes numbers from n f = elim (parity n) [
   | inl e ↦ (let k : number_among numbers n ≡ get_or numbers (n / 2) 0 = ap (λ (j : ℕ). cond (eqb j 0) (get_or numbers (n / 2) 0) (opposite_number (get_or numbers (n / 2) 0))) e in
-      (rw k f.in_range, ap (named planes) k ∙ f.same ∙ sym (even n e (get_or from (n / 2) nowhere))))
+      (rw k f.in_range, ap (plane_named planes) k ∙ f.same ∙ sym (even n e (get_or from (n / 2) nowhere))))
   | inr e ↦ (let k : number_among numbers n ≡ opposite_number (get_or numbers (n / 2) 0) = ap (λ (j : ℕ). cond (eqb j 0) (get_or numbers (n / 2) 0) (opposite_number (get_or numbers (n / 2) 0))) e in (
     rw k (opposite_in planes (get_or numbers (n / 2) 0) f.in_range),
-    ap (named planes) k ∙ named_opposite planes (get_or numbers (n / 2) 0) ∙ ap opposite_of f.same ∙ sym (odd n e (get_or from (n / 2) nowhere)),
+    ap (plane_named planes) k ∙ named_opposite planes (get_or numbers (n / 2) 0) ∙ ap opposite_of f.same ∙ sym (odd n e (get_or from (n / 2) nowhere)),
   ))
 ]
 
 among_map : (planes : List Coefficients) (numbers : List ℕ) (from : List Coefficients) (es : List ℕ) → All (λ n. Finds planes numbers from (n / 2)) es →
-    map (named planes) (map (number_among numbers) es) ≡ map (named from) es
+    map (plane_named planes) (map (number_among numbers) es) ≡ map (plane_named from) es
 among_map planes numbers from [] h = refl
 among_map planes numbers from (e ∷ es) h =
     ap₂ (λ (x : Coefficients) (xs : List Coefficients). x ∷ xs)
@@ -225,9 +225,9 @@ among_in planes numbers from (e ∷ es) h =
 pub outline_among : (planes : List Coefficients) (numbers : List ℕ) (from : List Coefficients) (face : Face) (p : ℕ) (es : List ℕ) → p ≡ number_among numbers face.plane → es ≡ map (number_among numbers) face.edges →
     IsFound planes numbers from face → outline_of planes (record { plane = p; edges = es }) ≡ outline_of from face
 outline_among planes numbers from face p es e k h =
-    same_outline (named planes p) (named from face.plane) (map (named planes) es) (map (named from) face.edges)
-    (ap (named planes) e ∙ (among_found planes numbers from face.plane h.plane).1)
-    (ap (map (named planes)) k ∙ among_map planes numbers from face.edges h.edges)
+    same_outline (plane_named planes p) (plane_named from face.plane) (map (plane_named planes) es) (map (plane_named from) face.edges)
+    (ap (plane_named planes) e ∙ (among_found planes numbers from face.plane h.plane).1)
+    (ap (map (plane_named planes)) k ∙ among_map planes numbers from face.edges h.edges)
 
 pub face_among : (planes : List Coefficients) (numbers : List ℕ) (from : List Coefficients) (face : Face) (p : ℕ) (es : List ℕ) → p ≡ number_among numbers face.plane → es ≡ map (number_among numbers) face.edges →
     IsFound planes numbers from face → IsFaceOver from face → IsFaceOver planes (record { plane = p; edges = es })
@@ -298,7 +298,7 @@ kept_used planes used kept numbers i h a l =
       each = λ k x e. elim (cases_lt k i) [
         | inl y ↦ finds_more (kept ++ p ∷ []) numbers (2 * length kept) planes k (omega arith) (finds_on kept (kept ++ p ∷ []) numbers planes k (keeps_more kept p) (h.each k y e))
         | inr y ↦ (let s : i ≡ k = omega arith in let q = get_or_push numbers (2 * length kept) 0 k (c ∙ s) in
-            record { in_range = rw q (last_in kept p); same = ap (named (kept ++ p ∷ [])) q ∙ named_last kept p ∙ ap (λ (j : ℕ). get_or planes j nowhere) s })
+            record { in_range = rw q (last_in kept p); same = ap (plane_named (kept ++ p ∷ [])) q ∙ named_last kept p ∙ ap (λ (j : ℕ). get_or planes j nowhere) s })
       ];
     }
 

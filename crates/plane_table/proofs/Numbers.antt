@@ -4,7 +4,7 @@ use Rattle.std.proofs.lemmas.Bool.{cases_eq}
 use Rattle.std.proofs.lemmas.List.{get_or_append_left, get_or_push}
 use Rattle.plane_predicate.specs.Space.{Coefficients, opposite_of}
 use Rattle.plane_polygon.specs.Polygons.{nowhere}
-use Rattle.plane_table.specs.Tables.{named, turned_by_number, opposite_number, IsNumberIn}
+use Rattle.plane_table.specs.Tables.{plane_named, turned_by_number, opposite_number, IsNumberIn}
 
 -- ---- opposites
 neg_neg : (x : ℤ) → neg_ℤ (neg_ℤ x) ≡ x
@@ -68,7 +68,7 @@ beside n = elim (parity n) [
       })
 ]
 
-pub named_opposite : (planes : List Coefficients) (n : ℕ) → named planes (opposite_number n) ≡ opposite_of (named planes n)
+pub named_opposite : (planes : List Coefficients) (n : ℕ) → plane_named planes (opposite_number n) ≡ opposite_of (plane_named planes n)
 named_opposite planes n =
     (beside n).turns (get_or planes (opposite_number n / 2) nowhere)
     ∙ ap (λ (k : ℕ). opposite_of (turned_by_number n (get_or planes k nowhere))) (beside n).half
@@ -77,10 +77,10 @@ pub opposite_in : (planes : List Coefficients) (n : ℕ) → IsNumberIn planes n
 opposite_in planes n h = let e = (beside n).half in omega arith
 
 -- ---- lists that grow
-pub named_more : (planes : List Coefficients) (m : Coefficients) (n : ℕ) → IsNumberIn planes n → named (planes ++ m ∷ []) n ≡ named planes n
+pub named_more : (planes : List Coefficients) (m : Coefficients) (n : ℕ) → IsNumberIn planes n → plane_named (planes ++ m ∷ []) n ≡ plane_named planes n
 named_more planes m n h = ap (turned_by_number n) (get_or_append_left planes (m ∷ []) nowhere (n / 2) (omega arith))
 
-pub named_last : (planes : List Coefficients) (m : Coefficients) → named (planes ++ m ∷ []) (2 * length planes) ≡ m
+pub named_last : (planes : List Coefficients) (m : Coefficients) → plane_named (planes ++ m ∷ []) (2 * length planes) ≡ m
 named_last planes m =
     let k : 2 * length planes / 2 ≡ length planes = omega arith in
     let e : 2 * length planes % 2 ≡ 0 = omega arith in

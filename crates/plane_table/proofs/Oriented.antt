@@ -6,7 +6,7 @@ use Rattle.plane_predicate.specs.Space.{Coefficients, opposite_of}
 use Rattle.plane_polygon.specs.Polygons.{nowhere}
 use Rattle.plane_polygon.specs.Parallels.{IsAlike}
 use Rattle.plane_table.specs.declared.directions.Oriented.{Oriented}
-use Rattle.plane_table.specs.Tables.{named, no_entry, opposite_number, AreFirstOriented, AreOriented, IsNumberIn, IsOrientedAs}
+use Rattle.plane_table.specs.Tables.{plane_named, no_entry, opposite_number, AreFirstOriented, AreOriented, IsNumberIn, IsOrientedAs}
 use Rattle.plane_table.proofs.Numbers.{at_even, at_odd, named_opposite, opposite_opposite}
 
 -- ---- directions
@@ -23,14 +23,14 @@ pub alike_opposites : (p m : Coefficients) → IsAlike p m → IsAlike (opposite
 alike_opposites p m h = record { a = ap neg_ℤ h.a; b = ap neg_ℤ h.b; c = ap neg_ℤ h.c }
 
 -- ---- numbers
-pub named_even : (planes : List Coefficients) (i : ℕ) → named planes (2 * i) ≡ get_or planes i nowhere
+pub named_even : (planes : List Coefficients) (i : ℕ) → plane_named planes (2 * i) ≡ get_or planes i nowhere
 named_even planes i = let e : 2 * i / 2 ≡ i = omega arith in at_even i (get_or planes (2 * i / 2) nowhere) ∙ ap (λ (k : ℕ). get_or planes k nowhere) e
 
-named_odd : (planes : List Coefficients) (i : ℕ) → named planes (2 * i + 1) ≡ opposite_of (get_or planes i nowhere)
+named_odd : (planes : List Coefficients) (i : ℕ) → plane_named planes (2 * i + 1) ≡ opposite_of (get_or planes i nowhere)
 named_odd planes i = let e : (2 * i + 1) / 2 ≡ i = omega arith in at_odd i (get_or planes ((2 * i + 1) / 2) nowhere) ∙ ap (λ (k : ℕ). opposite_of (get_or planes k nowhere)) e
 
-pub own_number : (planes : List Coefficients) (i : ℕ) → IsAlike (named planes (2 * i)) (get_or planes i nowhere)
-own_number planes i = subst (IsAlike (named planes (2 * i))) (named_even planes i) (alike_itself (named planes (2 * i)))
+pub own_number : (planes : List Coefficients) (i : ℕ) → IsAlike (plane_named planes (2 * i)) (get_or planes i nowhere)
+own_number planes i = subst (IsAlike (plane_named planes (2 * i))) (named_even planes i) (alike_itself (plane_named planes (2 * i)))
 
 -- ---- entries
 pub entry_at : (planes : List Coefficients) (entries : List Oriented) (n : ℕ) (entry : Oriented) → AreOriented planes entries → IsNumberIn planes n → entry ≡ get_or entries n entry → IsOrientedAs planes n entry
@@ -40,16 +40,16 @@ entry_at planes entries n entry h k e =
 
 -- what has the direction of an entry's plane
 pub entry_alike : (planes : List Coefficients) (entries : List Oriented) (first n : ℕ) (entry : Oriented) (m : Coefficients) →
-    AreFirstOriented planes entries first → n < length entries → entry ≡ get_or entries n entry → IsAlike entry.plane m → IsAlike (named planes entry.direction) m
+    AreFirstOriented planes entries first → n < length entries → entry ≡ get_or entries n entry → IsAlike entry.plane m → IsAlike (plane_named planes entry.direction) m
 entry_alike planes entries first n entry m h l e k =
     let same = h.each n l in
     let is = get_or_read entries n entry l e no_entry in
     let own : IsOrientedAs planes n entry = subst (IsOrientedAs planes n) (sym is) same in
-    alike_on (named planes entry.direction) (named planes n) m own.alike (subst (λ (p : Coefficients). IsAlike p m) own.plane k)
+    alike_on (plane_named planes entry.direction) (plane_named planes n) m own.alike (subst (λ (p : Coefficients). IsAlike p m) own.plane k)
 
 -- one more plane and its opposite
 pub oriented_more : (planes : List Coefficients) (entries : List Oriented) (i : ℕ) (one other : Oriented) → AreFirstOriented planes entries i →
-    one.plane ≡ get_or planes i nowhere → IsAlike (named planes one.direction) (get_or planes i nowhere) →
+    one.plane ≡ get_or planes i nowhere → IsAlike (plane_named planes one.direction) (get_or planes i nowhere) →
     other.plane ≡ opposite_of (get_or planes i nowhere) → other.direction ≡ opposite_number one.direction →
     AreFirstOriented planes ((entries ++ one ∷ []) ++ other ∷ []) (i + 1)
 oriented_more planes entries i one other h p a q o =
@@ -64,30 +64,30 @@ oriented_more planes entries i one other h p a q o =
           | inr c ↦ (let e : k ≡ 2 * i = omega (arith, h.count) in
               subst (IsOrientedAs planes k) (sym (get_or_append_left longer (other ∷ []) no_entry k b ∙ get_or_push entries one no_entry k (omega arith)))
               (record {
-                plane = p ∙ sym (ap (named planes) e ∙ named_even planes i);
-                alike = subst (IsAlike (named planes one.direction)) (sym (ap (named planes) e ∙ named_even planes i)) a;
+                plane = p ∙ sym (ap (plane_named planes) e ∙ named_even planes i);
+                alike = subst (IsAlike (plane_named planes one.direction)) (sym (ap (plane_named planes) e ∙ named_even planes i)) a;
               }))
         ]
         | inr b ↦ (let e : k ≡ 2 * i + 1 = omega (arith, h.count) in
-            let t = sym (ap (named planes) e ∙ named_odd planes i) in
+            let t = sym (ap (plane_named planes) e ∙ named_odd planes i) in
             subst (IsOrientedAs planes k) (sym (get_or_push longer other no_entry k (omega arith)))
             (record {
               plane = q ∙ t;
-              alike = subst (λ (x : Coefficients). IsAlike x (named planes k)) (sym (ap (named planes) o ∙ named_opposite planes one.direction))
-                  (subst (IsAlike (opposite_of (named planes one.direction))) t (alike_opposites (named planes one.direction) (get_or planes i nowhere) a));
+              alike = subst (λ (x : Coefficients). IsAlike x (plane_named planes k)) (sym (ap (plane_named planes) o ∙ named_opposite planes one.direction))
+                  (subst (IsAlike (opposite_of (plane_named planes one.direction))) t (alike_opposites (plane_named planes one.direction) (get_or planes i nowhere) a));
             }))
       ];
     }
 
 -- planes of opposite directions
-pub opposite_alike : (planes : List Coefficients) (own other of number : ℕ) → IsAlike (named planes own) (named planes of) → IsAlike (named planes other) (named planes number) →
-    own ≡ opposite_number other → IsAlike (named planes (opposite_number of)) (named planes number)
+pub opposite_alike : (planes : List Coefficients) (own other of number : ℕ) → IsAlike (plane_named planes own) (plane_named planes of) → IsAlike (plane_named planes other) (plane_named planes number) →
+    own ≡ opposite_number other → IsAlike (plane_named planes (opposite_number of)) (plane_named planes number)
 opposite_alike planes own other of number h k e =
-    let turned = alike_opposites (named planes own) (named planes of) h in
-    let back : opposite_of (named planes own) ≡ named planes other = ap (λ (n : ℕ). opposite_of (named planes n)) e ∙ ap opposite_of (named_opposite planes other) ∙ opposite_opposite (named planes other) in
-    subst (λ (m : Coefficients). IsAlike m (named planes number)) (sym (named_opposite planes of))
-    (alike_on (opposite_of (named planes of)) (named planes other) (named planes number)
-    (alike_back (named planes other) (opposite_of (named planes of)) (subst (λ (m : Coefficients). IsAlike m (opposite_of (named planes of))) back turned)) k)
+    let turned = alike_opposites (plane_named planes own) (plane_named planes of) h in
+    let back : opposite_of (plane_named planes own) ≡ plane_named planes other = ap (λ (n : ℕ). opposite_of (plane_named planes n)) e ∙ ap opposite_of (named_opposite planes other) ∙ opposite_opposite (plane_named planes other) in
+    subst (λ (m : Coefficients). IsAlike m (plane_named planes number)) (sym (named_opposite planes of))
+    (alike_on (opposite_of (plane_named planes of)) (plane_named planes other) (plane_named planes number)
+    (alike_back (plane_named planes other) (opposite_of (plane_named planes of)) (subst (λ (m : Coefficients). IsAlike m (opposite_of (plane_named planes of))) back turned)) k)
 
-pub back_opposite : (planes : List Coefficients) (n : ℕ) → opposite_of (named planes (opposite_number n)) ≡ named planes n
-back_opposite planes n = ap opposite_of (named_opposite planes n) ∙ opposite_opposite (named planes n)
+pub back_opposite : (planes : List Coefficients) (n : ℕ) → opposite_of (plane_named planes (opposite_number n)) ≡ plane_named planes n
+back_opposite planes n = ap opposite_of (named_opposite planes n) ∙ opposite_opposite (plane_named planes n)

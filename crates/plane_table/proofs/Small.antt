@@ -2,9 +2,9 @@
 use Rattle.std.proofs.Common.{ℕ, ◌/◌, ◌≤◌, List, get_or, sym, subst, inl, inr, arith, All}
 use Rattle.plane_predicate.specs.Space.{Coefficients, opposite_of}
 use Rattle.plane_predicate.proofs.Opposites.{size_of_negative}
-use Rattle.plane_line.specs.Lines.{IsSmall}
+use Rattle.plane_predicate.specs.Lines.{IsSmall}
 use Rattle.plane_polygon.specs.Polygons.{nowhere}
-use Rattle.plane_table.specs.Tables.{named, IsNumberIn}
+use Rattle.plane_table.specs.Tables.{plane_named, IsNumberIn}
 use Rattle.plane_table.proofs.Numbers.{even, odd, parity}
 
 small_opposite : (m : Coefficients) → IsSmall m → IsSmall (opposite_of m)
@@ -15,7 +15,7 @@ small_opposite m h = record {
   d_size = subst (λ (n : ℕ). n ≤ 100000000) (sym (size_of_negative m.d)) h.d_size;
 }
 
-pub small_named : (planes : List Coefficients) (n : ℕ) → All IsSmall planes → IsNumberIn planes n → IsSmall (named planes n)
+pub small_named : (planes : List Coefficients) (n : ℕ) → All IsSmall planes → IsNumberIn planes n → IsSmall (plane_named planes n)
 small_named planes n h l =
     let m = get_or planes (n / 2) nowhere in
     let own : IsSmall m = h (n / 2) nowhere (omega arith) in

@@ -8,7 +8,7 @@ use Rattle.plane_table.specs.declared.cutting.Crossing.{Crossing}
 use Rattle.plane_table.specs.declared.cutting.Half.{Half}
 use Rattle.plane_table.specs.declared.cutting.Half.TheVariants.{Behind, Ahead}
 use Rattle.plane_table.specs.declared.sorting.CornerSide.{CornerSide}
-use Rattle.plane_table.specs.Tables.{named, opposite_number, IsNumberIn}
+use Rattle.plane_table.specs.Tables.{plane_named, opposite_number, IsNumberIn}
 use Rattle.plane_table.specs.Faces.{outline_of, AreSidesWhereAcross, IsFaceOver}
 
 -- on the plane
@@ -34,8 +34,8 @@ side_number Behind m = m
 side_number Ahead m = opposite_number m
 
 -- what edge i gives to the part in a half space of the plane of number m
-abbrev pub kept_in : Half → List ℕ → ℕ → List CornerSide → ℕ → List ℕ
-kept_in half edges m corners i =
+abbrev pub numbers_kept_at : Half → List ℕ → ℕ → List CornerSide → ℕ → List ℕ
+numbers_kept_at half edges m corners i =
     kept_numbers (is_within half (get_or corners (before (length edges) i) on_the_plane)) (is_within half (get_or corners i on_the_plane))
     (get_or edges i 0) (side_number half m)
 
@@ -48,5 +48,5 @@ part_in Ahead s m = part_ahead s m
 pub record IsCrossing (planes : List Coefficients) (crossing : Crossing) : Type 0 where
   pub face : IsFaceOver planes crossing.face.now
   pub number : IsNumberIn planes crossing.number
-  pub sides : AreSidesWhereAcross (outline_of planes crossing.face.now) (named planes crossing.number) crossing.sides.now
+  pub sides : AreSidesWhereAcross (outline_of planes crossing.face.now) (plane_named planes crossing.number) crossing.sides.now
   pub across : crossing.sides.now.class ≡ Across

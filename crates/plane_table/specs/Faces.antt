@@ -9,11 +9,11 @@ use Rattle.plane_polygon.specs.Parts.{class_by, class_of, corners, is_behind, is
 use Rattle.plane_table.specs.declared.faces.Face.{Face}
 use Rattle.plane_table.specs.declared.sorting.CornerSide.{CornerSide}
 use Rattle.plane_table.specs.declared.sorting.CornerSides.{CornerSides}
-use Rattle.plane_table.specs.Tables.{named, IsNumberIn}
+use Rattle.plane_table.specs.Tables.{plane_named, IsNumberIn}
 
 -- the outline of a face: the planes that its numbers name
 abbrev pub outline_of : List Coefficients → Face → Outline
-outline_of planes face = record { plane = named planes face.plane; edges = map (named planes) face.edges }
+outline_of planes face = record { plane = plane_named planes face.plane; edges = map (plane_named planes) face.edges }
 
 -- one for the face, and one for each of its edges
 abbrev pub face_size : Face → ℕ

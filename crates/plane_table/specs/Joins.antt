@@ -6,13 +6,13 @@ use Rattle.plane_polygon.specs.Boxes.{box_outline}
 use Rattle.plane_table.specs.declared.faces.Face.{Face}
 use Rattle.plane_table.specs.declared.numbering.OwnFace.{OwnFace}
 use Rattle.plane_table.specs.declared.numbering.HalfFaces.{HalfFaces}
-use Rattle.plane_table.specs.Tables.{named, opposite_number, HasNoTwoAlike, IsNumberIn}
+use Rattle.plane_table.specs.Tables.{plane_named, opposite_number, HasNoTwoAlike, IsNumberIn}
 use Rattle.plane_table.specs.Faces.{outline_of, IsFaceOver}
 
 -- the k-th of the numbers names over the first list what plane k of the second list is
 pub record Finds (planes : List Coefficients) (numbers : List ℕ) (from : List Coefficients) (k : ℕ) : Type 0 where
   pub in_range : IsNumberIn planes (get_or numbers k 0)
-  pub same : named planes (get_or numbers k 0) ≡ get_or from k nowhere
+  pub same : plane_named planes (get_or numbers k 0) ≡ get_or from k nowhere
 
 -- the numbers of the first planes of the second list over the first one
 pub record AreFirstNumbersOf (planes : List Coefficients) (numbers : List ℕ) (from : List Coefficients) : Type 0 where
@@ -52,14 +52,14 @@ IsKept false m old new n = new ≡ old
 -- each number over the first list names the same plane over the second one
 pub record KeepsNumbers (old new : List Coefficients) : Type 0 where
   pub in_range : (n : ℕ) → IsNumberIn old n → IsNumberIn new n
-  pub same : (n : ℕ) → IsNumberIn old n → named new n ≡ named old n
+  pub same : (n : ℕ) → IsNumberIn old n → plane_named new n ≡ plane_named old n
 
 -- a plane has a number over a list to which it may have been added
 pub record IsNumbered (plane : Coefficients) (old new : List Coefficients) (number : ℕ) : Type 0 where
   pub apart : HasNoTwoAlike new
   pub keeps : KeepsNumbers old new
   pub in_range : IsNumberIn new number
-  pub same : named new number ≡ plane
+  pub same : plane_named new number ≡ plane
 
 -- an outline as a face with the list of its planes
 pub record IsFaceOf (s : Outline) (own : OwnFace) : Type 0 where

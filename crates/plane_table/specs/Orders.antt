@@ -22,13 +22,13 @@ by_numbers m n =
     ordering_then (int_cmp m.a n.a) (ordering_then (int_cmp m.b n.b) (ordering_then (int_cmp m.c n.c) (int_cmp m.d n.d)))
 
 -- the same for a plane and its opposite
-abbrev pub compared : Coefficients → Coefficients → Ordering
-compared m n = by_numbers (normalized m) (normalized n)
+abbrev pub plane_order : Coefficients → Coefficients → Ordering
+plane_order m n = by_numbers (normalized m) (normalized n)
 
 -- each plane comes before the next
 pub record IsAscending (planes : List Coefficients) : Type 0 where
-  pub next : (i : ℕ) → i + 1 < length planes → compared (get_or planes i nowhere) (get_or planes (i + 1) nowhere) ≡ Less
+  pub next : (i : ℕ) → i + 1 < length planes → plane_order (get_or planes i nowhere) (get_or planes (i + 1) nowhere) ≡ Less
 
 -- a plane comes after the last of a list, if there is one
 abbrev pub ComesNext : List Coefficients → Coefficients → Type 0
-ComesNext planes m = (i : ℕ) → i + 1 ≡ length planes → compared (get_or planes i nowhere) m ≡ Less
+ComesNext planes m = (i : ℕ) → i + 1 ≡ length planes → plane_order (get_or planes i nowhere) m ≡ Less

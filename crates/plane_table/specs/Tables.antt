@@ -1,7 +1,7 @@
 -- Planes by number over a list of planes.
 use Rattle.std.specs.Prelude.{◌≡◌, ◌≢◌, ℕ, ◌+◌, ◌-◌, ◌*◌, ◌/◌, ◌%◌, ◌<◌, List, length, get_or, if◌then◌else◌, ◌==◌, Bool, true, All}
 use Rattle.plane_predicate.specs.Space.{Coefficients, opposite_of}
-use Rattle.plane_line.specs.Lines.{IsSmall}
+use Rattle.plane_predicate.specs.Lines.{IsSmall}
 use Rattle.plane_polygon.specs.Polygons.{nowhere}
 use Rattle.plane_polygon.specs.Parallels.{IsAlike}
 use Rattle.plane_table.specs.declared.directions.Oriented.{Oriented}
@@ -11,8 +11,8 @@ unfoldable pub turned_by_number : ℕ → Coefficients → Coefficients
 turned_by_number n m = if n % 2 == 0 then m else opposite_of m
 
 -- the plane that a number names over a list of planes: 2k names plane k, and 2k + 1 its opposite
-abbrev pub named : List Coefficients → ℕ → Coefficients
-named planes n = turned_by_number n (get_or planes (n / 2) nowhere)
+abbrev pub plane_named : List Coefficients → ℕ → Coefficients
+plane_named planes n = turned_by_number n (get_or planes (n / 2) nowhere)
 
 -- the number that names the opposite plane
 unfoldable pub opposite_number : ℕ → ℕ
@@ -34,8 +34,8 @@ pub record HasNoTwoAlike (planes : List Coefficients) : Type 0 where
 
 -- the plane that a number names, with the number of one that has its direction
 pub record IsOrientedAs (planes : List Coefficients) (n : ℕ) (entry : Oriented) : Type 0 where
-  pub plane : entry.plane ≡ named planes n
-  pub alike : IsAlike (named planes entry.direction) (named planes n)
+  pub plane : entry.plane ≡ plane_named planes n
+  pub alike : IsAlike (plane_named planes entry.direction) (plane_named planes n)
 
 -- past the end of a list of such planes
 abbrev pub no_entry : Oriented
@@ -59,4 +59,4 @@ pub record IsTable (planes : List Coefficients) (entries : List Oriented) (is_sm
 
 -- each plane that a number names is small
 abbrev pub AreNumbersSmall : List Coefficients → Type 0
-AreNumbersSmall planes = (n : ℕ) → IsNumberIn planes n → IsSmall (named planes n)
+AreNumbersSmall planes = (n : ℕ) → IsNumberIn planes n → IsSmall (plane_named planes n)

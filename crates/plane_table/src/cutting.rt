@@ -2,9 +2,9 @@
 
 ghost use Rattle.std.specs.Prelude.{◌≡◌, ◌<◌, ◌++◌, flat_map, length, IfOk, OnOk};
 ghost use Rattle.plane_polygon.specs.Parts.{up_to};
-ghost use Rattle.plane_table.specs.Tables.{named};
+ghost use Rattle.plane_table.specs.Tables.{plane_named};
 ghost use Rattle.plane_table.specs.Faces.{outline_of, IsFaceOver};
-ghost use Rattle.plane_table.specs.Cuts.{is_within, kept_in, kept_numbers, part_in, side_number, IsCrossing};
+ghost use Rattle.plane_table.specs.Cuts.{is_within, numbers_kept_at, kept_numbers, part_in, side_number, IsCrossing};
 
 use crate::{CornerSide, CornerSides, Edges, Face, PlaneTable, opposite_number};
 use plane_polygon::parts_are_polygons;
@@ -39,7 +39,7 @@ pub fn cut(
     half: Half,
 ) -> Result<Face, NoMemory>
     requires { IsCrossing table.now crossing }
-    ensures outline { IfOk result (λ r. outline_of table.now r ≡ part_in half (outline_of table.now crossing.entry.face.now) (named table.now crossing.entry.number)) }
+    ensures outline { IfOk result (λ r. outline_of table.now r ≡ part_in half (outline_of table.now crossing.entry.face.now) (plane_named table.now crossing.entry.number)) }
     ensures face { IfOk result (IsFaceOver table.now) }
 {
     parts_are_polygons();
@@ -50,7 +50,7 @@ pub fn cut(
     } = crossing;
     let edges = part_edges(
         alloc,
-        face.edges.numbers(),
+        face.edges.items(),
         number,
         sides.corners.as_slice(),
         half,
@@ -71,7 +71,7 @@ fn part_edges(
 ) -> Result<Edges, NoMemory>
     requires some { 0 < length edges.now }
     requires same { length corners.now ≡ length edges.now }
-    ensures { IfOk result (λ r. r ≡ flat_map (kept_in half edges.now number corners.now) (up_to (length edges.now))) }
+    ensures { IfOk result (λ r. r ≡ flat_map (numbers_kept_at half edges.now number corners.now) (up_to (length edges.now))) }
 {
     let number = side_number(number, half);
     let mut kept = Edges::new(alloc);

@@ -3,7 +3,7 @@
 ghost use Rattle.std.specs.Prelude.{◌<◌, ◌^◌, length, get_or, IfOk};
 ghost use Rattle.plane_polygon.specs.Polygons.{nowhere};
 ghost use Rattle.plane_polygon.specs.Parallels.{IsAlike};
-ghost use Rattle.plane_table.specs.Tables.{named, AreFirstOriented, AreOriented};
+ghost use Rattle.plane_table.specs.Tables.{plane_named, AreFirstOriented, AreOriented};
 
 use crate::numbering::MOST_PLANES;
 use crate::opposite_number;
@@ -51,7 +51,7 @@ fn direction_of(planes: &[Plane], found: &[Oriented], i: usize) -> u32
     requires index { i < length planes.now }
     requires range { i < 2 ^ 31 }
     requires known { AreFirstOriented planes.now found.now i }
-    ensures { IsAlike (named planes.now result) (get_or planes.now i nowhere) }
+    ensures { IsAlike (plane_named planes.now result) (get_or planes.now i nowhere) }
 {
     if i > 0 {
         let before = found[2 * i - 2];

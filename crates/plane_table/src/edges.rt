@@ -36,6 +36,15 @@ impl Edges {
     }
 
     /// These numbers.
+    pub fn of(items: Vec<u32>) -> Edges
+        ensures { result ≡ items.items }
+    {
+        Edges {
+            numbers: SmallVec::from_vec(items),
+        }
+    }
+
+    /// Numbers that stand in the value already, where they are few.
     pub(crate) fn of_numbers(numbers: SmallVec<u32, FEW>) -> Edges
         ensures { result ≡ numbers.items }
     {
@@ -55,7 +64,7 @@ impl Edges {
     pub fn copy(&self, alloc: Global) -> Result<Edges, NoMemory>
         ensures { IfOk result (λ e. e ≡ self.now) }
     {
-        Edges::copy_of(alloc, self.numbers())
+        Edges::copy_of(alloc, self.items())
     }
 
     /// Adds a number at the end.
@@ -78,11 +87,11 @@ impl Edges {
         requires { i < length self.now }
         ensures { result ≡ slice_index self.now i }
     {
-        self.numbers()[i]
+        self.items()[i]
     }
 
     /// The numbers in order.
-    pub fn numbers(&self) -> &[u32]
+    pub fn items(&self) -> &[u32]
         ensures { result.now ≡ self.now }
     {
         self.numbers.as_slice()

@@ -43,7 +43,7 @@ pub fn polygon_of(alloc: Global, table: &PlaneTable, face: &Face) -> Result<Poly
     ensures { IfOk result (λ s. s ≡ outline_of table.now face.now) }
 {
     let mut edges = Vec::with_capacity(alloc, face.edges.len())?;
-    for number in face.edges.numbers() {
+    for number in face.edges.items() {
         edges.push(*table.plane(*number))?;
     }
     Ok(Polygon::of_edges(table.plane(face.plane), edges))

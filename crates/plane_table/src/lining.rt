@@ -2,15 +2,15 @@
 
 ghost use Rattle.std.specs.Prelude.{◌≡◌, map, IfOk, IfSome};
 ghost use Rattle.plane_predicate.specs.Space.{Coefficients};
-ghost use Rattle.plane_line.specs.Lines.{IsAxisOf};
+ghost use Rattle.plane_predicate.specs.Lines.{IsAxisOf};
 ghost use Rattle.plane_polygon.specs.Parts.{class_of, corners};
-ghost use Rattle.plane_table.specs.Tables.{named, AreNumbersSmall, IsNumberIn};
+ghost use Rattle.plane_table.specs.Tables.{plane_named, AreNumbersSmall, IsNumberIn};
 ghost use Rattle.plane_table.specs.Faces.{outline_of, side_against, AreSidesWhereAcross, IsFaceOver};
 
-use crate::sorting::{CornerList, corner_on, either};
+use crate::sorting::{CornerList, corner_on, is_either};
 use crate::{CornerSides, Face, PlaneTable};
-use plane_line::{Line, line_of, place_on, side_between};
 use plane_polygon::{Class, class_from};
+use plane_predicate::{Line, line_of, place_on, side_between};
 use smallvec::SmallVec;
 use std::alloc::Global;
 use text_place::NoMemory;
@@ -26,7 +26,7 @@ pub fn sides_by_line(
 ) -> Result<Option<CornerSides>, NoMemory>
     requires face { IsFaceOver table.now face.now }
     requires number { IsNumberIn table.now number }
-    ensures { IfOk result (λ r. IfSome r (AreSidesWhereAcross (outline_of table.now face.now) (named table.now number))) }
+    ensures { IfOk result (λ r. IfSome r (AreSidesWhereAcross (outline_of table.now face.now) (plane_named table.now number))) }
 {
     if !table.is_small() {
         return Ok(None);
@@ -46,9 +46,9 @@ pub fn sides_by_line(
 fn class_along(table: &PlaneTable, face: &Face, line: &Line) -> Class
     requires small { AreNumbersSmall table.now }
     requires face { IsFaceOver table.now face.now }
-    ensures { (m : Coefficients) → IsAxisOf (named table.now face.now.plane) m line.now → result ≡ class_of (outline_of table.now face.now) m }
+    ensures { (m : Coefficients) → IsAxisOf (plane_named table.now face.now.plane) m line.now → result ≡ class_of (outline_of table.now face.now) m }
 {
-    let edges = face.edges.numbers();
+    let edges = face.edges.items();
     let mut some_behind = false;
     let mut some_ahead = false;
     let first = place_on(line, table.plane(edges[0]));
@@ -56,14 +56,14 @@ fn class_along(table: &PlaneTable, face: &Face, line: &Line) -> Class
     for i in 0..edges.len() - 1 {
         let begins = place_on(line, table.plane(edges[i + 1]));
         let side = side_between(ends, begins);
-        some_behind = either(some_behind, side.is_behind());
-        some_ahead = either(some_ahead, side.is_ahead());
+        some_behind = is_either(some_behind, side.is_behind());
+        some_ahead = is_either(some_ahead, side.is_ahead());
         ends = begins;
     }
     let last = side_between(ends, first);
     class_from(
-        either(some_behind, last.is_behind()),
-        either(some_ahead, last.is_ahead()),
+        is_either(some_behind, last.is_behind()),
+        is_either(some_ahead, last.is_ahead()),
     )
 }
 
@@ -76,9 +76,9 @@ fn corners_along(
 ) -> Result<CornerList, NoMemory>
     requires small { AreNumbersSmall table.now }
     requires face { IsFaceOver table.now face.now }
-    ensures { IfOk result (λ r. (m : Coefficients) → IsAxisOf (named table.now face.now.plane) m line.now → r.items ≡ map (side_against m) (corners (outline_of table.now face.now))) }
+    ensures { IfOk result (λ r. (m : Coefficients) → IsAxisOf (plane_named table.now face.now.plane) m line.now → r.items ≡ map (side_against m) (corners (outline_of table.now face.now))) }
 {
-    let edges = face.edges.numbers();
+    let edges = face.edges.items();
     let mut found = SmallVec::with_capacity(alloc, edges.len())?;
     let first = place_on(line, table.plane(edges[0]));
     let mut ends = first;

@@ -4,7 +4,7 @@ ghost use Rattle.std.specs.Prelude.{◌≡◌, ◌<◌, ◌*◌, ◌/◌, ◌^�
 ghost use Rattle.plane_predicate.specs.Space.{ComesInReach};
 ghost use Rattle.plane_polygon.specs.Boxes.{box_outline};
 ghost use Rattle.plane_polygon.specs.Polygons.{nowhere};
-ghost use Rattle.plane_table.specs.Tables.{named, turned_by_number, AreApart, HasNoTwoAlike, IsNumberIn};
+ghost use Rattle.plane_table.specs.Tables.{plane_named, turned_by_number, AreApart, HasNoTwoAlike, IsNumberIn};
 ghost use Rattle.plane_table.specs.Joins.{AreHalfFacesOf, AreNumbersOf, IsFaceOf, IsNumbered, KeepsNumbers};
 
 use crate::ordering::in_order;
@@ -153,7 +153,7 @@ pub fn add(plane: &Plane, planes: &mut Vec<Plane>) -> Result<u32, NoMemory>
 // The number that a plane has over a list, if it or its opposite stands there.
 fn find(plane: &Plane, planes: &[Plane]) -> Option<u32>
     requires { length planes.now < 2 ^ 31 }
-    ensures some { IfSome result (λ n. IsNumberIn planes.now n × (named planes.now n ≡ plane.now)) }
+    ensures some { IfSome result (λ n. IsNumberIn planes.now n × (plane_named planes.now n ≡ plane.now)) }
     ensures none { IfNone result ((i : ℕ) → i < length planes.now → AreApart (get_or planes.now i nowhere) plane.now) }
 {
     for i in 0..planes.len() {

@@ -2,7 +2,7 @@
 
 ghost use Rattle.std.specs.Prelude.{◌≡◌, ◌↔◌, IfOk, IsTrue};
 ghost use Rattle.plane_table.specs.Tables.{HasNoTwoAlike};
-ghost use Rattle.plane_table.specs.Orders.{by_numbers, compared, is_low, normalized, ComesNext, IsAscending};
+ghost use Rattle.plane_table.specs.Orders.{by_numbers, plane_order, is_low, normalized, ComesNext, IsAscending};
 
 use plane_predicate::{Plane, opposite};
 use std::alloc::Global;
@@ -58,7 +58,7 @@ pub fn is_ascending(planes: &[Plane]) -> bool
 /// How two planes are ordered: by their numbers, each plane turned so that its first number that isn't
 /// 0 is above 0.
 pub fn compare(m: &Plane, n: &Plane) -> Ordering
-    ensures { result ≡ compared m.now n.now }
+    ensures { result ≡ plane_order m.now n.now }
 {
     by_numbers(&normalized(m), &normalized(n))
 }

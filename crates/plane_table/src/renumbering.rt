@@ -21,7 +21,7 @@ pub fn renumber(alloc: Global, face: &Face, numbers: &[u32]) -> Result<Face, NoM
     ensures outline { IfOk result (λ f. (from planes : List Coefficients) → IsFound planes numbers.now from face.now → outline_of planes f ≡ outline_of from face.now) }
     ensures face { IfOk result (λ f. (from planes : List Coefficients) → IsFound planes numbers.now from face.now → IsFaceOver from face.now → IsFaceOver planes f) }
 {
-    let edges = face.edges.numbers();
+    let edges = face.edges.items();
     let mut found = SmallVec::with_capacity(alloc, edges.len())?;
     for edge in edges {
         found.push_reserved(number_among(numbers, *edge));
@@ -55,7 +55,7 @@ pub fn mark_used(face: &Face, used: &mut [bool])
     ensures others { (k : ℕ) → get_or used.old k false ≡ true → get_or used.new k false ≡ true }
 {
     used[(face.plane / 2) as usize] = true;
-    for edge in face.edges.numbers() {
+    for edge in face.edges.items() {
         used[(*edge / 2) as usize] = true;
     }
 }

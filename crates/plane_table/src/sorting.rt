@@ -5,7 +5,7 @@ ghost use Rattle.plane_predicate.specs.Sides.{is_side_ahead, is_side_behind};
 ghost use Rattle.plane_polygon.specs.Polygons.{corner};
 ghost use Rattle.plane_polygon.specs.Parts.{class_by};
 ghost use Rattle.plane_polygon.specs.Parallels.{HasAllOn};
-ghost use Rattle.plane_table.specs.Tables.{named, IsNumberIn};
+ghost use Rattle.plane_table.specs.Tables.{plane_named, IsNumberIn};
 ghost use Rattle.plane_table.specs.Faces.{corner_on, outline_of, side_against, AreFourSides, AreSidesOf, AreSidesWhereAcross, IsFaceOver, IsSideAt};
 
 use crate::lining::sides_by_line;
@@ -52,9 +52,9 @@ pub fn sides(
 ) -> Result<CornerSides, NoMemory>
     requires face { IsFaceOver table.now face.now }
     requires number { IsNumberIn table.now number }
-    ensures { IfOk result (λ r. AreSidesOf (outline_of table.now face.now) (named table.now number) r) }
+    ensures { IfOk result (λ r. AreSidesOf (outline_of table.now face.now) (plane_named table.now number) r) }
 {
-    let edges = face.edges.numbers();
+    let edges = face.edges.items();
     let mut corners = SmallVec::new(alloc);
     let mut some_behind = false;
     let mut some_ahead = false;
@@ -64,8 +64,8 @@ pub fn sides(
         let begins = side_of_all(table, next, number);
         let known = first_known(ends, begins);
         let side = corner_side(table, face, i, number, known);
-        some_behind = either(some_behind, side.is_behind);
-        some_ahead = either(some_ahead, side.is_ahead);
+        some_behind = is_either(some_behind, side.is_behind);
+        some_ahead = is_either(some_ahead, side.is_ahead);
         corners.push(side)?;
         ends = begins;
     }
@@ -88,7 +88,7 @@ pub fn sides_where_across(
 ) -> Result<CornerSides, NoMemory>
     requires face { IsFaceOver table.now face.now }
     requires number { IsNumberIn table.now number }
-    ensures { IfOk result (λ r. AreSidesWhereAcross (outline_of table.now face.now) (named table.now number) r) }
+    ensures { IfOk result (λ r. AreSidesWhereAcross (outline_of table.now face.now) (plane_named table.now number) r) }
 {
     if let Some(side) = side_of_all(table, face.plane, number) {
         return Ok(CornerSides {
@@ -97,7 +97,7 @@ pub fn sides_where_across(
         });
     }
     if face.edges.len() == 4 {
-        let edges = face.edges.numbers();
+        let edges = face.edges.items();
         if is_parallel(table, edges[0], number) {
             if let Some((first, third)) = both_known(table, edges[0], edges[2], number) {
                 return four_sides(alloc, first, third, third, first);
@@ -129,7 +129,7 @@ fn both_known(table: &PlaneTable, one: u32, other: u32, number: u32) -> Option<(
     requires one { IsNumberIn table.now one }
     requires other { IsNumberIn table.now other }
     requires number { IsNumberIn table.now number }
-    ensures { IfSome result (λ r. HasAllOn (named table.now one) (named table.now number) r.0 × HasAllOn (named table.now other) (named table.now number) r.1) }
+    ensures { IfSome result (λ r. HasAllOn (plane_named table.now one) (plane_named table.now number) r.0 × HasAllOn (plane_named table.now other) (plane_named table.now number) r.1) }
 {
     let first = side_of_all(table, one, number)?;
     let second = side_of_all(table, other, number)?;
@@ -175,7 +175,7 @@ fn four_sides(
 fn some_of_four(a: bool, b: bool, c: bool, d: bool) -> bool
     ensures { result ≡ (a || (b || (c || d))) }
 {
-    either(a, either(b, either(c, d)))
+    is_either(a, is_either(b, is_either(c, d)))
 }
 
 /// A corner on a side.
@@ -211,8 +211,8 @@ fn corner_side(
     requires index { i < length face.now.edges }
     requires face { IsFaceOver table.now face.now }
     requires number { IsNumberIn table.now number }
-    requires known { IfSome known (IsSideAt table.now face.now (named table.now number) i) }
-    ensures { result ≡ side_against (named table.now number) (corner (outline_of table.now face.now) i) }
+    requires known { IfSome known (IsSideAt table.now face.now (plane_named table.now number) i) }
+    ensures { result ≡ side_against (plane_named table.now number) (corner (outline_of table.now face.now) i) }
 {
     let side = match known {
         Some(side) => side,
@@ -226,9 +226,9 @@ fn meeting_side(table: &PlaneTable, face: &Face, i: usize, number: u32) -> Side
     requires index { i < length face.now.edges }
     requires face { IsFaceOver table.now face.now }
     requires number { IsNumberIn table.now number }
-    ensures { IsSideAt table.now face.now (named table.now number) i result }
+    ensures { IsSideAt table.now face.now (plane_named table.now number) i result }
 {
-    let edges = face.edges.numbers();
+    let edges = face.edges.items();
     let ends = table.plane(edges[i]);
     let begins = table.plane(edges[next_index(i, edges.len())]);
     side_at(table.plane(face.plane), ends, begins, table.plane(number))
@@ -249,7 +249,7 @@ fn first_known(ends: Option<Side>, begins: Option<Side>) -> Option<Side>
 fn side_of_all(table: &PlaneTable, of: u32, number: u32) -> Option<Side>
     requires of { IsNumberIn table.now of }
     requires number { IsNumberIn table.now number }
-    ensures { IfSome result (λ s. HasAllOn (named table.now of) (named table.now number) s) }
+    ensures { IfSome result (λ s. HasAllOn (plane_named table.now of) (plane_named table.now number) s) }
 {
     let direction = table.direction(of);
     let other = table.direction(number);
@@ -263,7 +263,7 @@ fn side_of_all(table: &PlaneTable, of: u32, number: u32) -> Option<Side>
 }
 
 /// Whether one of two holds.
-pub fn either(a: bool, b: bool) -> bool
+pub fn is_either(a: bool, b: bool) -> bool
     ensures { result ≡ (a || b) }
 {
     a || b

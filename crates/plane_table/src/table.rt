@@ -3,11 +3,10 @@
 ghost use Rattle.std.specs.Prelude.{◌≡◌, true, IfOk};
 ghost use Rattle.plane_predicate.specs.Space.{opposite_of, is_same};
 ghost use Rattle.plane_polygon.specs.Parallels.{IsAlike};
-ghost use Rattle.plane_table.specs.Tables.{named, opposite_number, AreNumbersSmall, HasNoTwoAlike, IsNumberIn};
+ghost use Rattle.plane_table.specs.Tables.{plane_named, opposite_number, AreNumbersSmall, HasNoTwoAlike, IsNumberIn};
 
 use crate::directions::{Oriented, by_number};
-use plane_line::are_small;
-use plane_predicate::Plane;
+use plane_predicate::{Plane, are_small};
 use std::alloc::Global;
 use std::marker::Model;
 use text_place::NoMemory;
@@ -61,7 +60,7 @@ impl PlaneTable {
     /// The plane that a number names.
     pub fn plane(&self, number: u32) -> &Plane
         requires { IsNumberIn self.now number }
-        ensures { result.now ≡ named self.now number }
+        ensures { result.now ≡ plane_named self.now number }
     {
         &self.oriented[number as usize].plane
     }
@@ -78,7 +77,7 @@ impl PlaneTable {
     /// same one.
     pub fn direction(&self, number: u32) -> u32
         requires { IsNumberIn self.now number }
-        ensures { IsAlike (named self.now result) (named self.now number) }
+        ensures { IsAlike (plane_named self.now result) (plane_named self.now number) }
     {
         self.oriented[number as usize].direction
     }
@@ -87,7 +86,7 @@ impl PlaneTable {
     pub fn is_same(&self, m: u32, n: u32) -> bool
         requires m { IsNumberIn self.now m }
         requires n { IsNumberIn self.now n }
-        ensures { result ≡ is_same (named self.now m) (named self.now n) }
+        ensures { result ≡ is_same (plane_named self.now m) (plane_named self.now n) }
     {
         // Reading these shows the proof what a table and a plane keep.
         let _ = &self.planes;
@@ -99,7 +98,7 @@ impl PlaneTable {
     pub fn is_opposite(&self, m: u32, n: u32) -> bool
         requires m { IsNumberIn self.now m }
         requires n { IsNumberIn self.now n }
-        ensures { result ≡ is_same (named self.now m) (opposite_of (named self.now n)) }
+        ensures { result ≡ is_same (plane_named self.now m) (opposite_of (plane_named self.now n)) }
     {
         // Reading these shows the proof what a table and a plane keep.
         let _ = &self.planes;

@@ -1,7 +1,7 @@
 -- What shows that a face is one of a shape.
 use Rattle.std.proofs.Common.{◌≡◌, ℕ, ◌+◌, ◌<◌, List, [], length, get_or, pos, ◌<ℤ◌, ◌≤ℤ◌, unsigned_abs, All}
 use Rattle.plane_predicate.specs.Space.{Coefficients}
-use Rattle.shape_planes.specs.Shapes.{Mesh, value_at, HasTriangle, IsFace}
+use Rattle.primitives.specs.Shapes.{Mesh, value_at, HasTriangle, IsFace}
 
 -- a point of a face that is strictly behind a plane
 pub record HasFar (mesh : Mesh) (m : Coefficients) : Type 0 where

@@ -8,8 +8,8 @@ use Rattle.plane_predicate.proofs.Polynomials.{Poly, var, num, times, minus, rin
 use Rattle.plane_predicate.proofs.Signs.{pos_pos}
 use Rattle.plane_predicate.proofs.Vectors.{Form, valueP, minorP}
 use Rattle.int_transform.specs.Maps.{HasSafeCoordinates}
-use Rattle.shape_planes.specs.Shapes.{corner, value_at, IsFace, IsShape}
-use Rattle.shape_planes.proofs.Moves.{whole, wholeP}
+use Rattle.primitives.specs.Shapes.{corner, value_at, IsFace, IsShape}
+use Rattle.primitives.proofs.Moves.{whole, wholeP}
 use Rattle.primitives.specs.Boxes.{box_of, box_points, box_faces, cube_of}
 use Rattle.primitives.specs.Sizes.{AreSizes}
 use Rattle.primitives.proofs.Bodies.{IsOutside, outside_is_face}

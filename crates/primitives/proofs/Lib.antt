@@ -1,6 +1,6 @@
 pub mod Bodies
 pub mod BoxBodies
-pub mod Corners
+pub mod CornersBehind
 pub mod EndFaces
 pub mod Rectangles
 pub mod Grids
@@ -8,3 +8,23 @@ pub mod PrismLists
 pub mod SidePlanes
 pub mod PrismBodies
 pub mod PrismPlanes
+mod NoneAhead
+pub mod Distinct
+pub mod FacePlanes
+pub mod Lists
+pub mod Moves
+pub mod OnePlane
+pub mod Placed
+pub mod ShapeBodies
+pub mod Stops
+pub mod Transforms
+pub mod Triangles
+pub mod Steps
+pub mod Searches
+pub mod ThroughCorners
+pub mod Rounds
+pub mod OuterPlanes
+pub mod Sets
+pub mod PolyhedronGrids
+pub mod FirstFaults
+pub mod Solids

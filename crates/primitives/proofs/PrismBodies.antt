@@ -6,10 +6,10 @@ use Rattle.std.proofs.lemmas.List.FromFn.{get_or-range_with_len, length-range_wi
 use Rattle.plane_predicate.specs.Space.{Coefficients, Coordinates, point_at, value, AreCollinear}
 use Rattle.plane_predicate.proofs.IntegerRing.{sums}
 use Rattle.int_transform.specs.Maps.{HasSafeCoordinates}
-use Rattle.shape_planes.specs.Shapes.{corner, value_at, IsFace, IsShape}
-use Rattle.shape_planes.proofs.Moves.{whole}
+use Rattle.primitives.specs.Shapes.{corner, value_at, IsFace, IsShape}
+use Rattle.primitives.proofs.Moves.{whole}
 use Rattle.primitives.specs.Sizes.{IsSafe}
-use Rattle.primitives.specs.Polygons.{x_of, y_of, turn, after, point, HasCorner, IsFlat, IsSafePoint}
+use Rattle.primitives.specs.Polygons.{x_of, y_of, orientation, after, point, HasCorner, IsFlat, IsSafePoint}
 use Rattle.primitives.specs.Prisms.{at_height, is_same_point, prism_faces, prism_of, prism_points, sides_over}
 use Rattle.primitives.proofs.Bodies.{HasFar, IsOutside, outside_is_face}
 use Rattle.primitives.proofs.BoxBodies.{low_z, high_z, same_on, most_within, less_behind}
@@ -83,13 +83,13 @@ same_line p q r s t u hp hq hr h =
     subst (λ (x : Coordinates). AreCollinear s t x) hr (subst (λ (x : Coordinates). AreCollinear s x r) hq (subst (λ (x : Coordinates). AreCollinear x q r) hp h))
 
 -- three points at one height that are on one line are so in the plane
-flat_line : (p q r : List ℤ) (z : ℤ) → AreCollinear (whole (x_of p) (y_of p) z) (whole (x_of q) (y_of q) z) (whole (x_of r) (y_of r) z) → turn p q r ≡ pos 0
+flat_line : (p q r : List ℤ) (z : ℤ) → AreCollinear (whole (x_of p) (y_of p) z) (whole (x_of q) (y_of q) z) (whole (x_of r) (y_of r) z) → orientation p q r ≡ pos 0
 flat_line p q r z h = h.c
 
 -- ---- the sides
 -- the side over points i and j, which lie on the way from a to b
 side_outside : (points : List (List ℤ)) (low high : ℤ) (i j : ℕ) (a b : List ℤ) → low <ℤ high → HasCorner points → i < length points → j < length points →
-    Differ (point points i) (point points j) → Differ a b → turn a b (point points i) ≡ pos 0 → turn a b (point points j) ≡ pos 0 → All (λ (r : List ℤ). pos 0 ≤ℤ turn a b r) points → IsOutside (prism_of points low high) (side_face (length points) i j)
+    Differ (point points i) (point points j) → Differ a b → orientation a b (point points i) ≡ pos 0 → orientation a b (point points j) ≡ pos 0 → All (λ (r : List ℤ). pos 0 ≤ℤ orientation a b r) points → IsOutside (prism_of points low high) (side_face (length points) i j)
 side_outside points low high i j a b lt three hi hj apart way on_i on_j left =
     let n = length points in let m = side_plane a b in
     let far = left_of_way points a b three way left in

@@ -7,8 +7,8 @@ use Rattle.std.proofs.lemmas.List.Concat.{flat_map-append}
 use Rattle.std.proofs.lemmas.List.Elements.{All-append, All-cons, All-head, All-nil, All-tail}
 use Rattle.std.proofs.lemmas.List.FromFn.{get_or-range_with_len, length-range_with_len, map-range_with_len_more}
 use Rattle.plane_predicate.specs.Space.{point_at}
-use Rattle.shape_planes.specs.Shapes.{corner}
-use Rattle.shape_planes.proofs.Moves.{whole}
+use Rattle.primitives.specs.Shapes.{corner}
+use Rattle.primitives.proofs.Moves.{whole}
 use Rattle.primitives.specs.Polygons.{x_of, y_of, after, point}
 use Rattle.primitives.specs.Prisms.{at_height, is_same_point, side_over, sides_over, prism_faces, prism_points}
 

@@ -7,23 +7,23 @@ use Rattle.plane_predicate.proofs.Polynomials.{Poly, var, minus, times, ring}
 use Rattle.plane_predicate.proofs.Signs.{least_least, pos_pos}
 use Rattle.plane_predicate.proofs.Vectors.{minorP}
 use Rattle.primitives.specs.Sizes.{AreSizes}
-use Rattle.primitives.specs.Polygons.{turn, rectangle_of, square_of, GoesLeft, IsConvex, IsFlat, IsSafePoint}
+use Rattle.primitives.specs.Polygons.{orientation, rectangle_of, square_of, GoesLeft, IsConvex, IsFlat, IsSafePoint}
 use Rattle.primitives.proofs.EndFaces.{AreEnds, ends_of_side}
 
 abbrev turnP : Poly → Poly → Poly → Poly → Poly → Poly → Poly
 turnP p q s t u v = minorP (minus s p) (minus t q) (minus u p) (minus v q)
 
 -- ---- the turns at the four ways
-low_way : (a b c x y : ℤ) → turn (a ∷ c ∷ []) (b ∷ c ∷ []) (x ∷ y ∷ []) ≡ (b -ℤ a) *ℤ (y -ℤ c)
+low_way : (a b c x y : ℤ) → orientation (a ∷ c ∷ []) (b ∷ c ∷ []) (x ∷ y ∷ []) ≡ (b -ℤ a) *ℤ (y -ℤ c)
 low_way a b c x y = ring (a ∷ b ∷ c ∷ x ∷ y ∷ []) (turnP (var 0) (var 2) (var 1) (var 2) (var 3) (var 4)) (times (minus (var 1) (var 0)) (minus (var 4) (var 2))) refl
 
-right_way : (b c d x y : ℤ) → turn (b ∷ c ∷ []) (b ∷ d ∷ []) (x ∷ y ∷ []) ≡ (d -ℤ c) *ℤ (b -ℤ x)
+right_way : (b c d x y : ℤ) → orientation (b ∷ c ∷ []) (b ∷ d ∷ []) (x ∷ y ∷ []) ≡ (d -ℤ c) *ℤ (b -ℤ x)
 right_way b c d x y = ring (b ∷ c ∷ d ∷ x ∷ y ∷ []) (turnP (var 0) (var 1) (var 0) (var 2) (var 3) (var 4)) (times (minus (var 2) (var 1)) (minus (var 0) (var 3))) refl
 
-high_way : (a b d x y : ℤ) → turn (b ∷ d ∷ []) (a ∷ d ∷ []) (x ∷ y ∷ []) ≡ (b -ℤ a) *ℤ (d -ℤ y)
+high_way : (a b d x y : ℤ) → orientation (b ∷ d ∷ []) (a ∷ d ∷ []) (x ∷ y ∷ []) ≡ (b -ℤ a) *ℤ (d -ℤ y)
 high_way a b d x y = ring (a ∷ b ∷ d ∷ x ∷ y ∷ []) (turnP (var 1) (var 2) (var 0) (var 2) (var 3) (var 4)) (times (minus (var 1) (var 0)) (minus (var 2) (var 4))) refl
 
-left_way : (a c d x y : ℤ) → turn (a ∷ d ∷ []) (a ∷ c ∷ []) (x ∷ y ∷ []) ≡ (d -ℤ c) *ℤ (x -ℤ a)
+left_way : (a c d x y : ℤ) → orientation (a ∷ d ∷ []) (a ∷ c ∷ []) (x ∷ y ∷ []) ≡ (d -ℤ c) *ℤ (x -ℤ a)
 left_way a c d x y = ring (a ∷ c ∷ d ∷ x ∷ y ∷ []) (turnP (var 0) (var 2) (var 0) (var 1) (var 3) (var 4)) (times (minus (var 2) (var 1)) (minus (var 3) (var 0))) refl
 
 least_turn : (t a b c d : ℤ) → t ≡ (b -ℤ a) *ℤ (d -ℤ c) → a ≤ℤ b → c ≤ℤ d → pos 0 ≤ℤ t
@@ -47,19 +47,19 @@ most_of_less a b h = omega (arith, sums, h)
 goes_round : (a b c d : ℤ) → a <ℤ b → c <ℤ d → GoesLeft (rectangle_of a b c d)
 goes_round a b c d hx hy zero lt =
     let x = most_of_less a b hx in let y = most_of_less c d hy in
-    All-from_recursion (λ (r : List ℤ). pos 0 ≤ℤ turn (a ∷ c ∷ []) (b ∷ c ∷ []) r) (rectangle_of a b c d)
+    All-from_recursion (λ (r : List ℤ). pos 0 ≤ℤ orientation (a ∷ c ∷ []) (b ∷ c ∷ []) r) (rectangle_of a b c d)
     (least_turn _ a b c c (low_way a b c a c) x (most_itself c), (least_turn _ a b c c (low_way a b c b c) x (most_itself c), (least_turn _ a b c d (low_way a b c b d) x y, (least_turn _ a b c d (low_way a b c a d) x y, tt))))
 goes_round a b c d hx hy (suc zero) lt =
     let x = most_of_less a b hx in let y = most_of_less c d hy in
-    All-from_recursion (λ (r : List ℤ). pos 0 ≤ℤ turn (b ∷ c ∷ []) (b ∷ d ∷ []) r) (rectangle_of a b c d)
+    All-from_recursion (λ (r : List ℤ). pos 0 ≤ℤ orientation (b ∷ c ∷ []) (b ∷ d ∷ []) r) (rectangle_of a b c d)
     (least_turn _ c d a b (right_way b c d a c) y x, (least_turn _ c d b b (right_way b c d b c) y (most_itself b), (least_turn _ c d b b (right_way b c d b d) y (most_itself b), (least_turn _ c d a b (right_way b c d a d) y x, tt))))
 goes_round a b c d hx hy (suc (suc zero)) lt =
     let x = most_of_less a b hx in let y = most_of_less c d hy in
-    All-from_recursion (λ (r : List ℤ). pos 0 ≤ℤ turn (b ∷ d ∷ []) (a ∷ d ∷ []) r) (rectangle_of a b c d)
+    All-from_recursion (λ (r : List ℤ). pos 0 ≤ℤ orientation (b ∷ d ∷ []) (a ∷ d ∷ []) r) (rectangle_of a b c d)
     (least_turn _ a b c d (high_way a b d a c) x y, (least_turn _ a b c d (high_way a b d b c) x y, (least_turn _ a b d d (high_way a b d b d) x (most_itself d), (least_turn _ a b d d (high_way a b d a d) x (most_itself d), tt))))
 goes_round a b c d hx hy (suc (suc (suc zero))) lt =
     let x = most_of_less a b hx in let y = most_of_less c d hy in
-    All-from_recursion (λ (r : List ℤ). pos 0 ≤ℤ turn (a ∷ d ∷ []) (a ∷ c ∷ []) r) (rectangle_of a b c d)
+    All-from_recursion (λ (r : List ℤ). pos 0 ≤ℤ orientation (a ∷ d ∷ []) (a ∷ c ∷ []) r) (rectangle_of a b c d)
     (least_turn _ c d a a (left_way a c d a c) y (most_itself a), (least_turn _ c d a b (left_way a c d b c) y x, (least_turn _ c d a b (left_way a c d b d) y x, (least_turn _ c d a a (left_way a c d a d) y (most_itself a), tt))))
 goes_round a b c d hx hy (suc (suc (suc (suc n)))) lt = absurd (omega arith)
 

@@ -7,9 +7,9 @@ use Rattle.plane_predicate.proofs.IntegerRing.{sums}
 use Rattle.plane_predicate.proofs.Polynomials.{Poly, var, num, times, minus, ring}
 use Rattle.plane_predicate.proofs.Signs.{signs, zero_cancel}
 use Rattle.plane_predicate.proofs.Vectors.{valueP, minorP}
-use Rattle.shape_planes.proofs.Moves.{cancelled, whole, wholeP}
-use Rattle.shape_planes.proofs.OnePlane.{some_direction}
-use Rattle.primitives.specs.Polygons.{x_of, y_of, turn, point, HasCorner}
+use Rattle.primitives.proofs.Moves.{cancelled, whole, wholeP}
+use Rattle.primitives.proofs.OnePlane.{some_direction}
+use Rattle.primitives.specs.Polygons.{x_of, y_of, orientation, point, HasCorner}
 use Rattle.primitives.specs.Prisms.{is_same_point}
 
 -- upright, over the way from p to q, with what lies to the left behind it
@@ -27,13 +27,13 @@ value_over p q s t x y z =
     refl
 
 -- the value of the plane at a point over r
-pub side_value : (p q r : List ℤ) (z : ℤ) → value (side_plane p q) (whole (x_of r) (y_of r) z) ≡ pos 0 -ℤ turn p q r
+pub side_value : (p q r : List ℤ) (z : ℤ) → value (side_plane p q) (whole (x_of r) (y_of r) z) ≡ pos 0 -ℤ orientation p q r
 side_value p q r z = value_over (x_of p) (y_of p) (x_of q) (y_of q) (x_of r) (y_of r) z
 
-pub turn_first : (p q : List ℤ) → turn p q p ≡ pos 0
+pub turn_first : (p q : List ℤ) → orientation p q p ≡ pos 0
 turn_first p q = ring (x_of p ∷ y_of p ∷ x_of q ∷ y_of q ∷ []) (minorP (minus (var 2) (var 0)) (minus (var 3) (var 1)) (minus (var 0) (var 0)) (minus (var 1) (var 1))) (num (pos 0)) refl
 
-pub turn_second : (p q : List ℤ) → turn p q q ≡ pos 0
+pub turn_second : (p q : List ℤ) → orientation p q q ≡ pos 0
 turn_second p q = ring (x_of p ∷ y_of p ∷ x_of q ∷ y_of q ∷ []) (minorP (minus (var 2) (var 0)) (minus (var 3) (var 1)) (minus (var 2) (var 0)) (minus (var 3) (var 1))) (num (pos 0)) refl
 
 pub no_value : (v t : ℤ) → v ≡ pos 0 -ℤ t → t ≡ pos 0 → v ≡ pos 0
@@ -77,7 +77,7 @@ side_directed p q h = some_direction (side_plane p q).a (side_plane p q).b (side
 pub record IsLeftAt (points : List (List ℤ)) (p q : List ℤ) : Type 0 where
   pub at : ℕ
   pub at_in : at < length points
-  pub left : pos 0 <ℤ turn p q (point points at)
+  pub left : pos 0 <ℤ orientation p q (point points at)
 
 across_x : (dx dy p q a b c d e f : ℤ) →
     let at = λ (x y : ℤ). minor dx dy (x -ℤ p) (y -ℤ q) in
@@ -105,26 +105,26 @@ nothing_left : (r u v s t w : ℤ) → r ≡ u *ℤ (s -ℤ w) -ℤ v *ℤ (t -�
 nothing_left r u v s t w e hs ht hw = e ∙ rw (hs, ht, hw) (ring (u ∷ v ∷ []) (minus (times (var 0) (minus (num (pos 0)) (num (pos 0)))) (times (var 1) (minus (num (pos 0)) (num (pos 0))))) (num (pos 0)) refl)
 
 -- points that are all on the line of a way are on one line
-one_line : (p q a b c : List ℤ) → Differ p q → turn p q a ≡ pos 0 → turn p q b ≡ pos 0 → turn p q c ≡ pos 0 → (turn a b c ≡ pos 0 → ⊥) → ⊥
+one_line : (p q a b c : List ℤ) → Differ p q → orientation p q a ≡ pos 0 → orientation p q b ≡ pos 0 → orientation p q c ≡ pos 0 → (orientation a b c ≡ pos 0 → ⊥) → ⊥
 one_line p q a b c h ha hb hc apart =
     let dx = x_of q -ℤ x_of p in let dy = y_of q -ℤ y_of p in
     let x = nothing_left _ _ _ _ _ _ (across_x dx dy (x_of p) (y_of p) (x_of a) (y_of a) (x_of b) (y_of b) (x_of c) (y_of c)) hc hb ha in
     let y = nothing_left _ _ _ _ _ _ (across_y dx dy (x_of p) (y_of p) (x_of a) (y_of a) (x_of b) (y_of b) (x_of c) (y_of c)) hc hb ha in
-    h.apart (cancelled (turn a b c) dx apart x) (cancelled (turn a b c) dy apart y)
+    h.apart (cancelled (orientation a b c) dx apart x) (cancelled (orientation a b c) dy apart y)
 
 -- some point is strictly to the left of a way that none is strictly to the right of
-pub left_of_way : (points : List (List ℤ)) (p q : List ℤ) → HasCorner points → Differ p q → All (λ (r : List ℤ). pos 0 ≤ℤ turn p q r) points → IsLeftAt points p q
+pub left_of_way : (points : List (List ℤ)) (p q : List ℤ) → HasCorner points → Differ p q → All (λ (r : List ℤ). pos 0 ≤ℤ orientation p q r) points → IsLeftAt points p q
 left_of_way points p q k h least =
     let a = point points k.first in let b = point points k.second in let c = point points k.third in
-    elim (signs (turn p q a)) [
+    elim (signs (orientation p q a)) [
       | inl below ↦ absurd (omega (arith, sums, below, least k.first [] k.first_in))
       | inr other ↦ elim other [
         | inr above ↦ record { at = k.first; at_in = k.first_in; left = above }
-        | inl none ↦ elim (signs (turn p q b)) [
+        | inl none ↦ elim (signs (orientation p q b)) [
           | inl below ↦ absurd (omega (arith, sums, below, least k.second [] k.second_in))
           | inr second ↦ elim second [
             | inr above ↦ record { at = k.second; at_in = k.second_in; left = above }
-            | inl still ↦ elim (signs (turn p q c)) [
+            | inl still ↦ elim (signs (orientation p q c)) [
               | inl below ↦ absurd (omega (arith, sums, below, least k.third [] k.third_in))
               | inr third ↦ elim third [
                 | inr above ↦ record { at = k.third; at_in = k.third_in; left = above }

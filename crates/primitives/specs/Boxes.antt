@@ -1,7 +1,7 @@
 -- Upright boxes.
 use Rattle.std.specs.Prelude.{ℕ, ℤ, pos, Bool, List, [], ◌∷◌, get_or}
 use Rattle.plane_predicate.specs.declared.unit.Unit.{Unit as LengthUnit}
-use Rattle.shape_planes.specs.Shapes.{Mesh}
+use Rattle.primitives.specs.Shapes.{Mesh}
 use Rattle.primitives.specs.Sizes.{low_end, high_end}
 
 -- the faces of a box by the corners round them: low x, high x, low y, high y, low z, high z
@@ -28,6 +28,7 @@ box_points a b c d e f =
     ∷ (b ∷ d ∷ f ∷ [])
     ∷ []
 
+-- the box of these ends, as points and faces
 abbrev pub box_of : ℤ → ℤ → ℤ → ℤ → ℤ → ℤ → Mesh
 box_of a b c d e f = record { points = box_points a b c d e f; faces = box_faces }
 

@@ -2,3 +2,13 @@ pub mod Sizes
 pub mod Boxes
 pub mod Polygons
 pub mod Prisms
+pub mod Shapes
+pub mod Placing
+pub mod Stops
+pub mod GridSizes
+pub mod Spanning
+pub mod Ways
+pub mod Checks
+pub mod CornerPlanes
+pub mod Bounding
+pub mod Polyhedra

@@ -4,26 +4,28 @@ use Rattle.text_place.specs.declared.fault.FaultKind.{FaultKind}
 use Rattle.text_place.specs.declared.fault.FaultKind.TheVariants.{LongList, FewPoints, OutOfRange, NotConvex}
 use Rattle.plane_predicate.specs.Space.{minor}
 use Rattle.plane_predicate.specs.declared.unit.Unit.{Unit as LengthUnit}
-use Rattle.shape_planes.specs.declared.stop.ShapeStop.{ShapeStop}
-use Rattle.shape_planes.specs.declared.stop.ShapeStop.TheVariants.{Kind, NoMemory}
+use Rattle.primitives.specs.declared.stop.ShapeStop.{ShapeStop}
+use Rattle.primitives.specs.declared.stop.ShapeStop.TheVariants.{Kind, NoMemory}
 use Rattle.primitives.specs.Sizes.{IsSafe, grid_steps, low_end, high_end}
 
 -- the coordinates of a point of the plane
 abbrev pub x_of : List ℤ → ℤ
 x_of p = get_or p 0 (pos 0)
 
+-- the second coordinate of a point of the plane
 abbrev pub y_of : List ℤ → ℤ
 y_of p = get_or p 1 (pos 0)
 
--- the turn of the way from p to q, and on to r: above 0 where r lies strictly to the left of the way, and below 0 where
+-- the orientation of three points, of the way from p to q, and on to r: above 0 where r lies strictly to the left of the way, and below 0 where
 -- it lies strictly to the right
-abbrev pub turn : List ℤ → List ℤ → List ℤ → ℤ
-turn p q r = minor (x_of q -ℤ x_of p) (y_of q -ℤ y_of p) (x_of r -ℤ x_of p) (y_of r -ℤ y_of p)
+abbrev pub orientation : List ℤ → List ℤ → List ℤ → ℤ
+orientation p q r = minor (x_of q -ℤ x_of p) (y_of q -ℤ y_of p) (x_of r -ℤ x_of p) (y_of r -ℤ y_of p)
 
 -- the number of the point that follows point i of n, round the polygon
 abbrev pub after : ℕ → ℕ → ℕ
 after n i = cond (eqb (suc i) n) 0 (suc i)
 
+-- point i of a polygon
 abbrev pub point : List (List ℤ) → ℕ → List ℤ
 point points i = get_or points i []
 
@@ -35,16 +37,16 @@ pub record HasCorner (points : List (List ℤ)) : Type 0 where
   pub first_in : first < length points
   pub second_in : second < length points
   pub third_in : third < length points
-  pub apart : turn (point points first) (point points second) (point points third) ≡ pos 0 → ⊥
+  pub apart : orientation (point points first) (point points second) (point points third) ≡ pos 0 → ⊥
 
 -- no point lies strictly to the right of a way from a point to the next. Equal points make no way: nothing is to the
 -- right of it
 abbrev pub GoesLeft : List (List ℤ) → Type 0
-GoesLeft points = (i : ℕ) → i < length points → All (λ r. pos 0 ≤ℤ turn (point points i) (point points (after (length points) i)) r) points
+GoesLeft points = (i : ℕ) → i < length points → All (λ r. pos 0 ≤ℤ orientation (point points i) (point points (after (length points) i)) r) points
 
 -- the same of the ways in the other direction
 abbrev pub GoesRight : List (List ℤ) → Type 0
-GoesRight points = (i : ℕ) → i < length points → All (λ r. pos 0 ≤ℤ turn (point points (after (length points) i)) (point points i) r) points
+GoesRight points = (i : ℕ) → i < length points → All (λ r. pos 0 ≤ℤ orientation (point points (after (length points) i)) (point points i) r) points
 
 -- a convex polygon: in one of its two directions no point lies strictly to the right of a way from a point to the next,
 -- and not all points lie on one line

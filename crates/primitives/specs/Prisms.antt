@@ -4,7 +4,7 @@ use Rattle.std.specs.List.{range_with_len}
 use Rattle.std.specs.Ordering.{int_eq}
 use Rattle.plane_predicate.specs.Space.{Coefficients, point_at, value}
 use Rattle.plane_predicate.specs.declared.unit.Unit.{Unit as LengthUnit}
-use Rattle.shape_planes.specs.Shapes.{Mesh}
+use Rattle.primitives.specs.Shapes.{Mesh}
 use Rattle.primitives.specs.Sizes.{low_end, high_end}
 use Rattle.primitives.specs.Polygons.{x_of, y_of, point, after}
 
@@ -36,6 +36,7 @@ prism_faces points =
 abbrev pub prism_points : List (List ℤ) → ℤ → ℤ → List (List ℤ)
 prism_points points low high = map (at_height low) points ++ map (at_height high) points
 
+-- the polygon moved along z between two heights, as points and faces
 abbrev pub prism_of : List (List ℤ) → ℤ → ℤ → Mesh
 prism_of points low high = record { points = prism_points points low high; faces = prism_faces points }
 

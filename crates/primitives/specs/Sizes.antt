@@ -4,8 +4,8 @@ use Rattle.text_place.specs.declared.fault.FaultKind.{FaultKind}
 use Rattle.text_place.specs.declared.fault.FaultKind.TheVariants.{BadSize, NotOnGrid, TooLarge}
 use Rattle.plane_predicate.specs.declared.unit.Unit.{Unit as LengthUnit}
 use Rattle.plane_predicate.specs.Units.{steps_of}
-use Rattle.shape_planes.specs.declared.stop.ShapeStop.{ShapeStop}
-use Rattle.shape_planes.specs.declared.stop.ShapeStop.TheVariants.{Kind, NoMemory}
+use Rattle.primitives.specs.declared.stop.ShapeStop.{ShapeStop}
+use Rattle.primitives.specs.declared.stop.ShapeStop.TheVariants.{Kind, NoMemory}
 
 -- a number that is at most 2^53 - 1 in size
 pub record IsSafe (number : ℤ) : Type 0 where

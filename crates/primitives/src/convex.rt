@@ -3,7 +3,9 @@
 ghost use Rattle.std.specs.Prelude.{◌≡◌, ◌*◌, ◌<◌, ◌≤◌, ◌≤ℤ◌, ◌-ℤ◌, pos, unsigned_abs, All, Any, length};
 ghost use Rattle.std.specs.Bool.{OnTrue, OnFalse};
 ghost use Rattle.plane_predicate.specs.Space.{minor};
-ghost use Rattle.primitives.specs.Polygons.{after as after_of, point, turn, GoesLeft, GoesRight, IsConvex, IsNear};
+ghost use Rattle.primitives.specs.Polygons.{after as after_of, point, orientation, GoesLeft, GoesRight, IsConvex, IsNear};
+
+use crate::facing::minor_between;
 
 /// Whether a polygon is convex: in one of its two directions no point lies strictly to the right of
 /// a way from a point to the next, and not all points lie on one line.
@@ -20,8 +22,8 @@ pub fn is_convex(points: &[[i64; 2]]) -> bool
 fn has_corner(points: &[[i64; 2]]) -> bool
     requires some { 0 < length points.now }
     requires near { All IsNear points.now }
-    ensures yes { OnTrue result (Any (λ q. Any (λ r. turn (point points.now 0) q r ≡ pos 0 → ⊥) points.now) points.now) }
-    ensures no { OnFalse result (All (λ q. All (λ r. turn (point points.now 0) q r ≡ pos 0) points.now) points.now) }
+    ensures yes { OnTrue result (Any (λ q. Any (λ r. orientation (point points.now 0) q r ≡ pos 0 → ⊥) points.now) points.now) }
+    ensures no { OnFalse result (All (λ q. All (λ r. orientation (point points.now 0) q r ≡ pos 0) points.now) points.now) }
 {
     for second in points {
         if bends(points, points[0], *second) {
@@ -36,11 +38,11 @@ fn bends(points: &[[i64; 2]], first: [i64; 2], second: [i64; 2]) -> bool
     requires near { All IsNear points.now }
     requires first_near { IsNear first }
     requires second_near { IsNear second }
-    ensures yes { OnTrue result (Any (λ r. turn first second r ≡ pos 0 → ⊥) points.now) }
-    ensures no { OnFalse result (All (λ r. turn first second r ≡ pos 0) points.now) }
+    ensures yes { OnTrue result (Any (λ r. orientation first second r ≡ pos 0 → ⊥) points.now) }
+    ensures no { OnFalse result (All (λ r. orientation first second r ≡ pos 0) points.now) }
 {
     for third in points {
-        if turn_of(first, second, *third) != 0 {
+        if orientation_of(first, second, *third) != 0 {
             return true;
         }
     }
@@ -89,50 +91,26 @@ fn stays_left(points: &[[i64; 2]], from: [i64; 2], to: [i64; 2]) -> bool
     requires near { All IsNear points.now }
     requires from_near { IsNear from }
     requires to_near { IsNear to }
-    ensures yes { OnTrue result (All (λ r. pos 0 ≤ℤ turn from to r) points.now) }
-    ensures no { OnFalse result (All (λ r. pos 0 ≤ℤ turn from to r) points.now → ⊥) }
+    ensures yes { OnTrue result (All (λ r. pos 0 ≤ℤ orientation from to r) points.now) }
+    ensures no { OnFalse result (All (λ r. pos 0 ≤ℤ orientation from to r) points.now → ⊥) }
 {
     for point in points {
-        if turn_of(from, to, *point) < 0 {
+        if orientation_of(from, to, *point) < 0 {
             return false;
         }
     }
     true
 }
 
-// The turn of the way from `p` to `q`, and on to `r`: above 0 where it goes left.
-fn turn_of(p: [i64; 2], q: [i64; 2], r: [i64; 2]) -> i64
+// The orientation of the way from `p` to `q`, and on to `r`: above 0 where it goes left.
+fn orientation_of(p: [i64; 2], q: [i64; 2], r: [i64; 2]) -> i64
     requires p_near { IsNear p }
     requires q_near { IsNear q }
     requires r_near { IsNear r }
-    ensures { result ≡ turn p q r }
+    ensures { result ≡ orientation p q r }
 {
     let [px, py] = p;
     let [qx, qy] = q;
     let [rx, ry] = r;
     minor_between(px, py, qx, qy, rx, ry)
-}
-
-// The cross product of the ways from `p` to `q` and from `p` to `r`.
-fn minor_between(px: i64, py: i64, qx: i64, qy: i64, rx: i64, ry: i64) -> i64
-    requires px_size { unsigned_abs px ≤ 131070 }
-    requires py_size { unsigned_abs py ≤ 131070 }
-    requires qx_size { unsigned_abs qx ≤ 131070 }
-    requires qy_size { unsigned_abs qy ≤ 131070 }
-    requires rx_size { unsigned_abs rx ≤ 131070 }
-    requires ry_size { unsigned_abs ry ≤ 131070 }
-    ensures { result ≡ minor (qx -ℤ px) (qy -ℤ py) (rx -ℤ px) (ry -ℤ py) }
-{
-    minor_of(qx - px, qy - py, rx - px, ry - py)
-}
-
-// `a d - b c` of differences of coordinates.
-fn minor_of(a: i64, b: i64, c: i64, d: i64) -> i64
-    requires a_size { unsigned_abs a ≤ 262140 }
-    requires b_size { unsigned_abs b ≤ 262140 }
-    requires c_size { unsigned_abs c ≤ 262140 }
-    requires d_size { unsigned_abs d ≤ 262140 }
-    ensures { result ≡ minor a b c d }
-{
-    a * d - b * c
 }

@@ -5,8 +5,8 @@ ghost use Rattle.primitives.specs.Boxes.{box_faces, box_points, cube_of};
 ghost use Rattle.primitives.specs.Sizes.{AreSizes, IsSafe, IsSizeStop};
 
 use crate::sizes::{Ends, ends_of, size_fault};
+use crate::{Corners, Shape, ShapeStop};
 use plane_predicate::Unit;
-use shape_planes::{Corners, Shape, ShapeStop};
 use std::alloc::{AllocError, Global};
 
 // The faces of a box by the corners round them: low x, high x, low y, high y, low z, high z.

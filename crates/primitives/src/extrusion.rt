@@ -8,8 +8,8 @@ ghost use Rattle.primitives.specs.Sizes.{AreSizes, IsSafe, IsSizeStop};
 use crate::convex::after;
 use crate::flat::Flat;
 use crate::sizes::{Ends, ends_of, size_fault};
+use crate::{Corners, Shape, ShapeStop};
 use plane_predicate::Unit;
-use shape_planes::{Corners, Shape, ShapeStop};
 use std::alloc::{AllocError, Global};
 
 /// The polygon moved along z through a height in units, from 0 on or about it. Its faces are the

@@ -4,11 +4,11 @@ ghost use Rattle.std.specs.Prelude.{◌≡◌, All, Any, IfOk, IfErr, OnOk};
 ghost use Rattle.std.specs.Bool.{OnTrue, OnFalse};
 ghost use Rattle.primitives.specs.Polygons.{on_grid as on_grid_of, polygon_of, IsInRange, IsPolygon, IsPolygonStop};
 
+use crate::ShapeStop;
 use crate::convex::is_convex;
 use crate::flat::Flat;
 use crate::sizes::in_steps;
 use plane_predicate::Unit;
-use shape_planes::ShapeStop;
 use std::alloc::{AllocError, Global};
 use text_place::FaultKind;
 

@@ -4,10 +4,10 @@ ghost use Rattle.std.specs.Prelude.{◌≡◌, All, IfOk, IfErr, OnOk};
 ghost use Rattle.primitives.specs.Polygons.{rectangle_of, square_of};
 ghost use Rattle.primitives.specs.Sizes.{AreSizes, IsSafe, IsSizeStop};
 
+use crate::ShapeStop;
 use crate::flat::Flat;
 use crate::sizes::{Ends, ends_of, size_fault};
 use plane_predicate::Unit;
-use shape_planes::ShapeStop;
 use std::alloc::{AllocError, Global};
 
 /// The rectangle with these two sides in units, from the origin on or about it.

@@ -54,7 +54,7 @@ own_replies E x s (c ∷ cs) (r ∷ rs) [] h g w = absurd g
 own_replies E x s (c ∷ cs) (r ∷ rs) (q ∷ qs) h g w =
     ⊎_elim
     (λ a. ⊎_elim
-    (λ b. heads_and_tails r q rs qs (a.0 ∙ sym b.0) (own_replies E x s cs rs qs a.1 b.1 w.1))
+    (λ b. heads_and_tails r q rs qs (a.0 ∙ sym b.0) (own_replies E x s cs rs qs a.2 b.2 w.1))
     (λ b. absurd (answer_has_memory E x s c q b.0 (w.0.0 a.0)))
     g)
     (λ a. ⊎_elim

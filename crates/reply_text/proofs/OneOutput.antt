@@ -57,7 +57,7 @@ same_replies E i n s (c ∷ cs) (r ∷ rs) (q ∷ qs) x y h g e =
     let after = λ (same : r ≡ q). same_rest r q (replies_text (suc n) rs ++ x) (replies_text (suc n) qs ++ y) same printed in
     ⊎_elim
     (λ a. ⊎_elim
-    (λ b. let same : r ≡ q = a.0 ∙ sym b.0 in with_first r q rs qs x y same (same_replies E i (suc n) s cs rs qs x y a.1 b.1 (after same)))
+    (λ b. let same : r ≡ q = a.0 ∙ sym b.0 in with_first r q rs qs x y same (same_replies E i (suc n) s cs rs qs x y a.2 b.2 (after same)))
     (λ b. absurd (wanting r q (replies_text (suc n) rs ++ x) (replies_text (suc n) qs ++ y) a.0 (answer_has_memory E i s c q b.0) printed))
     g)
     (λ a. ⊎_elim

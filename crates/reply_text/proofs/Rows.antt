@@ -59,14 +59,23 @@ empty_output_is = refl
 -- ---- want of memory
 -- a command that is answered so counts as not given
 not_given_fits : Fits GivesBack start (Put 1 (codes "x") ∷ Put 2 (codes "y") ∷ Put 1 (codes "z") ∷ []) (reply.NoMem ∷ reply.Refused NoSuchLine ∷ reply.Lines 1 ∷ [])
-not_given_fits = inl (refl, inr (refl, inr (refl, tt)))
+not_given_fits = inl (refl, refl, inr (refl, inr (refl, tt)))
 
 abbrev nearly_exported : State
 nearly_exported = record { lines = []; shows = 0; exports = 15 }
 
 -- it raises no number of exports
 exports_fit : Fits GivesBack nearly_exported (Export ∷ Export ∷ Export ∷ []) (reply.NoMem ∷ reply.Solid [] ∷ reply.Refused TooManyExports ∷ [])
-exports_fit = inl (refl, inr (refl, inr (refl, tt)))
+exports_fit = inl (refl, refl, inr (refl, inr (refl, tt)))
+
+-- a command that the session refuses lacks no memory, and nor does a cut
+refused_is_told : Fits GivesBack start (Set 1 (codes "x") ∷ []) (reply.NoMem ∷ []) → ⊥
+refused_is_told (inl (e, may, rest)) = cc may
+refused_is_told (inr (answer, rest)) = cc answer
+
+cut_takes_no_memory : Fits GivesBack (record { lines = codes "x" ∷ []; shows = 0; exports = 0 }) (Cut 1 1 ∷ []) (reply.NoMem ∷ []) → ⊥
+cut_takes_no_memory (inl (e, may, rest)) = may
+cut_takes_no_memory (inr (answer, rest)) = cc answer
 
 -- ---- lines
 lines_are : replies_text 9 (reply.Faulted (record { kind = UnknownName; place = record { line = 1; column = 23 } }) ∷ reply.NoMem ∷ reply.Complex (limit.Solid 7) ∷ reply.Complex (limit.Sum 12) ∷ reply.Complex limit.Facets ∷ reply.Complex limit.Corners ∷ reply.Complex limit.Vertices ∷ reply.Text [] ∷ []) ≡ codes "9 fault 1:23 UnknownName\n10 nomem\n11 complex solid 7\n12 complex sum 12\n13 complex facets\n14 complex corners\n15 complex vertices\n16 text 0\n"

@@ -4,6 +4,7 @@ use Rattle.script_reader.specs.declared.script.Command.{Command}
 use Rattle.script_reader.specs.declared.script.Command.TheVariants.{Put, Set, Cut, Show, Export, Bad}
 use Rattle.script_reader.specs.declared.script.ClientScript.{ClientScript}
 use Rattle.edit_session.specs.Sessions.{State, start, source_of, refusal, accepted, next}
+use Rattle.edit_session.specs.Asking.{MayWantMemory}
 use Rattle.reply_text.specs.declared.reply.Reply.{Reply}
 use Rattle.reply_text.specs.declared.reply.Reply.TheVariants as reply
 
@@ -22,11 +23,11 @@ module _ (Exports : List ℕ → Reply → Type 0) where
   abbrev pub Answers : State → Command → Reply → Type 0
   Answers s c r = MatchOption (refusal s c) (IsDone s c r) (λ why. r ≡ reply.Refused why)
 
-  -- the replies are those that the client's own commands define: each is the answer in the state after those before it,
-  -- or memory ran out and the command counts as not given
+  -- The replies are those that the client's own commands define: each is the answer in the state after those before it, or
+  -- memory ran out at a command at which it may, which counts as not given.
   abbrev pub Fits : State → List Command → List Reply → Type 0
   Fits s [] [] = Unit {0}
-  Fits s (c ∷ cs) (r ∷ rs) = ((r ≡ reply.NoMem) × Fits s cs rs) ⊎ (Answers s c r × Fits (next s c) cs rs)
+  Fits s (c ∷ cs) (r ∷ rs) = ((r ≡ reply.NoMem) × MayWantMemory s c × Fits s cs rs) ⊎ (Answers s c r × Fits (next s c) cs rs)
   Fits s (c ∷ cs) [] = ⊥
   Fits s [] (r ∷ rs) = ⊥
 

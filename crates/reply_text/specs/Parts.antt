@@ -8,6 +8,7 @@ use Rattle.reply_text.specs.declared.reply.Reply.{Reply}
 use Rattle.reply_text.specs.declared.reply.Reply.TheVariants as reply
 use Rattle.reply_text.specs.Texts.{refusal_word, limit_words, line_count}
 
+-- how a fault is told: its line, its column and its word
 abbrev pub fault_words : Fault → List ℕ
 fault_words f = codes " fault " ++ numeral f.place.line ++ codes ":" ++ numeral f.place.column ++ space ++ word_of f.kind
 

@@ -11,6 +11,7 @@ use Rattle.reply_text.specs.declared.reply.Complex.TheVariants as limit
 use Rattle.reply_text.specs.declared.reply.Reply.{Reply}
 use Rattle.reply_text.specs.declared.reply.Reply.TheVariants as reply
 
+-- the word of a refusal
 abbrev pub refusal_word : SessionFault → List ℕ
 refusal_word NoSuchLine = codes "NoSuchLine"
 refusal_word TooManyLines = codes "TooManyLines"
@@ -19,6 +20,7 @@ refusal_word TooManyExports = codes "TooManyExports"
 refusal_word BadCommand = codes "BadCommand"
 refusal_word NoMemory = codes "NoMemory"
 
+-- how a limit that was passed is told
 abbrev pub limit_words : Complex → List ℕ
 limit_words (limit.Solid n) = codes "solid " ++ numeral n
 limit_words (limit.Sum n) = codes "sum " ++ numeral n

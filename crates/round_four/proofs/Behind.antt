@@ -4,10 +4,10 @@ use Rattle.std.specs.Ordering.{int_eq}
 use Rattle.std.proofs.lemmas.List.Elements.{All-from_recursion}
 use Rattle.plane_predicate.specs.Space.{Coefficients, point_at, value}
 use Rattle.int_transform.specs.declared.affine.Affine.{Affine}
-use Rattle.shape_planes.specs.Shapes.{Mesh, IsFacePlane}
-use Rattle.shape_planes.specs.Placing.{moved, ArePlanesOf}
-use Rattle.shape_planes.proofs.Distinct.{all_of_distinct}
-use Rattle.shape_planes.proofs.Lists.{zip_second}
+use Rattle.primitives.specs.Shapes.{Mesh, IsFacePlane}
+use Rattle.primitives.specs.Placing.{moved_mesh, ArePlanesOf}
+use Rattle.primitives.proofs.Distinct.{all_of_distinct}
+use Rattle.primitives.proofs.Lists.{zip_second}
 use Rattle.primitives.specs.Prisms.{AreBehindOrOn}
 use Rattle.round_four.specs.Cylinders.{cylinder_between}
 use Rattle.round_four.proofs.Cylinders.{by_apexes}
@@ -15,14 +15,14 @@ use Rattle.round_four.proofs.Cylinders.{by_apexes}
 abbrev AreBehind : Mesh → Coefficients → Type 0
 AreBehind mesh m = All (λ (p : List ℤ). value m (point_at p) ≤ℤ pos 0) mesh.points
 
-each_behind : (f : Affine) (a b l h : ℤ) (low high : Bool) (face : List ℕ) (m : Coefficients) → IsFacePlane (moved f (by_apexes a b l h low high)) face m → AreBehind (moved f (by_apexes a b l h low high)) m
+each_behind : (f : Affine) (a b l h : ℤ) (low high : Bool) (face : List ℕ) (m : Coefficients) → IsFacePlane (moved_mesh f (by_apexes a b l h low high)) face m → AreBehind (moved_mesh f (by_apexes a b l h low high)) m
 each_behind f a b l h true true face m is =
     let at = is.none_ahead in
-    All-from_recursion (λ (p : List ℤ). value m (point_at p) ≤ℤ pos 0) (moved f (by_apexes a b l h true true)).points
+    All-from_recursion (λ (p : List ℤ). value m (point_at p) ≤ℤ pos 0) (moved_mesh f (by_apexes a b l h true true)).points
     (at 0 [] (omega arith) 0 0 (omega arith), (at 0 [] (omega arith) 2 0 (omega arith), tt))
 each_behind f a b l h true false face m is =
     let at = is.none_ahead in
-    All-from_recursion (λ (p : List ℤ). value m (point_at p) ≤ℤ pos 0) (moved f (by_apexes a b l h true false)).points (
+    All-from_recursion (λ (p : List ℤ). value m (point_at p) ≤ℤ pos 0) (moved_mesh f (by_apexes a b l h true false)).points (
       at 0 [] (omega arith) 0 0 (omega arith),
       (
         at 4 [] (omega arith) 0 0 (omega arith),
@@ -40,7 +40,7 @@ each_behind f a b l h true false face m is =
     )
 each_behind f a b l h false true face m is =
     let at = is.none_ahead in
-    All-from_recursion (λ (p : List ℤ). value m (point_at p) ≤ℤ pos 0) (moved f (by_apexes a b l h false true)).points (
+    All-from_recursion (λ (p : List ℤ). value m (point_at p) ≤ℤ pos 0) (moved_mesh f (by_apexes a b l h false true)).points (
       at 4 [] (omega arith) 0 0 (omega arith),
       (
         at 4 [] (omega arith) 1 0 (omega arith),
@@ -58,7 +58,7 @@ each_behind f a b l h false true face m is =
     )
 each_behind f a b l h false false face m is =
     let at = is.none_ahead in
-    All-from_recursion (λ (p : List ℤ). value m (point_at p) ≤ℤ pos 0) (moved f (by_apexes a b l h false false)).points (
+    All-from_recursion (λ (p : List ℤ). value m (point_at p) ≤ℤ pos 0) (moved_mesh f (by_apexes a b l h false false)).points (
       at 4 [] (omega arith) 0 0 (omega arith),
       (
         at 4 [] (omega arith) 1 0 (omega arith),
@@ -84,8 +84,8 @@ each_behind f a b l h false false face m is =
       ),
     )
 
-pub all_behind : (f : Affine) (a b l h : ℤ) (planes : List Coefficients) → ArePlanesOf (moved f (cylinder_between a b l h)) (cylinder_between a b l h).faces planes → AreBehindOrOn (moved f (cylinder_between a b l h)).points planes
+pub all_behind : (f : Affine) (a b l h : ℤ) (planes : List Coefficients) → ArePlanesOf (moved_mesh f (cylinder_between a b l h)) (cylinder_between a b l h).faces planes → AreBehindOrOn (moved_mesh f (cylinder_between a b l h)).points planes
 all_behind f a b l h planes are =
-    let mesh = moved f (cylinder_between a b l h) in
+    let mesh = moved_mesh f (cylinder_between a b l h) in
     let each : All (AreBehind mesh) are.all = zip_second (IsFacePlane mesh) (λ (face : List ℕ). Unit) (AreBehind mesh) (λ face m is t. each_behind f a b l h (int_eq a (pos 0)) (int_eq b (pos 0)) face m is) mesh.faces are.all are.each (λ k d lt. tt) in
     subst (All (AreBehind mesh)) (sym are.first) (all_of_distinct (AreBehind mesh) are.all each)

@@ -7,7 +7,7 @@ use Rattle.plane_predicate.proofs.Opposites.{from_zero, size_of_negative}
 use Rattle.plane_predicate.proofs.Polynomials.{Poly, var, num, plus, minus, times, ring}
 use Rattle.plane_predicate.proofs.Signs.{least_least, zero_cancel}
 use Rattle.plane_predicate.proofs.Vectors.{minorP}
-use Rattle.primitives.specs.Polygons.{turn, x_of, y_of, GoesLeft, IsConvex, IsFlat, IsSafePoint}
+use Rattle.primitives.specs.Polygons.{orientation, x_of, y_of, GoesLeft, IsConvex, IsFlat, IsSafePoint}
 use Rattle.primitives.specs.Sizes.{grid_steps, IsSafe}
 use Rattle.round_four.specs.Circles.{circle_of, circle_points, IsCircleSize}
 use Rattle.round_four.proofs.Corners.{circle_within, left_far, minus_sign, plus_sign, reach}
@@ -26,22 +26,22 @@ backP = minus (num (pos 0)) (var 0)
 abbrev leftP : ℤ → ℤ → Poly
 leftP s t = times (var 0) (minus (var 0) (plus (times (num s) (var 1)) (times (num t) (var 2))))
 
-first_way : (r x y : ℤ) → turn (r ∷ pos 0 ∷ []) (pos 0 ∷ r ∷ []) (x ∷ y ∷ []) ≡ r *ℤ (r -ℤ reach (pos 1) (pos 1) x y)
+first_way : (r x y : ℤ) → orientation (r ∷ pos 0 ∷ []) (pos 0 ∷ r ∷ []) (x ∷ y ∷ []) ≡ r *ℤ (r -ℤ reach (pos 1) (pos 1) x y)
 first_way r x y = ring (r ∷ x ∷ y ∷ []) (turnP (var 0) noneP noneP (var 0)) (leftP (pos 1) (pos 1)) refl
 
-second_way : (r x y : ℤ) → turn (pos 0 ∷ r ∷ []) (neg_ℤ r ∷ pos 0 ∷ []) (x ∷ y ∷ []) ≡ r *ℤ (r -ℤ reach (negsuc 0) (pos 1) x y)
+second_way : (r x y : ℤ) → orientation (pos 0 ∷ r ∷ []) (neg_ℤ r ∷ pos 0 ∷ []) (x ∷ y ∷ []) ≡ r *ℤ (r -ℤ reach (negsuc 0) (pos 1) x y)
 second_way r x y =
-    ap (λ (n : ℤ). turn (pos 0 ∷ r ∷ []) (n ∷ pos 0 ∷ []) (x ∷ y ∷ [])) (sym (from_zero r))
+    ap (λ (n : ℤ). orientation (pos 0 ∷ r ∷ []) (n ∷ pos 0 ∷ []) (x ∷ y ∷ [])) (sym (from_zero r))
     ∙ ring (r ∷ x ∷ y ∷ []) (turnP noneP (var 0) backP noneP) (leftP (negsuc 0) (pos 1)) refl
 
-third_way : (r x y : ℤ) → turn (neg_ℤ r ∷ pos 0 ∷ []) (pos 0 ∷ neg_ℤ r ∷ []) (x ∷ y ∷ []) ≡ r *ℤ (r -ℤ reach (negsuc 0) (negsuc 0) x y)
+third_way : (r x y : ℤ) → orientation (neg_ℤ r ∷ pos 0 ∷ []) (pos 0 ∷ neg_ℤ r ∷ []) (x ∷ y ∷ []) ≡ r *ℤ (r -ℤ reach (negsuc 0) (negsuc 0) x y)
 third_way r x y =
-    ap (λ (n : ℤ). turn (n ∷ pos 0 ∷ []) (pos 0 ∷ n ∷ []) (x ∷ y ∷ [])) (sym (from_zero r))
+    ap (λ (n : ℤ). orientation (n ∷ pos 0 ∷ []) (pos 0 ∷ n ∷ []) (x ∷ y ∷ [])) (sym (from_zero r))
     ∙ ring (r ∷ x ∷ y ∷ []) (turnP backP noneP noneP backP) (leftP (negsuc 0) (negsuc 0)) refl
 
-fourth_way : (r x y : ℤ) → turn (pos 0 ∷ neg_ℤ r ∷ []) (r ∷ pos 0 ∷ []) (x ∷ y ∷ []) ≡ r *ℤ (r -ℤ reach (pos 1) (negsuc 0) x y)
+fourth_way : (r x y : ℤ) → orientation (pos 0 ∷ neg_ℤ r ∷ []) (r ∷ pos 0 ∷ []) (x ∷ y ∷ []) ≡ r *ℤ (r -ℤ reach (pos 1) (negsuc 0) x y)
 fourth_way r x y =
-    ap (λ (n : ℤ). turn (pos 0 ∷ n ∷ []) (r ∷ pos 0 ∷ []) (x ∷ y ∷ [])) (sym (from_zero r))
+    ap (λ (n : ℤ). orientation (pos 0 ∷ n ∷ []) (r ∷ pos 0 ∷ []) (x ∷ y ∷ [])) (sym (from_zero r))
     ∙ ring (r ∷ x ∷ y ∷ []) (turnP noneP backP (var 0) noneP) (leftP (pos 1) (negsuc 0)) refl
 
 least_turn : (t r n : ℤ) → t ≡ r *ℤ (r -ℤ n) → pos 0 <ℤ r → n ≤ℤ r → pos 0 ≤ℤ t

@@ -8,7 +8,7 @@ use Rattle.plane_predicate.specs.Space.{point_at}
 use Rattle.plane_predicate.proofs.IntegerRing.{sums}
 use Rattle.plane_predicate.proofs.Opposites.{size_of_negative}
 use Rattle.int_transform.specs.Maps.{HasSafeCoordinates}
-use Rattle.shape_planes.specs.Shapes.{Mesh, IsShape}
+use Rattle.primitives.specs.Shapes.{Mesh, IsShape}
 use Rattle.primitives.specs.Prisms.{at_height}
 use Rattle.primitives.specs.Sizes.{grid_steps, low_end}
 use Rattle.round_four.specs.Circles.{circle_points}

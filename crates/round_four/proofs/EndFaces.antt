@@ -5,8 +5,8 @@ use Rattle.plane_predicate.proofs.IntegerRing.{sums}
 use Rattle.plane_predicate.proofs.Polynomials.{var, num, times, minus, ring}
 use Rattle.plane_predicate.proofs.Signs.{zero_cancel}
 use Rattle.plane_predicate.proofs.Vectors.{valueP, minorP}
-use Rattle.shape_planes.specs.Shapes.{Mesh, corner}
-use Rattle.shape_planes.proofs.Moves.{whole, wholeP}
+use Rattle.primitives.specs.Shapes.{Mesh, corner}
+use Rattle.primitives.proofs.Moves.{whole, wholeP}
 use Rattle.primitives.proofs.Bodies.{IsOutside}
 use Rattle.round_four.proofs.Corners.{IsCorner}
 use Rattle.round_four.proofs.Sides.{AreCorners, IsFaceOf}

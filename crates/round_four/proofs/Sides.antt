@@ -8,8 +8,8 @@ use Rattle.plane_predicate.proofs.IntegerRing.{sums, one_mul}
 use Rattle.plane_predicate.proofs.Polynomials.{Poly, var, num, plus, times, minus, ring}
 use Rattle.plane_predicate.proofs.Signs.{pos_neg, least_most, zero_cancel}
 use Rattle.plane_predicate.proofs.Vectors.{Form, Place, valueP, minorP}
-use Rattle.shape_planes.specs.Shapes.{Mesh, corner, value_at, HasTriangle}
-use Rattle.shape_planes.proofs.Moves.{whole}
+use Rattle.primitives.specs.Shapes.{Mesh, corner, value_at, HasTriangle}
+use Rattle.primitives.proofs.Moves.{whole}
 use Rattle.primitives.proofs.Bodies.{HasFar, IsOutside}
 use Rattle.round_four.proofs.Corners.{reach, IsCorner, IsSign}
 

@@ -3,7 +3,7 @@ use Rattle.std.proofs.Common.{◌≡◌, ℕ, ◌<◌, List, [], ◌∷◌, ◌+
 use Rattle.std.proofs.lemmas.List.Elements.{All-from_recursion}
 use Rattle.plane_predicate.specs.Space.{point_at}
 use Rattle.plane_predicate.proofs.IntegerRing.{sums}
-use Rattle.shape_planes.specs.Shapes.{Mesh, value_at, IsFace}
+use Rattle.primitives.specs.Shapes.{Mesh, value_at, IsFace}
 use Rattle.primitives.specs.Prisms.{at_height}
 use Rattle.round_four.specs.Circles.{circle_points}
 use Rattle.round_four.specs.Cylinders.{faces_of_two}

@@ -3,8 +3,8 @@ use Rattle.std.specs.Prelude.{◌≤◌, ℤ, pos, ◌<ℤ◌, ◌≤ℤ◌, uns
 use Rattle.text_place.specs.declared.fault.FaultKind.{FaultKind}
 use Rattle.text_place.specs.declared.fault.FaultKind.TheVariants.{BadSize, OutOfRange}
 use Rattle.plane_predicate.specs.declared.unit.Unit.{Unit as LengthUnit}
-use Rattle.shape_planes.specs.declared.stop.ShapeStop.{ShapeStop}
-use Rattle.shape_planes.specs.declared.stop.ShapeStop.TheVariants.{Kind, NoMemory}
+use Rattle.primitives.specs.declared.stop.ShapeStop.{ShapeStop}
+use Rattle.primitives.specs.declared.stop.ShapeStop.TheVariants.{Kind, NoMemory}
 use Rattle.primitives.specs.Sizes.{grid_steps}
 
 -- the corners of a circle with four fragments about the origin, counterclockwise from the x axis on

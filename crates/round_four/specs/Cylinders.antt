@@ -4,9 +4,9 @@ use Rattle.std.specs.Ordering.{int_eq}
 use Rattle.text_place.specs.declared.fault.FaultKind.{FaultKind}
 use Rattle.text_place.specs.declared.fault.FaultKind.TheVariants.{BadSize, NotOnGrid, OutOfRange}
 use Rattle.plane_predicate.specs.declared.unit.Unit.{Unit as LengthUnit}
-use Rattle.shape_planes.specs.Shapes.{Mesh}
-use Rattle.shape_planes.specs.declared.stop.ShapeStop.{ShapeStop}
-use Rattle.shape_planes.specs.declared.stop.ShapeStop.TheVariants.{Kind, NoMemory}
+use Rattle.primitives.specs.Shapes.{Mesh}
+use Rattle.primitives.specs.declared.stop.ShapeStop.{ShapeStop}
+use Rattle.primitives.specs.declared.stop.ShapeStop.TheVariants.{Kind, NoMemory}
 use Rattle.round_four.specs.Circles.{circle_points}
 use Rattle.primitives.specs.Prisms.{at_height}
 use Rattle.primitives.specs.Sizes.{grid_steps, high_end, low_end, IsEven}

@@ -6,8 +6,7 @@ ghost use Rattle.round_four.specs.Circles.{circle_of, circle_points, IsCircleSiz
 
 use crate::sizes::is_near;
 use plane_predicate::Unit;
-use primitives::{Flat, in_steps};
-use shape_planes::ShapeStop;
+use primitives::{Flat, ShapeStop, in_steps};
 use std::alloc::{AllocError, Global};
 use text_place::FaultKind;
 

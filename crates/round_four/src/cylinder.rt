@@ -6,8 +6,7 @@ ghost use Rattle.round_four.specs.Cylinders.{cylinder_faces, cylinder_of, end_po
 
 use crate::sizes::cylinder_fault;
 use plane_predicate::Unit;
-use primitives::{Ends, ends_of, in_steps};
-use shape_planes::{Corners, Shape, ShapeStop};
+use primitives::{Corners, Ends, Shape, ShapeStop, ends_of, in_steps};
 use std::alloc::{AllocError, Global};
 
 /// The cylinder with this height and these radii of its low and its high end in units, with four

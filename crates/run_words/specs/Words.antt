@@ -18,6 +18,7 @@ pub data RunOption : Type 0 where
   Half : RunOption
   Tally : RunOption
 
+-- the byte of `=`
 abbrev pub equals : List ℕ
 equals = 61 ∷ []
 
@@ -25,6 +26,7 @@ equals = 61 ∷ []
 abbrev pub IsNumeralOf : List ℕ → ℕ → Type 0
 IsNumeralOf digits n = IsShortNumeral digits × (n ≡ digits_value 10 digits)
 
+-- how an option that has a value is written
 abbrev pub key_name : Key → List ℕ
 key_name Workers = codes "--workers"
 key_name Memo = codes "--memo"
@@ -69,9 +71,11 @@ abbrev pub Adds : Given → List RunOption → Given → Type 0
 Adds given [] all = all ≡ given
 Adds given (option ∷ options) all = IsFree given option × Adds (with_option given option) options all
 
+-- what is given before any option is read
 abbrev pub no_options : Given
 no_options = record { workers = None; memo = None; share = None; half = false; tally = false }
 
+-- what is given, or else this number
 abbrev pub or_else : Option ℕ → ℕ → ℕ
 or_else None other = other
 or_else (Some n) other = n

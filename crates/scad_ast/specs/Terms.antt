@@ -71,15 +71,18 @@ abbrev pub terms_from : List Term → Terms
 terms_from [] = no_terms
 terms_from (term ∷ terms) = and_term term (terms_from terms)
 
+-- the operators with their right sides, of a list
 abbrev pub links_from : List LinkTerm → LinkTerms
 links_from [] = no_links
 links_from (link ∷ links) = and_link link.op link.at link.right (links_from links)
 
+-- the suffixes of a list
 abbrev pub suffixes_from : List SuffixTerm → SuffixTerms
 suffixes_from [] = no_suffixes
 suffixes_from (IndexTerm at index ∷ rest) = and_index at index (suffixes_from rest)
 suffixes_from (MemberTerm at name name_at ∷ rest) = and_member at name name_at (suffixes_from rest)
 
+-- the arguments of a list
 abbrev pub args_from : List ArgTerm → ArgTerms
 args_from [] = no_args
 args_from (NamedTerm at name value ∷ rest) = and_named at name value (args_from rest)
@@ -173,6 +176,7 @@ place_of_statement (ModuleTerm at name name_at params body) = at
 place_of_statement (FunctionTerm at name name_at params value) = at
 place_of_statement (InstanceStatement instance) = place_of_instance instance
 
+-- the place of the first token of an instance without its modifiers
 abbrev pub place_of_core : CoreTerm → Place
 place_of_core (IfTerm at test body) = at
 place_of_core (IfElseTerm at test body other) = at

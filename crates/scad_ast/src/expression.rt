@@ -3,10 +3,8 @@ ghost use Rattle.scad_ast.specs.Terms.{place_of};
 ghost use Rattle.scad_ast.specs.ExprView.{term_of};
 
 use crate::operator::{BinaryOp, UnaryOp};
-use compact_bytes::CompactBytes;
 use std::mem::size_of;
-use text_place::Place;
-use whole_numeral::Numeral;
+use text_place::{CompactBytes, Numeral, Place};
 
 /// An expression. The first place of each form is that of its first token. What has no room beside the place lies in one
 /// box, so that an expression takes 32 bytes.

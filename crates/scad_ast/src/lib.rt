@@ -1,5 +1,6 @@
-//! Syntax of the modelling language: one variant for each form, every form with the place of its first
-//! token, and every name, operator, `?`, `.` and `[` of an index with its place.
+//! The syntax tree of the modelling language, with the place of each form, name, operator and sign.
+//!
+//! There is one variant for each form. Each has the place of its first token, and each name, operator, `?`, `.` and `[` of an index has its own.
 #![tactic(auto)]
 
 mod expression;

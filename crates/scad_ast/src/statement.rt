@@ -4,8 +4,7 @@ ghost use Rattle.scad_ast.specs.StatementView.{statement_of, instance_of, core_o
 
 use crate::expression::{Args, Expr};
 use crate::operator::Modifier;
-use compact_bytes::CompactBytes;
-use text_place::Place;
+use text_place::{CompactBytes, Place};
 
 /// A parameter: its name with its place, and its default where it has one.
 #[derive(Drop)]

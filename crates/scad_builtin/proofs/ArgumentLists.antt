@@ -7,7 +7,7 @@ use Rattle.scad_value.specs.Operators.{Answer}
 use Rattle.scad_value.specs.View.{val_of, vals_in}
 use Rattle.scad_builtin.specs.declared.function.Builtin.{Builtin}
 use Rattle.scad_builtin.specs.declared.function.Builtin.TheVariants.{Abs, Sign, Floor, Ceil, Round, Min, Max, Len, Concat, Pow, IsUndef, IsNum, IsBool, IsList}
-use Rattle.scad_builtin.specs.Builtins.{of_one, of_two, best, best_among, list_of, items_as, joined_items, applied}
+use Rattle.scad_builtin.specs.Builtins.{of_one, of_two, best, best_among, list_of, items_as, joined_items, builtin_value}
 use Rattle.scad_builtin.specs.Rows.{row_of}
 
 pub length_in : (vs : List Value) (ws : List Val) → vals_in vs ≡ ws → length ws ≡ length vs
@@ -62,7 +62,7 @@ joined_push (w ∷ vs) v = ap (λ l. items_as (val_of w) ++ l) (joined_push vs v
 -- the functions of one value
 pub by_row : (builtin : Builtin) (ws : List Val) → (builtin ≡ Min → ⊥) → (builtin ≡ Max → ⊥)
     → (builtin ≡ Concat → ⊥) → (builtin ≡ Pow → ⊥)
-    → applied builtin (vals_from ws) ≡ of_one (row_of builtin) (vals_from ws)
+    → builtin_value builtin (vals_from ws) ≡ of_one (row_of builtin) (vals_from ws)
 by_row Abs ws a b c d = refl
 by_row Sign ws a b c d = refl
 by_row Floor ws a b c d = refl

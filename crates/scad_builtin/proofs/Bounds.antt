@@ -6,11 +6,11 @@ use Rattle.text_place.specs.declared.fault.FaultKind.TheVariants.{TooLarge, Long
 use Rattle.scad_value.specs.declared.value.Value.{Value}
 use Rattle.scad_value.specs.declared.stop.ValueStop.{ValueStop}
 use Rattle.scad_value.specs.Values.{Val, NumberVal, TruthVal, TextVal, ListVal, Vals, no_vals, and_val, vals_from, count_of, parts_of, is_long, is_small, has_small_numbers, have_small_numbers, is_bounded}
-use Rattle.scad_value.specs.Operators.{Answer, sized, number, made}
+use Rattle.scad_value.specs.Operators.{Answer, number_or_too_large, number, value_or_long_list}
 use Rattle.scad_value.specs.View.{MeetsAnswer, GivesBounded}
 use Rattle.scad_builtin.specs.declared.function.Builtin.{Builtin}
 use Rattle.scad_builtin.specs.declared.function.Builtin.TheVariants.{Abs, Sign, Floor, Ceil, Round, Min, Max, Len, Concat, Pow, IsUndef, IsNum, IsBool, IsList}
-use Rattle.scad_builtin.specs.Builtins.{of_number, sign_of, better, best_of, best, best_among, length_of, list_of, items_as, joined_items, power, power_row, power_of, is_undef, is_num, is_bool, is_list, of_one, of_two, applied, are_bounded}
+use Rattle.scad_builtin.specs.Builtins.{of_number, sign_of, better, best_of, best, best_among, length_of, list_of, items_as, joined_items, power, power_row, power_of, is_undef, is_num, is_bool, is_list, of_one, of_two, builtin_value, are_bounded}
 use Rattle.scad_builtin.proofs.Powers.{by_sign}
 
 abbrev IsBoundedAnswer : Answer Val → Type 0
@@ -27,7 +27,7 @@ told (Ok v) answer t b = subst IsBoundedAnswer t b
 told (Err stop) answer t b = tt
 
 -- numbers
-sized_small : (n : ℤ) → IsSmallAnswer (sized n)
+sized_small : (n : ℤ) → IsSmallAnswer (number_or_too_large n)
 sized_small n = by_size (is_small n) refl
   where
     by_size : (b : Bool) → is_small n ≡ b → IsSmallAnswer (cond b (Ok n) (Err TooLarge))
@@ -62,9 +62,9 @@ power_bounded v w = tt
 
 length_bounded : (v : Val) → IsBoundedAnswer (length_of v)
 length_bounded (ListVal items) =
-    number_bounded (sized (pos (count_of items))) (sized_small (pos (count_of items)))
+    number_bounded (number_or_too_large (pos (count_of items))) (sized_small (pos (count_of items)))
 length_bounded (TextVal bytes) =
-    number_bounded (sized (pos (length bytes))) (sized_small (pos (length bytes)))
+    number_bounded (number_or_too_large (pos (length bytes))) (sized_small (pos (length bytes)))
 length_bounded v = tt
 
 -- the best number
@@ -119,7 +119,7 @@ or_first : (x y : Bool) → (x || y) ≡ false → x ≡ false
 or_first true y h = h
 or_first false y h = refl
 
-made_bounded : (v : Val) → IsTrue (has_small_numbers v) → IsBoundedAnswer (made (Ok v))
+made_bounded : (v : Val) → IsTrue (has_small_numbers v) → IsBoundedAnswer (value_or_long_list (Ok v))
 made_bounded v s = by_length (is_long v) refl
   where
     few : is_long v ≡ false → ltb (parts_of v) (2 ^ 20) ≡ true
@@ -144,10 +144,10 @@ of_two_bounded row bounded (and_val v (and_val w no_vals)) = bounded v w
 of_two_bounded row bounded (and_val u (and_val v (and_val w vs))) = tt
 
 applied_bounded : (builtin : Builtin) (vs : Vals) → IsTrue (have_small_numbers vs)
-    → IsBoundedAnswer (applied builtin vs)
+    → IsBoundedAnswer (builtin_value builtin vs)
 applied_bounded Abs vs s =
-    of_one_bounded (of_number (λ n. sized (pos (unsigned_abs n))))
-    (of_number_bounded (λ n. sized (pos (unsigned_abs n))) (λ n t. sized_small (pos (unsigned_abs n)))) vs s
+    of_one_bounded (of_number (λ n. number_or_too_large (pos (unsigned_abs n))))
+    (of_number_bounded (λ n. number_or_too_large (pos (unsigned_abs n))) (λ n t. sized_small (pos (unsigned_abs n)))) vs s
 applied_bounded Sign vs s =
     of_one_bounded (of_number (λ n. Ok (sign_of n)))
     (of_number_bounded (λ n. Ok (sign_of n)) (λ n t. sign_small n)) vs s
@@ -175,5 +175,5 @@ all_small [] b = refl
 all_small (v ∷ vs) b = let p = and_parts _ _ b in and_from _ _ (and_parts _ _ p.0).0 (all_small vs p.1)
 
 pub gives_bounded : (builtin : Builtin) (vs : List Val) (r : Result Value ValueStop)
-    → MeetsAnswer r (applied builtin (vals_from vs)) → IsTrue (are_bounded vs) → GivesBounded r
+    → MeetsAnswer r (builtin_value builtin (vals_from vs)) → IsTrue (are_bounded vs) → GivesBounded r
 gives_bounded builtin vs r t b = told r _ t (applied_bounded builtin (vals_from vs) (all_small vs b))

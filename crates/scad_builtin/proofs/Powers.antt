@@ -9,15 +9,15 @@ use mir.Syntax.{w64}
 use Rattle.text_place.specs.declared.fault.FaultKind.{FaultKind}
 use Rattle.text_place.specs.declared.fault.FaultKind.TheVariants.{TooLarge}
 use Rattle.scad_value.specs.Values.{is_small}
-use Rattle.scad_value.specs.Operators.{sized, product_row}
+use Rattle.scad_value.specs.Operators.{number_or_too_large, product_row}
 use Rattle.scad_builtin.specs.Builtins.{power}
 
 one_power : (e : ℕ) → power (pos 1) e ≡ pos 1
 one_power zero = refl
 one_power (suc e) = ap (λ p. pos 1 *ℤ p) (one_power e)
 
-pub one_row : (b : ℤ) (e : ℕ) → b ≡ pos 1 → Ok (pos 1) ≡ sized (power b e)
-one_row b e is = subst (λ x. Ok (pos 1) ≡ sized (power x e)) (sym is) (ap sized (sym (one_power e)))
+pub one_row : (b : ℤ) (e : ℕ) → b ≡ pos 1 → Ok (pos 1) ≡ number_or_too_large (power b e)
+one_row b e is = subst (λ x. Ok (pos 1) ≡ number_or_too_large (power x e)) (sym is) (ap number_or_too_large (sym (one_power e)))
 
 -- a power of -1 is 1 or -1
 pub by_sign : (P : ℤ → Type 0) → P (pos 1) → P (negsuc 0) → (e : ℕ) → P (power (negsuc 0) e)
@@ -25,10 +25,10 @@ by_sign P plus minus zero = plus
 by_sign P plus minus (suc e) = by_sign (λ x. P (negsuc 0 *ℤ x)) minus plus e
 
 pub minus_row : (b r : ℤ) (e : ℕ) → b ≡ negsuc 0 → r ≡ power (negsuc 0) e → Ok (to_z w64 (of_z w64 r))
-    ≡ sized (power b e)
-minus_row b r e is told = subst (λ x. Ok (to_z w64 (of_z w64 r)) ≡ sized (power x e)) (sym is)
-    (subst (λ x. Ok (to_z w64 (of_z w64 x)) ≡ sized (power (negsuc 0) e)) (sym told)
-    (by_sign (λ x. Ok (to_z w64 (of_z w64 x)) ≡ sized x) refl refl e))
+    ≡ number_or_too_large (power b e)
+minus_row b r e is told = subst (λ x. Ok (to_z w64 (of_z w64 r)) ≡ number_or_too_large (power x e)) (sym is)
+    (subst (λ x. Ok (to_z w64 (of_z w64 x)) ≡ number_or_too_large (power (negsuc 0) e)) (sym told)
+    (by_sign (λ x. Ok (to_z w64 (of_z w64 x)) ≡ number_or_too_large x) refl refl e))
 
 even_power : (k e : ℕ) → e ≡ 2 * k → power (negsuc 0) e ≡ pos 1
 even_power zero zero h = refl
@@ -54,7 +54,7 @@ abs_power b zero = sym (pow-zero (unsigned_abs b))
 abs_power b (suc e) = unsigned_abs-mul b (power b e) ∙ ap (λ n. unsigned_abs b * n) (abs_power b e)
     ∙ sym (pow-succ' (unsigned_abs b) e)
 
-too_large : (n : ℤ) (kind : FaultKind) → Err kind ≡ sized n → (kind ≡ TooLarge) × (2 ^ 53 ≤ unsigned_abs n)
+too_large : (n : ℤ) (kind : FaultKind) → Err kind ≡ number_or_too_large n → (kind ≡ TooLarge) × (2 ^ 53 ≤ unsigned_abs n)
 too_large n kind = by_size (is_small n) refl
   where
     by_size : (t : Bool) → is_small n ≡ t → Err kind ≡ cond t (Ok n) (Err TooLarge)
@@ -62,12 +62,12 @@ too_large n kind = by_size (is_small n) refl
     by_size true e h = absurd (cc)
     by_size false e h = (cc, ltb-false (unsigned_abs n) (2 ^ 53) e)
 
-large : (n : ℤ) → 2 ^ 53 ≤ unsigned_abs n → sized n ≡ Err TooLarge
+large : (n : ℤ) → 2 ^ 53 ≤ unsigned_abs n → number_or_too_large n ≡ Err TooLarge
 large n h = ap (λ t. cond t (Ok n) (Err TooLarge)) (le-ltb (unsigned_abs n) (2 ^ 53) h)
 
 -- what is too large stays so with more factors
 pub stays_large : (p f : ℤ) (i n : ℕ) (kind : FaultKind) → p ≡ power f i → i < n → 2 ≤ unsigned_abs f
-    → Err kind ≡ product_row p f → Err kind ≡ sized (power f n)
+    → Err kind ≡ product_row p f → Err kind ≡ number_or_too_large (power f n)
 stays_large p f i n kind e less h fault =
     let now = too_large (p *ℤ f) kind fault in
     let size : unsigned_abs (p *ℤ f) ≡ unsigned_abs f ^ suc i =

@@ -6,7 +6,7 @@ use Rattle.scad_value.specs.Values.{Val, NumberVal, TruthVal, TextVal, ListVal, 
 use Rattle.scad_value.specs.Operators.{Answer}
 use Rattle.scad_builtin.specs.declared.function.Builtin.{Builtin}
 use Rattle.scad_builtin.specs.declared.function.Builtin.TheVariants.{Abs, Sign, Round, Min, Max, Len, Concat, Pow, IsUndef, IsNum, IsList}
-use Rattle.scad_builtin.specs.Builtins.{builtin_of, is_left_out_function, takes, applied}
+use Rattle.scad_builtin.specs.Builtins.{builtin_of, is_left_out_function, takes, builtin_value}
 
 abbrev num : ℤ → Val
 num n = NumberVal n
@@ -15,7 +15,7 @@ abbrev listed : List Val → Val
 listed vs = ListVal (vals_from vs)
 
 abbrev given : Builtin → List Val → Answer Val
-given builtin vs = applied builtin (vals_from vs)
+given builtin vs = builtin_value builtin (vals_from vs)
 
 -- abs(-5), sign(0), sign(-5), round(7), abs(undef)
 size : given Abs (num (negsuc 4) ∷ []) ≡ Ok (num (pos 5))

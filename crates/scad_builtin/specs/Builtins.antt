@@ -5,7 +5,7 @@ use Rattle.text_place.specs.declared.fault.FaultKind.TheVariants.{TypeMismatch, 
 use Rattle.scad_builtin.specs.declared.function.Builtin.{Builtin}
 use Rattle.scad_builtin.specs.declared.function.Builtin.TheVariants.{Abs, Sign, Floor, Ceil, Round, Min, Max, Len, Concat, Pow, IsUndef, IsNum, IsBool, IsList}
 use Rattle.scad_value.specs.Values.{Val, NumberVal, TruthVal, TextVal, ListVal, UndefVal, Vals, no_vals, and_val, vals_from, count_of, is_bounded}
-use Rattle.scad_value.specs.Operators.{Answer, sized, number, made}
+use Rattle.scad_value.specs.Operators.{Answer, number_or_too_large, number, value_or_long_list}
 pub use Rattle.scad_ast.specs.Names.{is_among}
 
 -- names and what they stand for
@@ -70,8 +70,8 @@ best_among before vs = best before vs
 
 -- how many items a list has, or bytes a text; like each number, past 2^53 - 1 it is too large
 abbrev pub length_of : Val → Answer Val
-length_of (ListVal items) = number (sized (pos (count_of items)))
-length_of (TextVal bytes) = number (sized (pos (length bytes)))
+length_of (ListVal items) = number (number_or_too_large (pos (count_of items)))
+length_of (TextVal bytes) = number (number_or_too_large (pos (length bytes)))
 length_of v = Err TypeMismatch
 
 -- the items of a list in order
@@ -96,7 +96,7 @@ power base (suc exponent) = base *ℤ power base exponent
 
 -- the power of two whole numbers, where it is whole: an exponent below 0 is for 1 and -1 alone
 abbrev pub power_row : ℤ → ℤ → Answer ℤ
-power_row base (pos exponent) = sized (power base exponent)
+power_row base (pos exponent) = number_or_too_large (power base exponent)
 power_row (pos zero) (negsuc exponent) = Err ZeroDivisor
 power_row (pos (suc zero)) (negsuc exponent) = Ok (pos 1)
 power_row (negsuc zero) (negsuc exponent) = Ok (power (negsuc zero) (suc exponent))
@@ -138,21 +138,21 @@ of_two row (and_val v (and_val w no_vals)) = row v w
 of_two row vs = Err TypeMismatch
 
 -- the table, for as many values as the function takes
-abbrev pub applied : Builtin → Vals → Answer Val
-applied Abs vs = of_one (of_number (λ n. sized (pos (unsigned_abs n)))) vs
-applied Sign vs = of_one (of_number (λ n. Ok (sign_of n))) vs
-applied Floor vs = of_one (of_number (λ n. Ok n)) vs
-applied Ceil vs = of_one (of_number (λ n. Ok n)) vs
-applied Round vs = of_one (of_number (λ n. Ok n)) vs
-applied Min vs = best_among int_lt vs
-applied Max vs = best_among (λ a b. int_lt b a) vs
-applied Len vs = of_one length_of vs
-applied Concat vs = made (Ok (ListVal (vals_from (joined_items vs))))
-applied Pow vs = of_two power_of vs
-applied IsUndef vs = of_one (λ v. Ok (TruthVal (is_undef v))) vs
-applied IsNum vs = of_one (λ v. Ok (TruthVal (is_num v))) vs
-applied IsBool vs = of_one (λ v. Ok (TruthVal (is_bool v))) vs
-applied IsList vs = of_one (λ v. Ok (TruthVal (is_list v))) vs
+abbrev pub builtin_value : Builtin → Vals → Answer Val
+builtin_value Abs vs = of_one (of_number (λ n. number_or_too_large (pos (unsigned_abs n)))) vs
+builtin_value Sign vs = of_one (of_number (λ n. Ok (sign_of n))) vs
+builtin_value Floor vs = of_one (of_number (λ n. Ok n)) vs
+builtin_value Ceil vs = of_one (of_number (λ n. Ok n)) vs
+builtin_value Round vs = of_one (of_number (λ n. Ok n)) vs
+builtin_value Min vs = best_among int_lt vs
+builtin_value Max vs = best_among (λ a b. int_lt b a) vs
+builtin_value Len vs = of_one length_of vs
+builtin_value Concat vs = value_or_long_list (Ok (ListVal (vals_from (joined_items vs))))
+builtin_value Pow vs = of_two power_of vs
+builtin_value IsUndef vs = of_one (λ v. Ok (TruthVal (is_undef v))) vs
+builtin_value IsNum vs = of_one (λ v. Ok (TruthVal (is_num v))) vs
+builtin_value IsBool vs = of_one (λ v. Ok (TruthVal (is_bool v))) vs
+builtin_value IsList vs = of_one (λ v. Ok (TruthVal (is_list v))) vs
 
 -- each of the values is bounded
 abbrev pub are_bounded : List Val → Bool

@@ -2,7 +2,7 @@
 use Rattle.std.specs.Prelude.{ℤ, pos, Bool, Ok, Err, int_lt, unsigned_abs}
 use Rattle.text_place.specs.declared.fault.FaultKind.TheVariants.{TypeMismatch}
 use Rattle.scad_value.specs.Values.{Val, TruthVal}
-use Rattle.scad_value.specs.Operators.{Answer, sized}
+use Rattle.scad_value.specs.Operators.{Answer, number_or_too_large}
 use Rattle.scad_builtin.specs.declared.function.Builtin.{Builtin}
 use Rattle.scad_builtin.specs.declared.function.Builtin.TheVariants.{Abs, Sign, Floor, Ceil, Round, Len, IsUndef, IsNum, IsBool, IsList}
 use Rattle.scad_builtin.specs.declared.number.NumberRow.{NumberRow}
@@ -13,7 +13,7 @@ use Rattle.scad_builtin.specs.Builtins.{of_number, sign_of, length_of, is_undef,
 
 -- what is done with one number
 abbrev pub number_row : NumberRow → ℤ → Answer ℤ
-number_row Size n = sized (pos (unsigned_abs n))
+number_row Size n = number_or_too_large (pos (unsigned_abs n))
 number_row Direction n = Ok (sign_of n)
 number_row Itself n = Ok n
 

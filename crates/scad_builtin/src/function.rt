@@ -1,7 +1,7 @@
 ghost use Rattle.std.specs.Prelude.{◌≡◌, IsTrue};
 ghost use Rattle.scad_value.specs.Values.{vals_from};
 ghost use Rattle.scad_value.specs.View.{val_of, vals_of, MeetsAnswer, GivesBounded};
-ghost use Rattle.scad_builtin.specs.Builtins.{takes, applied, of_one, are_bounded};
+ghost use Rattle.scad_builtin.specs.Builtins.{takes, builtin_value, of_one, are_bounded};
 ghost use Rattle.scad_builtin.specs.Rows.{row_of};
 
 use crate::arguments::only;
@@ -49,7 +49,7 @@ impl Builtin {
     /// than the function takes is TypeMismatch.
     pub fn apply(self, alloc: Global, values: Values) -> Result<Value, ValueStop>
         requires { IsTrue (are_bounded (vals_of values)) }
-        ensures value { MeetsAnswer result (applied self (vals_from (vals_of values))) }
+        ensures value { MeetsAnswer result (builtin_value self (vals_from (vals_of values))) }
         ensures bounded { GivesBounded result }
     {
         self.value_of(alloc, values)
@@ -57,7 +57,7 @@ impl Builtin {
 
     // The value by the table of functions. That it is bounded follows from its definition.
     fn value_of(self, alloc: Global, values: Values) -> Result<Value, ValueStop>
-        ensures { MeetsAnswer result (applied self (vals_from (vals_of values))) }
+        ensures { MeetsAnswer result (builtin_value self (vals_from (vals_of values))) }
     {
         match self {
             Builtin::Min => best_among(Wanted::Least, &values),

@@ -1,11 +1,11 @@
 ghost use Rattle.std.specs.Prelude.{◌≡◌, ◌++◌, Ok, IfOk, IfErr, OnOk, false};
 ghost use Rattle.scad_value.specs.Values.{vals_from, count_of, ListVal};
-ghost use Rattle.scad_value.specs.Operators.{made};
+ghost use Rattle.scad_value.specs.Operators.{value_or_long_list};
 ghost use Rattle.scad_value.specs.View.{val_of, vals_of, vals_in, MeetsAnswer};
 ghost use Rattle.scad_builtin.specs.Builtins.{length_of, items_as, joined_items, is_list};
 
 use crate::number::count;
-use scad_value::{Value, ValueStop, Values, made};
+use scad_value::{Value, ValueStop, Values, value_or_long_list};
 use std::alloc::Global;
 use text_place::{FaultKind, NoMemory};
 
@@ -29,9 +29,9 @@ fn item_count(values: &Values) -> u64
 
 /// The list of the items of each list, and of another value as one item. They are moved.
 pub(crate) fn concat(alloc: Global, values: Values) -> Result<Value, ValueStop>
-    ensures { MeetsAnswer result (made (Ok (ListVal (vals_from (joined_items (vals_from (vals_of values))))))) }
+    ensures { MeetsAnswer result (value_or_long_list (Ok (ListVal (vals_from (joined_items (vals_from (vals_of values))))))) }
 {
-    Ok(made(list(joined(alloc, values.into_items())?))?)
+    Ok(value_or_long_list(list(joined(alloc, values.into_items())?))?)
 }
 
 // The value of a list of these items.

@@ -1,12 +1,12 @@
 ghost use Rattle.std.specs.Prelude.{◌≡◌, ◌≤◌, ◌<ℤ◌, pos, negsuc, unsigned_abs};
 ghost use Rattle.scad_value.specs.Values.{vals_from};
-ghost use Rattle.scad_value.specs.Operators.{sized};
+ghost use Rattle.scad_value.specs.Operators.{number_or_too_large};
 ghost use Rattle.scad_value.specs.View.{val_of, vals_of, MeetsAnswer};
 ghost use Rattle.scad_builtin.specs.Builtins.{of_number, of_two, power, power_of, power_row};
 ghost use Rattle.scad_builtin.specs.Rows.{number_row};
 
 use crate::arguments::both;
-use scad_value::{Value, ValueStop, Values, product_of_two, sized};
+use scad_value::{Value, ValueStop, Values, number_or_too_large, product_of_two};
 use text_place::FaultKind;
 
 /// What is done with one number.
@@ -34,9 +34,9 @@ impl NumberRow {
 
 /// A count as a number, unless it is too large.
 pub(crate) fn count(n: u64) -> Result<i64, FaultKind>
-    ensures { result ≡ sized (pos n) }
+    ensures { result ≡ number_or_too_large (pos n) }
 {
-    sized(n as i128)
+    number_or_too_large(n as i128)
 }
 
 /// What is done with a number.
@@ -96,7 +96,7 @@ fn inverse_power(base: i64, exponent: i64) -> Result<i64, FaultKind>
 // A power with an exponent from 0 on. Those of 0, 1 and -1 are told by their exponents alone, so
 // that no large exponent takes long.
 fn whole_power(base: i64, exponent: u64) -> Result<i64, FaultKind>
-    ensures { result ≡ sized (power base exponent) }
+    ensures { result ≡ number_or_too_large (power base exponent) }
 {
     match base {
         0 => Ok(i64::from(exponent == 0)),
@@ -117,7 +117,7 @@ fn alternating(exponent: u64) -> i64
 // 54 of them.
 fn repeated(factor: i64, count: u64) -> Result<i64, FaultKind>
     requires { 2 ≤ unsigned_abs factor }
-    ensures { result ≡ sized (power factor count) }
+    ensures { result ≡ number_or_too_large (power factor count) }
 {
     let mut product: i64 = 1;
     for _ in 0..count {

@@ -8,7 +8,7 @@ use Rattle.csg_tree.specs.declared.op.Op.{Op}
 use Rattle.csg_tree.specs.declared.op.Op.TheVariants.{Union, Intersection, Difference}
 use Rattle.csg_tree.specs.Formulas.{Formula, nothing, leaf, joined}
 use Rattle.csg_tree.specs.Joins.{balanced_of, join_of, joined_within}
-use Rattle.scad_design.specs.Designs.{DesignTree, empty, a_part, joined_designs, join, designs_within, balanced, moved_by}
+use Rattle.scad_design.specs.Designs.{DesignTree, empty, a_leaf, joined_designs, join, designs_within, balanced, moved_by}
 use Rattle.scad_design.specs.Placing.{Placed, placed, unplaced, joined_placed, Places, PlacesRight}
 use Rattle.scad_design.specs.Trees.{IsTreeOf}
 
@@ -32,7 +32,7 @@ joined_tree_of op left right known now tree (unplaced kind at) has_left has_righ
 
 pub placed_tree : (design : DesignTree) → HasTree design
 placed_tree empty known now tree h = ap tree_in h
-placed_tree (a_part part) known now tree h = (h.0, h.1.planes_are, h.2)
+placed_tree (a_leaf part) known now tree h = (h.0, h.1.planes_are, h.2)
 placed_tree (joined_designs op left right) known now tree h = joined_tree_of op left right known now tree h.0 (placed_tree left) (placed_tree right) h.1 h.2
 
 -- ---- joins
@@ -45,21 +45,21 @@ pub join_trees : (op : Op) (left right : DesignTree) (first second : Formula) �
 join_trees Union empty right first second hl hr = subst (λ (t : Formula). IsTreeOf right (join_of Union t second)) (sym hl) hr
 join_trees Intersection empty right first second hl hr = ap (λ (t : Formula). join_of Intersection t second) hl
 join_trees Difference empty right first second hl hr = ap (λ (t : Formula). join_of Difference t second) hl
-join_trees Union (a_part p) empty first second hl hr = subst (IsTreeOf (a_part p)) (sym (ap (join_of Union first) hr ∙ (without_right first).0)) hl
-join_trees Intersection (a_part p) empty first second hl hr = ap (join_of Intersection first) hr ∙ (without_right first).1
-join_trees Difference (a_part p) empty first second hl hr = subst (IsTreeOf (a_part p)) (sym (ap (join_of Difference first) hr ∙ (without_right first).2)) hl
-join_trees Union (a_part p) (a_part q) first second hl hr = (first, second, hl, hr, refl)
-join_trees Intersection (a_part p) (a_part q) first second hl hr = (first, second, hl, hr, refl)
-join_trees Difference (a_part p) (a_part q) first second hl hr = (first, second, hl, hr, refl)
-join_trees Union (a_part p) (joined_designs k c d) first second hl hr = (first, second, hl, hr, refl)
-join_trees Intersection (a_part p) (joined_designs k c d) first second hl hr = (first, second, hl, hr, refl)
-join_trees Difference (a_part p) (joined_designs k c d) first second hl hr = (first, second, hl, hr, refl)
+join_trees Union (a_leaf p) empty first second hl hr = subst (IsTreeOf (a_leaf p)) (sym (ap (join_of Union first) hr ∙ (without_right first).0)) hl
+join_trees Intersection (a_leaf p) empty first second hl hr = ap (join_of Intersection first) hr ∙ (without_right first).1
+join_trees Difference (a_leaf p) empty first second hl hr = subst (IsTreeOf (a_leaf p)) (sym (ap (join_of Difference first) hr ∙ (without_right first).2)) hl
+join_trees Union (a_leaf p) (a_leaf q) first second hl hr = (first, second, hl, hr, refl)
+join_trees Intersection (a_leaf p) (a_leaf q) first second hl hr = (first, second, hl, hr, refl)
+join_trees Difference (a_leaf p) (a_leaf q) first second hl hr = (first, second, hl, hr, refl)
+join_trees Union (a_leaf p) (joined_designs k c d) first second hl hr = (first, second, hl, hr, refl)
+join_trees Intersection (a_leaf p) (joined_designs k c d) first second hl hr = (first, second, hl, hr, refl)
+join_trees Difference (a_leaf p) (joined_designs k c d) first second hl hr = (first, second, hl, hr, refl)
 join_trees Union (joined_designs o a b) empty first second hl hr = subst (IsTreeOf (joined_designs o a b)) (sym (ap (join_of Union first) hr ∙ (without_right first).0)) hl
 join_trees Intersection (joined_designs o a b) empty first second hl hr = ap (join_of Intersection first) hr ∙ (without_right first).1
 join_trees Difference (joined_designs o a b) empty first second hl hr = subst (IsTreeOf (joined_designs o a b)) (sym (ap (join_of Difference first) hr ∙ (without_right first).2)) hl
-join_trees Union (joined_designs o a b) (a_part q) first second hl hr = (first, second, hl, hr, refl)
-join_trees Intersection (joined_designs o a b) (a_part q) first second hl hr = (first, second, hl, hr, refl)
-join_trees Difference (joined_designs o a b) (a_part q) first second hl hr = (first, second, hl, hr, refl)
+join_trees Union (joined_designs o a b) (a_leaf q) first second hl hr = (first, second, hl, hr, refl)
+join_trees Intersection (joined_designs o a b) (a_leaf q) first second hl hr = (first, second, hl, hr, refl)
+join_trees Difference (joined_designs o a b) (a_leaf q) first second hl hr = (first, second, hl, hr, refl)
 join_trees Union (joined_designs o a b) (joined_designs k c d) first second hl hr = (first, second, hl, hr, refl)
 join_trees Intersection (joined_designs o a b) (joined_designs k c d) first second hl hr = (first, second, hl, hr, refl)
 join_trees Difference (joined_designs o a b) (joined_designs k c d) first second hl hr = (first, second, hl, hr, refl)
@@ -110,21 +110,21 @@ moved_join : (steps : List Affine) (op : Op) (left right : DesignTree) → moved
 moved_join steps Union empty right = refl
 moved_join steps Intersection empty right = refl
 moved_join steps Difference empty right = refl
-moved_join steps Union (a_part p) empty = refl
-moved_join steps Intersection (a_part p) empty = refl
-moved_join steps Difference (a_part p) empty = refl
-moved_join steps Union (a_part p) (a_part q) = refl
-moved_join steps Intersection (a_part p) (a_part q) = refl
-moved_join steps Difference (a_part p) (a_part q) = refl
-moved_join steps Union (a_part p) (joined_designs k c d) = refl
-moved_join steps Intersection (a_part p) (joined_designs k c d) = refl
-moved_join steps Difference (a_part p) (joined_designs k c d) = refl
+moved_join steps Union (a_leaf p) empty = refl
+moved_join steps Intersection (a_leaf p) empty = refl
+moved_join steps Difference (a_leaf p) empty = refl
+moved_join steps Union (a_leaf p) (a_leaf q) = refl
+moved_join steps Intersection (a_leaf p) (a_leaf q) = refl
+moved_join steps Difference (a_leaf p) (a_leaf q) = refl
+moved_join steps Union (a_leaf p) (joined_designs k c d) = refl
+moved_join steps Intersection (a_leaf p) (joined_designs k c d) = refl
+moved_join steps Difference (a_leaf p) (joined_designs k c d) = refl
 moved_join steps Union (joined_designs o a b) empty = refl
 moved_join steps Intersection (joined_designs o a b) empty = refl
 moved_join steps Difference (joined_designs o a b) empty = refl
-moved_join steps Union (joined_designs o a b) (a_part q) = refl
-moved_join steps Intersection (joined_designs o a b) (a_part q) = refl
-moved_join steps Difference (joined_designs o a b) (a_part q) = refl
+moved_join steps Union (joined_designs o a b) (a_leaf q) = refl
+moved_join steps Intersection (joined_designs o a b) (a_leaf q) = refl
+moved_join steps Difference (joined_designs o a b) (a_leaf q) = refl
 moved_join steps Union (joined_designs o a b) (joined_designs k c d) = refl
 moved_join steps Intersection (joined_designs o a b) (joined_designs k c d) = refl
 moved_join steps Difference (joined_designs o a b) (joined_designs k c d) = refl

@@ -13,10 +13,10 @@ use Rattle.plane_predicate.proofs.Sizes.{size_difference, size_dot, size_minor}
 use Rattle.plane_predicate.proofs.ThroughPoints.{reduced_is_plane, reduced_is_times}
 use Rattle.int_transform.specs.declared.affine.Affine.{Affine}
 use Rattle.int_transform.specs.Maps.{coordinates, image}
-use Rattle.shape_planes.specs.Shapes.{Mesh, corner, value_at, IsFace, IsFacePlane}
-use Rattle.shape_planes.specs.Spanning.{SpansFace}
-use Rattle.shape_planes.proofs.FacePlanes.{found, spanned_as_it_is, spanned_opposite}
-use Rattle.shape_planes.proofs.OnePlane.{some_direction}
+use Rattle.primitives.specs.Shapes.{Mesh, corner, value_at, IsFace, IsFacePlane}
+use Rattle.primitives.specs.Spanning.{SpansFace}
+use Rattle.primitives.proofs.FacePlanes.{found, spanned_as_it_is, spanned_opposite}
+use Rattle.primitives.proofs.OnePlane.{some_direction}
 use Rattle.scad_design.proofs.Deciding.{all_or_any}
 use Prim.Native.Nat.{◌∣◌}
 

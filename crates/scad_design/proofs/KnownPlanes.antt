@@ -10,8 +10,8 @@ turned_int : (x y : ℤ) → int_eq x (neg_ℤ y) ≡ int_eq (neg_ℤ x) y
 turned_int x y = grind (arith, ints)
 
 -- a plane is the opposite of another one where its own opposite is the other one
-turned : (m n : Coefficients) → is_same m (opposite_of n) ≡ is_same (opposite_of m) n
-turned m n = rw (turned_int m.a n.a, turned_int m.b n.b, turned_int m.c n.c, turned_int m.d n.d) refl
+quarter_turns_about : (m n : Coefficients) → is_same m (opposite_of n) ≡ is_same (opposite_of m) n
+quarter_turns_about m n = rw (turned_int m.a n.a, turned_int m.b n.b, turned_int m.c n.c, turned_int m.d n.d) refl
 
 either_step : (a b c d : Bool) → ((a || b) || (c || d)) ≡ ((a || c) || (b || d))
 either_step true b c d = refl
@@ -23,7 +23,7 @@ either_step false false c d = refl
 pub either : (m : Coefficients) (known : List Coefficients) → list_any (same_points m) known ≡ (list_any (is_same m) known || list_any (is_same (opposite_of m)) known)
 either m [] = refl
 either m (n ∷ known) =
-    ap₂ (λ (a b : Bool). (is_same m n || a) || b) (turned m n) (either m known)
+    ap₂ (λ (a b : Bool). (is_same m n || a) || b) (quarter_turns_about m n) (either m known)
     ∙ either_step (is_same m n) (is_same (opposite_of m) n) (list_any (is_same m) known) (list_any (is_same (opposite_of m)) known)
 
 left_none : (a b : Bool) → (a || b) ≡ false → a ≡ false

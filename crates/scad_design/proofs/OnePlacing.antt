@@ -9,16 +9,16 @@ use Rattle.plane_predicate.proofs.IntegerRing.{sums, zero_mul, mul_comm_ℤ}
 use Rattle.plane_predicate.proofs.SamePlanes.{equal_or_opposite}
 use Rattle.plane_predicate.proofs.Vectors.{value-opposite}
 use Rattle.int_transform.specs.Maps.{map_of}
-use Rattle.shape_planes.specs.Shapes.{Mesh, corner, IsFace, IsFacePlane}
-use Rattle.shape_planes.specs.Placing.{moved, distinct}
-use Rattle.shape_planes.proofs.Distinct.{all_from_distinct}
-use Rattle.shape_planes.proofs.FacePlanes.{behind_each, body_proportion, far}
-use Rattle.shape_planes.proofs.Moves.{cancelled}
-use Rattle.shape_planes.proofs.OnePlane.{not_zero_below}
+use Rattle.primitives.specs.Shapes.{Mesh, corner, IsFace, IsFacePlane}
+use Rattle.primitives.specs.Placing.{moved_mesh, distinct_planes}
+use Rattle.primitives.proofs.Distinct.{all_from_distinct}
+use Rattle.primitives.proofs.FacePlanes.{behind_each, body_proportion, far}
+use Rattle.primitives.proofs.Moves.{cancelled}
+use Rattle.primitives.proofs.OnePlane.{not_zero_below}
 use Rattle.csg_tree.specs.declared.op.Op.{Op}
 use Rattle.csg_tree.specs.Formulas.{Formula, leaf}
-use Rattle.scad_design.specs.Designs.{DesignTree, empty, a_part, joined_designs, MovedShape}
-use Rattle.scad_design.specs.Placing.{Placed, placed, unplaced, and_new, joined_placed, AreItsPlanes, IsPlaced, Places, PlacesPart, PlacesRight, most_planes}
+use Rattle.scad_design.specs.Designs.{DesignTree, empty, a_leaf, joined_designs, MovedShape}
+use Rattle.scad_design.specs.Placing.{Placed, placed, unplaced, and_new, joined_placed, AreItsPlanes, IsPlaced, Places, PlacesLeaf, PlacesRight, most_planes}
 use Rattle.scad_design.proofs.PartFaults.{Cause, large, far_off, many, cause_of}
 
 -- ---- the plane of a face
@@ -69,10 +69,10 @@ one_list mesh (f ∷ faces) (m ∷ ms) (n ∷ ns) is hm hn pm pn =
 -- ---- a part
 its_planes : (part : MovedShape) (ms ns : List Coefficients) → AreItsPlanes part ms → AreItsPlanes part ns → ms ≡ ns
 its_planes part ms ns hm hn =
-    let mesh = moved (map_of part.steps) part.mesh in
+    let mesh = moved_mesh (map_of part.steps) part.mesh in
     let planes = λ (ps : List Coefficients) (h : AreItsPlanes part ps). all_from_distinct IsPlane h.faces.all (subst (All IsPlane) h.faces.first h.reduced) in
     hm.faces.first
-    ∙ ap distinct (one_list mesh part.mesh.faces hm.faces.all hn.faces.all hm.solid hm.faces.each hn.faces.each (planes ms hm) (planes ns hn))
+    ∙ ap distinct_planes (one_list mesh part.mesh.faces hm.faces.all hn.faces.all hm.solid hm.faces.each hn.faces.each (planes ms hm) (planes ns hn))
     ∙ sym hn.faces.first
 
 same_placed : (s t : Formula) (k l : List Coefficients) → s ≡ t → k ≡ l → placed s k ≡ placed t l
@@ -101,7 +101,7 @@ same_cause part known j k (many e s r ps a p) (large f m) = absurd (m s)
 same_cause part known j k (many e s r ps a p) (far_off f t m) = absurd (m r)
 same_cause part known j k (many e s r ps a p) (many f t q qs b c) = e ∙ sym f
 
-one_part : (part : MovedShape) (known : List Coefficients) (out other : Placed) → PlacesPart part known out → PlacesPart part known other → out ≡ other
+one_part : (part : MovedShape) (known : List Coefficients) (out other : Placed) → PlacesLeaf part known out → PlacesLeaf part known other → out ≡ other
 one_part part known (placed s k) (placed t l) h g =
     let same = its_planes part h.0 g.0 h.1.planes_are g.1.planes_are in
     same_placed s t k l (h.2 ∙ ap leaf same ∙ sym g.2) (h.3 ∙ ap (and_new known) same ∙ sym g.3)
@@ -119,7 +119,7 @@ one_right op right one (unplaced kind at) out other h g = h ∙ sym g
 
 pub one_placing : (design : DesignTree) → HasOne design
 one_placing empty known out other h g = h ∙ sym g
-one_placing (a_part part) known out other h g = one_part part known out other h g
+one_placing (a_leaf part) known out other h g = one_part part known out other h g
 one_placing (joined_designs op left right) known out other h g =
     let same = one_placing left known g.0 h.0 g.1 h.1 in
     one_right op right (one_placing right) h.0 out other h.2 (subst (λ (first : Placed). PlacesRight (Places right) op first other) same g.2)

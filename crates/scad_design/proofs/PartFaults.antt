@@ -4,12 +4,12 @@ use Rattle.text_place.specs.declared.fault.FaultKind.{FaultKind}
 use Rattle.text_place.specs.declared.fault.FaultKind.TheVariants.{BadCharacter, OpenComment, OpenText, NotWhole, TooLarge, TypeMismatch, ZeroDivisor, BadSize, NotOnGrid, OutOfRange, FewPoints, BadPoint, NotFlat, NotConvex, NotClosed, Expected, Nested, UnknownName, UnknownFunction, UnknownModule, BadArgument, TooDeep, TooManyTurns, RangeOrder, AssertFailed, NotInProfile, WrongDimension, NotQuarter, Singular, TooManyParts, TooManyPlanes, LongList}
 use Rattle.plane_predicate.specs.Space.{Coefficients, point_at, IsInReach}
 use Rattle.int_transform.specs.Maps.{image, map_of, LeavesRange, StaysInRange}
-use Rattle.shape_planes.specs.declared.stop.ShapeStop.TheVariants.{Kind}
-use Rattle.shape_planes.specs.Placing.{IsPlacingStop}
+use Rattle.primitives.specs.declared.stop.ShapeStop.TheVariants.{Kind}
+use Rattle.primitives.specs.Placing.{IsPlacingStop}
 use Rattle.scad_design.specs.Designs.{MovedShape}
 use Rattle.text_place.specs.declared.fault.Stop.{Stop}
 use Rattle.text_place.specs.declared.fault.Stop.TheVariants.{Fault, NoMemory}
-use Rattle.scad_design.specs.Designs.{a_part}
+use Rattle.scad_design.specs.Designs.{a_leaf}
 use Rattle.scad_design.specs.Placing.{and_new, AreItsPlanes, EndsInReach, IsPlacingFault, StaysSafe, most_planes}
 use Rattle.scad_design.specs.Trees.{IsRangeStop, IsStopOf}
 
@@ -61,7 +61,7 @@ range_fault part known TooManyPlanes stop large far_off = absurd stop
 range_fault part known LongList stop large far_off = absurd stop
 
 -- a stop of a part by itself is one of the part behind other planes
-pub range_stop : (part : MovedShape) (known : List Coefficients) (stop : Stop) → IsRangeStop part stop → IsStopOf (a_part part) known stop
+pub range_stop : (part : MovedShape) (known : List Coefficients) (stop : Stop) → IsRangeStop part stop → IsStopOf (a_leaf part) known stop
 range_stop part known (Fault fault) h = (h.0 known, h.1)
 range_stop part known NoMemory h = tt
 

@@ -4,15 +4,15 @@ use Rattle.std.proofs.Common.{ℕ, ◌+◌, ◌≤◌, ◌<◌, ◌^◌, List, [
 use Rattle.std.specs.List.{AllZip}
 use Rattle.plane_predicate.specs.Space.{Coefficients}
 use Rattle.int_transform.specs.Maps.{map_of}
-use Rattle.shape_planes.specs.Shapes.{Mesh, IsFacePlane, IsShape}
-use Rattle.shape_planes.specs.Placing.{moved, MeetsReach}
-use Rattle.shape_planes.proofs.Distinct.{some_distinct}
-use Rattle.shape_planes.proofs.Transforms.{planes_meet_reach}
+use Rattle.primitives.specs.Shapes.{Mesh, IsFacePlane, IsShape}
+use Rattle.primitives.specs.Placing.{moved_mesh, MeetsReach}
+use Rattle.primitives.proofs.Distinct.{some_distinct}
+use Rattle.primitives.proofs.Transforms.{planes_meet_reach}
 use Rattle.csg_tree.specs.declared.op.Op.{Op}
 use Rattle.csg_tree.specs.Formulas.{Formula, leaf}
 use Rattle.csg_tree.specs.Joins.{join_of}
 use Rattle.csg_tree.specs.ProperTrees.{subtrees, IsProper}
-use Rattle.scad_design.specs.Designs.{DesignTree, empty, a_part, joined_designs, MovedShape}
+use Rattle.scad_design.specs.Designs.{DesignTree, empty, a_leaf, joined_designs, MovedShape}
 use Rattle.scad_design.specs.Placing.{Placed, placed, unplaced, joined_placed, IsPlaced, Places, PlacesRight}
 use Rattle.scad_design.specs.Trees.{pieces_in, IsPlacedAs, IsSound}
 use Rattle.scad_design.proofs.FacePlanes.{images_are_in_reach}
@@ -27,7 +27,7 @@ some_planes mesh (face ∷ faces) (m ∷ all) h lt = omega arith
 proper_leaf : (part : MovedShape) (known planes : List Coefficients) → IsShape part.mesh → IsPlaced part known planes → IsProper (leaf planes)
 proper_leaf part known planes shape is =
     let f = map_of part.steps in
-    let mesh = moved f part.mesh in
+    let mesh = moved_mesh f part.mesh in
     let faces = is.planes_are.faces in
     let some : 0 < length planes = subst (λ (ps : List Coefficients). 0 < length ps) (sym faces.first) (some_distinct faces.all (some_planes mesh part.mesh.faces faces.all faces.each shape.some)) in
     let meet : All MeetsReach planes = planes_meet_reach mesh is.planes_are.solid (images_are_in_reach f part.mesh.points is.reach) planes faces in
@@ -64,9 +64,9 @@ module _ (joins : (op : Op) (left right : Formula) → IsProper left → IsPrope
   small_placed : (design : DesignTree) (known : List Coefficients) (out : Placed) → IsSound design → pieces_in design < 2 ^ 32 → Places design known out → IsSmallPlaced (pieces_in design) out
   small_placed empty known out sound few h =
       subst (IsSmallPlaced 1) (sym h) (record { proper = record { leaves = tt; joins = tt; few = omega arith }; few = omega arith })
-  small_placed (a_part part) known (placed tree now) sound few h =
+  small_placed (a_leaf part) known (placed tree now) sound few h =
       subst (IsSmall 1) (sym h.2) (record { proper = proper_leaf part known h.0 sound.0 h.1; few = omega arith })
-  small_placed (a_part part) known (unplaced kind at) sound few h = tt
+  small_placed (a_leaf part) known (unplaced kind at) sound few h = tt
   small_placed (joined_designs op left right) known out sound few h =
       small_right op right (pieces_in left) (pieces_in right) h.0 out few (small_placed left known h.0 sound.0 (omega (arith, few)) h.1)
       (λ known next there. small_placed right known next sound.1 (omega (arith, few)) there) h.2

@@ -5,14 +5,14 @@ use Rattle.plane_predicate.specs.Space.{Coefficients, Coordinates, point_at, IsI
 use Rattle.int_transform.specs.declared.affine.Affine.{Affine}
 use Rattle.int_transform.specs.Maps.{image, map_of, HasSafeCoordinates, StaysInRange}
 use Rattle.int_transform.proofs.Ranges.{regular_map}
-use Rattle.shape_planes.specs.Shapes.{IsShape}
-use Rattle.shape_planes.specs.Placing.{moved, distinct}
-use Rattle.shape_planes.proofs.Distinct.{all_of_distinct}
-use Rattle.shape_planes.proofs.Transforms.{faces_after}
+use Rattle.primitives.specs.Shapes.{IsShape}
+use Rattle.primitives.specs.Placing.{moved_mesh, distinct_planes}
+use Rattle.primitives.proofs.Distinct.{all_of_distinct}
+use Rattle.primitives.proofs.Transforms.{faces_after}
 use Rattle.csg_tree.specs.declared.op.Op.{Op}
 use Rattle.csg_tree.specs.Formulas.{nothing, leaf}
-use Rattle.scad_design.specs.Designs.{DesignTree, empty, a_part, joined_designs, MovedShape}
-use Rattle.scad_design.specs.Placing.{Placed, placed, unplaced, and_new, joined_placed, AreItsPlanes, EndsInReach, Places, PlacesPart, PlacesRight, StaysSafe, most_planes}
+use Rattle.scad_design.specs.Designs.{DesignTree, empty, a_leaf, joined_designs, MovedShape}
+use Rattle.scad_design.specs.Placing.{Placed, placed, unplaced, and_new, joined_placed, AreItsPlanes, EndsInReach, Places, PlacesLeaf, PlacesRight, StaysSafe, most_planes}
 use Rattle.scad_design.specs.Trees.{AreRegular, IsSound}
 use Rattle.scad_design.proofs.Deciding.{Decided, decided_by, decided_both, decided_at_most, decided_less_ℤ, decided_all, decided_all_below, at_most_or_more}
 use Rattle.scad_design.proofs.FacePlanes.{images_are_in_reach, some_face_planes}
@@ -21,10 +21,10 @@ use Rattle.scad_design.proofs.FacePlanes.{images_are_in_reach, some_face_planes}
 some_planes : (part : MovedShape) → IsShape part.mesh → AreRegular part.steps → EndsInReach part → (planes : List Coefficients) × AreItsPlanes part planes
 some_planes part shape regular reach =
     let f = map_of part.steps in
-    let mesh = moved f part.mesh in
+    let mesh = moved_mesh f part.mesh in
     let solid = faces_after f part.mesh (regular_map part.steps regular) shape.faces in
     let all = some_face_planes mesh (images_are_in_reach f part.mesh.points reach) part.mesh.faces solid in (
-      distinct all.0,
+      distinct_planes all.0,
       record {
         reduced = all_of_distinct IsPlane all.0 all.1;
         solid = solid;
@@ -64,13 +64,13 @@ decided_near part = decided_all (λ p. IsInReach (image (map_of part.steps) (poi
 more_than : (n : ℕ) → (n ≤ most_planes → ⊥) → most_planes < n
 more_than n h = ⊎_elim (λ k. absurd (h k)) (λ k. k) (at_most_or_more n most_planes)
 
-with_planes : (part : MovedShape) (known planes : List Coefficients) → StaysSafe part → EndsInReach part → AreItsPlanes part planes → (out : Placed) × PlacesPart part known out
+with_planes : (part : MovedShape) (known planes : List Coefficients) → StaysSafe part → EndsInReach part → AreItsPlanes part planes → (out : Placed) × PlacesLeaf part known out
 with_planes part known planes safe reach are =
     ⊎_elim (λ few. (placed (leaf planes) (and_new known planes), (planes, record { safe = safe; reach = reach; planes_are = are; few = few }, refl, refl)))
     (λ more. (unplaced TooManyPlanes part.at, ((safe, reach, (planes, are, more_than (length (and_new known planes)) more)), refl)))
     (decided_at_most (length (and_new known planes)) most_planes)
 
-some_part : (part : MovedShape) (known : List Coefficients) → IsShape part.mesh → AreRegular part.steps → (out : Placed) × PlacesPart part known out
+some_part : (part : MovedShape) (known : List Coefficients) → IsShape part.mesh → AreRegular part.steps → (out : Placed) × PlacesLeaf part known out
 some_part part known shape regular =
     ⊎_elim (λ safe.
     ⊎_elim (λ reach. let planes = some_planes part shape regular reach in with_planes part known planes.0 safe reach planes.1)
@@ -86,7 +86,7 @@ some_right op right some (placed tree known) = let next = some known in (joined_
 
 pub some_placing : (design : DesignTree) (known : List Coefficients) → IsSound design → (out : Placed) × Places design known out
 some_placing empty known h = (placed nothing known, refl)
-some_placing (a_part part) known h = some_part part known h.0 h.1
+some_placing (a_leaf part) known h = some_part part known h.0 h.1
 some_placing (joined_designs op left right) known h =
     let first = some_placing left known h.0 in
     let out = some_right op (Places right) (λ known. some_placing right known h.1) first.0 in

@@ -4,7 +4,7 @@ use Rattle.text_place.specs.declared.fault.Place.{Place}
 use Rattle.csg_tree.specs.declared.op.Op.{Op}
 use Rattle.csg_tree.specs.declared.op.Op.TheVariants.{Union, Intersection, Difference}
 use Rattle.int_transform.specs.declared.affine.Affine.{Affine}
-use Rattle.shape_planes.specs.Shapes.{Mesh}
+use Rattle.primitives.specs.Shapes.{Mesh}
 
 -- a shape in grid steps, the steps that move it, the first done first, and the place of its module's name
 pub record MovedShape : Type 0 where
@@ -12,9 +12,10 @@ pub record MovedShape : Type 0 where
   pub steps : List Affine
   pub at : Place
 
+-- a design before it is placed: nothing, a shape with the steps that move it, or an operation on two designs
 pub data DesignTree : Type 0 where
   empty : DesignTree
-  a_part : (part : MovedShape) → DesignTree
+  a_leaf : (part : MovedShape) → DesignTree
   joined_designs : (op : Op) → (left right : DesignTree) → DesignTree
 
 -- a join without empty designs, as trees are joined: in a union the other side, in an intersection nothing, nothing minus
@@ -44,13 +45,13 @@ abbrev pub balanced : Op → List DesignTree → DesignTree
 balanced op designs = designs_within (length designs) op designs
 
 -- children joined by an operation; a difference is the first without the others
-abbrev pub grouped : Op → List DesignTree → DesignTree
-grouped Difference [] = empty
-grouped Difference (first ∷ others) = join Difference first (balanced Union others)
-grouped op designs = balanced op designs
+abbrev pub join_children : Op → List DesignTree → DesignTree
+join_children Difference [] = empty
+join_children Difference (first ∷ others) = join Difference first (balanced Union others)
+join_children op designs = balanced op designs
 
--- steps at the end of those of each part
+-- steps at the end of those of each leaf
 abbrev pub moved_by : List Affine → DesignTree → DesignTree
 moved_by steps empty = empty
-moved_by steps (a_part part) = a_part (record { mesh = part.mesh; steps = part.steps ++ steps; at = part.at })
+moved_by steps (a_leaf part) = a_leaf (record { mesh = part.mesh; steps = part.steps ++ steps; at = part.at })
 moved_by steps (joined_designs op left right) = joined_designs op (moved_by steps left) (moved_by steps right)

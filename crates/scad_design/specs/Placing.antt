@@ -6,12 +6,12 @@ use Rattle.text_place.specs.declared.fault.FaultKind.{FaultKind}
 use Rattle.text_place.specs.declared.fault.FaultKind.TheVariants.{TooLarge, OutOfRange, TooManyPlanes}
 use Rattle.plane_predicate.specs.Space.{Coefficients, point_at, opposite_of, is_same, IsInReach, IsPlane}
 use Rattle.int_transform.specs.Maps.{map_of, image, StaysInRange}
-use Rattle.shape_planes.specs.Shapes.{IsFace}
-use Rattle.shape_planes.specs.Placing.{moved, ArePlanesOf}
+use Rattle.primitives.specs.Shapes.{IsFace}
+use Rattle.primitives.specs.Placing.{moved_mesh, ArePlanesOf}
 use Rattle.csg_tree.specs.declared.op.Op.{Op}
 use Rattle.csg_tree.specs.Formulas.{Formula, nothing, leaf}
 use Rattle.csg_tree.specs.Joins.{join_of}
-use Rattle.scad_design.specs.Designs.{DesignTree, empty, a_part, joined_designs, MovedShape}
+use Rattle.scad_design.specs.Designs.{DesignTree, empty, a_leaf, joined_designs, MovedShape}
 
 -- two planes of the same points
 abbrev pub same_points : Coefficients → Coefficients → Bool
@@ -27,20 +27,20 @@ abbrev pub and_new : List Coefficients → List Coefficients → List Coefficien
 and_new known [] = known
 and_new known (plane ∷ planes) = and_new (if_new (list_any (same_points plane) known) known plane) planes
 
--- a part whose points all keep within 2^53 - 1 after each step
+-- a leaf whose points all keep within 2^53 - 1 after each step
 abbrev pub StaysSafe : MovedShape → Type 0
 StaysSafe part = All (λ point. StaysInRange part.steps (point_at point)) part.mesh.points
 
--- a part whose points are all within 4,095 at the end
+-- a leaf whose points are all within 4,095 at the end
 abbrev pub EndsInReach : MovedShape → Type 0
 EndsInReach part = All (λ point. IsInReach (image (map_of part.steps) (point_at point))) part.mesh.points
 
--- the planes of a part in world position: those of its moved faces, of equal ones the first. Each face has one, with the
+-- the planes of a leaf in world position: those of its moved faces, of equal ones the first. Each face has one, with the
 -- body behind it
 pub record AreItsPlanes (part : MovedShape) (planes : List Coefficients) : Type 0 where
   pub reduced : All IsPlane planes
-  pub solid : All (IsFace (moved (map_of part.steps) part.mesh)) part.mesh.faces
-  pub faces : ArePlanesOf (moved (map_of part.steps) part.mesh) part.mesh.faces planes
+  pub solid : All (IsFace (moved_mesh (map_of part.steps) part.mesh)) part.mesh.faces
+  pub faces : ArePlanesOf (moved_mesh (map_of part.steps) part.mesh) part.mesh.faces planes
 
 -- what placing gives: the tree with the distinct planes so far, or the first fault
 pub data Placed : Type 0 where
@@ -69,10 +69,10 @@ IsPlacingFault part known TooManyPlanes =
 IsPlacingFault part known kind = ⊥
 
 -- a leaf by itself
-abbrev pub PlacesPart : MovedShape → List Coefficients → Placed → Type 0
-PlacesPart part known (placed tree now) =
+abbrev pub PlacesLeaf : MovedShape → List Coefficients → Placed → Type 0
+PlacesLeaf part known (placed tree now) =
     (planes : List Coefficients) × IsPlaced part known planes × (tree ≡ leaf planes) × (now ≡ and_new known planes)
-PlacesPart part known (unplaced kind at) = IsPlacingFault part known kind × (at ≡ part.at)
+PlacesLeaf part known (unplaced kind at) = IsPlacingFault part known kind × (at ≡ part.at)
 
 -- the right side of a join, behind the left one
 abbrev pub joined_placed : Op → Formula → Placed → Placed
@@ -87,5 +87,5 @@ PlacesRight right op (placed tree known) out = (next : Placed) × right known ne
 -- the leaves of a design from left to right, behind the distinct planes of those before them
 abbrev pub Places : DesignTree → List Coefficients → Placed → Type 0
 Places empty known out = out ≡ placed nothing known
-Places (a_part part) known out = PlacesPart part known out
+Places (a_leaf part) known out = PlacesLeaf part known out
 Places (joined_designs op left right) known out = (first : Placed) × Places left known first × PlacesRight (Places right) op first out

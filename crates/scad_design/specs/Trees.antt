@@ -5,24 +5,24 @@ use Rattle.text_place.specs.declared.fault.Stop.TheVariants.{Fault, NoMemory}
 use Rattle.plane_predicate.specs.Space.{Coefficients}
 use Rattle.int_transform.specs.declared.affine.Affine.{Affine}
 use Rattle.int_transform.specs.Maps.{determinant_of}
-use Rattle.shape_planes.specs.Shapes.{IsShape}
+use Rattle.primitives.specs.Shapes.{IsShape}
 use Rattle.csg_tree.specs.Formulas.{Formula, nothing, leaf}
 use Rattle.csg_tree.specs.Joins.{join_of}
 use Rattle.csg_tree.specs.ProperTrees.{HasFullLeaves, HasFullJoins}
-use Rattle.scad_design.specs.Designs.{DesignTree, empty, a_part, joined_designs, MovedShape}
+use Rattle.scad_design.specs.Designs.{DesignTree, empty, a_leaf, joined_designs, MovedShape}
 use Rattle.scad_design.specs.Placing.{placed, unplaced, AreItsPlanes, IsPlacingFault, Places}
 
 -- the tree of a design in world position, whatever the limits are
 abbrev pub IsTreeOf : DesignTree → Formula → Type 0
 IsTreeOf empty tree = tree ≡ nothing
-IsTreeOf (a_part part) tree = (planes : List Coefficients) × AreItsPlanes part planes × (tree ≡ leaf planes)
+IsTreeOf (a_leaf part) tree = (planes : List Coefficients) × AreItsPlanes part planes × (tree ≡ leaf planes)
 IsTreeOf (joined_designs op left right) tree =
     (first : Formula) × (second : Formula) × IsTreeOf left first × IsTreeOf right second × (tree ≡ join_of op first second)
 
--- how many parts and joins a design has, with an empty one counted as well
+-- how many leaves and joins a design has, with an empty one counted as well
 abbrev pub pieces_in : DesignTree → ℕ
 pieces_in empty = 1
-pieces_in (a_part part) = 1
+pieces_in (a_leaf part) = 1
 pieces_in (joined_designs op left right) = 1 + pieces_in left + pieces_in right
 
 -- a stop of placing, behind these planes: the first fault, or want of memory
@@ -30,21 +30,21 @@ abbrev pub IsStopOf : DesignTree → List Coefficients → Stop → Type 0
 IsStopOf design known (Fault fault) = Places design known (unplaced fault.kind fault.place)
 IsStopOf design known NoMemory = Unit {0}
 
--- how many parts it has
-abbrev pub part_count : DesignTree → ℕ
-part_count empty = 0
-part_count (a_part part) = 1
-part_count (joined_designs op left right) = part_count left + part_count right
+-- how many leaves it has
+abbrev pub leaf_count : DesignTree → ℕ
+leaf_count empty = 0
+leaf_count (a_leaf part) = 1
+leaf_count (joined_designs op left right) = leaf_count left + leaf_count right
 
 -- no side of a join is empty
 abbrev pub IsPresent : DesignTree → Type 0
 IsPresent empty = ⊥
-IsPresent (a_part part) = Unit {0}
+IsPresent (a_leaf part) = Unit {0}
 IsPresent (joined_designs op left right) = Unit {0}
 
 abbrev pub IsTrim : DesignTree → Type 0
 IsTrim empty = Unit {0}
-IsTrim (a_part part) = Unit {0}
+IsTrim (a_leaf part) = Unit {0}
 IsTrim (joined_designs op left right) = IsPresent left × IsPresent right × IsTrim left × IsTrim right
 
 -- steps that are not singular
@@ -54,15 +54,15 @@ AreRegular steps = All (λ step. determinant_of step ≡ pos 0 → ⊥) steps
 -- a design of shapes, moved by steps that are not singular
 abbrev pub IsSound : DesignTree → Type 0
 IsSound empty = Unit {0}
-IsSound (a_part part) = IsShape part.mesh × AreRegular part.steps
+IsSound (a_leaf part) = IsShape part.mesh × AreRegular part.steps
 IsSound (joined_designs op left right) = IsSound left × IsSound right
 
--- a stop of a part by itself: its first fault, whatever planes were there before it, or want of memory
+-- a stop of a leaf by itself: its first fault, whatever planes were there before it, or want of memory
 abbrev pub IsRangeStop : MovedShape → Stop → Type 0
 IsRangeStop part (Fault fault) = ((known : List Coefficients) → IsPlacingFault part known fault.kind) × (fault.place ≡ part.at)
 IsRangeStop part NoMemory = Unit {0}
 
--- the tree of a placed design: its parts are placed from the first on
+-- the tree of a placed design: its leaves are placed from the first on
 abbrev pub IsPlacedAs : DesignTree → Formula → Type 0
 IsPlacedAs design tree = (now : List Coefficients) × Places design [] (placed tree now)
 

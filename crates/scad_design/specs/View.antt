@@ -2,12 +2,12 @@
 use Rattle.scad_design.specs.declared.design.Design.{Design}
 use Rattle.scad_design.specs.declared.design.Design.TheOpen.{Design-F, Empty, Leaf, Joined}
 use Rattle.scad_design.specs.declared.design.Design.TheFolds.{fold-Design}
-use Rattle.scad_design.specs.Designs.{DesignTree, empty, a_part, joined_designs}
+use Rattle.scad_design.specs.Designs.{DesignTree, empty, a_leaf, joined_designs}
 
--- one layer, with its parts seen already
+-- one layer, with what is below it seen already
 abbrev pub plain_step : Design-F DesignTree → DesignTree
 plain_step Empty = empty
-plain_step (Leaf part) = a_part part
+plain_step (Leaf part) = a_leaf part
 plain_step (Joined op left right) = joined_designs op left.value right.value
 
 abbrev pub plain_of : Design → DesignTree

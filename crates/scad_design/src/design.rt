@@ -2,7 +2,7 @@ ghost use Rattle.std.specs.Prelude.{◌≡◌, IfOk};
 ghost use Rattle.scad_design.specs.Designs.{moved_by};
 ghost use Rattle.scad_design.specs.View.{plain_of};
 
-use crate::part::Part;
+use crate::leaf_shape::LeafShape;
 use csg_tree::Op;
 use int_transform::Step;
 use std::alloc::Global;
@@ -12,12 +12,12 @@ use text_place::NoMemory;
 #[derive(Drop)]
 pub enum Design {
     Empty,
-    Leaf(Part),
+    Leaf(LeafShape),
     Joined(Op, Box<Design>, Box<Design>),
 }
 
 impl Design {
-    /// The design with more steps behind those of each part. At `NoMemory` it is dropped.
+    /// The design with more steps behind those of each leaf. At `NoMemory` it is dropped.
     pub fn moved_by(self, alloc: Global, steps: &[Step]) -> Result<Design, NoMemory>
         ensures { IfOk result (λ design. plain_of design ≡ moved_by steps.now (plain_of self)) }
     {

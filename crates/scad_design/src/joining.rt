@@ -4,7 +4,7 @@ ghost use Rattle.std.specs.Prelude.{◌≡◌, ◌≤◌, ◌<◌, IfOk, OnOk, m
 ghost use Rattle.std.specs.Vec.Iter.{into_iter_items};
 ghost use Rattle.csg_tree.specs.declared.op.Op.{Op};
 ghost use Rattle.csg_tree.specs.declared.op.Op.TheVariants.{Difference};
-ghost use Rattle.scad_design.specs.Designs.{join, balanced, grouped};
+ghost use Rattle.scad_design.specs.Designs.{join, balanced, join_children};
 ghost use Rattle.scad_design.specs.View.{plain_of};
 
 use crate::design::Design;
@@ -16,7 +16,7 @@ use text_place::NoMemory;
 /// The join of two designs, without empty ones: in a union an empty one gives the other design, in an
 /// intersection nothing, nothing minus anything is nothing, and a design minus nothing is the design.
 /// At `NoMemory` both designs are dropped.
-pub fn join(alloc: Global, op: Op, left: Design, right: Design) -> Result<Design, NoMemory>
+pub(crate) fn join(alloc: Global, op: Op, left: Design, right: Design) -> Result<Design, NoMemory>
     ensures { IfOk result (λ design. plain_of design ≡ join op (plain_of left) (plain_of right)) }
 {
     match (op, left, right) {
@@ -44,8 +44,8 @@ pub fn balanced(alloc: Global, op: Op, list: Vec<Design>) -> Result<Design, NoMe
 
 /// Children joined by an operation: by halves, or in a difference the first without the others, which
 /// are joined by halves. At `NoMemory` all designs are dropped.
-pub fn grouped(alloc: Global, op: Op, list: Vec<Design>) -> Result<Design, NoMemory>
-    ensures { IfOk result (λ design. plain_of design ≡ grouped op (map plain_of list.items)) }
+pub fn join_children(alloc: Global, op: Op, list: Vec<Design>) -> Result<Design, NoMemory>
+    ensures { IfOk result (λ design. plain_of design ≡ join_children op (map plain_of list.items)) }
 {
     match op {
         Op::Union => balanced(alloc, Op::Union, list),
@@ -56,7 +56,7 @@ pub fn grouped(alloc: Global, op: Op, list: Vec<Design>) -> Result<Design, NoMem
 
 // The first design without the union of the others.
 fn without_others(alloc: Global, list: Vec<Design>) -> Result<Design, NoMemory>
-    ensures { IfOk result (λ design. plain_of design ≡ grouped Difference (map plain_of list.items)) }
+    ensures { IfOk result (λ design. plain_of design ≡ join_children Difference (map plain_of list.items)) }
 {
     let count = list.len();
     let mut designs = list.into_iter();
@@ -78,7 +78,8 @@ fn join_next(
 ) -> Result<Design, NoMemory>
     requires { count ≤ length (into_iter_items designs.old) }
     ensures rest { OnOk result (into_iter_items designs.new ≡ drop count (into_iter_items designs.old)) }
-    ensures joined { IfOk result (λ design. plain_of design ≡ balanced op (map plain_of (take count (into_iter_items designs.old)))) }
+    ensures joined { IfOk result (λ design. plain_of design ≡ balanced op
+        (map plain_of (take count (into_iter_items designs.old)))) }
 {
     if count < 2 {
         return Ok(next_or_empty(designs, count));

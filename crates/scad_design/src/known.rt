@@ -54,7 +54,8 @@ fn is_known(known: &IndexSet<PlaneKey>, plane: &Plane) -> bool
 
 // Adds a plane that is no plane of the others, up to orientation. At `NoMemory` the table stays.
 fn add_plane(known: &mut IndexSet<PlaneKey>, plane: &Plane) -> Result<(), NoMemory>
-    ensures added { OnOk result (known.new.keys ≡ if_new (list_any (same_points plane.now) known.old.keys) known.old.keys plane.now) }
+    ensures added { OnOk result (known.new.keys ≡ if_new (list_any
+        (same_points plane.now) known.old.keys) known.old.keys plane.now) }
     ensures plane { IsPlane plane.now }
 {
     let key = PlaneKey::of(plane);

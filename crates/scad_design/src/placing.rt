@@ -1,35 +1,35 @@
 //! The trees of designs in world position.
 
 ghost use Rattle.std.specs.Prelude.{◌<◌, ◌≤◌, ◌^◌, All, IfOk, IfErr, OnOk, length, []};
-ghost use Rattle.shape_planes.specs.Shapes.{IsFace};
-ghost use Rattle.shape_planes.specs.Placing.{moved, ArePlanesOf, MeetsReach};
+ghost use Rattle.primitives.specs.Shapes.{IsFace};
+ghost use Rattle.primitives.specs.Placing.{moved_mesh, ArePlanesOf, MeetsReach};
 ghost use Rattle.int_transform.specs.Maps.{map_of};
 ghost use Rattle.csg_tree.specs.ProperTrees.{IsProper, subtrees};
 ghost use Rattle.csg_tree.specs.Trees.{formula_of};
-ghost use Rattle.scad_design.specs.Designs.{a_part};
+ghost use Rattle.scad_design.specs.Designs.{a_leaf};
 ghost use Rattle.scad_design.specs.Placing.{placed, EndsInReach, Places, StaysSafe};
 ghost use Rattle.scad_design.specs.Trees.{pieces_in, IsFull, IsPlacedAs, IsRangeStop, IsStopOf};
 ghost use Rattle.scad_design.specs.View.{plain_of};
 
 use crate::design::Design;
 use crate::known::{PlaneKey, add_planes};
-use crate::part::Part;
+use crate::leaf_shape::LeafShape;
 use csg_tree::{CsgTree, Planes, join};
 use indexmap::IndexSet;
 use plane_predicate::Plane;
-use shape_planes::ShapeStop;
+use primitives::ShapeStop;
 use std::alloc::Global;
 use text_place::{FaultKind, Stop};
 
 // The most distinct planes, up to orientation.
 const PLANES: usize = 1024;
 
-/// The tree of a design: its parts from left to right, each as the planes of its faces once its steps
+/// The tree of a design: its leaves from left to right, each as the planes of its faces once its steps
 /// have moved it.
 ///
 /// `TooLarge` comes at the first part, at its place, of which a coordinate after some step is past
 /// 2^53 - 1 in size, `OutOfRange` where else one at the end is past 4095, and `TooManyPlanes` where
-/// else the part brings the 1,025th distinct plane, up to orientation.
+/// else the leaf brings the 1,025th distinct plane, up to orientation.
 pub fn place(alloc: Global, design: &Design) -> Result<CsgTree, Stop>
     ensures tree { IfOk result (λ tree. IsPlacedAs (plain_of design.now) (formula_of tree)) }
     ensures stop { IfErr result (IsStopOf (plain_of design.now) []) }
@@ -52,7 +52,7 @@ fn place_after(
 {
     match design {
         Design::Empty => Ok(CsgTree::Nothing),
-        Design::Leaf(part) => place_part(alloc, known, part),
+        Design::Leaf(part) => place_leaf(alloc, known, part),
         Design::Joined(op, left, right) => {
             let left = place_after(alloc, known, left)?;
             let right = place_after(alloc, known, right)?;
@@ -61,10 +61,14 @@ fn place_after(
     }
 }
 
-// The leaf of a part behind the distinct planes of those before it.
-fn place_part(alloc: Global, known: &mut IndexSet<PlaneKey>, part: &Part) -> Result<CsgTree, Stop>
-    ensures tree { IfOk result (λ tree. Places (a_part part.now) known.old.keys (placed (formula_of tree) known.new.keys)) }
-    ensures stop { IfErr result (IsStopOf (a_part part.now) known.old.keys) }
+// The tree of a leaf behind the distinct planes of those before it.
+fn place_leaf(
+    alloc: Global,
+    known: &mut IndexSet<PlaneKey>,
+    part: &LeafShape,
+) -> Result<CsgTree, Stop>
+    ensures tree { IfOk result (λ tree. Places (a_leaf part.now) known.old.keys (placed (formula_of tree) known.new.keys)) }
+    ensures stop { IfErr result (IsStopOf (a_leaf part.now) known.old.keys) }
     ensures full { IfOk result (λ tree. IsFull (formula_of tree)) }
     ensures few { IfOk result (λ tree. subtrees (formula_of tree) ≤ 1) }
 {
@@ -76,17 +80,17 @@ fn place_part(alloc: Global, known: &mut IndexSet<PlaneKey>, part: &Part) -> Res
     Ok(CsgTree::Leaf(Planes::of(planes)))
 }
 
-// The planes of a part's faces once its steps have moved it, of equal ones the first.
-fn planes_of(alloc: Global, part: &Part) -> Result<Vec<Plane>, Stop>
-    ensures faces { IfOk result (λ v. ArePlanesOf (moved (map_of part.now.steps) part.now.mesh) part.now.mesh.faces v.items) }
-    ensures solid { OnOk result (All (IsFace (moved (map_of part.now.steps) part.now.mesh)) part.now.mesh.faces) }
+// The planes of a leaf's faces once its steps have moved_mesh it, of equal ones the first.
+fn planes_of(alloc: Global, part: &LeafShape) -> Result<Vec<Plane>, Stop>
+    ensures faces { IfOk result (λ v. ArePlanesOf (moved_mesh (map_of part.now.steps) part.now.mesh) part.now.mesh.faces v.items) }
+    ensures solid { OnOk result (All (IsFace (moved_mesh (map_of part.now.steps) part.now.mesh)) part.now.mesh.faces) }
     ensures some { IfOk result (λ v. 0 < length v.items) }
     ensures meet { IfOk result (λ v. All MeetsReach v.items) }
     ensures safe { OnOk result (StaysSafe part.now) }
     ensures reach { OnOk result (EndsInReach part.now) }
     ensures stop { IfErr result (IsRangeStop part.now) }
 {
-    match shape_planes::place(alloc, part.shape(), part.steps()) {
+    match primitives::place(alloc, part.shape(), part.steps()) {
         Ok(planes) => Ok(planes),
         Err(ShapeStop::NoMemory) => Err(Stop::NoMemory),
         Err(ShapeStop::Kind(kind)) => Err(kind.at(part.place())),

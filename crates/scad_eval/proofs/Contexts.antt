@@ -4,14 +4,14 @@ use Rattle.std.specs.Prelude.{OnOk}
 use Rattle.plane_predicate.specs.declared.unit.Unit.{Unit as LengthUnit}
 use Rattle.scad_value.specs.Values.{Val}
 use Rattle.scad_scope.specs.Names.{Pairs, Row}
-use Rattle.scad_scope.specs.Table.{rows_of, chain_of}
-use Rattle.scad_evaluation.specs.Limits.{most_calls, most_evaluations}
-use Rattle.scad_evaluation.specs.Meaning.{Env, Setting}
-use Rattle.scad_evaluation.specs.View.{env_seen}
-use Rattle.scad_evaluation.specs.Evaluations.{Keeps, SameSetting, env_here}
-use Rattle.scad_evaluation.specs.declared.source.Source.{Source}
+use Rattle.scad_scope.specs.Table.{rows_of, bindings_of}
+use Rattle.scad_func.specs.Limits.{most_calls, most_evaluations}
+use Rattle.scad_func.specs.Meaning.{Env, Setting}
+use Rattle.scad_func.specs.View.{env_seen}
+use Rattle.scad_func.specs.Evaluations.{Keeps, SameSetting, env_here}
+use Rattle.scad_func.specs.declared.source.Source.{Source}
 use Rattle.scad_meaning.specs.declared.extrusion.Extrusion.{Extrusion}
-use Rattle.scad_pieces.specs.declared.position.Position.{Position}
+use Rattle.scad_instances.specs.declared.position.Position.{Position}
 use Rattle.scad_eval.specs.declared.evaluator.InstanceEvaluator.{InstanceEvaluator}
 use Rattle.scad_meaning.specs.Verdicts.{Judge}
 use Rattle.scad_meaning.specs.Meaning.{Context, evaluator_with, inside_scope}
@@ -20,28 +20,28 @@ use Rattle.scad_func.proofs.Kept.{keeps_same, keeps_trans, scope_setting}
 
 -- where an instance stands, by where an expression there stands
 abbrev context_by : Setting → Position → Context
-context_by here position = record { calls = here.calls; env = here.env; chain = here.chain; inside = position.inside; under_mark = position.under_mark }
+context_by here position = record { calls_left = here.calls_left; env = here.env; bindings = here.bindings; inside = position.inside; under_root = position.under_root }
 
 -- where an instance stands, by what it depends on
 abbrev context_of : ℕ → Source → List Row → ℕ → Pairs Val → Position → Context
-context_of calls source rows scope chain position = record {
-  calls = calls;
+context_of calls source rows scope bindings position = record {
+  calls_left = calls;
   env = env_seen source rows scope;
-  chain = chain;
+  bindings = bindings;
   inside = position.inside;
-  under_mark = position.under_mark;
+  under_root = position.under_root;
 }
 
 -- where source and scopes stay
-pub context_from : (old new : InstanceEvaluator) (position : Position) (calls : ℕ) (chain : Pairs Val)
+pub context_from : (old new : InstanceEvaluator) (position : Position) (calls : ℕ) (bindings : Pairs Val)
     → new.evaluation.source.now ≡ old.evaluation.source.now → rows_of new.evaluation.scopes.now ≡ rows_of old.evaluation.scopes.now
-    → new.evaluation.scope ≡ old.evaluation.scope → most_calls - new.evaluation.calls ≡ calls → chain_of new.evaluation.scopes.now ≡ chain
-    → context_at new position ≡ context_of calls old.evaluation.source.now (rows_of old.evaluation.scopes.now) old.evaluation.scope chain position
-context_from old new position calls chain source rows stands left is =
-    ap (λ n. context_of n new.evaluation.source.now (rows_of new.evaluation.scopes.now) new.evaluation.scope (chain_of new.evaluation.scopes.now) position) left
-    ∙ ap (λ (x : Source). context_of calls x (rows_of new.evaluation.scopes.now) new.evaluation.scope (chain_of new.evaluation.scopes.now) position) source
-    ∙ ap (λ l. context_of calls old.evaluation.source.now l new.evaluation.scope (chain_of new.evaluation.scopes.now) position) rows
-    ∙ ap (λ n. context_of calls old.evaluation.source.now (rows_of old.evaluation.scopes.now) n (chain_of new.evaluation.scopes.now) position) stands
+    → new.evaluation.scope ≡ old.evaluation.scope → most_calls - new.evaluation.calls ≡ calls → bindings_of new.evaluation.scopes.now ≡ bindings
+    → context_at new position ≡ context_of calls old.evaluation.source.now (rows_of old.evaluation.scopes.now) old.evaluation.scope bindings position
+context_from old new position calls bindings source rows stands left is =
+    ap (λ n. context_of n new.evaluation.source.now (rows_of new.evaluation.scopes.now) new.evaluation.scope (bindings_of new.evaluation.scopes.now) position) left
+    ∙ ap (λ (x : Source). context_of calls x (rows_of new.evaluation.scopes.now) new.evaluation.scope (bindings_of new.evaluation.scopes.now) position) source
+    ∙ ap (λ l. context_of calls old.evaluation.source.now l new.evaluation.scope (bindings_of new.evaluation.scopes.now) position) rows
+    ∙ ap (λ n. context_of calls old.evaluation.source.now (rows_of old.evaluation.scopes.now) n (bindings_of new.evaluation.scopes.now) position) stands
     ∙ ap (λ c. context_of calls old.evaluation.source.now (rows_of old.evaluation.scopes.now) old.evaluation.scope c position) is
 
 pub same_context : (old new : InstanceEvaluator) (position : Position) → Stays old new → context_at new position ≡ context_at old position
@@ -70,7 +70,7 @@ stays_told (Err stop) k = tt
 
 -- a position that is any other as well, for what is said of every position
 pub some_position : Position
-some_position = record { inside = None; under_mark = false }
+some_position = record { inside = None; under_root = false }
 
 -- an extrusion with nothing wrong still has nothing wrong
 pub checked_still : (a b : LengthUnit) (through : Option Extrusion) → b ≡ a → IsChecked a through → IsChecked b through
@@ -119,7 +119,7 @@ assigns_same m = record {
   older = record { unit = refl; same = record { source = refl; lent = refl; stands = refl; calls = refl; depth = refl }; front = refl; there = refl };
   leaves = refl;
   newer = [];
-  chain = refl;
+  bindings = refl;
 }
 
 pub assigns_then : {a b c : InstanceEvaluator} → Assigns a b → Assigns b c → Assigns a c
@@ -127,5 +127,5 @@ assigns_then {a = a} f g = record {
   older = older_then f.older g.older;
   leaves = g.leaves ∙ f.leaves;
   newer = g.newer ++ f.newer;
-  chain = g.chain ∙ ap (λ l. g.newer ++ l) f.chain ∙ sym (append_assoc g.newer f.newer (chain_of a.evaluation.scopes.now));
+  bindings = g.bindings ∙ ap (λ l. g.newer ++ l) f.bindings ∙ sym (append_assoc g.newer f.newer (bindings_of a.evaluation.scopes.now));
 }

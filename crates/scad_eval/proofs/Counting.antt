@@ -5,8 +5,8 @@ use Rattle.text_place.specs.declared.fault.Place.{Place}
 use Rattle.text_place.specs.declared.fault.FaultKind.TheVariants.{TooDeep, TooManyTurns}
 use Rattle.plane_predicate.specs.declared.unit.Unit.{Unit as LengthUnit}
 use Rattle.scad_ast.specs.Terms.{InstanceTerm, place_of_instance}
-use Rattle.scad_evaluation.specs.Limits.{most_calls, most_evaluations, most_turns}
-use Rattle.scad_evaluation.specs.Meaning.{Outcome, Faults, one_call_fewer, turn}
+use Rattle.scad_func.specs.Limits.{most_calls, most_evaluations, most_turns}
+use Rattle.scad_func.specs.Meaning.{Outcome, Faults, one_call_fewer, turn}
 use Rattle.scad_meaning.specs.Verdicts.{Judge}
 use Rattle.scad_meaning.specs.Meaning.{Context, design_within, evaluator_with, instance_design}
 

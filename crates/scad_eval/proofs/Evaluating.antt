@@ -5,8 +5,8 @@ use Rattle.text_place.specs.declared.fault.Stop.TheVariants.{Fault, NoMemory}
 use Rattle.plane_predicate.specs.declared.unit.Unit.{Unit as LengthUnit}
 use Rattle.csg_tree.specs.Formulas.{Formula}
 use Rattle.scad_ast.specs.Terms.{StatementTerm, statements_from}
-use Rattle.scad_scope.specs.Names.{first_chain}
-use Rattle.scad_evaluation.specs.Meaning.{Outcome, Gives}
+use Rattle.scad_scope.specs.Names.{first_bindings}
+use Rattle.scad_func.specs.Meaning.{Outcome, Gives}
 use Rattle.scad_design.specs.declared.design.Design.{Design}
 use Rattle.scad_design.specs.Designs.{DesignTree}
 use Rattle.scad_design.specs.View.{plain_of}
@@ -23,7 +23,7 @@ placed_meaning out turns design tree e p = subst (λ o. IsMeaningOfDesign o (a_t
 pub tree_meant : (unit : LengthUnit) (program : List StatementTerm) (design : Design) (tree : Formula)
     → MeetsDesign unit program (Ok design) → IsPlacedAs (plain_of design) tree → IsMeaning unit program (a_tree tree)
 tree_meant unit program design tree told p = λ judge right. let t = told judge right in
-    placed_meaning (design_of unit judge first_chain (statements_from program)) t.0 (plain_of design) tree t.1.is p
+    placed_meaning (design_of unit judge first_bindings (statements_from program)) t.0 (plain_of design) tree t.1.is p
 
 pub placing_stops : (unit : LengthUnit) (program : List StatementTerm) (design : Design) (stop : Stop)
     → MeetsDesign unit program (Ok design) → IsStopOf (plain_of design) [] stop → IsMeaningStop unit program stop

@@ -5,23 +5,23 @@ use Rattle.text_place.specs.declared.fault.Stop.TheVariants.{NoMemory}
 use Rattle.text_place.specs.declared.fault.FaultKind.{FaultKind}
 use Rattle.plane_predicate.specs.declared.unit.Unit.{Unit as LengthUnit}
 use Rattle.primitives.specs.Sizes.{IsSizeStop}
-use Rattle.shape_planes.specs.declared.stop.ShapeStop.{ShapeStop}
-use Rattle.shape_planes.specs.declared.stop.ShapeStop.TheVariants as shapes
+use Rattle.primitives.specs.declared.stop.ShapeStop.{ShapeStop}
+use Rattle.primitives.specs.declared.stop.ShapeStop.TheVariants as shapes
 use Rattle.scad_meaning.specs.declared.extrusion.Extrusion.{Extrusion}
 use Rattle.text_place.specs.declared.fault.Place.{Place}
-use Rattle.shape_planes.specs.Shapes.{Mesh}
+use Rattle.primitives.specs.Shapes.{Mesh}
 use Rattle.scad_meaning.specs.Verdicts.{Verdict}
-use Rattle.scad_evaluation.specs.Meaning.{Outcome, Gives, then_with}
+use Rattle.scad_func.specs.Meaning.{Outcome, Gives, then_with}
 use Rattle.scad_meaning.specs.Hulls.{is_nothing, hull_mesh}
-use Rattle.scad_meaning.specs.Meaning.{InstanceDesign, checked, leaf_design, hulled, hull_design}
-use Rattle.scad_pieces.specs.Seen.{IsStopAt}
+use Rattle.scad_meaning.specs.Meaning.{InstanceDesign, unless_refused, leaf_design, with_leaf_of, hull_design}
+use Rattle.scad_instances.specs.Seen.{IsStopAt}
 use Rattle.scad_eval.specs.Keeping.{IsThrough}
 use Rattle.scad_meaning.proofs.Verdicts.{one_height_verdict}
 
 pub shape_checked : (v : Verdict) (at : Place) (mesh shape : Mesh) (turns leaves : ℕ) → v ≡ None → shape ≡ mesh
-    → checked v at (leaf_design at mesh turns leaves) ≡ leaf_design at shape turns leaves
+    → unless_refused v at (leaf_design at mesh turns leaves) ≡ leaf_design at shape turns leaves
 shape_checked v at mesh shape turns leaves none same =
-    ap (λ (x : Verdict). checked x at (leaf_design at mesh turns leaves)) none
+    ap (λ (x : Verdict). unless_refused x at (leaf_design at mesh turns leaves)) none
     ∙ ap (λ (m : Mesh). leaf_design at m turns leaves) (sym same)
 
 -- nothing is wrong with a height that was checked, so only memory can run out
@@ -38,11 +38,11 @@ height_stops unit through at shapes.NoMemory result known fault is = is
 abbrev hull_or_not : Verdict → Place → InstanceDesign → ℕ → Bool → Outcome InstanceDesign
 hull_or_not v at m turns nothing =
     if nothing then Gives turns m
-    else checked v at (then_with (leaf_design at (hull_mesh m.design) turns m.leaves) (λ turns leaf. Gives turns (hulled m leaf)))
+    else unless_refused v at (then_with (leaf_design at (hull_mesh m.design) turns m.leaves) (λ turns leaf. Gives turns (with_leaf_of m leaf)))
 
 pub hull_checked : (v : Verdict) (at : Place) (m : InstanceDesign) (shape : Mesh) (turns : ℕ) (b : Bool) → b ≡ is_nothing m.design → b ≡ false → v ≡ None → shape ≡ hull_mesh m.design
-    → hull_design v at m turns ≡ then_with (leaf_design at shape turns m.leaves) (λ turns leaf. Gives turns (hulled m leaf))
+    → hull_design v at m turns ≡ then_with (leaf_design at shape turns m.leaves) (λ turns leaf. Gives turns (with_leaf_of m leaf))
 hull_checked v at m shape turns b is e none same =
     ap (hull_or_not v at m turns) (sym is ∙ e)
-    ∙ ap (λ (x : Verdict). checked x at (then_with (leaf_design at (hull_mesh m.design) turns m.leaves) (λ turns leaf. Gives turns (hulled m leaf)))) none
-    ∙ ap (λ (mesh : Mesh). then_with (leaf_design at mesh turns m.leaves) (λ turns leaf. Gives turns (hulled m leaf))) (sym same)
+    ∙ ap (λ (x : Verdict). unless_refused x at (then_with (leaf_design at (hull_mesh m.design) turns m.leaves) (λ turns leaf. Gives turns (with_leaf_of m leaf)))) none
+    ∙ ap (λ (mesh : Mesh). then_with (leaf_design at mesh turns m.leaves) (λ turns leaf. Gives turns (with_leaf_of m leaf))) (sym same)

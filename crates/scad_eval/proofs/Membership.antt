@@ -4,22 +4,22 @@ use Rattle.std.proofs.lemmas.List.{at_drop_more}
 use Rattle.text_place.specs.declared.fault.Stop.{Stop}
 use Rattle.text_place.specs.declared.fault.Stop.TheVariants.{Fault, NoMemory}
 use Rattle.scad_ast.specs.Terms.{InstanceTerm, AnInstance}
-use Rattle.scad_evaluation.specs.Meaning.{Outcome, Gives, Faults, Env, then_with}
-use Rattle.scad_pieces.specs.declared.position.InstanceResult.{InstanceResult}
+use Rattle.scad_func.specs.Meaning.{Outcome, Gives, Faults, Env, then_with}
+use Rattle.scad_instances.specs.declared.position.InstanceResult.{InstanceResult}
 use Rattle.scad_instances.specs.declared.numbered.NumberedInstance.{NumberedInstance}
-use Rattle.scad_meaning.specs.Bodies.{says_only, is_child}
+use Rattle.scad_meaning.specs.Bodies.{has_no_geometry, is_child}
 use Rattle.scad_meaning.specs.Meaning.{InstanceDesign, MemberDesigns, as_member, and_members, core_of_instance}
 use Rattle.scad_instances.specs.Positions.{term_of_numbered}
-use Rattle.scad_evaluation.specs.View.{MeetsOutcome}
-use Rattle.scad_pieces.specs.Seen.{HasOutcome, instance_design_of, one_member_of, members_in_front}
+use Rattle.scad_func.specs.View.{MeetsOutcome}
+use Rattle.scad_instances.specs.Seen.{HasOutcome, instance_design_of, one_member_of, members_in_front}
 
 flipped : (b : Bool) → (if b then false else true) ≡ not b
 flipped true = refl
 flipped false = refl
 
 -- what is a child is a member
-pub child_is_member : (env : Env) (i : InstanceTerm) → (if says_only env (core_of_instance i) then false else true) ≡ is_child env i
-child_is_member env (AnInstance at marks core) = flipped (says_only env core)
+pub child_is_member : (env : Env) (i : InstanceTerm) → (if has_no_geometry env (core_of_instance i) then false else true) ≡ is_child env i
+child_is_member env (AnInstance at marks core) = flipped (has_no_geometry env core)
 
 -- an instance's design, as a member
 as_member_agrees : (b : Bool) (r : Result InstanceResult Stop) (m l : ℕ) (out : Outcome InstanceDesign) → MeetsOutcome (instance_design_of l) r m out

@@ -3,11 +3,11 @@ use Rattle.std.proofs.Common.{◌≡◌, ℕ, List, ◌++◌, Option, Some, None
 use Rattle.text_place.specs.declared.fault.Stop.{Stop}
 use Rattle.text_place.specs.declared.fault.Stop.TheVariants.{Fault, NoMemory}
 use Rattle.scad_design.specs.Designs.{DesignTree}
-use Rattle.scad_evaluation.specs.Meaning.{Outcome, Gives, Faults, then_with}
-use Rattle.scad_evaluation.specs.View.{MeetsOutcome, IsNoMemory}
-use Rattle.scad_pieces.specs.declared.position.MemberResults.{MemberResults}
-use Rattle.scad_meaning.specs.Meaning.{MemberDesigns, no_members, and_members, first_marked}
-use Rattle.scad_pieces.specs.Seen.{HasOutcome, member_designs_of, IsLengthened, members_in_front}
+use Rattle.scad_func.specs.Meaning.{Outcome, Gives, Faults, then_with}
+use Rattle.scad_func.specs.View.{MeetsOutcome, IsNoMemory}
+use Rattle.scad_instances.specs.declared.position.MemberResults.{MemberResults}
+use Rattle.scad_meaning.specs.Meaning.{MemberDesigns, no_members, and_members, first_root}
+use Rattle.scad_instances.specs.Seen.{HasOutcome, member_designs_of, IsLengthened, members_in_front}
 
 -- what was told of an outcome is told of an equal one
 pub along : {A B : Type 0} {see : ℕ → A → B} {r : Result A Stop} {turns leaves : ℕ} {a b : Outcome B}
@@ -46,16 +46,16 @@ pub told_outcome : {A B : Type 0} (see : A → B) (r : Result A Stop) (turns lea
 told_outcome see r turns leaves out h = record { is = h }
 
 -- members
-first_of_three : (a b c : Option DesignTree) → first_marked (first_marked a b) c ≡ first_marked a (first_marked b c)
+first_of_three : (a b c : Option DesignTree) → first_root (first_root a b) c ≡ first_root a (first_root b c)
 first_of_three None b c = refl
 first_of_three (Some d) b c = refl
 
 and_three : (a b c : MemberDesigns) → and_members (and_members a b) c ≡ and_members a (and_members b c)
 and_three a b c =
-    ap (λ (ds : List DesignTree). record { leaves = c.leaves; designs = ds; marked = first_marked (first_marked a.marked b.marked) c.marked })
+    ap (λ (ds : List DesignTree). record { leaves = c.leaves; designs = ds; root = first_root (first_root a.root b.root) c.root })
     (append_assoc a.designs b.designs c.designs)
-    ∙ ap (λ (m : Option DesignTree). record { leaves = c.leaves; designs = a.designs ++ (b.designs ++ c.designs); marked = m })
-    (first_of_three a.marked b.marked c.marked)
+    ∙ ap (λ (m : Option DesignTree). record { leaves = c.leaves; designs = a.designs ++ (b.designs ++ c.designs); root = m })
+    (first_of_three a.root b.root c.root)
 
 pub front_of_none : (leaves : ℕ) (out : Outcome MemberDesigns) → members_in_front (no_members leaves) out ≡ out
 front_of_none leaves (Gives turns ms) = refl

@@ -10,26 +10,26 @@ use Rattle.csg_tree.specs.ProperTrees.{IsProper}
 use Rattle.csg_tree.specs.Trees.{formula_of}
 use Rattle.scad_ast.specs.Terms.{StatementTerm, StatementTerms, statements_from}
 use Rattle.scad_value.specs.Values.{Val}
-use Rattle.scad_scope.specs.Names.{Pairs, Row, env_of, first_row, first_chain}
-use Rattle.scad_scope.specs.Table.{rows_of, chain_of}
-use Rattle.scad_blocks.specs.Blocks.{NumberedText, numbered_text}
-use Rattle.scad_evaluation.specs.Limits.{most_calls, most_evaluations}
-use Rattle.scad_evaluation.specs.Meaning.{Outcome, Gives, then_with, Env, Within, Outermost, no_call, entered_scope}
-use Rattle.scad_evaluation.specs.View.{env_seen, source_text}
-use Rattle.scad_evaluation.specs.Definitions.{statements_at, block_scope, IsWhole}
-use Rattle.scad_evaluation.specs.Evaluations.{OneScopeMore, env_here}
-use Rattle.scad_evaluation.specs.declared.source.Source.{Source}
-use Rattle.scad_evaluation.specs.declared.evaluation.Evaluation.{Evaluation}
+use Rattle.scad_scope.specs.Names.{Pairs, Row, env_of, first_row, first_bindings}
+use Rattle.scad_scope.specs.Table.{rows_of, bindings_of}
+use Rattle.scad_definitions.specs.Blocks.{BlockTable, block_table}
+use Rattle.scad_func.specs.Limits.{most_calls, most_evaluations}
+use Rattle.scad_func.specs.Meaning.{Outcome, Gives, then_with, Env, Within, Outermost, no_activation, entered_scope}
+use Rattle.scad_func.specs.View.{env_seen, table_in}
+use Rattle.scad_func.specs.Definitions.{statements_at, block_scope, IsWhole}
+use Rattle.scad_func.specs.Evaluations.{OneScopeMore, env_here}
+use Rattle.scad_func.specs.declared.source.Source.{Source}
+use Rattle.scad_func.specs.declared.evaluation.Evaluation.{Evaluation}
 use Rattle.scad_design.specs.Designs.{DesignTree}
 use Rattle.scad_design.specs.Trees.{IsPlacedAs, IsStopOf}
 use Rattle.scad_design.specs.View.{plain_of}
 use Rattle.scad_design.specs.declared.design.Design.{Design}
-use Rattle.scad_pieces.specs.declared.position.Position.{Position}
-use Rattle.scad_pieces.specs.declared.position.MemberResults.{MemberResults}
+use Rattle.scad_instances.specs.declared.position.Position.{Position}
+use Rattle.scad_instances.specs.declared.position.MemberResults.{MemberResults}
 use Rattle.scad_eval.specs.declared.evaluator.InstanceEvaluator.{InstanceEvaluator}
 use Rattle.scad_meaning.specs.Verdicts.{Judge, IsRight}
 use Rattle.scad_meaning.specs.Meaning.{Context, evaluator_with, each_in_scope, program_context, or_all, design_of, block_members}
-use Rattle.scad_pieces.specs.Seen.{HasOutcome, member_designs_of}
+use Rattle.scad_instances.specs.Seen.{HasOutcome, member_designs_of}
 use Rattle.scad_eval.specs.Keeping.{context_at, EvaluatesKeeping}
 use Rattle.scad_meaning.specs.Sources.{a_tree, a_fault, IsMeaning, IsMeaningOfDesign, IsMeaningStop, HoldsFault}
 use Rattle.scad_meaning.proofs.ProgramPlaces.{stop_held}
@@ -38,70 +38,70 @@ use Rattle.scad_eval.proofs.Evaluating.{tree_meant, placing_stops}
 use Rattle.scad_eval.proofs.Outcomes.{along, stop_outcome}
 
 -- the scope outside all others
-first_env : (source : Source) (rows : List Row) → rows ≡ first_row ∷ [] → env_seen source rows 0 ≡ Within [] [] [] no_call Outermost
+first_env : (source : Source) (rows : List Row) → rows ≡ first_row ∷ [] → env_seen source rows 0 ≡ Within [] [] [] no_activation Outermost
 unfolding env_of
 first_env source rows e = ap (λ l. env_seen source l 0) e
 
 -- the scope of a program's block
-program_scope : (source : Source) (rows : List Row) (program : List StatementTerm) (env : Env) → IsWhole (source_text source)
-    → source_text source ≡ numbered_text program → rows ≡ first_row ∷ []
-    → env ≡ block_scope (source_text source) 0 no_call (env_seen source rows 0)
-    → env ≡ entered_scope (statements_from program) no_call (Within [] [] [] no_call Outermost)
-program_scope source rows program env whole text first is =
-    is ∙ whole.scopes 0 no_call (env_seen source rows 0)
-    ∙ ap (λ (t : NumberedText). entered_scope (statements_at t 0) no_call (env_seen source rows 0)) text
-    ∙ ap (λ (outer : Env). entered_scope (statements_from program) no_call outer) (first_env source rows first)
+program_scope : (source : Source) (rows : List Row) (program : List StatementTerm) (env : Env) → IsWhole (table_in source)
+    → table_in source ≡ block_table program → rows ≡ first_row ∷ []
+    → env ≡ block_scope (table_in source) 0 no_activation (env_seen source rows 0)
+    → env ≡ entered_scope (statements_from program) no_activation (Within [] [] [] no_activation Outermost)
+program_scope source rows program env whole table first is =
+    is ∙ whole.scopes 0 no_activation (env_seen source rows 0)
+    ∙ ap (λ (t : BlockTable). entered_scope (statements_at t 0) no_activation (env_seen source rows 0)) table
+    ∙ ap (λ (outer : Env). entered_scope (statements_from program) no_activation outer) (first_env source rows first)
 
 abbrev pub context_of : ℕ → Env → Pairs Val → Context
-context_of calls env chain = record { calls = most_calls - calls; env = env; chain = chain; inside = None; under_mark = false }
+context_of calls env bindings = record { calls_left = most_calls - calls; env = env; bindings = bindings; inside = None; under_root = false }
 
 pub program_begins : {old new : Evaluation} {before : ℕ} → OneScopeMore old new before → (program : List StatementTerm)
-    → IsWhole (source_text old.source.now) → source_text old.source.now ≡ numbered_text program → rows_of old.scopes.now ≡ first_row ∷ []
-    → chain_of old.scopes.now ≡ first_chain → old.calls ≡ 0
-    → env_here new ≡ block_scope (source_text old.source.now) 0 no_call (env_seen old.source.now (rows_of old.scopes.now) 0)
-    → context_of new.calls (env_here new) (chain_of new.scopes.now) ≡ program_context first_chain (statements_from program)
-program_begins {old = old} {new = new} e program whole text rows chain none is =
-    ap (λ n. context_of n (env_here new) (chain_of new.scopes.now)) (e.calls ∙ none)
-    ∙ ap (λ (x : Env). context_of 0 x (chain_of new.scopes.now))
-    (program_scope old.source.now (rows_of old.scopes.now) program (env_here new) whole text rows is)
-    ∙ ap (λ (c : Pairs Val). context_of 0 (entered_scope (statements_from program) no_call (Within [] [] [] no_call Outermost)) c) (e.chain ∙ chain)
+    → IsWhole (table_in old.source.now) → table_in old.source.now ≡ block_table program → rows_of old.scopes.now ≡ first_row ∷ []
+    → bindings_of old.scopes.now ≡ first_bindings → old.calls ≡ 0
+    → env_here new ≡ block_scope (table_in old.source.now) 0 no_activation (env_seen old.source.now (rows_of old.scopes.now) 0)
+    → context_of new.calls (env_here new) (bindings_of new.scopes.now) ≡ program_context first_bindings (statements_from program)
+program_begins {old = old} {new = new} e program whole table rows bindings none is =
+    ap (λ n. context_of n (env_here new) (bindings_of new.scopes.now)) (e.calls ∙ none)
+    ∙ ap (λ (x : Env). context_of 0 x (bindings_of new.scopes.now))
+    (program_scope old.source.now (rows_of old.scopes.now) program (env_here new) whole table rows is)
+    ∙ ap (λ (c : Pairs Val). context_of 0 (entered_scope (statements_from program) no_activation (Within [] [] [] no_activation Outermost)) c) (e.bindings ∙ bindings)
 
 -- the members of the block
 pub program_members : {old new : InstanceEvaluator} {position : Position} {r : Result MemberResults Stop} {Kept : Type 0} (statements : StatementTerms)
     → EvaluatesKeeping member_designs_of old new position r Kept (λ evaluator. block_members evaluator None statements)
-    → (program : List StatementTerm) → context_at old position ≡ program_context first_chain (statements_from program)
+    → (program : List StatementTerm) → context_at old position ≡ program_context first_bindings (statements_from program)
     → statements ≡ statements_from program → old.evaluation.depth ≡ 0 → old.evaluation.turns ≡ 0 → old.leaves ≡ 0
     → (judge : Judge) → IsRight judge → HasOutcome member_designs_of r new.evaluation.turns new.leaves
-    (each_in_scope (evaluator_with old.unit judge most_evaluations) (program_context first_chain (statements_from program)) (statements_from program) 0 0)
+    (each_in_scope (evaluator_with old.unit judge most_evaluations) (program_context first_bindings (statements_from program)) (statements_from program) 0 0)
 program_members {old = old} {position = position} statements h program here same depth turns leaves judge right =
     along (sym (
     ap (λ d. block_members (evaluator_with old.unit judge (most_evaluations - d)) None statements (context_at old position) old.evaluation.turns old.leaves) depth
     ∙ ap (λ x. block_members (evaluator_with old.unit judge most_evaluations) None statements x old.evaluation.turns old.leaves) here
-    ∙ ap (λ st. block_members (evaluator_with old.unit judge most_evaluations) None st (program_context first_chain (statements_from program)) old.evaluation.turns old.leaves) same
-    ∙ ap (λ n. block_members (evaluator_with old.unit judge most_evaluations) None (statements_from program) (program_context first_chain (statements_from program)) n old.leaves) turns
-    ∙ ap (λ n. block_members (evaluator_with old.unit judge most_evaluations) None (statements_from program) (program_context first_chain (statements_from program)) 0 n) leaves))
+    ∙ ap (λ st. block_members (evaluator_with old.unit judge most_evaluations) None st (program_context first_bindings (statements_from program)) old.evaluation.turns old.leaves) same
+    ∙ ap (λ n. block_members (evaluator_with old.unit judge most_evaluations) None (statements_from program) (program_context first_bindings (statements_from program)) n old.leaves) turns
+    ∙ ap (λ n. block_members (evaluator_with old.unit judge most_evaluations) None (statements_from program) (program_context first_bindings (statements_from program)) 0 n) leaves))
     (h.equation judge right)
 
-pub program_statements : (old new : Source) (program : List StatementTerm) → new ≡ old → source_text old ≡ numbered_text program
-    → statements_at (source_text new) 0 ≡ statements_from program
-program_statements old new program same e = ap (λ (x : Source). statements_at (source_text x) 0) same ∙ ap (λ (t : NumberedText). statements_at t 0) e
+pub program_statements : (old new : Source) (program : List StatementTerm) → new ≡ old → table_in old ≡ block_table program
+    → statements_at (table_in new) 0 ≡ statements_from program
+program_statements old new program same e = ap (λ (x : Source). statements_at (table_in x) 0) same ∙ ap (λ (t : BlockTable). statements_at t 0) e
 
 -- the design
-module _ (unit : LengthUnit) (judge : Judge) (chain : Pairs Val) (statements : StatementTerms) where
+module _ (unit : LengthUnit) (judge : Judge) (bindings : Pairs Val) (statements : StatementTerms) where
   pub design_outcome : (ms : MemberResults) (design : Design) (m l : ℕ)
-      → HasOutcome member_designs_of (Ok ms) m l (each_in_scope (evaluator_with unit judge most_evaluations) (program_context chain statements) statements 0 0)
-      → plain_of design ≡ or_all (option_map plain_of ms.marked) (map plain_of ms.designs.items)
-      → HasOutcome (λ leaves. plain_of) (Ok design) m 0 (design_of unit judge chain statements)
+      → HasOutcome member_designs_of (Ok ms) m l (each_in_scope (evaluator_with unit judge most_evaluations) (program_context bindings statements) statements 0 0)
+      → plain_of design ≡ or_all (option_map plain_of ms.root) (map plain_of ms.designs.items)
+      → HasOutcome (λ leaves. plain_of) (Ok design) m 0 (design_of unit judge bindings statements)
   unfolding design_of
   design_outcome ms design m l t e = record {
-    is = ap (λ o. then_with o (λ turns ms. Gives turns (or_all ms.marked ms.designs))) t.is ∙ ap (λ d. Gives m d) (sym e);
+    is = ap (λ o. then_with o (λ turns ms. Gives turns (or_all ms.root ms.designs))) t.is ∙ ap (λ d. Gives m d) (sym e);
   }
 
   pub design_stops : (stop : Stop) (m l n : ℕ)
-      → HasOutcome member_designs_of (Err stop) m l (each_in_scope (evaluator_with unit judge most_evaluations) (program_context chain statements) statements 0 0)
-      → HasOutcome (λ leaves. plain_of) (Err stop) n 0 (design_of unit judge chain statements)
+      → HasOutcome member_designs_of (Err stop) m l (each_in_scope (evaluator_with unit judge most_evaluations) (program_context bindings statements) statements 0 0)
+      → HasOutcome (λ leaves. plain_of) (Err stop) n 0 (design_of unit judge bindings statements)
   unfolding design_of
-  design_stops stop m l n t = stop_outcome (λ turns ms. Gives turns (or_all ms.marked ms.designs)) t
+  design_stops stop m l n t = stop_outcome (λ turns ms. Gives turns (or_all ms.root ms.designs)) t
 
 -- the tree of a design
 module _ (unit : LengthUnit) (program : List StatementTerm) (design : Design) (told : MeetsDesign unit program (Ok design)) where

@@ -2,16 +2,16 @@
 use Rattle.std.proofs.Common.{◌≡◌, ℕ, Result, Ok, Err, refl, sym, ap, ◌∙◌}
 use Rattle.text_place.specs.declared.fault.Stop.{Stop}
 use Rattle.csg_tree.specs.declared.op.Op.{Op}
-use Rattle.scad_evaluation.specs.Meaning.{Outcome, Gives, then_with, Setting}
-use Rattle.scad_evaluation.specs.Evaluations.{EvaluatesTo, setting_here}
-use Rattle.scad_evaluation.specs.declared.evaluation.Evaluation.{Evaluation}
-use Rattle.scad_pieces.specs.declared.position.Position.{Position}
-use Rattle.scad_pieces.specs.declared.position.InstanceResult.{InstanceResult}
-use Rattle.scad_pieces.specs.declared.position.MemberResults.{MemberResults}
+use Rattle.scad_func.specs.Meaning.{Outcome, Gives, then_with, Setting}
+use Rattle.scad_func.specs.Evaluations.{EvaluatesTo, setting_here}
+use Rattle.scad_func.specs.declared.evaluation.Evaluation.{Evaluation}
+use Rattle.scad_instances.specs.declared.position.Position.{Position}
+use Rattle.scad_instances.specs.declared.position.InstanceResult.{InstanceResult}
+use Rattle.scad_instances.specs.declared.position.MemberResults.{MemberResults}
 use Rattle.scad_eval.specs.declared.evaluator.InstanceEvaluator.{InstanceEvaluator}
 use Rattle.scad_meaning.specs.Verdicts.{Judge, IsRight}
 use Rattle.scad_meaning.specs.Meaning.{InstanceDesign, MemberDesigns, joined_members}
-use Rattle.scad_pieces.specs.Seen.{instance_design_of, member_designs_of}
+use Rattle.scad_instances.specs.Seen.{instance_design_of, member_designs_of}
 use Rattle.scad_eval.specs.Keeping.{evaluator_at, context_at, Stays, Equation, meant_at, EvaluatesKeeping, EvaluatesAt}
 use Rattle.scad_eval.proofs.Outcomes.{along, then_outcome, stop_outcome, outcome_with, told_outcome}
 use Rattle.scad_eval.proofs.Contexts.{stays_after, meant_after}

@@ -1,6 +1,6 @@
 -- The evaluations that are left count for more than any step at one depth.
 use Rattle.std.proofs.Common.{◌≡◌, ℕ, ◌+◌, ◌-◌, ◌*◌, ◌<◌, ◌≤◌, ap, arith}
-use Rattle.scad_evaluation.specs.Limits.{most_evaluations}
+use Rattle.scad_func.specs.Limits.{most_evaluations}
 
 unfoldable pub work : ℕ → ℕ
 work depth = (most_evaluations - depth) * 1125899906842624

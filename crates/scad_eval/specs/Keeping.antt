@@ -5,18 +5,18 @@ use Rattle.plane_predicate.specs.declared.unit.Unit.{Unit as LengthUnit}
 use Rattle.primitives.specs.Sizes.{AreSizes, IsSafe}
 use Rattle.scad_value.specs.Values.{Val}
 use Rattle.scad_scope.specs.Names.{Pairs}
-use Rattle.scad_scope.specs.Table.{rows_of, chain_of}
-use Rattle.scad_evaluation.specs.Limits.{most_calls, most_evaluations}
-use Rattle.scad_evaluation.specs.Meaning.{Outcome, Env}
-use Rattle.scad_evaluation.specs.View.{env_seen, source_text}
-use Rattle.scad_evaluation.specs.Definitions.{IsWhole}
-use Rattle.scad_evaluation.specs.Evaluations.{Keeps, SameSetting, scopes_there, env_here, OneScopeMore}
+use Rattle.scad_scope.specs.Table.{rows_of, bindings_of}
+use Rattle.scad_func.specs.Limits.{most_calls, most_evaluations}
+use Rattle.scad_func.specs.Meaning.{Outcome, Env}
+use Rattle.scad_func.specs.View.{env_seen, table_in}
+use Rattle.scad_func.specs.Definitions.{IsWhole}
+use Rattle.scad_func.specs.Evaluations.{Keeps, SameSetting, scopes_there, env_here, OneScopeMore}
 use Rattle.scad_meaning.specs.declared.extrusion.Extrusion.{Extrusion}
-use Rattle.scad_pieces.specs.declared.position.Position.{Position}
+use Rattle.scad_instances.specs.declared.position.Position.{Position}
 use Rattle.scad_eval.specs.declared.evaluator.InstanceEvaluator.{InstanceEvaluator}
 use Rattle.scad_meaning.specs.Verdicts.{Judge, IsRight}
 use Rattle.scad_meaning.specs.Meaning.{Context, Evaluator, evaluator_with}
-use Rattle.scad_pieces.specs.Seen.{HasOutcome}
+use Rattle.scad_instances.specs.Seen.{HasOutcome}
 
 -- how many evaluations in one another are left
 abbrev pub evaluations_left : InstanceEvaluator → ℕ
@@ -33,11 +33,11 @@ env_at evaluator scope = env_seen evaluator.evaluation.source.now (rows_of evalu
 -- the context of an instance of the scope in which is evaluated
 abbrev pub context_at : InstanceEvaluator → Position → Context
 context_at evaluator position = record {
-  calls = most_calls - evaluator.evaluation.calls;
+  calls_left = most_calls - evaluator.evaluation.calls;
   env = env_here evaluator.evaluation;
-  chain = chain_of evaluator.evaluation.scopes.now;
+  bindings = bindings_of evaluator.evaluation.scopes.now;
   inside = position.inside;
-  under_mark = position.under_mark;
+  under_root = position.under_root;
 }
 
 -- the height of an extrusion has nothing wrong with it
@@ -52,7 +52,7 @@ IsChecked unit (Some through) = IsThrough unit through
 
 -- a position in a whole source, inside an extrusion with nothing wrong or inside none
 pub record IsPosition (evaluator : InstanceEvaluator) (position : Position) : Type 0 where
-  pub whole : IsWhole (source_text evaluator.evaluation.source.now)
+  pub whole : IsWhole (table_in evaluator.evaluation.source.now)
   pub inside : IsChecked evaluator.unit position.inside
 
 -- all but the turns and the leaves is as before
@@ -74,7 +74,7 @@ pub record EntersModule {E : Type 0} (old new : InstanceEvaluator) (result : Res
   pub inside : OnOk result (env_here new.evaluation ≡ scope)
   pub turns : new.evaluation.turns ≡ old.evaluation.turns
 
--- the newest scope may have more variables, and the chain be another one: all else but the turns and the leaves is as before
+-- the newest scope may have more variables, and the dynamic bindings be others: all else but the turns and the leaves is as before
 pub record KeepsOlder (old new : InstanceEvaluator) : Type 0 where
   pub unit : new.unit ≡ old.unit
   pub same : SameSetting old.evaluation new.evaluation
@@ -84,14 +84,14 @@ pub record KeepsOlder (old new : InstanceEvaluator) : Type 0 where
 -- the newest scope has more variables: all else but the turns and the leaves is as before
 pub record Binds (old new : InstanceEvaluator) : Type 0 where
   pub older : KeepsOlder old new
-  pub chain : chain_of new.evaluation.scopes.now ≡ chain_of old.evaluation.scopes.now
+  pub bindings : bindings_of new.evaluation.scopes.now ≡ bindings_of old.evaluation.scopes.now
 
--- the newest scope and the chain have more variables: all else but the turns is as before
+-- the newest scope and the dynamic bindings have more variables: all else but the turns is as before
 pub record Assigns (old new : InstanceEvaluator) : Type 0 where
   pub older : KeepsOlder old new
   pub leaves : new.leaves ≡ old.leaves
   pub newer : Pairs Val
-  pub chain : chain_of new.evaluation.scopes.now ≡ newer ++ chain_of old.evaluation.scopes.now
+  pub bindings : bindings_of new.evaluation.scopes.now ≡ newer ++ bindings_of old.evaluation.scopes.now
 
 -- a meaning: what is given by an evaluator, where an instance stands, and by the turns and the leaves so far
 abbrev pub Equation : Type 0 → Type 0

@@ -2,14 +2,14 @@
 use Rattle.std.specs.Prelude.{ℕ, ◌<◌}
 use Rattle.scad_ast.specs.StatementView.{body_of}
 use Rattle.scad_ast.specs.Terms.{BodyTerm}
-use Rattle.scad_blocks.specs.Blocks.{NumberedText}
-use Rattle.scad_blocks.specs.declared.text.Module.{Module}
-use Rattle.scad_evaluation.specs.Definitions.{IsBlockOf, IsWhole}
-use Rattle.scad_evaluation.specs.Evaluations.{scopes_there}
-use Rattle.scad_evaluation.specs.View.{source_text}
+use Rattle.scad_definitions.specs.Blocks.{BlockTable}
+use Rattle.scad_definitions.specs.declared.text.Module.{Module}
+use Rattle.scad_func.specs.Definitions.{IsBlockOf, IsWhole}
+use Rattle.scad_func.specs.Evaluations.{scopes_there}
+use Rattle.scad_func.specs.View.{table_in}
 use Rattle.scad_instances.specs.declared.numbered.NumberedInstance.{NumberedInstance}
-use Rattle.scad_pieces.specs.declared.position.NumberedBody.{NumberedBody}
-use Rattle.scad_pieces.specs.declared.position.Position.{Position}
+use Rattle.scad_instances.specs.declared.position.NumberedBody.{NumberedBody}
+use Rattle.scad_instances.specs.declared.position.Position.{Position}
 use Rattle.scad_instances.specs.Positions.{HasBlocks}
 use Rattle.scad_eval.specs.declared.evaluator.InstanceEvaluator.{InstanceEvaluator}
 use Rattle.scad_eval.specs.Keeping.{IsChecked, IsPosition}
@@ -19,27 +19,27 @@ abbrev pub body_seen : NumberedBody → BodyTerm
 body_seen body = body_of body.body.now
 
 -- the body stands in its block
-abbrev pub IsInBlock : NumberedText → NumberedBody → Type 0
-IsInBlock text body = IsBlockOf text body.block (body_seen body)
+abbrev pub IsInBlock : BlockTable → NumberedBody → Type 0
+IsInBlock table body = IsBlockOf table body.block (body_seen body)
 
 -- a position, and an instance that is evaluated there and whose bodies stand in its blocks
 pub record IsInstanceAt (evaluator : InstanceEvaluator) (stand : Position) (instance : NumberedInstance) : Type 0 where
   pub position : IsPosition evaluator stand
-  pub blocks : HasBlocks (source_text evaluator.evaluation.source.now) instance
+  pub blocks : HasBlocks (table_in evaluator.evaluation.source.now) instance
 
 -- a position, and a body that is evaluated there and stands in its block
 pub record IsBodyAt (evaluator : InstanceEvaluator) (stand : Position) (body : NumberedBody) : Type 0 where
   pub position : IsPosition evaluator stand
-  pub block : IsInBlock (source_text evaluator.evaluation.source.now) body
+  pub block : IsInBlock (table_in evaluator.evaluation.source.now) body
 
 -- a call of a module in a whole source: its body stands in its block, and the module's in its own, and the scope of the module is there
-pub record IsModuleCall (evaluator : InstanceEvaluator) (defined : Module) (home : ℕ) (body : NumberedBody) : Type 0 where
-  pub whole : IsWhole (source_text evaluator.evaluation.source.now)
-  pub block : IsInBlock (source_text evaluator.evaluation.source.now) body
-  pub its_block : IsBlockOf (source_text evaluator.evaluation.source.now) defined.block (body_of defined.body.now)
-  pub there : home < scopes_there evaluator.evaluation
+pub record IsModuleCall (evaluator : InstanceEvaluator) (defined : Module) (defining_scope : ℕ) (body : NumberedBody) : Type 0 where
+  pub whole : IsWhole (table_in evaluator.evaluation.source.now)
+  pub block : IsInBlock (table_in evaluator.evaluation.source.now) body
+  pub its_block : IsBlockOf (table_in evaluator.evaluation.source.now) defined.block (body_of defined.body.now)
+  pub there : defining_scope < scopes_there evaluator.evaluation
 
 -- a position, and a call of a module there
-pub record IsCallAt (evaluator : InstanceEvaluator) (stand : Position) (defined : Module) (home : ℕ) (body : NumberedBody) : Type 0 where
+pub record IsCallAt (evaluator : InstanceEvaluator) (stand : Position) (defined : Module) (defining_scope : ℕ) (body : NumberedBody) : Type 0 where
   pub inside : IsChecked evaluator.unit stand.inside
-  pub called : IsModuleCall evaluator defined home body
+  pub called : IsModuleCall evaluator defined defining_scope body

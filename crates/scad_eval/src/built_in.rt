@@ -3,15 +3,15 @@
 ghost use Rattle.csg_tree.specs.declared.op.Op.TheVariants.{Union};
 ghost use Rattle.primitives.specs.Sizes.{IsSafe};
 ghost use Rattle.scad_ast.specs.ExprView.{args_of};
-ghost use Rattle.scad_evaluation.specs.Meaning.{Gives, then_with};
-ghost use Rattle.scad_evaluation.specs.View.{arguments_of};
+ghost use Rattle.scad_func.specs.Meaning.{Gives, then_with};
+ghost use Rattle.scad_func.specs.View.{arguments_of};
 ghost use Rattle.scad_modules.specs.Bounds.{IsSafeCall};
 ghost use Rattle.scad_modules.specs.Effects.{an_extrusion};
 ghost use Rattle.scad_modules.specs.Table.{module_named};
 ghost use Rattle.scad_modules.specs.View.{call_of};
 ghost use Rattle.scad_design.specs.Designs.{moved_by};
 ghost use Rattle.scad_meaning.specs.Meaning.{built_in_design, effect_design, body_design, moved_design, built_in_given};
-ghost use Rattle.scad_pieces.specs.Seen.{instance_design_of};
+ghost use Rattle.scad_instances.specs.Seen.{instance_design_of};
 ghost use Rattle.scad_eval.specs.Keeping.{EvaluatesAt};
 ghost use Rattle.scad_eval.specs.Within.{body_seen, IsBodyAt};
 
@@ -21,12 +21,13 @@ use int_transform::Step;
 use primitives::size_fault;
 use scad_ast::Args;
 use scad_func::with;
+use scad_instances::{
+    InstanceResult, NumberedBody, Position, arguments_for, effect_of, unknown_module,
+    without_geometry,
+};
 use scad_meaning::Extrusion;
 use scad_modules::{BuiltinModule, Effect, builtin_module};
-use scad_pieces::{
-    InstanceResult, NumberedBody, Position, arguments_for, effect_of, silent, unknown,
-};
-use scad_scope::GivenArguments;
+use scad_scope::CallArguments;
 use scad_value::BoundedValue;
 use text_place::{Place, Stop};
 
@@ -46,7 +47,7 @@ impl InstanceEvaluator<'_, '_> {
             built_in_design evaluator here place name.now (args_of args.now) (body_seen body.entry) (module_named name.now)) }
     {
         match builtin_module(name) {
-            None => Err(unknown(name).at(place)),
+            None => Err(unknown_module(name).at(place)),
             Some(built_in) => {
                 let given = arguments_for(&mut self.evaluation, built_in, args)?;
                 self.built_in_made(position, place, built_in, given, body)
@@ -54,33 +55,33 @@ impl InstanceEvaluator<'_, '_> {
         }
     }
 
-    // What a call of a built-in module does, with its special arguments on the chain.
+    // What a call of a built-in module does, with its special arguments among the dynamic bindings.
     #[cycle(instances)]
     fn built_in_made(
         &mut self,
         position: Position,
         place: Place,
         built_in: BuiltinModule,
-        given: GivenArguments<'_, BoundedValue>,
+        given: CallArguments<'_, BoundedValue>,
         body: NumberedBody<'_>,
     ) -> Result<InstanceResult, Stop>
         requires { IsBodyAt self.old position body }
         ensures { EvaluatesAt instance_design_of self.old self.new position result (λ evaluator.
             built_in_given evaluator place built_in (arguments_of given.entry) (body_seen body.entry)) }
     {
-        let GivenArguments { slots, specials } = given;
-        let begun = self.evaluation.begin_specials(specials);
-        let (slots, length) = with(slots, begun)?;
+        let CallArguments { bound, dynamic } = given;
+        let begun = self.evaluation.push_bindings(dynamic);
+        let (bound, length) = with(bound, begun)?;
         let effect = effect_of(
             &self.evaluation,
             self.unit,
             position,
             place,
             built_in,
-            slots,
+            bound,
         )?;
         let made = self.effect_made(position, place, effect, body)?;
-        self.evaluation.end_specials(length);
+        self.evaluation.pop_bindings(length);
         Ok(made)
     }
 
@@ -110,7 +111,7 @@ impl InstanceEvaluator<'_, '_> {
             Effect::Extrusion { height, center } => {
                 self.extruded(position, place, Extrusion { center, height }, body)
             }
-            Effect::Nothing => silent(place, body.body),
+            Effect::Nothing => without_geometry(place, body.body),
             Effect::Children(chosen) => self.children_called(position, place, &chosen),
         }
     }
@@ -128,9 +129,9 @@ impl InstanceEvaluator<'_, '_> {
             then_with (body_design evaluator Union here (body_seen body.entry) turns leaves)
             (λ turns made. Gives turns (moved_design (moved_by steps.now) made))) }
     {
-        let InstanceResult { design, marked } = self.body(Op::Union, position, body)?;
+        let InstanceResult { design, root } = self.body(Op::Union, position, body)?;
         match design.moved_by(self.evaluation.alloc, steps) {
-            Ok(design) => Ok(InstanceResult { design, marked }),
+            Ok(design) => Ok(InstanceResult { design, root }),
             Err(_) => Err(Stop::NoMemory),
         }
     }
@@ -147,7 +148,8 @@ impl InstanceEvaluator<'_, '_> {
         requires stands { IsBodyAt self.old position body }
         requires safe { IsSafe through.height }
         ensures { EvaluatesAt instance_design_of self.old self.new position result
-            (λ evaluator here. effect_design evaluator here place (an_extrusion through.center through.height) (body_seen body.entry)) }
+            (λ evaluator here. effect_design evaluator here place (an_extrusion through.center through.height)
+            (body_seen body.entry)) }
     {
         match size_fault(&[through.height], through.center, self.unit) {
             Some(kind) => Err(kind.at(place)),

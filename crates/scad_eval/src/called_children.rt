@@ -1,16 +1,16 @@
 //! Calls of children.
 
-ghost use Rattle.scad_evaluation.specs.Meaning.{call_in};
+ghost use Rattle.scad_func.specs.Meaning.{activation_in};
 ghost use Rattle.scad_modules.specs.Bounds.{IsSafeChoice};
 ghost use Rattle.scad_modules.specs.View.{chosen_of};
 ghost use Rattle.scad_meaning.specs.Meaning.{children_design, chosen_children};
-ghost use Rattle.scad_pieces.specs.Seen.{instance_design_of};
+ghost use Rattle.scad_instances.specs.Seen.{instance_design_of};
 ghost use Rattle.scad_eval.specs.Keeping.{IsPosition, EvaluatesAt};
 
 use crate::evaluator::InstanceEvaluator;
 use csg_tree::Op;
+use scad_instances::{InstanceResult, Position, join_members, nothing_made};
 use scad_modules::Chosen;
-use scad_pieces::{InstanceResult, Position, joined, nothing_made};
 use text_place::{Place, Stop};
 
 impl InstanceEvaluator<'_, '_> {
@@ -39,15 +39,15 @@ impl InstanceEvaluator<'_, '_> {
         requires position { IsPosition self.old position }
         requires safe { IsSafeChoice (chosen_of chosen.now) }
         ensures { EvaluatesAt instance_design_of self.old self.new position result
-            (λ evaluator here. children_design evaluator here (call_in here.env) (chosen_of chosen.now)) }
+            (λ evaluator here. children_design evaluator here (activation_in here.env) (chosen_of chosen.now)) }
     {
-        match self.evaluation.enclosing_call() {
+        match self.evaluation.enclosing_activation() {
             None => Ok(nothing_made()),
             Some(call) => {
                 let before = self.evaluation.enter_body(call.caller, call.children)?;
                 let members = self.members_in_scope(position, call.children, Some(chosen))?;
                 self.evaluation.leave(before);
-                Ok(joined(self.evaluation.alloc, Op::Union, members)?)
+                Ok(join_members(self.evaluation.alloc, Op::Union, members)?)
             }
         }
     }

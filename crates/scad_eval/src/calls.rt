@@ -3,21 +3,20 @@
 ghost use Rattle.std.specs.Prelude.{◌≡◌, length};
 ghost use Rattle.scad_ast.specs.ExprView.{args_of};
 ghost use Rattle.scad_ast.specs.StatementView.{params_of};
-ghost use Rattle.scad_blocks.specs.TextView.{module_of};
-ghost use Rattle.scad_evaluation.specs.Meaning.{visible_module};
-ghost use Rattle.scad_evaluation.specs.View.{arguments_of, values_seen};
+ghost use Rattle.scad_definitions.specs.TextView.{module_of};
+ghost use Rattle.scad_func.specs.Meaning.{visible_module};
+ghost use Rattle.scad_func.specs.View.{arguments_of, values_seen};
 ghost use Rattle.scad_meaning.specs.Meaning.{call_design, module_design, module_filled, module_given};
-ghost use Rattle.scad_pieces.specs.Seen.{instance_design_of};
+ghost use Rattle.scad_instances.specs.Seen.{instance_design_of};
 ghost use Rattle.scad_eval.specs.Keeping.{env_at, EvaluatesAt};
 ghost use Rattle.scad_eval.specs.Within.{body_seen, IsBodyAt, IsCallAt};
 
 use crate::evaluator::InstanceEvaluator;
 use csg_tree::Op;
 use scad_ast::Args;
-use scad_evaluation::BoundedValues;
-use scad_func::{arguments, parameters_in, with};
-use scad_pieces::{InstanceResult, NumberedBody, Position, joined};
-use scad_scope::{GivenArguments, Module, Names};
+use scad_func::{BoundedValues, arguments, parameters_in, with};
+use scad_instances::{InstanceResult, NumberedBody, Position, join_members};
+use scad_scope::{CallArguments, Module, Names};
 use scad_value::BoundedValue;
 use text_place::{Place, Stop};
 
@@ -34,13 +33,14 @@ impl InstanceEvaluator<'_, '_> {
     ) -> Result<InstanceResult, Stop>
         requires { IsBodyAt self.old position body }
         ensures { EvaluatesAt instance_design_of self.old self.new position result (λ evaluator here.
-            call_design evaluator here place name.now (args_of args.now) (body_seen body.entry) (visible_module here.env name.now)) }
+            call_design evaluator here place name.now (args_of args.now) (body_seen body.entry)
+            (visible_module here.env name.now)) }
     {
         match self.evaluation.module(name) {
-            Some((defined, home)) => {
+            Some((defined, defining_scope)) => {
                 let names = Names::Params(&defined.params.items);
                 let given = arguments(&mut self.evaluation, names, args)?;
-                self.module_called(position, place, defined, home, given, body)
+                self.module_called(position, place, defined, defining_scope, given, body)
             }
             None => self.built_in_called(position, place, name, args, body),
         }
@@ -53,43 +53,45 @@ impl InstanceEvaluator<'_, '_> {
         position: Position,
         place: Place,
         defined: Module<'_>,
-        home: u32,
-        given: GivenArguments<'_, BoundedValue>,
+        defining_scope: u32,
+        given: CallArguments<'_, BoundedValue>,
         body: NumberedBody<'_>,
     ) -> Result<InstanceResult, Stop>
-        requires called { IsCallAt self.old position defined home body }
-        requires given { length given.slots.items ≡ length (params_of defined.params.now) }
+        requires called { IsCallAt self.old position defined defining_scope body }
+        requires given { length given.bound.items ≡ length (params_of defined.params.now) }
         ensures { EvaluatesAt instance_design_of self.old self.new position result (λ evaluator here.
-            module_design evaluator here place (module_of defined.entry, env_at self.old home) (arguments_of given.entry) (body_seen body.entry)) }
+            module_design evaluator here place (module_of defined.entry, env_at self.old defining_scope)
+            (arguments_of given.entry) (body_seen body.entry)) }
     {
         let begun = self.evaluation.begin_counted_call(place);
         let (given, ()) = with(given, begun)?;
-        let made = self.module_with_specials(position, defined, home, given, body)?;
+        let made = self.module_with_bindings(position, defined, defining_scope, given, body)?;
         self.evaluation.end_call();
         Ok(made)
     }
 
-    // A module of the source, with its special arguments on the chain.
+    // A module of the source, with its special arguments among the dynamic bindings.
     #[cycle(instances)]
-    fn module_with_specials(
+    fn module_with_bindings(
         &mut self,
         position: Position,
         defined: Module<'_>,
-        home: u32,
-        given: GivenArguments<'_, BoundedValue>,
+        defining_scope: u32,
+        given: CallArguments<'_, BoundedValue>,
         body: NumberedBody<'_>,
     ) -> Result<InstanceResult, Stop>
-        requires called { IsCallAt self.old position defined home body }
-        requires given { length given.slots.items ≡ length (params_of defined.params.now) }
+        requires called { IsCallAt self.old position defined defining_scope body }
+        requires given { length given.bound.items ≡ length (params_of defined.params.now) }
         ensures { EvaluatesAt instance_design_of self.old self.new position result (λ evaluator.
-            module_given evaluator (module_of defined.entry, env_at self.old home) (arguments_of given.entry) (body_seen body.entry)) }
+            module_given evaluator (module_of defined.entry, env_at self.old defining_scope) (arguments_of given.entry)
+            (body_seen body.entry)) }
     {
-        let GivenArguments { slots, specials } = given;
-        let begun = self.evaluation.begin_specials(specials);
-        let (slots, length) = with(slots, begun)?;
-        let values = parameters_in(&mut self.evaluation, home, defined.params, slots)?;
-        let made = self.module_made(position, defined, home, values, body)?;
-        self.evaluation.end_specials(length);
+        let CallArguments { bound, dynamic } = given;
+        let begun = self.evaluation.push_bindings(dynamic);
+        let (bound, length) = with(bound, begun)?;
+        let values = parameters_in(&mut self.evaluation, defining_scope, defined.params, bound)?;
+        let made = self.module_made(position, defined, defining_scope, values, body)?;
+        self.evaluation.pop_bindings(length);
         Ok(made)
     }
 
@@ -100,18 +102,19 @@ impl InstanceEvaluator<'_, '_> {
         &mut self,
         position: Position,
         defined: Module<'_>,
-        home: u32,
+        defining_scope: u32,
         values: BoundedValues,
         body: NumberedBody<'_>,
     ) -> Result<InstanceResult, Stop>
-        requires called { IsCallAt self.old position defined home body }
+        requires called { IsCallAt self.old position defined defining_scope body }
         requires values { length values.items.items ≡ length defined.params.now.items.items }
         ensures { EvaluatesAt instance_design_of self.old self.new position result
-            (λ evaluator. module_filled evaluator (module_of defined.entry, env_at self.old home) (values_seen values) (body_seen body.entry)) }
+            (λ evaluator. module_filled evaluator (module_of defined.entry, env_at self.old defining_scope)
+            (values_seen values) (body_seen body.entry)) }
     {
-        let before = self.enter_module(defined, home, values, body)?;
+        let before = self.enter_module(defined, defining_scope, values, body)?;
         let members = self.members_in_scope(position, defined.block, None)?;
         self.evaluation.leave(before);
-        Ok(joined(self.evaluation.alloc, Op::Union, members)?)
+        Ok(join_members(self.evaluation.alloc, Op::Union, members)?)
     }
 }

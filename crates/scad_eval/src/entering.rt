@@ -1,18 +1,17 @@
 //! The scopes of modules.
 
 ghost use Rattle.std.specs.Prelude.{◌≡◌, length};
-ghost use Rattle.scad_blocks.specs.Blocks.{statements_of_body};
-ghost use Rattle.scad_blocks.specs.TextView.{module_of};
-ghost use Rattle.scad_evaluation.specs.View.{values_seen};
-ghost use Rattle.scad_evaluation.specs.Evaluations.{env_here};
+ghost use Rattle.scad_definitions.specs.Blocks.{statements_of_body};
+ghost use Rattle.scad_definitions.specs.TextView.{module_of};
+ghost use Rattle.scad_func.specs.View.{values_seen};
+ghost use Rattle.scad_func.specs.Evaluations.{env_here};
 ghost use Rattle.scad_meaning.specs.Meaning.{module_scope};
 ghost use Rattle.scad_eval.specs.Keeping.{env_at, EntersModule};
 ghost use Rattle.scad_eval.specs.Within.{body_seen, IsModuleCall};
 
 use crate::evaluator::InstanceEvaluator;
-use scad_evaluation::BoundedValues;
-use scad_instances::count_children;
-use scad_pieces::NumberedBody;
+use scad_func::BoundedValues;
+use scad_instances::{NumberedBody, count_children};
 use scad_scope::Module;
 use text_place::NoMemory;
 
@@ -22,18 +21,20 @@ impl InstanceEvaluator<'_, '_> {
     pub(crate) fn enter_module(
         &mut self,
         defined: Module<'_>,
-        home: u32,
+        defining_scope: u32,
         values: BoundedValues,
         body: NumberedBody<'_>,
     ) -> Result<u32, NoMemory>
-        requires called { IsModuleCall self.old defined home body }
+        requires called { IsModuleCall self.old defined defining_scope body }
         requires values { length values.items.items ≡ length defined.params.now.items.items }
         ensures { EntersModule self.old self.new result
-            (module_scope (env_at self.old home) (module_of defined.entry) (values_seen values)
+            (module_scope (env_at self.old defining_scope) (module_of defined.entry) (values_seen values)
             (statements_of_body (body_seen body.entry)) (env_here self.old.evaluation)) }
     {
         let count = count_children(&mut self.evaluation, body.block)?;
-        let caller = self.evaluation.enter_call(home, defined.block, body.block)?;
+        let caller = self
+            .evaluation
+            .enter_activation(defining_scope, defined.block, body.block)?;
         self.evaluation.bind_parameters(defined.params, values)?;
         self.evaluation.bind(b"$children", count)?;
         Ok(caller)

@@ -1,9 +1,9 @@
 ghost use Rattle.std.specs.Prelude.{◌≡◌, ◌+◌, ◌≤◌};
-ghost use Rattle.scad_evaluation.specs.Evaluations.{scopes_there};
+ghost use Rattle.scad_func.specs.Evaluations.{scopes_there};
 ghost use Rattle.scad_meaning.specs.Meaning.{most_leaves};
 
 use plane_predicate::Unit;
-use scad_evaluation::Evaluation;
+use scad_func::Evaluation;
 
 /// The evaluation of instances under way: that of their expressions, the unit of lengths, and the leaves
 /// so far. The type keeps the limit of leaves, and that the scope in which is evaluated is the newest.

@@ -4,11 +4,11 @@ ghost use Rattle.std.specs.Prelude.{All, true, map, if◌then◌else◌};
 ghost use Rattle.csg_tree.specs.declared.op.Op.TheVariants.{Union};
 ghost use Rattle.scad_ast.specs.ExprView.{term_of};
 ghost use Rattle.scad_value.specs.Values.{truth_of};
-ghost use Rattle.scad_evaluation.specs.Meaning.{Gives, then_with, value_at};
-ghost use Rattle.scad_evaluation.specs.View.{source_text};
+ghost use Rattle.scad_func.specs.Meaning.{Gives, then_with, value_at};
+ghost use Rattle.scad_func.specs.View.{table_in};
 ghost use Rattle.scad_meaning.specs.Meaning.{setting, body_design, no_design, each_member, core_of_instance, core_design, instance_design};
 ghost use Rattle.scad_instances.specs.Positions.{term_of_numbered};
-ghost use Rattle.scad_pieces.specs.Seen.{instance_design_of, member_designs_of};
+ghost use Rattle.scad_instances.specs.Seen.{instance_design_of, member_designs_of};
 ghost use Rattle.scad_eval.specs.Keeping.{EvaluatesAt};
 ghost use Rattle.scad_eval.specs.Within.{body_seen, IsInBlock, IsInstanceAt, IsBodyAt};
 
@@ -16,10 +16,9 @@ use crate::evaluator::InstanceEvaluator;
 use csg_tree::Op;
 use scad_ast::{Core, Expr};
 use scad_func::evaluate;
-use scad_instances::{NumberedInstance, is_child, is_marked};
-use scad_pieces::{
-    InstanceResult, MemberResults, NumberedBody, Position, no_members, nothing_made, set_apart,
-    with_made,
+use scad_instances::{
+    InstanceResult, MemberResults, NumberedBody, NumberedInstance, Position, as_root,
+    has_root_modifier, is_child, no_members, nothing_made, with_made,
 };
 use scad_value::truth;
 use text_place::{FaultKind, Stop};
@@ -34,10 +33,10 @@ impl InstanceEvaluator<'_, '_> {
     ) -> Result<InstanceResult, Stop>
         requires { IsInstanceAt self.old position instance }
         ensures { EvaluatesAt instance_design_of self.old self.new position result
-            (λ evaluator here. evaluator.deeper here (term_of_numbered instance.entry)) }
+            (λ evaluator here. evaluator.at_next_depth here (term_of_numbered instance.entry)) }
     {
         self.evaluation.begin_evaluation(instance.instance.place())?;
-        let made = self.marked_or_not(position, instance)?;
+        let made = self.by_root_modifier(position, instance)?;
         self.evaluation.end_evaluation();
         Ok(made)
     }
@@ -45,7 +44,7 @@ impl InstanceEvaluator<'_, '_> {
     // What an instance gives at its own depth. The outermost mark `!` counts, and then what it gives is
     // no part of the design around it.
     #[cycle(instances)]
-    fn marked_or_not(
+    fn by_root_modifier(
         &mut self,
         position: Position,
         instance: NumberedInstance<'_>,
@@ -54,17 +53,17 @@ impl InstanceEvaluator<'_, '_> {
         ensures { EvaluatesAt instance_design_of self.old self.new position result
             (λ evaluator here. instance_design evaluator here (term_of_numbered instance.entry)) }
     {
-        if !is_marked(instance.instance) {
+        if !has_root_modifier(instance.instance) {
             return self.core(position, instance);
         }
         if position.inside.is_some() {
             return Err(FaultKind::WrongDimension.at(instance.instance.core.place()));
         }
-        if position.under_mark {
+        if position.under_root {
             return self.core(position, instance);
         }
-        let made = self.core(position.marked(), instance)?;
-        Ok(set_apart(made))
+        let made = self.core(position.inside_root(), instance)?;
+        Ok(as_root(made))
     }
 
     // What an instance gives, whatever its marks are.
@@ -124,8 +123,10 @@ impl InstanceEvaluator<'_, '_> {
     ) -> Result<InstanceResult, Stop>
         requires { IsBodyAt self.old position body }
         ensures { EvaluatesAt instance_design_of self.old self.new position result
-            (λ evaluator here turns leaves. then_with (value_at (setting evaluator.evaluations here) true (term_of test.now) turns) (λ turns value.
-            if truth_of value then body_design evaluator Union here (body_seen body.entry) turns leaves else Gives turns (no_design leaves))) }
+            (λ evaluator here turns leaves. then_with (value_at (setting evaluator.evaluations here) true
+            (term_of test.now) turns) (λ turns value.
+            if truth_of value then body_design evaluator Union here (body_seen body.entry) turns leaves
+            else Gives turns (no_design leaves))) }
     {
         let value = evaluate(&mut self.evaluation, test)?;
         if truth(&value.value) {
@@ -144,10 +145,12 @@ impl InstanceEvaluator<'_, '_> {
         other: NumberedBody<'_>,
     ) -> Result<InstanceResult, Stop>
         requires stands { IsBodyAt self.old position body }
-        requires other { IsInBlock (source_text self.old.evaluation.source.now) other }
+        requires other { IsInBlock (table_in self.old.evaluation.source.now) other }
         ensures { EvaluatesAt instance_design_of self.old self.new position result
-            (λ evaluator here turns leaves. then_with (value_at (setting evaluator.evaluations here) true (term_of test.now) turns) (λ turns value.
-            body_design evaluator Union here (if truth_of value then body_seen body.entry else body_seen other.entry) turns leaves)) }
+            (λ evaluator here turns leaves. then_with (value_at (setting evaluator.evaluations here) true
+            (term_of test.now) turns) (λ turns value.
+            body_design evaluator Union here (if truth_of value then body_seen body.entry
+            else body_seen other.entry) turns leaves)) }
     {
         let value = evaluate(&mut self.evaluation, test)?;
         if truth(&value.value) {
@@ -156,7 +159,7 @@ impl InstanceEvaluator<'_, '_> {
         self.body(Op::Union, position, other)
     }
 
-    /// What instances give, from the first on. Those that only say something are no members.
+    /// What instances give, from the first on. Those that have no geometry are no members.
     #[cycle(instances)]
     pub(crate) fn members(
         &mut self,

@@ -3,19 +3,17 @@
 ghost use Rattle.scad_modules.specs.Bounds.{IsSafeSolid, IsSafeFlat};
 ghost use Rattle.scad_modules.specs.View.{solid_call_of, flat_call_of};
 ghost use Rattle.scad_design.specs.View.{plain_of};
-ghost use Rattle.scad_meaning.specs.Verdicts.{solid_of, extruded};
-ghost use Rattle.scad_meaning.specs.Meaning.{checked, leaf_design, flat_design, hull_design};
-ghost use Rattle.scad_pieces.specs.Seen.{instance_design_of, IsStopAt};
+ghost use Rattle.scad_meaning.specs.Verdicts.{solid_of, extrusion_mesh};
+ghost use Rattle.scad_meaning.specs.Meaning.{unless_refused, leaf_design, flat_design, hull_design};
+ghost use Rattle.scad_instances.specs.Seen.{instance_design_of, IsStopAt};
 ghost use Rattle.scad_eval.specs.Keeping.{IsThrough, IsPosition, Stays, EvaluatesKeeping, EvaluatesAnywhere};
 
 use crate::evaluator::InstanceEvaluator;
-use primitives::extrude;
-use scad_design::{Design, Part};
+use primitives::{Shape, ShapeStop, extrude};
+use scad_design::{Design, LeafShape};
+use scad_instances::{InstanceResult, Position, design_hull, flat_shape, is_nothing, solid_shape};
 use scad_meaning::Extrusion;
 use scad_modules::{FlatShape, SolidShape};
-use scad_pieces::{InstanceResult, Position};
-use scad_shapes::{design_hull, flat_shape, is_nothing, solid_shape};
-use shape_planes::{Shape, ShapeStop};
 use text_place::{FaultKind, Place, Stop};
 
 // The most leaves of one design.
@@ -26,7 +24,7 @@ impl InstanceEvaluator<'_, '_> {
     pub(crate) fn solid(&mut self, place: Place, shape: &SolidShape) -> Result<InstanceResult, Stop>
         requires { IsSafeSolid (solid_call_of shape.now) }
         ensures { EvaluatesAnywhere instance_design_of self.old self.new result (λ evaluator here turns leaves.
-            checked (evaluator.judge.solid evaluator.unit (solid_call_of shape.now)) place
+            unless_refused (evaluator.judge.solid evaluator.unit (solid_call_of shape.now)) place
             (leaf_design place (solid_of evaluator.unit (solid_call_of shape.now)) turns leaves)) }
     {
         match solid_shape(self.evaluation.alloc, self.unit, shape) {
@@ -63,8 +61,8 @@ impl InstanceEvaluator<'_, '_> {
         requires through { IsThrough self.old.unit through }
         requires safe { IsSafeFlat (flat_call_of shape.now) }
         ensures { EvaluatesAnywhere instance_design_of self.old self.new result (λ evaluator here turns leaves.
-            checked (evaluator.judge.flat evaluator.unit (flat_call_of shape.now)) place
-            (leaf_design place (extruded evaluator.unit through (flat_call_of shape.now)) turns leaves)) }
+            unless_refused (evaluator.judge.flat evaluator.unit (flat_call_of shape.now)) place
+            (leaf_design place (extrusion_mesh evaluator.unit through (flat_call_of shape.now)) turns leaves)) }
     {
         let alloc = self.evaluation.alloc;
         match flat_shape(alloc, self.unit, shape) {
@@ -86,16 +84,16 @@ impl InstanceEvaluator<'_, '_> {
         ensures { EvaluatesAnywhere instance_design_of self.old self.new result (λ evaluator here turns leaves.
             hull_design (evaluator.judge.hull (plain_of made.design)) place (instance_design_of leaves made) turns) }
     {
-        let InstanceResult { design, marked } = made;
+        let InstanceResult { design, root } = made;
         if is_nothing(&design) {
-            return Ok(InstanceResult { design, marked });
+            return Ok(InstanceResult { design, root });
         }
         match design_hull(self.evaluation.alloc, &design) {
             Ok(shape) => {
                 let leaf = self.leaf(place, shape)?;
                 Ok(InstanceResult {
                     design: leaf.design,
-                    marked,
+                    root,
                 })
             }
             Err(stop) => Err(stop_at(stop, place)),
@@ -112,8 +110,8 @@ impl InstanceEvaluator<'_, '_> {
         }
         self.leaves += 1;
         Ok(InstanceResult {
-            design: Design::Leaf(Part::of(self.evaluation.alloc, shape, place)),
-            marked: None,
+            design: Design::Leaf(LeafShape::of(self.evaluation.alloc, shape, place)),
+            root: None,
         })
     }
 }

@@ -1,4 +1,7 @@
-//! Evaluation: the tree that a program means, or its first fault.
+//! The evaluator of programs: the tree that a program means, or its first fault.
+//!
+//! What it promises is `IsMeaning` of `scad_meaning`. Each step is told by `Keeping.EvaluatesKeeping`: the equation of the
+//! meaning that it meets, and what stays as it was.
 #![tactic(auto)]
 
 mod assigning;

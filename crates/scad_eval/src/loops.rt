@@ -4,9 +4,9 @@ ghost use Rattle.std.specs.Prelude.{[], map};
 ghost use Rattle.csg_tree.specs.declared.op.Op.TheVariants.{Union};
 ghost use Rattle.scad_ast.specs.StatementView.{binder_of, binders_of};
 ghost use Rattle.scad_value.specs.BoundedView.{bounded_val};
-ghost use Rattle.scad_meaning.specs.Meaning.{loop_design, each_turn, each_step, in_loop};
+ghost use Rattle.scad_meaning.specs.Meaning.{loop_design, each_iteration, each_step, in_loop};
 ghost use Rattle.scad_instances.specs.Items.{remaining_in};
-ghost use Rattle.scad_pieces.specs.Seen.{instance_design_of, member_designs_of};
+ghost use Rattle.scad_instances.specs.Seen.{instance_design_of, member_designs_of};
 ghost use Rattle.scad_eval.specs.Keeping.{EvaluatesAt};
 ghost use Rattle.scad_eval.specs.Steps.{one_step};
 ghost use Rattle.scad_eval.specs.Within.{body_seen, IsBodyAt};
@@ -15,10 +15,9 @@ use crate::evaluator::InstanceEvaluator;
 use csg_tree::Op;
 use scad_ast::{Binder, Binders};
 use scad_func::evaluate;
-use scad_instances::Items;
-use scad_pieces::{
-    InstanceResult, MemberResults, NumberedBody, Position, joined, no_members, with_made,
-    with_members,
+use scad_instances::{
+    InstanceResult, Items, MemberResults, NumberedBody, Position, join_members, no_members,
+    with_made, with_members,
 };
 use scad_value::BoundedValue;
 use text_place::{FaultKind, Place, Stop};
@@ -28,7 +27,7 @@ use text_place::{FaultKind, Place, Stop};
 const SCOPES: u32 = 2048;
 
 impl InstanceEvaluator<'_, '_> {
-    /// The members of a loop's turns, joined by an operation.
+    /// The members of a loop's iterations, joined by an operation.
     #[cycle(instances)]
     pub(crate) fn looped(
         &mut self,
@@ -46,13 +45,13 @@ impl InstanceEvaluator<'_, '_> {
         if binders.items.len() > u32::MAX as usize {
             return Err(Stop::NoMemory);
         }
-        let members = self.turns(position, place, &binders.items, body)?;
-        Ok(joined(self.evaluation.alloc, op, members)?)
+        let members = self.iterations(position, place, &binders.items, body)?;
+        Ok(join_members(self.evaluation.alloc, op, members)?)
     }
 
-    // The turns of a loop: one for each choice of a value for every variable, the first one slowest.
+    // The iterations of a loop: one for each choice of a value for every variable, the first one slowest.
     #[cycle(instances)]
-    fn turns(
+    fn iterations(
         &mut self,
         position: Position,
         place: Place,
@@ -61,10 +60,10 @@ impl InstanceEvaluator<'_, '_> {
     ) -> Result<MemberResults, Stop>
         requires { IsBodyAt self.old position body }
         ensures { EvaluatesAt member_designs_of self.old self.new position result
-            (λ evaluator. each_turn evaluator place (map binder_of binders.now) (body_seen body.entry)) }
+            (λ evaluator. each_iteration evaluator place (map binder_of binders.now) (body_seen body.entry)) }
     {
         match binders.split_first() {
-            None => self.one_turn(position, place, body),
+            None => self.one_iteration(position, place, body),
             Some((binder, rest)) => {
                 let value = evaluate(&mut self.evaluation, &binder.values)?;
                 match Items::of(value) {
@@ -77,9 +76,9 @@ impl InstanceEvaluator<'_, '_> {
         }
     }
 
-    // One turn gives the union of the loop's body.
+    // One iteration gives the union of the loop's body.
     #[cycle(instances)]
-    fn one_turn(
+    fn one_iteration(
         &mut self,
         position: Position,
         place: Place,
@@ -87,14 +86,14 @@ impl InstanceEvaluator<'_, '_> {
     ) -> Result<MemberResults, Stop>
         requires { IsBodyAt self.old position body }
         ensures { EvaluatesAt member_designs_of self.old self.new position result
-            (λ evaluator. each_turn evaluator place [] (body_seen body.entry)) }
+            (λ evaluator. each_iteration evaluator place [] (body_seen body.entry)) }
     {
         self.evaluation.turn(place)?;
         let made = self.body(Op::Union, position, body);
         with_made(no_members(self.evaluation.alloc), true, made)
     }
 
-    // The turns of a loop for each value of a variable, with the variables behind it.
+    // The iterations of a loop for each value of a variable, with the variables behind it.
     #[cycle(instances)]
     fn each_item(
         &mut self,
@@ -107,7 +106,8 @@ impl InstanceEvaluator<'_, '_> {
     ) -> Result<MemberResults, Stop>
         requires { IsBodyAt self.old position body }
         ensures { EvaluatesAt member_designs_of self.old self.new position result (λ evaluator here.
-            each_step place (λ item. each_turn evaluator place (map binder_of rest.now) (body_seen body.entry) (in_loop here name.now item))
+            each_step place (λ item. each_iteration evaluator place (map binder_of rest.now) (body_seen body.entry)
+            (in_loop here name.now item))
             (remaining_in items.remaining)) }
     {
         let mut remaining = items;
@@ -119,7 +119,7 @@ impl InstanceEvaluator<'_, '_> {
         Ok(members)
     }
 
-    // The turns of a loop for one value of a variable. Where nothing followed, that counts one turn.
+    // The iterations of a loop for one value of a variable. Where nothing followed, that counts one turn.
     #[cycle(instances)]
     fn step(
         &mut self,
@@ -132,19 +132,20 @@ impl InstanceEvaluator<'_, '_> {
     ) -> Result<MemberResults, Stop>
         requires { IsBodyAt self.old position body }
         ensures { EvaluatesAt member_designs_of self.old self.new position result
-            (λ evaluator. one_step evaluator place name.now (map binder_of rest.now) (body_seen body.entry) (bounded_val value)) }
+            (λ evaluator. one_step evaluator place name.now (map binder_of rest.now) (body_seen body.entry)
+            (bounded_val value)) }
     {
-        let members = self.turns_with(position, place, name, rest, body, value)?;
+        let members = self.iterations_with(position, place, name, rest, body, value)?;
         if members.designs.is_empty() {
             self.evaluation.turn(place)?;
         }
         Ok(members)
     }
 
-    // The turns of a loop for one value of a variable, which has a scope of its own. `NoMemory` where too many
+    // The iterations of a loop for one value of a variable, which has a scope of its own. `NoMemory` where too many
     // scopes stand in one another.
     #[cycle(instances)]
-    fn turns_with(
+    fn iterations_with(
         &mut self,
         position: Position,
         place: Place,
@@ -155,7 +156,7 @@ impl InstanceEvaluator<'_, '_> {
     ) -> Result<MemberResults, Stop>
         requires { IsBodyAt self.old position body }
         ensures { EvaluatesAt member_designs_of self.old self.new position result
-            (λ evaluator here. each_turn evaluator place (map binder_of rest.now) (body_seen body.entry)
+            (λ evaluator here. each_iteration evaluator place (map binder_of rest.now) (body_seen body.entry)
             (in_loop here name.now (bounded_val value))) }
     {
         let before = self.evaluation.enter_empty()?;
@@ -163,7 +164,7 @@ impl InstanceEvaluator<'_, '_> {
             return Err(Stop::NoMemory);
         }
         self.evaluation.bind(name, value)?;
-        let members = self.turns(position, place, rest, body)?;
+        let members = self.iterations(position, place, rest, body)?;
         self.evaluation.leave(before);
         Ok(members)
     }

@@ -5,8 +5,8 @@ ghost use Rattle.csg_tree.specs.ProperTrees.{IsProper};
 ghost use Rattle.csg_tree.specs.Trees.{formula_of};
 ghost use Rattle.scad_ast.specs.Terms.{StatementTerm};
 ghost use Rattle.scad_ast.specs.ProgramView.{program_of};
-ghost use Rattle.scad_evaluation.specs.View.{IsTextOf, source_text};
-ghost use Rattle.scad_evaluation.specs.Definitions.{IsWhole};
+ghost use Rattle.scad_func.specs.View.{IsTableOf, table_in};
+ghost use Rattle.scad_func.specs.Definitions.{IsWhole};
 ghost use Rattle.scad_design.specs.View.{plain_of};
 ghost use Rattle.scad_meaning.specs.Meaning.{or_all};
 ghost use Rattle.scad_meaning.specs.Sources.{IsMeaning, a_tree, IsMeaningStop, HoldsFault};
@@ -17,9 +17,9 @@ use csg_tree::{CsgTree, Op};
 use plane_predicate::Unit;
 use scad_ast::Program;
 use scad_design::{Design, balanced, place};
-use scad_evaluation::{Evaluation, Source};
+use scad_func::{Evaluation, Source};
+use scad_instances::{MemberResults, Position};
 use scad_meaning::programs_mean_proper_trees;
-use scad_pieces::{MemberResults, Position};
 use scad_scope::Scopes;
 use std::alloc::Global;
 use text_place::{NoMemory, Stop};
@@ -31,6 +31,7 @@ pub fn evaluate(alloc: Global, program: &Program, unit: Unit) -> Result<CsgTree,
     ensures place { IfErr result (HoldsFault (program_of program.now)) }
     ensures proper { IfOk result (λ tree. IsProper (formula_of tree)) }
 {
+    // Brings a law alone: the tree that a program means is proper.
     programs_mean_proper_trees();
     let source = Source::of(alloc, program)?;
     let mut scopes = Scopes::new(alloc)?;
@@ -46,8 +47,8 @@ fn design_of(
     unit: Unit,
 ) -> Result<Design, Stop>
     requires table { IsFirstTable scopes.old }
-    requires whole { IsWhole (source_text source.now) }
-    ensures { (program : List StatementTerm) → IsTextOf source.now program → MeetsDesign unit program result }
+    requires whole { IsWhole (table_in source.now) }
+    ensures { (program : List StatementTerm) → IsTableOf source.now program → MeetsDesign unit program result }
 {
     let mut evaluator = InstanceEvaluator {
         evaluation: Evaluation {
@@ -65,7 +66,7 @@ fn design_of(
     evaluator.evaluation.enter_body(0, 0)?;
     let position = Position {
         inside: None,
-        under_mark: false,
+        under_root: false,
     };
     let members = evaluator.members_in_scope(position, 0, None)?;
     Ok(first_or_all(alloc, members)?)
@@ -73,10 +74,11 @@ fn design_of(
 
 // The first design that is marked `!`, or else all.
 fn first_or_all(alloc: Global, members: MemberResults) -> Result<Design, NoMemory>
-    ensures { IfOk result (λ design. plain_of design ≡ or_all (option_map plain_of members.marked) (map plain_of members.designs.items)) }
+    ensures { IfOk result (λ design. plain_of design ≡ or_all (option_map plain_of members.root)
+        (map plain_of members.designs.items)) }
 {
-    let MemberResults { designs, marked } = members;
-    match marked {
+    let MemberResults { designs, root } = members;
+    match root {
         Some(design) => Ok(design),
         None => balanced(alloc, Op::Union, designs),
     }

@@ -1,19 +1,20 @@
 //! Bodies, in scopes of their own.
 
 ghost use Rattle.std.specs.Prelude.{OnOk};
-ghost use Rattle.scad_evaluation.specs.View.{source_text};
-ghost use Rattle.scad_evaluation.specs.Definitions.{statements_at};
+ghost use Rattle.scad_func.specs.View.{table_in};
+ghost use Rattle.scad_func.specs.Definitions.{statements_at};
 ghost use Rattle.scad_meaning.specs.Meaning.{body_design, block_members};
-ghost use Rattle.scad_pieces.specs.Seen.{instance_design_of, member_designs_of};
+ghost use Rattle.scad_instances.specs.Seen.{instance_design_of, member_designs_of};
 ghost use Rattle.scad_eval.specs.Keeping.{IsPosition, Binds, EvaluatesKeeping, EvaluatesAt};
 ghost use Rattle.scad_instances.specs.Choosing.{chosen_seen, IsSafeChosen};
 ghost use Rattle.scad_eval.specs.Within.{body_seen, IsBodyAt};
 
 use crate::evaluator::InstanceEvaluator;
 use csg_tree::Op;
-use scad_instances::chosen_instances;
+use scad_instances::{
+    InstanceResult, MemberResults, NumberedBody, Position, chosen_instances, join_members,
+};
 use scad_modules::Chosen;
-use scad_pieces::{InstanceResult, MemberResults, NumberedBody, Position, joined};
 use text_place::Stop;
 
 impl InstanceEvaluator<'_, '_> {
@@ -33,11 +34,11 @@ impl InstanceEvaluator<'_, '_> {
         let before = self.evaluation.enter_body(outer, body.block)?;
         let members = self.members_in_scope(position, body.block, None)?;
         self.evaluation.leave(before);
-        Ok(joined(self.evaluation.alloc, op, members)?)
+        Ok(join_members(self.evaluation.alloc, op, members)?)
     }
 
     /// The members of a block in whose scope is evaluated, the newest one: its assignments, then its instances, or of
-    /// its children those that are chosen. Its special names are on the chain meanwhile.
+    /// its children those that are chosen. Its special names are among the dynamic bindings meanwhile.
     #[cycle(instances)]
     pub(crate) fn members_in_scope(
         &mut self,
@@ -47,15 +48,15 @@ impl InstanceEvaluator<'_, '_> {
     ) -> Result<MemberResults, Stop>
         requires position { IsPosition self.old position }
         requires safe { IsSafeChosen chosen }
-        ensures { let statements = statements_at (source_text self.old.evaluation.source.now) block in
+        ensures { let statements = statements_at (table_in self.old.evaluation.source.now) block in
             EvaluatesKeeping member_designs_of self.old self.new position result (OnOk result (Binds self.old self.new))
             (λ evaluator. block_members evaluator (chosen_seen chosen.entry) statements) }
     {
-        let length = self.evaluation.chain_length()?;
+        let length = self.evaluation.count_bindings()?;
         self.assign_all(block)?;
         let instances = chosen_instances(&self.evaluation, block, chosen)?;
         let members = self.members(position, &instances)?;
-        self.evaluation.end_specials(length);
+        self.evaluation.pop_bindings(length);
         Ok(members)
     }
 }

@@ -9,10 +9,10 @@ use Rattle.scad_grammar.specs.Faults.{TokenReader, one, fault_of, left_out_class
 use Rattle.scad_grammar.specs.Grammar.{levels}
 use Rattle.scad_grammar.specs.Reading.{Read, after, starts, choice}
 use Rattle.scad_grammar.specs.Reads.{suffix_read, unary_read, chain_read, paren_read, bracket_read, name_read, primary_read, choice_read}
-use Rattle.scad_tokens.specs.declared.class.Level.{Level}
+use Rattle.scad_expressions.specs.declared.class.Level.{Level}
 use Rattle.scad_expressions.specs.Climbing.{climb_read}
-use Rattle.scad_tokens.specs.TokenClasses.{classes_of_levels, binary_signs, unary_signs, suffix_signs, literals, atoms, continuations, operators_at, levels_below}
-use Rattle.scad_tokens.specs.Views.{has_lone_atom, atom_of}
+use Rattle.scad_expressions.specs.TokenClasses.{classes_of_levels, binary_signs, unary_signs, suffix_signs, literals, atoms, continuations, operators_at, levels_below}
+use Rattle.scad_expressions.specs.Views.{has_lone_atom, atom_of}
 use Rattle.scad_expressions.proofs.Given.{both_hold}
 use Rattle.scad_expressions.proofs.Climbs.{chain_climbs, climbs_none, many_none, starts_apart, none_at, none_below}
 

@@ -8,10 +8,10 @@ use Rattle.scad_grammar.specs.Faults.{TokenReader, one}
 use Rattle.scad_grammar.specs.Grammar.{levels, chain_term, link}
 use Rattle.scad_grammar.specs.Reading.{Read, after, starts, mapped, both, many_times, many}
 use Rattle.scad_grammar.specs.Reads.{chain_read}
-use Rattle.scad_tokens.specs.declared.class.Level.{Level}
-use Rattle.scad_tokens.specs.declared.class.Level.TheVariants.{Or, And, Equal, Order, Sum, Product}
+use Rattle.scad_expressions.specs.declared.class.Level.{Level}
+use Rattle.scad_expressions.specs.declared.class.Level.TheVariants.{Or, And, Equal, Order, Sum, Product}
 use Rattle.scad_expressions.specs.Climbing.{climb_read}
-use Rattle.scad_tokens.specs.TokenClasses.{classes_of_levels, binary_signs, operators_at, looser_than, levels_below, levels_at, tighter_levels}
+use Rattle.scad_expressions.specs.TokenClasses.{classes_of_levels, binary_signs, operators_at, looser_than, levels_below, levels_at, tighter_levels}
 use Rattle.scad_expressions.proofs.Levels.{same_level, looser_step}
 
 one_by_one : {A B C : Type 0} (q : Read Token SyntaxFault A) (f : A → TokenReader B) (g : B → TokenReader C)

@@ -8,7 +8,7 @@ use Rattle.scad_grammar.specs.Faults.{TokenReader}
 use Rattle.scad_grammar.specs.Grammar.{given_term}
 use Rattle.scad_grammar.specs.Reading.{Read, after, mapped, ahead}
 use Rattle.scad_grammar.specs.Reads.{arg_in, expr_read}
-use Rattle.scad_tokens.specs.Views.{value_assigned}
+use Rattle.scad_expressions.specs.Views.{value_assigned}
 
 pub both_hold : (b c : Bool) → (b && c) ≡ true → (b ≡ true) × (c ≡ true)
 both_hold true true e = (refl, refl)

@@ -10,16 +10,16 @@ use Rattle.scad_grammar.specs.Languages.{Language, first_of, second_of, cons}
 use Rattle.scad_grammar.specs.Grammar.{whole, Statement, link, chain_term, index_term, member_term, mark_term, param_term, binder_term}
 use Rattle.scad_grammar.specs.Faults.{TokenReader, one, fault_of, left_out_classes, left_out_of_expressions}
 use Rattle.scad_grammar.specs.Reading.{Read, after, starts, mapped, nothing, both, maybe, many, trailing}
-use Rattle.scad_grammar.specs.Reads.{firsts_of_expression, nested, head_of, given, suffix_read, unary_read, primary_read, chain_read, args_read, in_parentheses, arg_in, expr_read, operand_read}
+use Rattle.scad_grammar.specs.Reads.{firsts_of_expression, nested, head_of, argument_given, suffix_read, unary_read, primary_read, chain_read, args_read, in_parentheses, arg_in, expr_read, operand_read}
 use Rattle.scad_grammar.specs.StatementReads.{mark_signs, param_in, binder_in, firsts_of_statement, statement_read}
 use Rattle.scad_grammar.proofs.Readers.{Told, IsReader, Opens}
 use Rattle.scad_grammar.proofs.Shrinks.{left, Shrinks, one_shrinks, nothing_shrinks, mapped_shrinks, both_shrinks, choice_shrinks, ahead_shrinks, many_shrinks, trailing_shrinks}
 use Rattle.scad_grammar.proofs.Expressions.{depth_reads}
 use Rattle.scad_grammar.proofs.Statements.{statement_depth_reads, statement_depth_opens}
-use Rattle.scad_tokens.specs.declared.class.Level.{Level}
-use Rattle.scad_tokens.specs.declared.next.Stopped.{Stopped}
-use Rattle.scad_tokens.specs.TokenClasses.{operators_at, levels_below}
-use Rattle.scad_tokens.specs.Views.{GivesRead}
+use Rattle.scad_expressions.specs.declared.class.Level.{Level}
+use Rattle.scad_expressions.specs.declared.next.Stopped.{Stopped}
+use Rattle.scad_expressions.specs.TokenClasses.{operators_at, levels_below}
+use Rattle.scad_expressions.specs.Views.{GivesRead}
 use Rattle.scad_expressions.proofs.Loops.{Shorter, Strictly}
 
 shorter : {A : Type 0} (r : TokenReader A) → Shrinks r → Shorter r
@@ -71,7 +71,7 @@ valued_shrinks d = both_shrinks second_of (one (is assign_sign)) (expr_read d) (
 
 arg_shrinks : (d : ℕ) → Shrinks (arg_in d (expr_read d))
 arg_shrinks zero = nested_shrinks firsts_of_expression left_out_of_expressions
-arg_shrinks (suc d) = ahead_shrinks given (among argument_names) (is assign_sign) (expr_read (suc d)) (mapped PositionalTerm (expr_read (suc d))) (expr_shrinks (suc d)) (mapped_shrinks PositionalTerm (expr_read (suc d)) (expr_shrinks (suc d)))
+arg_shrinks (suc d) = ahead_shrinks argument_given (among argument_names) (is assign_sign) (expr_read (suc d)) (mapped PositionalTerm (expr_read (suc d))) (expr_shrinks (suc d)) (mapped_shrinks PositionalTerm (expr_read (suc d)) (expr_shrinks (suc d)))
 
 args_shrinks : (a : TokenReader ArgTerm) → Shrinks a → Shrinks (args_read a)
 args_shrinks a h =

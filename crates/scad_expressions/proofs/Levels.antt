@@ -1,8 +1,8 @@
 -- The levels of operators, by how many bind more tightly.
 use Rattle.std.proofs.Common.{◌≡◌, ℕ, zero, suc, ◌<◌, ◌≤◌, refl, sym, ap, ◌∙◌, arith}
-use Rattle.scad_tokens.specs.declared.class.Level.{Level}
-use Rattle.scad_tokens.specs.declared.class.Level.TheVariants.{Or, And, Equal, Order, Sum, Product}
-use Rattle.scad_tokens.specs.TokenClasses.{looser_than, levels_below, levels_at, tighter_levels}
+use Rattle.scad_expressions.specs.declared.class.Level.{Level}
+use Rattle.scad_expressions.specs.declared.class.Level.TheVariants.{Or, And, Equal, Order, Sum, Product}
+use Rattle.scad_expressions.specs.TokenClasses.{looser_than, levels_below, levels_at, tighter_levels}
 
 abbrev level_of : ℕ → Level
 level_of zero = Product

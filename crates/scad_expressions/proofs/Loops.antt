@@ -5,7 +5,7 @@ use Rattle.scad_grammar.specs.declared.SyntaxFault.{SyntaxFault}
 use Rattle.scad_grammar.specs.Classes.{comma_sign, is}
 use Rattle.scad_grammar.specs.Faults.{TokenReader}
 use Rattle.scad_grammar.specs.Reading.{Read, after, starts, with_front, many_times, many, trailing_times, trailing}
-use Rattle.scad_tokens.specs.Views.{item_stands, past_comma}
+use Rattle.scad_expressions.specs.Views.{item_stands, past_comma}
 
 -- no more tokens are left than there were, and fewer
 abbrev pub Shorter : {A : Type 0} → TokenReader A → Type 0

@@ -14,9 +14,9 @@ use Rattle.scad_grammar.specs.Classes.{open_parenthesis_sign, close_parenthesis_
 use Rattle.scad_grammar.specs.Faults.{TokenReader, one}
 use Rattle.scad_grammar.specs.Reading.{Read, after}
 use Rattle.scad_grammar.specs.Reads.{in_parentheses}
-use Rattle.scad_tokens.specs.declared.next.Stopped.{Stopped}
-use Rattle.scad_tokens.specs.declared.next.Stopped.TheVariants.{Fault, NoMemory}
-use Rattle.scad_tokens.specs.Views.{GivesRead, plain, closed_by, IsClosed, IsBoxed}
+use Rattle.scad_expressions.specs.declared.next.Stopped.{Stopped}
+use Rattle.scad_expressions.specs.declared.next.Stopped.TheVariants.{Fault, NoMemory}
+use Rattle.scad_expressions.specs.Views.{GivesRead, plain, closed_by, IsClosed, IsBoxed}
 
 -- a fault of a part is one of the whole
 abbrev GoesOn : {A X : Type 0} → (A → X) → {B Y : Type 0} → (B → Y) → Type 0

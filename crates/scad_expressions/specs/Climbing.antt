@@ -6,8 +6,8 @@ use Rattle.scad_grammar.specs.Faults.{TokenReader, one}
 use Rattle.scad_grammar.specs.Grammar.{chain_term, link}
 use Rattle.scad_grammar.specs.Reading.{both, many}
 use Rattle.scad_grammar.specs.Reads.{expr_read, operand_read, arg_in, primary_read, unary_read, chain_read}
-use Rattle.scad_tokens.specs.declared.class.Level.{Level}
-use Rattle.scad_tokens.specs.TokenClasses.{operators_at, levels_below}
+use Rattle.scad_expressions.specs.declared.class.Level.{Level}
+use Rattle.scad_expressions.specs.TokenClasses.{operators_at, levels_below}
 
 -- a primary, an operand with its operators before it, and an operator of a level with what stands behind it, over what
 -- is less deep than so much

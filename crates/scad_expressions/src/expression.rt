@@ -9,21 +9,21 @@ ghost use Rattle.scad_grammar.specs.Languages.{pair_of, second_of};
 ghost use Rattle.scad_grammar.specs.Reading.{starts, both, mapped, maybe, many, trailing, in_front};
 ghost use Rattle.scad_grammar.specs.Reads.{expr_read, operand_read, arg_in, args_read, postfix_read, suffix_read, chain_read, choice_read, name_read, paren_read, bracket_read, range_read, rest_read, in_parentheses};
 ghost use Rattle.scad_expressions.specs.Climbing.{primary_in, unary_in, link_in, climb_read};
-ghost use Rattle.scad_tokens.specs.TokenClasses.{operators_at, levels_below, atoms, suffix_signs};
-ghost use Rattle.scad_tokens.specs.Views.{GivesRead, atom_of};
+ghost use Rattle.scad_expressions.specs.TokenClasses.{operators_at, levels_below, atoms, suffix_signs};
+ghost use Rattle.scad_expressions.specs.Views.{GivesRead, atom_of};
 
-use compact_bytes::CompactBytes;
+use crate::{
+    Level, Parsed, TokenClass, assigned, behind_comma, binary_operator, boxed, bytes, closed,
+    is_before, is_comma_before, list_of, lone_atom, take, take_first, too_deep, unary_operator,
+    with,
+};
 use scad_ast::{
     Arg, Args, Call, Chain, Choice, Expr, Exprs, Link, Links, Postfix, Range, SteppedRange, Suffix,
     Suffixes,
 };
 use scad_lexer::{Reserved, Symbol, Token, TokenKind};
-use scad_tokens::{
-    Level, Parsed, TokenClass, assigned, behind_comma, binary_operator, boxed, bytes, closed,
-    is_before, is_comma_before, list_of, lone_atom, take, take_first, too_deep, unary_operator,
-    with,
-};
 use std::alloc::Global;
+use text_place::CompactBytes;
 
 // What is rare stands in functions that are not inlined: the locals of a function are cleared at each call, also
 // those of forms that are not met. What was read is handed on as it is where nothing follows it, rather than taken

@@ -10,20 +10,20 @@ use Rattle.scad_value.specs.View.{val_of, vals_in}
 use Rattle.scad_value.specs.declared.bounded_value.BoundedValue.{BoundedValue}
 use Rattle.scad_value.specs.BoundedView.{bounded_val}
 use Rattle.scad_ast.specs.Terms.{ArgTerms, ArgTerm}
-use Rattle.scad_arguments.specs.Arguments.{positional_after, Taker, to_parameter, to_special, taker_of, with_argument}
-use Rattle.scad_evaluation.specs.Meaning.{Outcome, Gives, Setting, value_at, then_with, Arguments, each_argument}
-use Rattle.scad_evaluation.specs.Steps.{argument_of}
-use Rattle.scad_evaluation.specs.declared.values.BoundedValues.{BoundedValues}
-use Rattle.scad_evaluation.specs.View.{MeetsOutcome, IsNoMemory, IsOneMore, values_seen, arguments_of}
-use Rattle.scad_answer.specs.View.{IsAlone}
-use Rattle.scad_evaluation.proofs.GivenSeen.{IsHeld}
-use Rattle.scad_arguments.specs.declared.parameters.GivenArguments.{GivenArguments}
-use Rattle.scad_evaluation.proofs.Calls.{in_front}
-use Rattle.scad_evaluation.specs.declared.evaluation.Evaluation.{Evaluation}
-use Rattle.scad_evaluation.specs.Evaluations.{Keeps, EvaluatesTo, setting_here}
+use Rattle.scad_definitions.specs.Arguments.{positional_after, DestinationTerm, to_parameter, to_special, destination_of, with_argument}
+use Rattle.scad_func.specs.Meaning.{Outcome, Gives, Setting, value_at, then_with, Arguments, each_argument}
+use Rattle.scad_func.specs.Steps.{argument_of}
+use Rattle.scad_func.specs.declared.values.BoundedValues.{BoundedValues}
+use Rattle.scad_func.specs.View.{MeetsOutcome, IsNoMemory, IsOneMore, values_seen, arguments_of}
+use Rattle.scad_value.specs.AnswerView.{IsAlone}
+use Rattle.scad_func.proofs.GivenSeen.{IsHeld}
+use Rattle.scad_definitions.specs.declared.parameters.CallArguments.{CallArguments}
+use Rattle.scad_func.proofs.Calls.{in_front}
+use Rattle.scad_func.specs.declared.evaluation.Evaluation.{Evaluation}
+use Rattle.scad_func.specs.Evaluations.{Keeps, EvaluatesTo, setting_here}
 use Rattle.scad_func.proofs.Kept.{moved}
-use Rattle.scad_evaluation.proofs.Outcomes.{meets_along, front_more, and_arg}
-use Rattle.scad_evaluation.proofs.Steps.{argument_more, argument_fault}
+use Rattle.scad_func.proofs.Outcomes.{meets_along, front_more, and_arg}
+use Rattle.scad_func.proofs.Steps.{argument_more, argument_fault}
 
 abbrev pub and_then : Outcome Val → (ℕ → Outcome Vals) → Outcome Vals
 and_then step go = then_with step (λ turns v. then_with (go turns) (λ turns vs. Gives turns (and_val v vs)))
@@ -114,34 +114,34 @@ longer_length before (Err stop) longer l = absurd l
 pub argument_held : (here : Setting) (names : List (List ℕ)) (positional : ℕ) (start : Outcome Arguments) (args : ArgTerms)
     (before : Arguments) (turns : ℕ)
     → start ≡ each_argument here names positional args before turns
-    → (a : ArgTerm) (rest : ArgTerms) (taker : Taker) (then p : ℕ) (r : Result BoundedValue Stop) (after : GivenArguments BoundedValue)
-    → args ≡ and_arg a rest → taker_of names positional before a ≡ Some taker
-    → MeetsOutcome bounded_val r then (value_at here true (argument_of a) turns) → IsHeld before taker r (Ok after)
+    → (a : ArgTerm) (rest : ArgTerms) (target : DestinationTerm) (then p : ℕ) (r : Result BoundedValue Stop) (after : CallArguments BoundedValue)
+    → args ≡ and_arg a rest → destination_of names positional before a ≡ Some target
+    → MeetsOutcome bounded_val r then (value_at here true (argument_of a) turns) → IsHeld before target r (Ok after)
     → p ≡ positional_after positional a → start ≡ each_argument here names p rest (arguments_of after) then
-argument_held here names positional start args before turns b a rest taker then p (Ok v) after e f t g q =
-    argument_more here names positional start args before turns b a rest taker then (bounded_val v) p
+argument_held here names positional start args before turns b a rest target then p (Ok v) after e f t g q =
+    argument_more here names positional start args before turns b a rest target then (bounded_val v) p
     (arguments_of after) e f t q g
-argument_held here names positional start args before turns b a rest taker then p (Err stop) after e f t g q = absurd g
+argument_held here names positional start args before turns b a rest target then p (Err stop) after e f t g q = absurd g
 
 pub argument_stops : (here : Setting) (names : List (List ℕ)) (positional : ℕ) (start : Outcome Arguments) (args : ArgTerms)
     (before : Arguments) (turns : ℕ)
     → start ≡ each_argument here names positional args before turns
-    → (a : ArgTerm) (rest : ArgTerms) (taker : Taker) (m n : ℕ) (r : Result BoundedValue Stop) (stop : Stop)
-    → args ≡ and_arg a rest → taker_of names positional before a ≡ Some taker
-    → MeetsOutcome bounded_val r m (value_at here true (argument_of a) turns) → IsHeld before taker r (Err stop)
+    → (a : ArgTerm) (rest : ArgTerms) (target : DestinationTerm) (m n : ℕ) (r : Result BoundedValue Stop) (stop : Stop)
+    → args ≡ and_arg a rest → destination_of names positional before a ≡ Some target
+    → MeetsOutcome bounded_val r m (value_at here true (argument_of a) turns) → IsHeld before target r (Err stop)
     → MeetsOutcome arguments_of (Err stop) n start
-argument_stops here names positional start args before turns b a rest taker m n (Ok v) stop e f t g =
+argument_stops here names positional start args before turns b a rest target m n (Ok v) stop e f t g =
     subst (λ (x : Stop). MeetsOutcome arguments_of (Err x) n start) (sym g) tt
-argument_stops here names positional start args before turns b a rest taker m n (Err fault) stop e f t g =
+argument_stops here names positional start args before turns b a rest target m n (Err fault) stop e f t g =
     subst (λ (x : Stop). MeetsOutcome arguments_of (Err x) n start) (sym g)
-    (argument_fault here names positional start args before turns b a rest taker m n fault e f t)
+    (argument_fault here names positional start args before turns b a rest target m n fault e f t)
 
-taker_length : (given : Arguments) (taker : Taker) (v : Val) → length (with_argument given taker v).slots ≡ length given.slots
-taker_length given (to_parameter k) v = length-set given.slots k (Some v)
+taker_length : (given : Arguments) (target : DestinationTerm) (v : Val) → length (with_argument given target v).bound ≡ length given.bound
+taker_length given (to_parameter k) v = length-set given.bound k (Some v)
 taker_length given (to_special name) v = refl
 
-pub argument_held_length : (before : Arguments) (taker : Taker) (r : Result BoundedValue Stop)
-    (after : GivenArguments BoundedValue) → IsHeld before taker r (Ok after)
-    → length (arguments_of after).slots ≡ length before.slots
-argument_held_length before taker (Ok v) after g = ap (λ (given : Arguments). length given.slots) g ∙ taker_length before taker (bounded_val v)
-argument_held_length before taker (Err stop) after g = absurd g
+pub argument_held_length : (before : Arguments) (target : DestinationTerm) (r : Result BoundedValue Stop)
+    (after : CallArguments BoundedValue) → IsHeld before target r (Ok after)
+    → length (arguments_of after).bound ≡ length before.bound
+argument_held_length before target (Ok v) after g = ap (λ (given : Arguments). length given.bound) g ∙ taker_length before target (bounded_val v)
+argument_held_length before target (Err stop) after g = absurd g

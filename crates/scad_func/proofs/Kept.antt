@@ -8,55 +8,55 @@ use Rattle.scad_value.specs.declared.bounded_value.BoundedValue.{BoundedValue}
 use Rattle.scad_value.specs.BoundedView.{bounded_val}
 use Rattle.scad_value.specs.Operators.{Answer}
 use Rattle.scad_scope.specs.Names.{Pairs, Row, oldest}
-use Rattle.scad_scope.specs.Table.{rows_of, chain_of}
-use Rattle.scad_arguments.specs.Arguments.{names_of, nothing_given}
-use Rattle.scad_blocks.specs.Blocks.{SourceFunction}
-use Rattle.scad_evaluation.specs.Limits.{most_calls, most_evaluations}
-use Rattle.scad_evaluation.specs.Meaning.{Outcome, Env, Setting, in_scope, with_calls, with_specials, answered, evaluated, each_argument, function_called, called, visible_function, then_with}
-use Rattle.scad_evaluation.specs.declared.source.Source.{Source}
-use Rattle.scad_evaluation.specs.declared.evaluation.Evaluation.{Evaluation}
-use Rattle.scad_evaluation.specs.View.{MeetsOutcome, deepest, env_seen}
-use Rattle.scad_answer.specs.View.{MeetsAnswerAt}
-use Rattle.scad_evaluation.specs.Evaluations.{Keeps, EvaluatesTo, OneCallDeeper, MoreSpecials, OneScopeMore, setting_in, setting_here, env_here, work_left}
-use Rattle.scad_evaluation.proofs.Outcomes.{fault_goes, value_goes, meets_answer}
+use Rattle.scad_scope.specs.Table.{rows_of, bindings_of}
+use Rattle.scad_definitions.specs.Arguments.{names_of, no_arguments_of}
+use Rattle.scad_definitions.specs.Blocks.{SourceFunction}
+use Rattle.scad_func.specs.Limits.{most_calls, most_evaluations}
+use Rattle.scad_func.specs.Meaning.{Outcome, Env, Setting, in_scope, setting_with_calls, with_more_bindings, answer_at, value_within, each_argument, function_called, call_value, visible_function, then_with}
+use Rattle.scad_func.specs.declared.source.Source.{Source}
+use Rattle.scad_func.specs.declared.evaluation.Evaluation.{Evaluation}
+use Rattle.scad_func.specs.View.{MeetsOutcome, deepest, env_seen}
+use Rattle.scad_value.specs.AnswerView.{MeetsAnswerAt}
+use Rattle.scad_func.specs.Evaluations.{Keeps, EvaluatesTo, OneCallDeeper, MoreBindings, OneScopeMore, setting_in, setting_here, env_here, work_left}
+use Rattle.scad_func.proofs.Outcomes.{fault_goes, value_goes, meets_answer}
 
 -- where an expression stands, by what it depends on
 setting_by : Source → List Row → ℕ → ℕ → ℕ → Pairs Val → Setting
-setting_by source rows scope depth calls chain = record {
-  deeper = evaluated (most_evaluations - depth);
-  calls = most_calls - calls;
+setting_by source rows scope depth calls bindings = record {
+  at_next_depth = value_within (most_evaluations - depth);
+  calls_left = most_calls - calls;
   env = env_seen source rows scope;
-  chain = chain;
+  bindings = bindings;
 }
 
 -- where an expression of a scope stands, by what is as before, and by the calls and special names that there are
-setting_from : (old new : Evaluation) (scope calls : ℕ) (chain : Pairs Val) → new.source.now ≡ old.source.now
-    → rows_of new.scopes.now ≡ rows_of old.scopes.now → new.depth ≡ old.depth → new.calls ≡ calls → chain_of new.scopes.now ≡ chain
-    → setting_in new scope ≡ setting_by old.source.now (rows_of old.scopes.now) scope old.depth calls chain
+setting_from : (old new : Evaluation) (scope calls : ℕ) (bindings : Pairs Val) → new.source.now ≡ old.source.now
+    → rows_of new.scopes.now ≡ rows_of old.scopes.now → new.depth ≡ old.depth → new.calls ≡ calls → bindings_of new.scopes.now ≡ bindings
+    → setting_in new scope ≡ setting_by old.source.now (rows_of old.scopes.now) scope old.depth calls bindings
 unfolding setting_by
-setting_from old new scope calls chain s r d k c =
-    ap (λ (x : Source). setting_by x (rows_of new.scopes.now) scope new.depth new.calls (chain_of new.scopes.now)) s
-    ∙ ap (λ rows. setting_by old.source.now rows scope new.depth new.calls (chain_of new.scopes.now)) r
-    ∙ ap (λ n. setting_by old.source.now (rows_of old.scopes.now) scope n new.calls (chain_of new.scopes.now)) d
-    ∙ ap (λ n. setting_by old.source.now (rows_of old.scopes.now) scope old.depth n (chain_of new.scopes.now)) k
+setting_from old new scope calls bindings s r d k c =
+    ap (λ (x : Source). setting_by x (rows_of new.scopes.now) scope new.depth new.calls (bindings_of new.scopes.now)) s
+    ∙ ap (λ rows. setting_by old.source.now rows scope new.depth new.calls (bindings_of new.scopes.now)) r
+    ∙ ap (λ n. setting_by old.source.now (rows_of old.scopes.now) scope n new.calls (bindings_of new.scopes.now)) d
+    ∙ ap (λ n. setting_by old.source.now (rows_of old.scopes.now) scope old.depth n (bindings_of new.scopes.now)) k
     ∙ ap (setting_by old.source.now (rows_of old.scopes.now) scope old.depth calls) c
 
 -- by what is as before
 pub keeps_from : (old new : Evaluation) → new.source.now ≡ old.source.now
     → new.scopes.ghost_name ≡ old.scopes.ghost_name → new.scope ≡ old.scope
-    → rows_of new.scopes.now ≡ rows_of old.scopes.now → chain_of new.scopes.now ≡ chain_of old.scopes.now
+    → rows_of new.scopes.now ≡ rows_of old.scopes.now → bindings_of new.scopes.now ≡ bindings_of old.scopes.now
     → new.calls ≡ old.calls → new.depth ≡ old.depth
     → Keeps old new
 unfolding setting_by
 keeps_from old new s l w r c k d =
     let same : (scope : ℕ) → setting_in new scope ≡ setting_in old scope =
-    λ scope. setting_from old new scope old.calls (chain_of old.scopes.now) s r d k c in
+    λ scope. setting_from old new scope old.calls (bindings_of old.scopes.now) s r d k c in
     record {
       source = s;
       lent = l;
       stands = w;
       rows = r;
-      chain = c;
+      bindings = c;
       calls = k;
       depth = d;
       work = ap (λ (x : Source). work_left x new.calls) s ∙ ap (work_left old.source.now) k;
@@ -69,33 +69,33 @@ pub keeps_same : (e : Evaluation) → Keeps e e
 keeps_same e = keeps_from e e refl refl refl refl refl refl refl
 
 pub keeps_trans : {a b c : Evaluation} → Keeps a b → Keeps b c → Keeps a c
-keeps_trans f g = keeps_from _ _ (g.source ∙ f.source) (g.lent ∙ f.lent) (g.stands ∙ f.stands) (g.rows ∙ f.rows) (g.chain ∙ f.chain)
+keeps_trans f g = keeps_from _ _ (g.source ∙ f.source) (g.lent ∙ f.lent) (g.stands ∙ f.stands) (g.rows ∙ f.rows) (g.bindings ∙ f.bindings)
     (g.calls ∙ f.calls) (g.depth ∙ f.depth)
 
 -- what is said of a setting stays
 pub moved : {A : Type 0} (F : Setting → A) {old new : Evaluation} → Keeps old new → F (setting_here old) ≡ F (setting_here new)
 moved F k = ap F (sym k.here)
 
--- where a call was begun, special names were put on the chain, or a scope was entered, behind evaluations that keep all
+-- where a call was begun, special names were put among the dynamic bindings, or a scope was entered, behind evaluations that keep all
 pub call_kept : (old : Evaluation) {mid new : Evaluation} → OneCallDeeper old mid → Keeps mid new → OneCallDeeper old new
 call_kept old b k = record {
   source = k.source ∙ b.source;
   lent = k.lent ∙ b.lent;
   stands = k.stands ∙ b.stands;
   rows = k.rows ∙ b.rows;
-  chain = k.chain ∙ b.chain;
+  bindings = k.bindings ∙ b.bindings;
   calls = k.calls ∙ b.calls;
   depth = k.depth ∙ b.depth;
   within = b.within;
 }
 
-pub specials_kept : (old : Evaluation) (count : ℕ) {mid new : Evaluation} → MoreSpecials old mid count → Keeps mid new → MoreSpecials old new count
+pub specials_kept : (old : Evaluation) (count : ℕ) {mid new : Evaluation} → MoreBindings old mid count → Keeps mid new → MoreBindings old new count
 specials_kept old count b k = record {
   source = k.source ∙ b.source;
   lent = k.lent ∙ b.lent;
   stands = k.stands ∙ b.stands;
   rows = k.rows ∙ b.rows;
-  older = ap (oldest count) k.chain ∙ b.older;
+  older = ap (oldest count) k.bindings ∙ b.older;
   number = b.number;
   calls = k.calls ∙ b.calls;
   depth = k.depth ∙ b.depth;
@@ -109,37 +109,37 @@ scope_kept old before {mid = mid} {new = new} e k = record {
   front = ap (λ n. take n (rows_of new.scopes.now)) k.stands ∙ ap (take mid.scope) k.rows ∙ e.front;
   number = k.stands ∙ e.number;
   there = k.count ∙ e.there ∙ ap (λ n. n + 1) (sym k.stands);
-  chain = k.chain ∙ e.chain;
+  bindings = k.bindings ∙ e.bindings;
   calls = k.calls ∙ e.calls;
   depth = k.depth ∙ e.depth;
 }
 
 -- where an expression stands with more special names, one call deeper, or in a scope that was entered
-pub specials_setting : (old new : Evaluation) (count : ℕ) (specials : Pairs Val) → MoreSpecials old new count
-    → chain_of new.scopes.now ≡ specials ++ chain_of old.scopes.now → setting_here new ≡ with_specials (setting_here old) specials
+pub specials_setting : (old new : Evaluation) (count : ℕ) (dynamic : Pairs Val) → MoreBindings old new count
+    → bindings_of new.scopes.now ≡ dynamic ++ bindings_of old.scopes.now → setting_here new ≡ with_more_bindings (setting_here old) dynamic
 unfolding setting_by
-specials_setting old new count specials b e =
+specials_setting old new count dynamic b e =
     ap (λ (n : ℕ). setting_in new n) b.stands
-    ∙ setting_from old new old.scope old.calls (specials ++ chain_of old.scopes.now) b.source b.rows b.depth b.calls e
+    ∙ setting_from old new old.scope old.calls (dynamic ++ bindings_of old.scopes.now) b.source b.rows b.depth b.calls e
 
 pub call_setting : (old new : Evaluation) → OneCallDeeper old new
-    → setting_here new ≡ with_calls (setting_here old) (most_calls - (old.calls + 1))
+    → setting_here new ≡ setting_with_calls (setting_here old) (most_calls - (old.calls + 1))
 unfolding setting_by
 call_setting old new b =
     ap (λ (n : ℕ). setting_in new n) b.stands
-    ∙ setting_from old new old.scope (old.calls + 1) (chain_of old.scopes.now) b.source b.rows b.depth b.calls b.chain
+    ∙ setting_from old new old.scope (old.calls + 1) (bindings_of old.scopes.now) b.source b.rows b.depth b.calls b.bindings
 
 setting_with : ℕ → ℕ → Env → Pairs Val → Setting
-setting_with depth calls env chain = record { deeper = evaluated (most_evaluations - depth); calls = most_calls - calls; env = env; chain = chain }
+setting_with depth calls env bindings = record { at_next_depth = value_within (most_evaluations - depth); calls_left = most_calls - calls; env = env; bindings = bindings }
 
 pub scope_setting : (old new : Evaluation) (before : ℕ) (env : Env) → OneScopeMore old new before → env_here new ≡ env
     → setting_here new ≡ in_scope (setting_here old) env
 unfolding setting_with
 scope_setting old new before env e h =
-    ap (λ n. setting_with n new.calls (env_here new) (chain_of new.scopes.now)) e.depth
-    ∙ ap (λ n. setting_with old.depth n (env_here new) (chain_of new.scopes.now)) e.calls
-    ∙ ap (λ (x : Env). setting_with old.depth old.calls x (chain_of new.scopes.now)) h
-    ∙ ap (setting_with old.depth old.calls env) e.chain
+    ap (λ n. setting_with n new.calls (env_here new) (bindings_of new.scopes.now)) e.depth
+    ∙ ap (λ n. setting_with old.depth n (env_here new) (bindings_of new.scopes.now)) e.calls
+    ∙ ap (λ (x : Env). setting_with old.depth old.calls x (bindings_of new.scopes.now)) h
+    ∙ ap (setting_with old.depth old.calls env) e.bindings
 
 -- one call deeper
 pub work_falls : (source : Source) (calls : ℕ) → calls < most_calls
@@ -150,13 +150,13 @@ work_falls source calls h =
     rw k (omega arith)
 
 -- a call of the function that a name stands for
-pub call_found : (e : Evaluation) (home : ℕ) (f : SourceFunction) (at : Place) (name : List ℕ) (args : ArgTerms) (turns : ℕ)
-    → visible_function (setting_here e).env name ≡ Some (f, env_seen e.source.now (rows_of e.scopes.now) home)
-    → called (setting_here e) at name args turns (visible_function (setting_here e).env name)
-    ≡ then_with (each_argument (setting_here e) (names_of f.params) 0 args (nothing_given (length (names_of f.params))) turns)
-    (λ turns given. function_called (setting_in e home) at f given turns)
-call_found e home f at name args turns h =
-    ap (λ o. called (setting_here e) at name args turns o) h
+pub call_found : (e : Evaluation) (defining_scope : ℕ) (f : SourceFunction) (at : Place) (name : List ℕ) (args : ArgTerms) (turns : ℕ)
+    → visible_function (setting_here e).env name ≡ Some (f, env_seen e.source.now (rows_of e.scopes.now) defining_scope)
+    → call_value (setting_here e) at name args turns (visible_function (setting_here e).env name)
+    ≡ then_with (each_argument (setting_here e) (names_of f.params) 0 args (no_arguments_of (length (names_of f.params))) turns)
+    (λ turns given. function_called (setting_in e defining_scope) at f given turns)
+call_found e defining_scope f at name args turns h =
+    ap (λ o. call_value (setting_here e) at name args turns o) h
 
 -- one step of an evaluation behind another
 module _ {A B C D : Type 0} (see : A → B) (all : C → D) (first : Setting → ℕ → Outcome B)
@@ -181,5 +181,5 @@ module _ {A B C D : Type 0} (see : A → B) (all : C → D) (first : Setting →
 
 -- an operator's answer behind a step
 pub answers : (e : Evaluation) (r : Result BoundedValue Stop) (answer : Answer Val) (at : Place) → MeetsAnswerAt r answer at
-    → EvaluatesTo bounded_val e e r (λ here turns. answered answer at turns)
+    → EvaluatesTo bounded_val e e r (λ here turns. answer_at answer at turns)
 answers e r answer at h = record { value = meets_answer r e.turns answer at h; kept = keeps_same e }

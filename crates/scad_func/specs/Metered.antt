@@ -7,30 +7,30 @@ use Rattle.scad_value.specs.Values.{is_bounded}
 use Rattle.scad_value.specs.View.{val_of}
 use Rattle.scad_scope.specs.Names.{Row}
 use Rattle.scad_scope.specs.Numbered.{functions_below, modules_below}
-use Rattle.scad_scope.specs.Table.{rows_of, chain_of}
+use Rattle.scad_scope.specs.Table.{rows_of, bindings_of}
 use Rattle.scad_scope.specs.declared.scopes.Scopes.{Scopes}
-use Rattle.scad_blocks.specs.Blocks.{NumberedText}
-use Rattle.scad_evaluation.specs.Limits.{most_calls, most_evaluations}
-use Rattle.scad_evaluation.specs.Meaning.{Env, evaluated}
-use Rattle.scad_evaluation.specs.View.{MeetsOutcome}
-use Rattle.scad_evaluation.specs.declared.meter.Meter.{Meter}
+use Rattle.scad_definitions.specs.Blocks.{BlockTable}
+use Rattle.scad_func.specs.Limits.{most_calls, most_evaluations}
+use Rattle.scad_func.specs.Meaning.{Env, value_within}
+use Rattle.scad_func.specs.View.{MeetsOutcome}
+use Rattle.scad_func.specs.declared.meter.Meter.{Meter}
 
 -- a scope of a table in which each number of a function or of a module is that of one of a text
-pub record IsScopeOf (text : NumberedText) (rows : List Row) (scope : ℕ) : Type 0 where
+pub record IsScopeOf (table : BlockTable) (rows : List Row) (scope : ℕ) : Type 0 where
   pub there : scope < length rows
-  pub numbered : IsTrue (functions_below (length text.functions) rows)
-  pub modules : IsTrue (modules_below (length text.modules) rows)
+  pub numbered : IsTrue (functions_below (length table.functions) rows)
+  pub modules : IsTrue (modules_below (length table.modules) rows)
 
 -- The value of an expression in a scope as it is defined, with so many calls and evaluations left as a meter says, behind its turns,
 -- or the first fault, unless memory ran out; each value is bounded.
 pub record GivesValue (scopes : Scopes) (before after : Meter) (env : Env) (expression : Term) (result : Result Value Stop) : Type 0 where
   pub value : MeetsOutcome val_of result after.turns
-      (evaluated (most_evaluations - before.depth) true (most_calls - before.calls) env (chain_of scopes) expression before.turns)
+      (value_within (most_evaluations - before.depth) true (most_calls - before.calls) env (bindings_of scopes) expression before.turns)
   pub bounded : IfOk result (λ v. IsTrue (is_bounded (val_of v)))
 
--- the scopes, the chain of special names, and of the meter all but the turns are as before
+-- the scopes, the dynamic bindings of special names, and of the meter all but the turns are as before
 pub record KeepsAllButTurns (old new : Scopes) (before after : Meter) : Type 0 where
   pub rows : rows_of new ≡ rows_of old
-  pub chain : chain_of new ≡ chain_of old
+  pub bindings : bindings_of new ≡ bindings_of old
   pub calls : after.calls ≡ before.calls
   pub depth : after.depth ≡ before.depth

@@ -3,28 +3,28 @@ ghost use Rattle.scad_ast.specs.Terms.{terms_from, args_from, suffixes_from, lin
 ghost use Rattle.scad_ast.specs.ExprView.{term_of, terms_of, args_of, suffix_of, suffixes_of, link_of, links_of};
 ghost use Rattle.scad_ast.specs.StatementView.{param_of, params_of};
 ghost use Rattle.scad_value.specs.Values.{ListVal, truth_of};
-ghost use Rattle.scad_value.specs.Operators.{made, unary_of};
+ghost use Rattle.scad_value.specs.Operators.{value_or_long_list, unary_of};
 ghost use Rattle.scad_value.specs.BoundedView.{bounded_val};
-ghost use Rattle.scad_arguments.specs.Arguments.{nothing_given};
-ghost use Rattle.scad_arguments.specs.ArgumentsView.{names_in};
-ghost use Rattle.scad_evaluation.specs.Meaning.{Gives, then_with, answered, value_at, operand, each_value, each_argument, each_parameter, parameter_value, function_value, function_called, each_suffix, each_link, called, visible_function, counted};
-ghost use Rattle.scad_answer.specs.Answers.{range_of, stepped_range_of};
-ghost use Rattle.scad_evaluation.specs.Steps.{all_values, suffixed, linked, with_parameters};
-ghost use Rattle.scad_blocks.specs.TextView.{function_of};
-ghost use Rattle.scad_evaluation.specs.View.{MeetsOutcome, values_seen, indexed_val, IsThere, slot_of, slots_in, arguments_of, function_size, deepest};
-ghost use Rattle.scad_evaluation.specs.Evaluations.{Keeps, EvaluatesTo, numbered_env_here, setting_here};
-ghost use Rattle.scad_evaluation.specs.Transitions.{EvaluatesParameters};
+ghost use Rattle.scad_definitions.specs.Arguments.{no_arguments_of};
+ghost use Rattle.scad_definitions.specs.ArgumentsView.{names_in};
+ghost use Rattle.scad_func.specs.Meaning.{Gives, then_with, answer_at, value_at, operand, each_value, each_argument, each_parameter, parameter_value, function_value, function_called, each_suffix, each_link, call_value, visible_function, count_elements};
+ghost use Rattle.scad_value.specs.Answers.{range_of, stepped_range_of};
+ghost use Rattle.scad_func.specs.Steps.{all_values, suffix_value, link_value, with_parameters};
+ghost use Rattle.scad_definitions.specs.TextView.{function_of};
+ghost use Rattle.scad_func.specs.View.{MeetsOutcome, values_seen, indexed_val, IsThere, bound_argument_of, bound_arguments_in, arguments_of, function_size, deepest};
+ghost use Rattle.scad_func.specs.Evaluations.{Keeps, EvaluatesTo, numbered_env_here, setting_here};
+ghost use Rattle.scad_func.specs.Transitions.{EvaluatesParameters};
 
-use scad_answer::{
-    binary_value, is_true, range_value, stepped_range_value, unary_value, wants_right, with,
+use crate::{
+    BoundedValues, EVALUATIONS, Evaluation, Indexed, TURNS, apply_builtin, argument_value,
+    built_in_for, list_value, text_of,
 };
 use scad_ast::{Args, Expr, Exprs, Link, Links, Param, Params, Suffix, Suffixes, UnaryOp};
-use scad_evaluation::{
-    BoundedValues, EVALUATIONS, Evaluation, Indexed, TURNS, applied_to, argument_value,
-    built_in_for, listed, text_of,
+use scad_scope::{ArgumentsSoFar, CallArguments, Function, Names, positional_after};
+use scad_value::{
+    BoundedValue, Value, binary_value, is_true, range_value, stepped_range_value, unary_value,
+    wants_right, with,
 };
-use scad_scope::{ArgumentsSoFar, Function, GivenArguments, Names, positional_after};
-use scad_value::{BoundedValue, Value};
 use std::mem;
 use text_place::{FaultKind, Place, Stop};
 
@@ -37,13 +37,13 @@ use text_place::{FaultKind, Place, Stop};
 pub fn evaluate(evaluation: &mut Evaluation<'_, '_>, expr: &Expr) -> Result<BoundedValue, Stop>
     ensures { EvaluatesTo bounded_val evaluation.old evaluation.new result (λ here. value_at here true (term_of expr.now)) }
 {
-    let value = deeper(evaluation, expr)?;
-    counted(evaluation, value, expr.place())
+    let value = at_next_depth(evaluation, expr)?;
+    count_elements(evaluation, value, expr.place())
 }
 
 // The value of an expression, one evaluation deeper.
 #[cycle(value)]
-fn deeper(evaluation: &mut Evaluation<'_, '_>, expr: &Expr) -> Result<BoundedValue, Stop>
+fn at_next_depth(evaluation: &mut Evaluation<'_, '_>, expr: &Expr) -> Result<BoundedValue, Stop>
     ensures { EvaluatesTo bounded_val evaluation.old evaluation.new result (λ here. value_at here false (term_of expr.now)) }
 {
     if evaluation.depth == EVALUATIONS {
@@ -84,7 +84,7 @@ fn operand(evaluation: &mut Evaluation<'_, '_>, expr: &Expr) -> Result<BoundedVa
         }
         Expr::Postfix(_, parts) => postfix(evaluation, &parts.of, &parts.suffixes),
         Expr::Unary(place, op, of) => unary(evaluation, *op, of, *place),
-        Expr::Chain(_, parts) => chain(evaluation, &parts.first, &parts.links),
+        Expr::Chain(_, parts) => operators(evaluation, &parts.first, &parts.links),
         Expr::Choice(_, parts) => choice(evaluation, &parts.test, &parts.yes, &parts.no),
     }
 }
@@ -100,10 +100,10 @@ fn list(
 ) -> Result<BoundedValue, Stop>
     ensures { EvaluatesTo bounded_val evaluation.old evaluation.new result (λ here turns.
         then_with (each_value here (terms_from (terms_of items.now)) turns) (λ turns vs.
-        answered (made (Ok (ListVal vs))) place turns)) }
+        answer_at (value_or_long_list (Ok (ListVal vs))) place turns)) }
 {
     let values = each_value(evaluation, items)?;
-    listed(values, place)
+    list_value(values, place)
 }
 
 // An operator and its operand, which is one evaluation deeper.
@@ -118,9 +118,9 @@ fn unary(
 ) -> Result<BoundedValue, Stop>
     ensures { EvaluatesTo bounded_val evaluation.old evaluation.new result (λ here turns.
         then_with (value_at here false (term_of of.now) turns) (λ turns v.
-        answered (unary_of op v) place turns)) }
+        answer_at (unary_of op v) place turns)) }
 {
-    let value = deeper(evaluation, of)?;
+    let value = at_next_depth(evaluation, of)?;
     unary_value(evaluation.alloc, op, value, place)
 }
 
@@ -152,7 +152,7 @@ fn range(
     ensures { EvaluatesTo bounded_val evaluation.old evaluation.new result (λ here turns.
         then_with (value_at here true (term_of from.now) turns) (λ turns a.
         then_with (value_at here true (term_of upto.now) turns) (λ turns b.
-        answered (range_of a b) place turns))) }
+        answer_at (range_of a b) place turns))) }
 {
     let first = evaluate(evaluation, from)?;
     let next = evaluate(evaluation, upto);
@@ -175,7 +175,7 @@ fn stepped_range(
         then_with (value_at here true (term_of from.now) turns) (λ turns a.
         then_with (value_at here true (term_of by.now) turns) (λ turns s.
         then_with (value_at here true (term_of upto.now) turns) (λ turns b.
-        answered (stepped_range_of a s b) place turns)))) }
+        answer_at (stepped_range_of a s b) place turns)))) }
 {
     let a = evaluate(evaluation, from)?;
     let second = evaluate(evaluation, by);
@@ -233,7 +233,7 @@ fn suffix(
 ) -> Result<BoundedValue, Stop>
     requires there { IsThere (numbered_env_here evaluation.old) of }
     ensures { EvaluatesTo bounded_val evaluation.old evaluation.new result (λ here.
-        suffixed here (indexed_val (numbered_env_here evaluation.old) of.entry) (suffix_of part.now)) }
+        suffix_value here (indexed_val (numbered_env_here evaluation.old) of.entry) (suffix_of part.now)) }
 {
     match part {
         Suffix::Index(place, index) => {
@@ -251,7 +251,7 @@ fn suffix(
 #[cycle(value)]
 #[inline(never)]
 #[tactic(auto, using(crate::proofs::Kept::keeps_trans))]
-fn chain(
+fn operators(
     evaluation: &mut Evaluation<'_, '_>,
     first: &Expr,
     rest: &Links,
@@ -287,7 +287,7 @@ fn link(
     left: BoundedValue,
     part: &Link,
 ) -> Result<BoundedValue, Stop>
-    ensures { EvaluatesTo bounded_val evaluation.old evaluation.new result (λ here. linked here (bounded_val left) (link_of part.now)) }
+    ensures { EvaluatesTo bounded_val evaluation.old evaluation.new result (λ here. link_value here (bounded_val left) (link_of part.now)) }
 {
     if !wants_right(part.op, &left) {
         return Ok(BoundedValue {
@@ -333,14 +333,14 @@ fn call(
     args: &Args,
 ) -> Result<BoundedValue, Stop>
     ensures { EvaluatesTo bounded_val evaluation.old evaluation.new result (λ here turns.
-        called here place name.now (args_from (args_of args.now)) turns (visible_function here.env name.now)) }
+        call_value here place name.now (args_from (args_of args.now)) turns (visible_function here.env name.now)) }
 {
     match evaluation.function(name) {
-        Some((function, home)) => {
+        Some((function, defining_scope)) => {
             let names = Names::Params(&function.params.items);
             let given = arguments(evaluation, names, args)?;
             let scope = evaluation.scope;
-            evaluation.scope = home;
+            evaluation.scope = defining_scope;
             let value = function_call(evaluation, function, given, place);
             evaluation.scope = scope;
             value
@@ -348,7 +348,7 @@ fn call(
         None => {
             let function = built_in_for(name, place, args)?;
             let values = each_positional(evaluation, args)?;
-            applied_to(evaluation.alloc, function, values, place)
+            apply_builtin(evaluation.alloc, function, values, place)
         }
     }
 }
@@ -362,10 +362,10 @@ pub fn arguments<'b>(
     evaluation: &mut Evaluation<'_, '_>,
     names: Names<'_>,
     args: &'b Args,
-) -> Result<GivenArguments<'b, BoundedValue>, Stop>
+) -> Result<CallArguments<'b, BoundedValue>, Stop>
     ensures given { EvaluatesTo arguments_of evaluation.old evaluation.new result (λ here.
-        each_argument here (names_in names.entry) 0 (args_from (args_of args.now)) (nothing_given (length (names_in names.entry)))) }
-    ensures count { IfOk result (λ given. length given.slots.items ≡ length (names_in names.entry)) }
+        each_argument here (names_in names.entry) 0 (args_from (args_of args.now)) (no_arguments_of (length (names_in names.entry)))) }
+    ensures count { IfOk result (λ given. length given.bound.items ≡ length (names_in names.entry)) }
 {
     let mut so_far = ArgumentsSoFar::of(evaluation.alloc, names, &args.items)?;
     let mut positional: usize = 0;
@@ -386,11 +386,11 @@ pub fn arguments<'b>(
 fn function_call(
     evaluation: &mut Evaluation<'_, '_>,
     function: Function<'_>,
-    given: GivenArguments<'_, BoundedValue>,
+    given: CallArguments<'_, BoundedValue>,
     place: Place,
 ) -> Result<BoundedValue, Stop>
     requires within { function_size function ≤ deepest evaluation.old.source.now.blocks.functions.items }
-    requires count { length given.slots.items ≡ length function.params.now.items.items }
+    requires count { length given.bound.items ≡ length function.params.now.items.items }
     ensures { EvaluatesTo bounded_val evaluation.old evaluation.new result (λ here.
         function_called here place (function_of function.entry) (arguments_of given.entry)) }
 {
@@ -407,35 +407,35 @@ fn function_call(
 fn function_value(
     evaluation: &mut Evaluation<'_, '_>,
     function: Function<'_>,
-    given: GivenArguments<'_, BoundedValue>,
+    given: CallArguments<'_, BoundedValue>,
 ) -> Result<BoundedValue, Stop>
-    requires count { length given.slots.items ≡ length function.params.now.items.items }
+    requires count { length given.bound.items ≡ length function.params.now.items.items }
     ensures { EvaluatesTo bounded_val evaluation.old evaluation.new result (λ here.
         function_value here (function_of function.entry) (arguments_of given.entry)) }
 {
-    let GivenArguments { slots, specials } = given;
-    let begun = evaluation.begin_specials(specials);
-    let (slots, before) = with(slots, begun)?;
-    let value = with_defaults(evaluation, function, slots);
-    evaluation.end_specials(before);
+    let CallArguments { bound, dynamic } = given;
+    let begun = evaluation.push_bindings(dynamic);
+    let (bound, before) = with(bound, begun)?;
+    let value = with_defaults(evaluation, function, bound);
+    evaluation.pop_bindings(before);
     value
 }
 
-// The value of a function, with its special arguments on the chain: its parameters without an
+// The value of a function, with its special arguments among the dynamic bindings: its parameters without an
 // argument have their defaults, which are evaluated in the scope of its definition.
 #[cycle(value)]
 #[inline(never)]
 fn with_defaults(
     evaluation: &mut Evaluation<'_, '_>,
     function: Function<'_>,
-    slots: Vec<Option<BoundedValue>>,
+    bound: Vec<Option<BoundedValue>>,
 ) -> Result<BoundedValue, Stop>
-    requires count { length slots.items ≡ length function.params.now.items.items }
+    requires count { length bound.items ≡ length function.params.now.items.items }
     ensures { EvaluatesTo bounded_val evaluation.old evaluation.new result (λ here turns.
-        then_with (each_parameter here (params_of function.entry.params.now) (slots_in slots.items) turns) (λ turns vs.
+        then_with (each_parameter here (params_of function.entry.params.now) (bound_arguments_in bound.items) turns) (λ turns vs.
         with_parameters here (function_of function.entry) vs turns)) }
 {
-    let values = parameters(evaluation, function.params, slots)?;
+    let values = parameters(evaluation, function.params, bound)?;
     in_new_scope(evaluation, function, values)
 }
 
@@ -467,12 +467,12 @@ fn in_new_scope(
 pub(crate) fn parameters(
     evaluation: &mut Evaluation<'_, '_>,
     params: &Params,
-    slots: Vec<Option<BoundedValue>>,
+    bound: Vec<Option<BoundedValue>>,
 ) -> Result<BoundedValues, Stop>
-    requires { length slots.items ≡ length params.now.items.items }
-    ensures { EvaluatesParameters evaluation.old evaluation.new result (setting_here evaluation.old) params.now slots.items }
+    requires { length bound.items ≡ length params.now.items.items }
+    ensures { EvaluatesParameters evaluation.old evaluation.new result (setting_here evaluation.old) params.now bound.items }
 {
-    let mut open = slots;
+    let mut open = bound;
     let mut values = BoundedValues::new(evaluation.alloc);
     'each: for (i, param) in params.items.iter().enumerate() {
         let given = mem::replace(&mut open[i], None);
@@ -492,7 +492,7 @@ fn parameter(
     param: &Param,
     given: Option<BoundedValue>,
 ) -> Result<BoundedValue, Stop>
-    ensures { EvaluatesTo bounded_val evaluation.old evaluation.new result (λ here. parameter_value here (param_of param.now) (slot_of given)) }
+    ensures { EvaluatesTo bounded_val evaluation.old evaluation.new result (λ here. parameter_value here (param_of param.now) (bound_argument_of given)) }
 {
     match given {
         Some(value) => Ok(value),
@@ -522,12 +522,12 @@ fn each_positional(evaluation: &mut Evaluation<'_, '_>, args: &Args) -> Result<B
 
 // A value whose parts are counted as turns, where it is a list. TooManyTurns where they are
 // too many.
-fn counted(
+fn count_elements(
     evaluation: &mut Evaluation<'_, '_>,
     value: BoundedValue,
     place: Place,
 ) -> Result<BoundedValue, Stop>
-    ensures value { MeetsOutcome bounded_val result evaluation.new.turns (counted place (Gives evaluation.old.turns (bounded_val value))) }
+    ensures value { MeetsOutcome bounded_val result evaluation.new.turns (count_elements place (Gives evaluation.old.turns (bounded_val value))) }
     ensures kept { Keeps evaluation.old evaluation.new }
 {
     if let Value::List(_) = &value.value {

@@ -1,12 +1,12 @@
 //! What a caller evaluates in another scope.
 
 ghost use Rattle.std.specs.Prelude.{◌≡◌, ◌<◌, length};
-ghost use Rattle.scad_evaluation.specs.Evaluations.{scopes_there, setting_in};
-ghost use Rattle.scad_evaluation.specs.Transitions.{EvaluatesParameters};
+ghost use Rattle.scad_func.specs.Evaluations.{scopes_there, setting_in};
+ghost use Rattle.scad_func.specs.Transitions.{EvaluatesParameters};
 
 use crate::evaluator::parameters;
+use crate::{BoundedValues, Evaluation};
 use scad_ast::Params;
-use scad_evaluation::{BoundedValues, Evaluation};
 use scad_value::BoundedValue;
 use text_place::Stop;
 
@@ -15,15 +15,15 @@ pub fn parameters_in(
     evaluation: &mut Evaluation<'_, '_>,
     scope: u32,
     params: &Params,
-    slots: Vec<Option<BoundedValue>>,
+    bound: Vec<Option<BoundedValue>>,
 ) -> Result<BoundedValues, Stop>
     requires scope { scope < scopes_there evaluation.old }
-    requires count { length slots.items ≡ length params.now.items.items }
-    ensures { EvaluatesParameters evaluation.old evaluation.new result (setting_in evaluation.old scope) params.now slots.items }
+    requires count { length bound.items ≡ length params.now.items.items }
+    ensures { EvaluatesParameters evaluation.old evaluation.new result (setting_in evaluation.old scope) params.now bound.items }
 {
     let before = evaluation.scope;
     evaluation.scope = scope;
-    let values = parameters(evaluation, params, slots);
+    let values = parameters(evaluation, params, bound);
     evaluation.scope = before;
     values
 }

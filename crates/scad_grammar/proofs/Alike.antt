@@ -9,7 +9,7 @@ use Rattle.scad_grammar.specs.Languages.{first_of, second_of, pair_of, cons}
 use Rattle.scad_grammar.specs.Grammar.{Rest, items, link, chain_term, unary_term, postfix_term, index_term, member_term, levels, choice_term, name_term, paren_term, bracket_term, range_rest, binder_term, param_term, mark_term, if_term, loop_term, call_term, instance_term, block_term, bare_block_term, special_assignment_term, module_term, function_term}
 use Rattle.scad_grammar.specs.Reading.{Read, mapped, nothing, both, choice, maybe, ahead, many, trailing}
 use Rattle.scad_grammar.specs.Faults.{TokenReader, one, first}
-use Rattle.scad_grammar.specs.Reads.{suffix_read, postfix_read, unary_read, chain_read, given, arg_read, args_read, in_parentheses, range_read, rest_read, bracket_read, name_read, paren_read, primary_read, choice_read}
+use Rattle.scad_grammar.specs.Reads.{suffix_read, postfix_read, unary_read, chain_read, argument_given, arg_read, args_read, in_parentheses, range_read, rest_read, bracket_read, name_read, paren_read, primary_read, choice_read}
 use Rattle.scad_grammar.specs.StatementReads.{mark_signs, loop_words, firsts_of_statement, param_read, binder_read, params_read, binders_read, if_read, call_read, marks_read, braces_read, body_over, ended_read, function_read, definition_read, assignment_behind, special_read, statement_over}
 use Rattle.scad_grammar.proofs.Ahead.{rest_of}
 use Rattle.scad_grammar.proofs.Tests.{apart, classes_apart, classes_within}
@@ -75,7 +75,7 @@ module _ (R : (A : Type 0) → TokenReader A → TokenReader A → Type 0) (T : 
       (k.both_keeps cons a b _ _ ha (k.trailing_keeps (other_than (close_parenthesis_sign ∷ [])) a b (steady_other (close_parenthesis_sign ∷ []) refl) ha)) (k.nothing_keeps [])
 
   pub arg_keeps : (e f : TokenReader Term) → R Term e f → R ArgTerm (arg_read e) (arg_read f)
-  arg_keeps e f he = k.ahead_keeps given argument_names e f (mapped PositionalTerm e) (mapped PositionalTerm f) refl refl he (k.mapped_keeps PositionalTerm e f he)
+  arg_keeps e f he = k.ahead_keeps argument_given argument_names e f (mapped PositionalTerm e) (mapped PositionalTerm f) refl refl he (k.mapped_keeps PositionalTerm e f he)
 
   pub param_keeps : (e f : TokenReader Term) → R Term e f → R ParamTerm (param_read e) (param_read f)
   param_keeps e f h = behind_keeps param_term (name ∷ []) _ _ refl (maybe_keeps (is assign_sign) _ _ (steady_among (assign_sign ∷ []) refl) (behind_keeps second_of (assign_sign ∷ []) e f refl h))

@@ -9,7 +9,7 @@ use Rattle.scad_grammar.specs.Languages.{first_of}
 use Rattle.scad_grammar.specs.Grammar.{chain_term, postfix_term, levels, choice_term, bracket_term, binder_term, param_term, call_term, instance_term}
 use Rattle.scad_grammar.specs.Reading.{Read, after, starts, one_of, mapped, nothing, both, choice, ahead, with_front, many_times, many, trailing_times, trailing}
 use Rattle.scad_grammar.specs.Faults.{TokenReader, one, first, fault_of, left_out_classes, left_out_of_expressions}
-use Rattle.scad_grammar.specs.Reads.{head_of, nested, firsts_of_expression, unary_read, chain_read, given, arg_read, primary_read, choice_read, arg_in, expr_read, operand_read}
+use Rattle.scad_grammar.specs.Reads.{head_of, nested, firsts_of_expression, unary_read, chain_read, argument_given, arg_read, primary_read, choice_read, arg_in, expr_read, operand_read}
 use Rattle.scad_grammar.specs.StatementReads.{mark_signs, loop_words, firsts_of_core, firsts_of_instance, firsts_of_body, firsts_of_statement, param_read, binder_read, binders_read, core_read, instance_read, body_over, ended_read, definition_read, assignment_behind, statement_over, param_in, binder_in, statement_read, body_read, program_read}
 use Rattle.scad_grammar.proofs.Tests.{next_less}
 use Rattle.scad_grammar.proofs.Cores.{marks_reads}
@@ -146,7 +146,7 @@ arg_refuses : (e : TokenReader Term) (ts : List Token) → starts (among firsts_
 arg_refuses e [] h k = mapped_refuses left_out_of_expressions PositionalTerm e [] k
 arg_refuses e (t ∷ []) h k = mapped_refuses left_out_of_expressions PositionalTerm e (t ∷ []) k
 arg_refuses e (t ∷ u ∷ ts) h k =
-    ap (λ v. cond (v && is assign_sign u) (after (e ts) (λ x us. Ok (given t u x, us))) (mapped PositionalTerm e (t ∷ u ∷ ts))) (next_less argument_names firsts_of_expression refl (t ∷ u ∷ ts) h)
+    ap (λ v. cond (v && is assign_sign u) (after (e ts) (λ x us. Ok (argument_given t u x, us))) (mapped PositionalTerm e (t ∷ u ∷ ts))) (next_less argument_names firsts_of_expression refl (t ∷ u ∷ ts) h)
     ∙ mapped_refuses left_out_of_expressions PositionalTerm e (t ∷ u ∷ ts) k
 
 -- where nothing stands that is deeper, a deeper reader agrees that refuses what can't begin it

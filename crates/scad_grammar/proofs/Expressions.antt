@@ -9,7 +9,7 @@ use Rattle.scad_grammar.specs.Languages.{Language, One, Mapped, Both, EitherOf, 
 use Rattle.scad_grammar.specs.Grammar.{InParentheses, Arg, Args, Primary, Bracket, Suffix, Postfix, Unary, Chain, Choice, Detail, whole, outline, ArgsIn, Expr, Operand, levels, chain_term, choice_term, unary_term, postfix_term, given_term, name_term, paren_term, bracket_term, link}
 use Rattle.scad_grammar.specs.Reading.{after, starts, mapped, both, maybe}
 use Rattle.scad_grammar.specs.Faults.{TokenReader, one, left_out_of_expressions}
-use Rattle.scad_grammar.specs.Reads.{firsts_of_primary, firsts_of_expression, given, arg_read, args_read, nested, primary_read, unary_read, chain_read, choice_read, arg_in, expr_read, operand_read}
+use Rattle.scad_grammar.specs.Reads.{firsts_of_primary, firsts_of_expression, argument_given, arg_read, args_read, nested, primary_read, unary_read, chain_read, choice_read, arg_in, expr_read, operand_read}
 use Rattle.scad_grammar.proofs.Readers.{Begins, IsReader, Opens, both_reads, mapped_reads, same_reads, both_opens, either_opens, mapped_opens, one_opens}
 use Rattle.scad_grammar.proofs.Greedy.{or_first, maybe_ends, maybe_reads}
 use Rattle.scad_grammar.proofs.Ahead.{Two, Ahead, two, rest_of, ahead_reads}
@@ -189,18 +189,18 @@ module _ {A C : Type 0} (f : Token → A → C) (a b : Token → Bool) (L : Lang
 
 -- an argument is told from a named one by its second token
 module _ (e : TokenReader Term) (E F : Language Term) (ie : IsReader e E F (λ x. among expression_more)) (alone : (t : Token) → among argument_names t ≡ true → (x : Term) × E x (t ∷ [])) (unlike : Unlike E) where
-  to_arg : (L : Language Term) (c : ArgTerm) (s : List Token) → Ahead given (among argument_names) (is assign_sign) L (Mapped PositionalTerm L) c s → Arg L c s
+  to_arg : (L : Language Term) (c : ArgTerm) (s : List Token) → Ahead argument_given (among argument_names) (is assign_sign) L (Mapped PositionalTerm L) c s → Arg L c s
   to_arg L c s (inl h) = inl (two_to given_term (among argument_names) (is assign_sign) L c s h)
   to_arg L c s (inr h) = inr h
 
-  from_arg : (L : Language Term) (c : ArgTerm) (s : List Token) → Arg L c s → Ahead given (among argument_names) (is assign_sign) L (Mapped PositionalTerm L) c s
+  from_arg : (L : Language Term) (c : ArgTerm) (s : List Token) → Arg L c s → Ahead argument_given (among argument_names) (is assign_sign) L (Mapped PositionalTerm L) c s
   from_arg L c s (inl h) = inl (two_from given_term (among argument_names) (is assign_sign) L c s h)
   from_arg L c s (inr h) = inr h
 
   pub arg_reads : IsReader (arg_read e) (Arg E) (Arg F) (λ x. among arg_more)
   arg_reads =
-      same_reads (arg_read e) (Ahead given (among argument_names) (is assign_sign) E (Mapped PositionalTerm E)) (Ahead given (among argument_names) (is assign_sign) F (Mapped PositionalTerm F)) (Arg E) (Arg F) (λ x. among arg_more)
-      (ahead_reads given (among argument_names) (is assign_sign) e (mapped PositionalTerm e) E F (Mapped PositionalTerm E) (Mapped PositionalTerm F) (λ x. among expression_more) (λ x. among arg_more) ie
+      same_reads (arg_read e) (Ahead argument_given (among argument_names) (is assign_sign) E (Mapped PositionalTerm E)) (Ahead argument_given (among argument_names) (is assign_sign) F (Mapped PositionalTerm F)) (Arg E) (Arg F) (λ x. among arg_more)
+      (ahead_reads argument_given (among argument_names) (is assign_sign) e (mapped PositionalTerm e) E F (Mapped PositionalTerm E) (Mapped PositionalTerm F) (λ x. among expression_more) (λ x. among arg_more) ie
       (mapped_reads PositionalTerm e E F (λ x. among expression_more) (λ x. among arg_more) ie (λ x. next_less expression_more arg_more refl))
       (λ t u x. next_less expression_more arg_more refl)
       (λ t h. ap rest_of (ap (λ q. after q (λ x us. Ok (PositionalTerm x, us))) (ie.complete (alone t h).0 (t ∷ []) [] (alone t h).1 refl)))

@@ -9,147 +9,191 @@ use Rattle.scad_lexer.specs.declared.token.Reserved.TheVariants.{Module, Functio
 use Rattle.scad_lexer.specs.declared.token.Symbol.{Symbol}
 use Rattle.scad_lexer.specs.declared.token.Symbol.TheVariants.{OpenParenthesis, CloseParenthesis, OpenBracket, CloseBracket, OpenBrace, CloseBrace, Comma, Semicolon, Assign, Colon, Question, Dot, Plus, Minus, Times, Divide, Remainder, Less, Greater, LessEqual, GreaterEqual, Equal, NotEqual, And, Or, Not, Hash, Caret}
 
--- the class of a numeral, and of each other token that is neither a reserved name nor a symbol
+-- the class of a numeral
 abbrev pub numeral : ℕ
 numeral = 0
 
+-- the class of a name
 abbrev pub name : ℕ
 name = 1
 
+-- the class of `$children`
 abbrev pub child_count : ℕ
 child_count = 2
 
+-- the class of any other special name
 abbrev pub special : ℕ
 special = 3
 
+-- the class of a text
 abbrev pub text : ℕ
 text = 4
 
+-- the class of the end
 abbrev pub end : ℕ
 end = 5
 
--- the classes of reserved names
+-- the classes of reserved names: the word `module`
 abbrev pub module_word : ℕ
 module_word = 10
 
+-- the word `function`
 abbrev pub function_word : ℕ
 function_word = 11
 
+-- the word `if`
 abbrev pub if_word : ℕ
 if_word = 12
 
+-- the word `else`
 abbrev pub else_word : ℕ
 else_word = 13
 
+-- the word `for`
 abbrev pub for_word : ℕ
 for_word = 14
 
+-- the word `intersection_for`
 abbrev pub intersection_for_word : ℕ
 intersection_for_word = 15
 
+-- the word `true`
 abbrev pub true_word : ℕ
 true_word = 16
 
+-- the word `false`
 abbrev pub false_word : ℕ
 false_word = 17
 
+-- the word `undef`
 abbrev pub undef_word : ℕ
 undef_word = 18
 
+-- the word `use`
 abbrev pub use_word : ℕ
 use_word = 19
 
+-- the word `include`
 abbrev pub include_word : ℕ
 include_word = 20
 
+-- the word `let`
 abbrev pub let_word : ℕ
 let_word = 21
 
+-- the word `each`
 abbrev pub each_word : ℕ
 each_word = 22
 
--- the classes of symbols
+-- the classes of symbols: the sign `(`
 abbrev pub open_parenthesis_sign : ℕ
 open_parenthesis_sign = 30
 
+-- the sign `)`
 abbrev pub close_parenthesis_sign : ℕ
 close_parenthesis_sign = 31
 
+-- the sign `[`
 abbrev pub open_bracket_sign : ℕ
 open_bracket_sign = 32
 
+-- the sign `]`
 abbrev pub close_bracket_sign : ℕ
 close_bracket_sign = 33
 
+-- the sign `{`
 abbrev pub open_brace_sign : ℕ
 open_brace_sign = 34
 
+-- the sign `}`
 abbrev pub close_brace_sign : ℕ
 close_brace_sign = 35
 
+-- the sign `,`
 abbrev pub comma_sign : ℕ
 comma_sign = 36
 
+-- the sign `;`
 abbrev pub semicolon_sign : ℕ
 semicolon_sign = 37
 
+-- the sign `=`
 abbrev pub assign_sign : ℕ
 assign_sign = 38
 
+-- the sign `:`
 abbrev pub colon_sign : ℕ
 colon_sign = 39
 
+-- the sign `?`
 abbrev pub question_sign : ℕ
 question_sign = 40
 
+-- the sign `.`
 abbrev pub dot_sign : ℕ
 dot_sign = 41
 
+-- the sign `+`
 abbrev pub plus_sign : ℕ
 plus_sign = 42
 
+-- the sign `-`
 abbrev pub minus_sign : ℕ
 minus_sign = 43
 
+-- the sign `*`
 abbrev pub times_sign : ℕ
 times_sign = 44
 
+-- the sign `/`
 abbrev pub divide_sign : ℕ
 divide_sign = 45
 
+-- the sign `%`
 abbrev pub remainder_sign : ℕ
 remainder_sign = 46
 
+-- the sign `<`
 abbrev pub less_sign : ℕ
 less_sign = 47
 
+-- the sign `>`
 abbrev pub greater_sign : ℕ
 greater_sign = 48
 
+-- the sign `<=`
 abbrev pub less_equal_sign : ℕ
 less_equal_sign = 49
 
+-- the sign `>=`
 abbrev pub greater_equal_sign : ℕ
 greater_equal_sign = 50
 
+-- the sign `==`
 abbrev pub equal_sign : ℕ
 equal_sign = 51
 
+-- the sign `!=`
 abbrev pub not_equal_sign : ℕ
 not_equal_sign = 52
 
+-- the sign `&&`
 abbrev pub and_sign : ℕ
 and_sign = 53
 
+-- the sign `||`
 abbrev pub or_sign : ℕ
 or_sign = 54
 
+-- the sign `!`
 abbrev pub not_sign : ℕ
 not_sign = 55
 
+-- the sign `#`
 abbrev pub hash_sign : ℕ
 hash_sign = 56
 
+-- the sign `^`, which no form of the grammar has
 abbrev pub caret_sign : ℕ
 caret_sign = 57
 

@@ -204,25 +204,28 @@ abbrev pub TooDeep : {A : Type 0} → Detail → (Token → A) → Language A
 TooDeep whole f = Never
 TooDeep outline f = Mapped f (One (is caret_sign))
 
--- arguments, parameters and variables of a loop whose tokens are less deep than so much; E is an expression as deep
+-- arguments whose tokens are less deep than so much; E is an expression as deep
 abbrev pub ArgsIn : ℕ → Language Term → Language (List ArgTerm)
 ArgsIn zero E = Nothing []
 ArgsIn (suc depth) E = Args E
 
+-- parameters whose tokens are less deep than so much
 abbrev pub ParamsIn : ℕ → Language Term → Language (List ParamTerm)
 ParamsIn zero E = Nothing []
 ParamsIn (suc depth) E = Params (Param E)
 
+-- variables of a loop whose tokens are less deep than so much
 abbrev pub BindersIn : Detail → ℕ → Language Term → Language (List BinderTerm)
 BindersIn detail zero E = TooDeep detail (λ token. [])
 BindersIn detail (suc depth) E = Binders E
 
--- an expression, and an operand, whose tokens are less deep than so much
+-- an expression whose tokens are less deep than so much
 unfoldable mutual
   pub Expr : Detail → ℕ → Language Term
   Expr detail zero = TooDeep detail (λ token. UndefTerm token.place)
   Expr detail (suc depth) = Choice (Expr detail depth) (ArgsIn depth (Expr detail depth)) (Operand detail depth)
 
+  -- an operand whose tokens are less deep than so much
   pub Operand : Detail → ℕ → Language Term
   Operand detail zero = TooDeep detail (λ token. UndefTerm token.place)
   Operand detail (suc depth) = Unary (Expr detail depth) (ArgsIn depth (Expr detail depth)) (Operand detail depth)
@@ -246,9 +249,11 @@ abbrev mutual
   ends_open (BlockBody at inner) = false
   ends_open (InstanceBody instance) = instance_open instance
 
+  -- the same of an instance
   pub instance_open : InstanceTerm → Bool
   instance_open (AnInstance at marks core) = core_open core
 
+  -- the same of an instance without its modifiers
   pub core_open : CoreTerm → Bool
   core_open (IfTerm at test body) = true
   core_open (IfElseTerm at test body other) = ends_open other
@@ -338,7 +343,7 @@ StatementsIn (suc depth) S = Many S
 abbrev pub InstanceIn : Detail → ℕ → Language BodyTerm → Language InstanceTerm
 InstanceIn detail depth B = Instance (Expr detail depth) (ArgsIn depth (Expr detail depth)) (BindersIn detail depth (Expr detail depth)) B
 
--- a statement, and a body, whose tokens are less deep than so much
+-- a statement whose tokens are less deep than so much
 unfoldable mutual
   pub Statement : Detail → ℕ → Language StatementTerm
   Statement detail zero = Never
@@ -346,6 +351,7 @@ unfoldable mutual
       StatementOf (Expr detail (suc depth)) (ParamsIn depth (Expr detail depth)) (InstanceIn detail depth (Body detail depth))
       (StatementsIn depth (Statement detail depth)) (Body detail depth)
 
+  -- a body whose tokens are less deep than so much
   pub Body : Detail → ℕ → Language BodyTerm
   Body detail zero = TooDeep detail (λ token. EmptyBody token.place)
   Body detail (suc depth) = BodyOf (InstanceIn detail depth (Body detail depth)) (StatementsIn depth (Statement detail depth))

@@ -46,16 +46,19 @@ Maybe L (Some x) tokens = L x tokens
 abbrev pub Never : {A : Type 0} → Language A
 Never x tokens = ⊥
 
--- of two that are one after the other the first, the second, both, and the first in front of the others
+-- of two that are one after the other, the first
 abbrev pub first_of : {A B : Type 0} → A → B → A
 first_of a b = a
 
+-- the second of the two
 abbrev pub second_of : {A B : Type 0} → A → B → B
 second_of a b = b
 
+-- both of them
 abbrev pub pair_of : {A B : Type 0} → A → B → A × B
 pair_of a b = (a, b)
 
+-- the first in front of the others
 abbrev pub cons : {A : Type 0} → A → List A → List A
 cons x xs = x ∷ xs
 

@@ -47,11 +47,11 @@ chain_read (ops ∷ levels) operand =
     both chain_term (chain_read levels operand) (many (among ops) (both link (one (among ops)) (chain_read levels operand)))
 
 -- an argument that has a name, by its name, its `=` and its value
-abbrev pub given : Token → Token → Term → ArgTerm
-given token assign value = given_term token value
+abbrev pub argument_given : Token → Token → Term → ArgTerm
+argument_given token assign value = given_term token value
 
 abbrev pub arg_read : TokenReader Term → TokenReader ArgTerm
-arg_read expression = ahead given (among argument_names) (is assign_sign) expression (mapped PositionalTerm expression)
+arg_read expression = ahead argument_given (among argument_names) (is assign_sign) expression (mapped PositionalTerm expression)
 
 abbrev pub args_read : TokenReader ArgTerm → TokenReader (List ArgTerm)
 args_read argument =

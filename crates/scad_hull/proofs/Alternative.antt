@@ -6,7 +6,7 @@ use Rattle.plane_predicate.proofs.IntegerRing.{sums, mul_comm_ℤ, zero_mul, one
 use Rattle.plane_predicate.proofs.Polynomials.{var, num, plus, times, minus, ring}
 use Rattle.plane_predicate.proofs.Signs.{signs, pos_pos, least_least, least_most}
 use Rattle.plane_predicate.proofs.Vectors.{form, place, of_plane, of_point, valueP}
-use Rattle.scad_hull.specs.Combinations.{weighted}
+use Rattle.scad_hull.specs.Combinations.{weighted_sum}
 
 -- s m - t n
 abbrev pub plane_less : ℤ → Coefficients → ℤ → Coefficients → Coefficients
@@ -31,12 +31,12 @@ value_point_less m s p t q =
 abbrev pub AreLeast : List ℤ → Type 0
 AreLeast weights = AllByRecursion (λ l. pos 0 ≤ℤ l) weights
 
-pub weighted_scaled : (s : ℤ) (weights numbers : List ℤ) → weighted (map (λ l. s *ℤ l) weights) numbers ≡ s *ℤ weighted weights numbers
+pub weighted_scaled : (s : ℤ) (weights numbers : List ℤ) → weighted_sum (map (λ l. s *ℤ l) weights) numbers ≡ s *ℤ weighted_sum weights numbers
 weighted_scaled s [] numbers = sym (mul_comm_ℤ s (pos 0) ∙ zero_mul s)
 weighted_scaled s (l ∷ weights) [] = sym (mul_comm_ℤ s (pos 0) ∙ zero_mul s)
 weighted_scaled s (l ∷ weights) (x ∷ numbers) =
     ap (λ (z : ℤ). (s *ℤ l) *ℤ x +ℤ z) (weighted_scaled s weights numbers)
-    ∙ ring (s ∷ l ∷ x ∷ weighted weights numbers ∷ []) (plus (times (times (var 0) (var 1)) (var 2)) (times (var 0) (var 3))) (times (var 0) (plus (times (var 1) (var 2)) (var 3))) refl
+    ∙ ring (s ∷ l ∷ x ∷ weighted_sum weights numbers ∷ []) (plus (times (times (var 0) (var 1)) (var 2)) (times (var 0) (var 3))) (times (var 0) (plus (times (var 1) (var 2)) (var 3))) refl
 
 one_part : (s c l f h u v : ℤ) → l *ℤ (s *ℤ f -ℤ h *ℤ c) +ℤ (s *ℤ u -ℤ v *ℤ c) ≡ s *ℤ (l *ℤ f +ℤ u) -ℤ (l *ℤ h +ℤ v) *ℤ c
 one_part s c l f h u v =
@@ -48,18 +48,18 @@ no_parts : (s c : ℤ) → pos 0 ≡ s *ℤ pos 0 -ℤ pos 0 *ℤ c
 no_parts s c = ring (s ∷ c ∷ []) (num (pos 0)) (minus (times (var 0) (num (pos 0))) (times (num (pos 0)) (var 1))) refl
 
 -- a sum of differences, by its two parts
-pub weighted_parts : {X : Type 0} (s c : ℤ) (k f h : X → ℤ) → ((x : X) → k x ≡ s *ℤ f x -ℤ h x *ℤ c) → (weights : List ℤ) (xs : List X) → weighted weights (map k xs) ≡ s *ℤ weighted weights (map f xs) -ℤ weighted weights (map h xs) *ℤ c
+pub weighted_parts : {X : Type 0} (s c : ℤ) (k f h : X → ℤ) → ((x : X) → k x ≡ s *ℤ f x -ℤ h x *ℤ c) → (weights : List ℤ) (xs : List X) → weighted_sum weights (map k xs) ≡ s *ℤ weighted_sum weights (map f xs) -ℤ weighted_sum weights (map h xs) *ℤ c
 weighted_parts s c k f h e [] xs = no_parts s c
 weighted_parts s c k f h e (l ∷ weights) [] = no_parts s c
 weighted_parts s c k f h e (l ∷ weights) (x ∷ xs) =
     ap₂ (λ (u v : ℤ). l *ℤ u +ℤ v) (e x) (weighted_parts s c k f h e weights xs)
-    ∙ one_part s c l (f x) (h x) (weighted weights (map f xs)) (weighted weights (map h xs))
+    ∙ one_part s c l (f x) (h x) (weighted_sum weights (map f xs)) (weighted_sum weights (map h xs))
 
 most_sum : (x y : ℤ) → x ≤ℤ pos 0 → y ≤ℤ pos 0 → (x +ℤ y) ≤ℤ pos 0
 most_sum x y h k = omega (arith, sums)
 
 -- a sum of numbers that are at most 0
-pub weighted_most : {X : Type 0} (f : X → ℤ) (weights : List ℤ) (xs : List X) → AreLeast weights → AllByRecursion (λ x. f x ≤ℤ pos 0) xs → weighted weights (map f xs) ≤ℤ pos 0
+pub weighted_most : {X : Type 0} (f : X → ℤ) (weights : List ℤ) (xs : List X) → AreLeast weights → AllByRecursion (λ x. f x ≤ℤ pos 0) xs → weighted_sum weights (map f xs) ≤ℤ pos 0
 weighted_most f [] xs h k = omega (arith, sums)
 weighted_most f (l ∷ weights) [] h k = omega (arith, sums)
 weighted_most f (l ∷ weights) (x ∷ xs) h k = most_sum _ _ (least_most l (f x) h.0 k.0) (weighted_most f weights xs h.1 k.1)
@@ -80,7 +80,7 @@ pub record IsCombination (vs : List Coordinates) (g : Coordinates → Coordinate
   pub least : AreLeast weights
   pub by : ℤ
   pub above : pos 0 <ℤ by
-  pub sum : (m : Coefficients) → by *ℤ value m b ≡ weighted weights (map (λ v. value m (g v)) vs)
+  pub sum : (m : Coefficients) → by *ℤ value m b ≡ weighted_sum weights (map (λ v. value m (g v)) vs)
 
 -- a plane with no vector ahead, and b ahead
 pub record IsApart (vs : List Coordinates) (g : Coordinates → Coordinates) (b : Coordinates) : Type 0 where
@@ -142,7 +142,7 @@ zero_or_ahead b = elim (seen b.x) [
   ]
 ]
 
-none_first : (a y : ℤ) (weights numbers : List ℤ) (w : ℤ) → w ≡ weighted weights numbers → w ≡ pos 0 *ℤ a +ℤ weighted weights numbers
+none_first : (a y : ℤ) (weights numbers : List ℤ) (w : ℤ) → w ≡ weighted_sum weights numbers → w ≡ pos 0 *ℤ a +ℤ weighted_sum weights numbers
 none_first a y weights numbers w e = omega (arith, sums, zero_mul a, e)
 
 -- the weights of the rest do, with 0 for the first vector
@@ -179,7 +179,7 @@ lessened_combination : (v : Coordinates) (vs : List Coordinates) (g : Coordinate
     IsCombination vs (λ u. lessened x (g v) (g u)) (lessened x (g v) b) → IsCombination (v ∷ vs) g b
 lessened_combination v vs g b x most ahead above c =
     let s = value x (g v) in
-    let h = weighted c.weights (map (λ u. value x (g u)) vs) in
+    let h = weighted_sum c.weights (map (λ u. value x (g u)) vs) in
     record {
       weights = (c.by *ℤ value x b -ℤ h) ∷ map (λ l. s *ℤ l) c.weights;
       one_each = ap suc (length_scaled s c.weights ∙ c.one_each);
@@ -187,7 +187,7 @@ lessened_combination v vs g b x most ahead above c =
       by = c.by *ℤ s;
       above = pos_pos c.by s c.above above;
       sum = λ m.
-          gathered c.by s (value m b) (value x b) (value m (g v)) (weighted c.weights (map (λ u. value m (g u)) vs)) h
+          gathered c.by s (value m b) (value x b) (value m (g v)) (weighted_sum c.weights (map (λ u. value m (g u)) vs)) h
           (ap (λ (z : ℤ). c.by *ℤ z) (sym (seen_lessened m x (g v) b)) ∙ c.sum m
           ∙ weighted_parts s (value m (g v)) (λ u. value m (lessened x (g v) (g u))) (λ u. value m (g u)) (λ u. value x (g u)) (λ u. seen_lessened m x (g v) (g u)) c.weights vs)
           ∙ ap (λ (z : ℤ). (c.by *ℤ value x b -ℤ h) *ℤ value m (g v) +ℤ z) (sym (weighted_scaled s c.weights (map (λ u. value m (g u)) vs)));

@@ -7,8 +7,8 @@ use Rattle.plane_predicate.proofs.IntegerRing.{sums, mul_neg_right}
 use Rattle.plane_predicate.proofs.Polynomials.{var, num, plus, times, minus, ring}
 use Rattle.plane_predicate.proofs.Signs.{signs, pos_neg, least_most, neg_cancel}
 use Rattle.plane_predicate.proofs.Vectors.{form, place, of_plane, of_point, valueP}
-use Rattle.shape_planes.specs.Shapes.{value_at}
-use Rattle.scad_hull.specs.Combinations.{total, weighted, IsInnerCombination}
+use Rattle.primitives.specs.Shapes.{value_at}
+use Rattle.scad_hull.specs.Combinations.{sum_of_weights, weighted_sum, IsInnerCombination}
 use Rattle.scad_hull.specs.Hulls.{AreOnOnePlane}
 use Rattle.scad_hull.proofs.Alternative.{alternative, AreLeast, IsApart, IsCombination, axis, at_x, at_y, at_z, at_w, weighted_most}
 use Rattle.scad_hull.proofs.Supports.{HasNoSupport, some_support}
@@ -45,13 +45,13 @@ zs points = map (λ p. (point_at p).z) points
 
 -- the sum of a plane's values, each times its weight
 weighted_values : (m : Coefficients) (weights : List ℤ) (points : List (List ℤ)) → length weights ≡ length points →
-    weighted weights (values m points) ≡ m.a *ℤ weighted weights (xs points) +ℤ m.b *ℤ weighted weights (ys points) +ℤ m.c *ℤ weighted weights (zs points) -ℤ m.d *ℤ total weights
+    weighted_sum weights (values m points) ≡ m.a *ℤ weighted_sum weights (xs points) +ℤ m.b *ℤ weighted_sum weights (ys points) +ℤ m.c *ℤ weighted_sum weights (zs points) -ℤ m.d *ℤ sum_of_weights weights
 weighted_values m [] points e = no_values m.a m.b m.c m.d
 weighted_values m (l ∷ weights) [] e = absurd (omega (arith, e))
 weighted_values m (l ∷ weights) (p ∷ points) e =
     let at = point_at p in
     ap (λ (z : ℤ). l *ℤ value m at +ℤ z) (weighted_values m weights points (omega (arith, e)))
-    ∙ one_value l m.a m.b m.c m.d at.x at.y at.z (weighted weights (xs points)) (weighted weights (ys points)) (weighted weights (zs points)) (total weights)
+    ∙ one_value l m.a m.b m.c m.d at.x at.y at.z (weighted_sum weights (xs points)) (weighted_sum weights (ys points)) (weighted_sum weights (zs points)) (sum_of_weights weights)
 
 below_sum : (x y : ℤ) → x <ℤ pos 0 → y ≤ℤ pos 0 → (x +ℤ y) <ℤ pos 0
 below_sum x y h k = omega (arith, sums, h, k)
@@ -60,17 +60,17 @@ most_below_sum : (x y : ℤ) → x ≤ℤ pos 0 → y <ℤ pos 0 → (x +ℤ y) 
 most_below_sum x y h k = omega (arith, sums, h, k)
 
 -- a sum of numbers that are at most 0, one of them below 0, with weights above 0
-weighted_below : {X : Type 0} (f : X → ℤ) (weights : List ℤ) (ps : List X) (far : ℕ) (d : X) → length weights ≡ length ps → AreAbove weights → AllByRecursion (λ x. f x ≤ℤ pos 0) ps → far < length ps → f (get_or ps far d) <ℤ pos 0 → weighted weights (map f ps) <ℤ pos 0
+weighted_below : {X : Type 0} (f : X → ℤ) (weights : List ℤ) (ps : List X) (far : ℕ) (d : X) → length weights ≡ length ps → AreAbove weights → AllByRecursion (λ x. f x ≤ℤ pos 0) ps → far < length ps → f (get_or ps far d) <ℤ pos 0 → weighted_sum weights (map f ps) <ℤ pos 0
 weighted_below f weights [] far d e h k lt below = absurd (omega (arith, lt))
 weighted_below f [] (p ∷ ps) far d e h k lt below = absurd (omega (arith, e))
 weighted_below f (l ∷ weights) (p ∷ ps) zero d e h k lt below = below_sum _ _ (pos_neg l (f p) h.0 below) (weighted_most f weights ps (weaker weights h.1) k.1)
 weighted_below f (l ∷ weights) (p ∷ ps) (suc far) d e h k lt below = most_below_sum _ _ (least_most l (f p) (omega (arith, sums, h.0)) k.0) (weighted_below f weights ps far d (omega (arith, e)) h.1 k.1 (omega (arith, lt)) below)
 
-least_total : (weights : List ℤ) → AreAbove weights → pos 0 ≤ℤ total weights
+least_total : (weights : List ℤ) → AreAbove weights → pos 0 ≤ℤ sum_of_weights weights
 least_total [] h = omega (arith, sums)
 least_total (l ∷ weights) h = omega (arith, sums, h.0, least_total weights h.1)
 
-above_total : (weights : List ℤ) → 0 < length weights → AreAbove weights → pos 0 <ℤ total weights
+above_total : (weights : List ℤ) → 0 < length weights → AreAbove weights → pos 0 <ℤ sum_of_weights weights
 above_total [] lt h = absurd (omega (arith, lt))
 above_total (l ∷ weights) lt h = omega (arith, sums, h.0, least_total weights h.1)
 
@@ -89,10 +89,10 @@ below_by x y e h = omega (arith, sums, e, h)
 pub behind_each : (points : List (List ℤ)) (q : Coordinates) → pos 0 <ℤ q.w → IsInnerCombination points q → (m : Coefficients) → All (λ p. value m (point_at p) ≤ℤ pos 0) points → (far : ℕ) → far < length points → value_at points m far <ℤ pos 0 → value m q <ℤ pos 0
 behind_each points q hw c m most far lt below =
     let above = recursion_from_All (λ l. pos 0 <ℤ l) c.weights c.above in
-    let sum : weighted c.weights (values m points) <ℤ pos 0 = weighted_below (λ p. value m (point_at p)) c.weights points far [] c.one_each above (recursion_from_All (λ p. value m (point_at p) ≤ℤ pos 0) points most) lt below in
-    neg_cancel (total c.weights) (value m q) (above_total c.weights (omega (arith, c.one_each, lt)) above)
-    (below_by _ _ (gathered (total c.weights) q.w m.a m.b m.c m.d q.x q.y q.z (weighted c.weights (xs points)) (weighted c.weights (ys points)) (weighted c.weights (zs points)) c.x c.y c.z
-    ∙ ap (λ (z : ℤ). q.w *ℤ z) (sym (weighted_values m c.weights points c.one_each))) (pos_neg q.w (weighted c.weights (values m points)) hw sum))
+    let sum : weighted_sum c.weights (values m points) <ℤ pos 0 = weighted_below (λ p. value m (point_at p)) c.weights points far [] c.one_each above (recursion_from_All (λ p. value m (point_at p) ≤ℤ pos 0) points most) lt below in
+    neg_cancel (sum_of_weights c.weights) (value m q) (above_total c.weights (omega (arith, c.one_each, lt)) above)
+    (below_by _ _ (gathered (sum_of_weights c.weights) q.w m.a m.b m.c m.d q.x q.y q.z (weighted_sum c.weights (xs points)) (weighted_sum c.weights (ys points)) (weighted_sum c.weights (zs points)) c.x c.y c.z
+    ∙ ap (λ (z : ℤ). q.w *ℤ z) (sym (weighted_values m c.weights points c.one_each))) (pos_neg q.w (weighted_sum c.weights (values m points)) hw sum))
 
 -- ---- the hard direction
 abbrev summed : List (List ℤ) → Coordinates
@@ -125,20 +125,20 @@ raised_part : (u l f w s : ℤ) → (u +ℤ l) *ℤ f +ℤ (w +ℤ u *ℤ s) ≡
 raised_part u l f w s = ring (u ∷ l ∷ f ∷ w ∷ s ∷ []) (plus (times (plus (var 0) (var 1)) (var 2)) (plus (var 3) (times (var 0) (var 4)))) (plus (plus (times (var 1) (var 2)) (var 3)) (times (var 0) (plus (var 2) (var 4)))) refl
 
 -- weights that are all raised by one number
-weighted_raised : (m : Coefficients) (u : ℤ) (weights : List ℤ) (points : List (List ℤ)) → length weights ≡ length points → weighted (map (λ l. u +ℤ l) weights) (values m points) ≡ weighted weights (values m points) +ℤ u *ℤ value m (summed points)
+weighted_raised : (m : Coefficients) (u : ℤ) (weights : List ℤ) (points : List (List ℤ)) → length weights ≡ length points → weighted_sum (map (λ l. u +ℤ l) weights) (values m points) ≡ weighted_sum weights (values m points) +ℤ u *ℤ value m (summed points)
 weighted_raised m u [] [] e = sym (ap (λ (z : ℤ). pos 0 +ℤ u *ℤ z) (none_summed m) ∙ ring (u ∷ []) (plus (num (pos 0)) (times (var 0) (num (pos 0)))) (num (pos 0)) refl)
 weighted_raised m u [] (p ∷ points) e = absurd (omega (arith, e))
 weighted_raised m u (l ∷ weights) [] e = absurd (omega (arith, e))
 weighted_raised m u (l ∷ weights) (p ∷ points) e =
     ap (λ (z : ℤ). (u +ℤ l) *ℤ value m (point_at p) +ℤ z) (weighted_raised m u weights points (omega (arith, e)))
-    ∙ raised_part u l (value m (point_at p)) (weighted weights (values m points)) (value m (summed points))
-    ∙ ap (λ (z : ℤ). weighted (l ∷ weights) (values m (p ∷ points)) +ℤ u *ℤ z) (sym (two_summed m (point_at p) (summed points)))
+    ∙ raised_part u l (value m (point_at p)) (weighted_sum weights (values m points)) (value m (summed points))
+    ∙ ap (λ (z : ℤ). weighted_sum (l ∷ weights) (values m (p ∷ points)) +ℤ u *ℤ z) (sym (two_summed m (point_at p) (summed points)))
 
 raised_above : (u : ℤ) (weights : List ℤ) → pos 0 <ℤ u → AreLeast weights → AreAbove (map (λ l. u +ℤ l) weights)
 raised_above u [] hu h = tt
 raised_above u (l ∷ weights) hu h = (omega (arith, sums, hu, h.0), raised_above u weights hu h.1)
 
-weighted_same : {X : Type 0} (f k : X → ℤ) → ((x : X) → f x ≡ k x) → (weights : List ℤ) (ps : List X) → weighted weights (map f ps) ≡ weighted weights (map k ps)
+weighted_same : {X : Type 0} (f k : X → ℤ) → ((x : X) → f x ≡ k x) → (weights : List ℤ) (ps : List X) → weighted_sum weights (map f ps) ≡ weighted_sum weights (map k ps)
 weighted_same f k e [] ps = refl
 weighted_same f k e (l ∷ weights) [] = refl
 weighted_same f k e (l ∷ weights) (p ∷ ps) = ap₂ (λ (u v : ℤ). l *ℤ u +ℤ v) (e p) (weighted_same f k e weights ps)
@@ -146,10 +146,10 @@ weighted_same f k e (l ∷ weights) (p ∷ ps) = ap₂ (λ (u v : ℤ). l *ℤ u
 one_total : (l t : ℤ) → l *ℤ pos 1 +ℤ t ≡ l +ℤ t
 one_total l t = ring (l ∷ t ∷ []) (plus (times (var 0) (num (pos 1))) (var 1)) (plus (var 0) (var 1)) refl
 
-weighted_ones : {X : Type 0} (weights : List ℤ) (ps : List X) → length weights ≡ length ps → weighted weights (map (λ x. pos 1) ps) ≡ total weights
+weighted_ones : {X : Type 0} (weights : List ℤ) (ps : List X) → length weights ≡ length ps → weighted_sum weights (map (λ x. pos 1) ps) ≡ sum_of_weights weights
 weighted_ones [] ps e = refl
 weighted_ones (l ∷ weights) [] e = absurd (omega (arith, e))
-weighted_ones (l ∷ weights) (p ∷ ps) e = ap (λ (z : ℤ). l *ℤ pos 1 +ℤ z) (weighted_ones weights ps (omega (arith, e))) ∙ one_total l (total weights)
+weighted_ones (l ∷ weights) (p ∷ ps) e = ap (λ (z : ℤ). l *ℤ pos 1 +ℤ z) (weighted_ones weights ps (omega (arith, e))) ∙ one_total l (sum_of_weights weights)
 
 -- u times minus s is v times minus q, plus w
 brought_over : (u v s q w : ℤ) → u *ℤ (pos 0 -ℤ s) ≡ v *ℤ (pos 0 -ℤ q) +ℤ w → v *ℤ q ≡ w +ℤ u *ℤ s
@@ -158,34 +158,34 @@ brought_over u v s q w e =
 
 -- a point q, taken v times, as each plane sees it
 abbrev IsSeenAs : List (List ℤ) → Coordinates → ℤ → List ℤ → Type 0
-IsSeenAs points q v weights = (m : Coefficients) → v *ℤ value m q ≡ weighted weights (values m points)
+IsSeenAs points q v weights = (m : Coefficients) → v *ℤ value m q ≡ weighted_sum weights (values m points)
 
 exchanged : (v w x t u : ℤ) → v *ℤ w ≡ t → v *ℤ x ≡ u → t *ℤ x ≡ w *ℤ u
 exchanged v w x t u et eu = ap (λ (z : ℤ). z *ℤ x) (sym et) ∙ ring (v ∷ w ∷ x ∷ []) (times (times (var 0) (var 1)) (var 2)) (times (var 1) (times (var 0) (var 2))) refl ∙ ap (λ (z : ℤ). w *ℤ z) eu
 
-seen_from : (points : List (List ℤ)) (q : Coordinates) (v : ℤ) (weights : List ℤ) (m : Coefficients) (f : Coordinates → ℤ) → ((p : Coordinates) → value m p ≡ f p) → IsSeenAs points q v weights → v *ℤ f q ≡ weighted weights (map (λ p. f (point_at p)) points)
+seen_from : (points : List (List ℤ)) (q : Coordinates) (v : ℤ) (weights : List ℤ) (m : Coefficients) (f : Coordinates → ℤ) → ((p : Coordinates) → value m p ≡ f p) → IsSeenAs points q v weights → v *ℤ f q ≡ weighted_sum weights (map (λ p. f (point_at p)) points)
 seen_from points q v weights m f e h = ap (λ (z : ℤ). v *ℤ z) (sym (e q)) ∙ h m ∙ weighted_same (λ p. value m (point_at p)) (λ p. f (point_at p)) (λ p. e (point_at p)) weights points
 
 pub by_planes : (points : List (List ℤ)) (q : Coordinates) (v : ℤ) (weights : List ℤ) → length weights ≡ length points → AreAbove weights → IsSeenAs points q v weights → IsInnerCombination points q
 by_planes points q v weights e above h =
-    let t : v *ℤ q.w ≡ total weights = seen_from points q v weights (axis (pos 0) (pos 0) (pos 0) (negsuc 0)) (λ p. p.w) (λ p. at_w (negsuc 0) p.x p.y p.z p.w ∙ ring (p.w ∷ []) (minus (num (pos 0)) (times (num (negsuc 0)) (var 0))) (var 0) refl) h ∙ weighted_ones weights points e in
+    let t : v *ℤ q.w ≡ sum_of_weights weights = seen_from points q v weights (axis (pos 0) (pos 0) (pos 0) (negsuc 0)) (λ p. p.w) (λ p. at_w (negsuc 0) p.x p.y p.z p.w ∙ ring (p.w ∷ []) (minus (num (pos 0)) (times (num (negsuc 0)) (var 0))) (var 0) refl) h ∙ weighted_ones weights points e in
     record {
       weights = weights;
       one_each = e;
       above = All-from_recursion (λ l. pos 0 <ℤ l) weights above;
-      x = exchanged v q.w q.x (total weights) _ t (seen_from points q v weights (axis (pos 1) (pos 0) (pos 0) (pos 0)) (λ p. p.x) (λ p. at_x (pos 1) p.x p.y p.z p.w ∙ ring (p.x ∷ []) (times (num (pos 1)) (var 0)) (var 0) refl) h);
-      y = exchanged v q.w q.y (total weights) _ t (seen_from points q v weights (axis (pos 0) (pos 1) (pos 0) (pos 0)) (λ p. p.y) (λ p. at_y (pos 1) p.x p.y p.z p.w ∙ ring (p.y ∷ []) (times (num (pos 1)) (var 0)) (var 0) refl) h);
-      z = exchanged v q.w q.z (total weights) _ t (seen_from points q v weights (axis (pos 0) (pos 0) (pos 1) (pos 0)) (λ p. p.z) (λ p. at_z (pos 1) p.x p.y p.z p.w ∙ ring (p.z ∷ []) (times (num (pos 1)) (var 0)) (var 0) refl) h);
+      x = exchanged v q.w q.x (sum_of_weights weights) _ t (seen_from points q v weights (axis (pos 1) (pos 0) (pos 0) (pos 0)) (λ p. p.x) (λ p. at_x (pos 1) p.x p.y p.z p.w ∙ ring (p.x ∷ []) (times (num (pos 1)) (var 0)) (var 0) refl) h);
+      y = exchanged v q.w q.y (sum_of_weights weights) _ t (seen_from points q v weights (axis (pos 0) (pos 1) (pos 0) (pos 0)) (λ p. p.y) (λ p. at_y (pos 1) p.x p.y p.z p.w ∙ ring (p.y ∷ []) (times (num (pos 1)) (var 0)) (var 0) refl) h);
+      z = exchanged v q.w q.z (sum_of_weights weights) _ t (seen_from points q v weights (axis (pos 0) (pos 0) (pos 1) (pos 0)) (λ p. p.z) (λ p. at_z (pos 1) p.x p.y p.z p.w ∙ ring (p.z ∷ []) (times (num (pos 1)) (var 0)) (var 0) refl) h);
     }
 
 from_weights_of : (points : List (List ℤ)) (q : Coordinates) (weights : List ℤ) (u : ℤ) → length weights ≡ suc (length (map point_at points)) → AreLeast weights → pos 0 <ℤ u →
-    ((m : Coefficients) → u *ℤ value m (negative (summed points)) ≡ weighted weights (value m (negative q) ∷ map (λ v. value m v) (map point_at points))) → IsInnerCombination points q
+    ((m : Coefficients) → u *ℤ value m (negative (summed points)) ≡ weighted_sum weights (value m (negative q) ∷ map (λ v. value m v) (map point_at points))) → IsInnerCombination points q
 from_weights_of points q [] u e least above sum = absurd (omega (arith, e))
 from_weights_of points q (v ∷ weights) u e least above sum =
     let same : length weights ≡ length points = omega (arith, e, length_map point_at points) in
     by_planes points q v (map (λ l. u +ℤ l) weights) (length_map (λ l. u +ℤ l) weights ∙ same) (raised_above u weights above least.1)
-    (λ m. brought_over u v (value m (summed points)) (value m q) (weighted weights (values m points))
-    (ap (λ (z : ℤ). u *ℤ z) (sym (value_negative m (summed points))) ∙ sum m ∙ ap₂ (λ (y : ℤ) (ns : List ℤ). v *ℤ y +ℤ weighted weights ns) (value_negative m q) (map_twice point_at (λ p. value m p) points))
+    (λ m. brought_over u v (value m (summed points)) (value m q) (weighted_sum weights (values m points))
+    (ap (λ (z : ℤ). u *ℤ z) (sym (value_negative m (summed points))) ∙ sum m ∙ ap₂ (λ (y : ℤ) (ns : List ℤ). v *ℤ y +ℤ weighted_sum weights ns) (value_negative m q) (map_twice point_at (λ p. value m p) points))
     ∙ sym (weighted_raised m u weights points same))
 
 -- the alternative's weights for minus q and the points, of which minus their sum is the target

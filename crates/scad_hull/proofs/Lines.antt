@@ -5,9 +5,9 @@ use Rattle.plane_predicate.specs.Space.{Coefficients, Coordinates, point_at, val
 use Rattle.plane_predicate.proofs.IntegerRing.{sums}
 use Rattle.plane_predicate.proofs.Polynomials.{var, num, plus, times, minus, ring}
 use Rattle.plane_predicate.proofs.Vectors.{minorP, valueP}
-use Rattle.shape_planes.specs.Shapes.{corner, value_at}
-use Rattle.shape_planes.proofs.Moves.{throughP, whole, wholeP}
-use Rattle.shape_planes.proofs.OnePlane.{some_direction}
+use Rattle.primitives.specs.Shapes.{corner, value_at}
+use Rattle.primitives.proofs.Moves.{throughP, whole, wholeP}
+use Rattle.primitives.proofs.OnePlane.{some_direction}
 use Rattle.scad_hull.specs.Hulls.{AreOnOnePlane}
 use Rattle.scad_hull.proofs.Turns.{last_or_below}
 

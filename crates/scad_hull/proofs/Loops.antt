@@ -8,14 +8,14 @@ use Rattle.std.proofs.lemmas.List.{get_or_default, take_all, take_more}
 use Rattle.std.proofs.lemmas.List.Elements.{All-from_recursion, recursion_from_All}
 use Rattle.plane_predicate.specs.Space.{Coefficients, Coordinates, point_at, value, opposite_of, AreCollinear}
 use Rattle.plane_predicate.proofs.IntegerRing.{sums}
-use Rattle.shape_planes.specs.Shapes.{corner, value_at, HasTriangle, IsInRange, IsInside, IsShape, MakesShape}
-use Rattle.shape_planes.specs.Sizes.{IsOnGrid}
-use Rattle.shape_planes.proofs.Bodies.{range_on_grid, shape_of}
+use Rattle.primitives.specs.Shapes.{corner, value_at, HasTriangle, IsInRange, IsInside, IsShape, MakesShape}
+use Rattle.primitives.specs.GridSizes.{IsOnGrid}
+use Rattle.primitives.proofs.ShapeBodies.{range_on_grid, shape_of}
 use Rattle.std.specs.Cmp.Lexicographic.{slice_cmp}
-use Rattle.shape_planes.specs.Spanning.{HasNoDirection, IsTriangle}
-use Rattle.shape_planes.specs.declared.spanning.Triangle.{Triangle}
-use Rattle.shape_planes.proofs.OnePlane.{nowhere}
-use Rattle.scad_hull.specs.Hulls.{different, faces_of, from, hull_of, put, is_directed, has_none_ahead, is_supporting, plane_of, shares_plane, AreOnOnePlane}
+use Rattle.primitives.specs.Spanning.{HasNoDirection, IsTriangle}
+use Rattle.primitives.specs.declared.spanning.Triangle.{Triangle}
+use Rattle.primitives.proofs.OnePlane.{nowhere}
+use Rattle.scad_hull.specs.Hulls.{points_in_order, faces_of, from, hull_of, point_put_among, is_directed, has_none_ahead, is_supporting, plane_of, shares_plane, AreOnOnePlane}
 use Rattle.scad_hull.specs.Combinations.{IsInnerCombination}
 use Rattle.scad_hull.specs.Refusals.{AreInRange, HaveHull}
 use Rattle.scad_hull.specs.Steps.{with_triple, AreNumbered}
@@ -213,38 +213,38 @@ pub kept_other : (points : List (List ℤ)) (faces : List (List ℕ)) (t : List 
 kept_other points faces t b eb e = sym (cond-false (is_supporting points t && not (list_any (λ s. shares_plane points s t) faces)) (faces ++ t ∷ []) faces (and_left (is_supporting points t) (not (list_any (λ s. shares_plane points s t) faces)) (sym eb ∙ e)))
 
 -- ---- the different points of some given ones
-all_put_by : (P : List ℤ → Type 0) (o : Ordering) (p q : List ℤ) (points : List (List ℤ)) → P p → AllByRecursion P (q ∷ points) → AllByRecursion P (put p points) → AllByRecursion P (elim o [ Less ↦ q ∷ put p points | Equal ↦ q ∷ points | Greater ↦ p ∷ q ∷ points ])
+all_put_by : (P : List ℤ → Type 0) (o : Ordering) (p q : List ℤ) (points : List (List ℤ)) → P p → AllByRecursion P (q ∷ points) → AllByRecursion P (point_put_among p points) → AllByRecursion P (elim o [ Less ↦ q ∷ point_put_among p points | Equal ↦ q ∷ points | Greater ↦ p ∷ q ∷ points ])
 all_put_by P Less p q points h k m = (k.0, m)
 all_put_by P Equal p q points h k m = k
 all_put_by P Greater p q points h k m = (h, k)
 
-all_put : (P : List ℤ → Type 0) (p : List ℤ) (points : List (List ℤ)) → P p → AllByRecursion P points → AllByRecursion P (put p points)
+all_put : (P : List ℤ → Type 0) (p : List ℤ) (points : List (List ℤ)) → P p → AllByRecursion P points → AllByRecursion P (point_put_among p points)
 all_put P p [] h k = (h, tt)
 all_put P p (q ∷ points) h k = all_put_by P (slice_cmp int_cmp q p) p q points h k (all_put P p points h k.1)
 
-all_different : (P : List ℤ → Type 0) (points given : List (List ℤ)) → AllByRecursion P points → AllByRecursion P given → AllByRecursion P (fold (λ ps p. put p ps) points given)
+all_different : (P : List ℤ → Type 0) (points given : List (List ℤ)) → AllByRecursion P points → AllByRecursion P given → AllByRecursion P (fold (λ ps p. point_put_among p ps) points given)
 all_different P points [] h k = h
-all_different P points (p ∷ given) h k = all_different P (put p points) given (all_put P p points k.0 h) k.1
+all_different P points (p ∷ given) h k = all_different P (point_put_among p points) given (all_put P p points k.0 h) k.1
 
-pub range_different : (given : List (List ℤ)) → AreInRange given → AreInRange (different given)
-range_different given h = All-from_recursion (λ p. IsInRange (point_at p)) (different given) (all_different (λ p. IsInRange (point_at p)) [] given tt (recursion_from_All (λ p. IsInRange (point_at p)) given h))
+pub range_different : (given : List (List ℤ)) → AreInRange given → AreInRange (points_in_order given)
+range_different given h = All-from_recursion (λ p. IsInRange (point_at p)) (points_in_order given) (all_different (λ p. IsInRange (point_at p)) [] given tt (recursion_from_All (λ p. IsInRange (point_at p)) given h))
 
-pub numbered_by : (given points : List (List ℤ)) (all : List ℕ) → points ≡ different given → AreInRange given → length (different given) ≤ 128 → all ≡ from 0 (length points) → AreNumbered points all
+pub numbered_by : (given points : List (List ℤ)) (all : List ℕ) → points ≡ points_in_order given → AreInRange given → length (points_in_order given) ≤ 128 → all ≡ from 0 (length points) → AreNumbered points all
 numbered_by given points all e range few numbers = record {
-  grid = subst (λ ps. All (λ p. IsOnGrid (point_at p)) ps) (sym e) (range_on_grid (different given) (range_different given range));
+  grid = subst (λ ps. All (λ p. IsOnGrid (point_at p)) ps) (sym e) (range_on_grid (points_in_order given) (range_different given range));
   few = subst (λ ps. length ps ≤ 128) (sym e) few;
   numbers = numbers;
 }
 
-pub shape_by : (given points : List (List ℤ)) (faces : List (List ℕ)) → points ≡ different given → AreInRange given → (AreOnOnePlane points → ⊥) → faces ≡ faces_of points → MakesShape (record { points = points; faces = faces })
+pub shape_by : (given points : List (List ℤ)) (faces : List (List ℕ)) → points ≡ points_in_order given → AreInRange given → (AreOnOnePlane points → ⊥) → faces ≡ faces_of points → MakesShape (record { points = points; faces = faces })
 shape_by given points faces e range solid ef = subst (λ fs. MakesShape (record { points = points; faces = fs })) (sym ef) (makes_shape points (subst AreInRange (sym e) (range_different given range)) solid)
 
-pub inside_by : (given points : List (List ℤ)) → points ≡ different given → (AreOnOnePlane points → ⊥) → (q : Coordinates) → pos 0 <ℤ q.w → IsInside (hull_of given) q ↔ IsInnerCombination (different given) q
-inside_by given points e solid q hw = inside_where_combined (different given) (subst (λ ps. AreOnOnePlane ps → ⊥) e solid) q hw
+pub inside_by : (given points : List (List ℤ)) → points ≡ points_in_order given → (AreOnOnePlane points → ⊥) → (q : Coordinates) → pos 0 <ℤ q.w → IsInside (hull_of given) q ↔ IsInnerCombination (points_in_order given) q
+inside_by given points e solid q hw = inside_where_combined (points_in_order given) (subst (λ ps. AreOnOnePlane ps → ⊥) e solid) q hw
 
 -- ---- points with a hull
 pub hull_is_shape : (given : List (List ℤ)) → HaveHull given → IsShape (hull_of given)
-hull_is_shape given h = shape_of (hull_of given) (shape_by given (different given) (faces_of (different given)) refl h.range h.solid refl)
+hull_is_shape given h = shape_of (hull_of given) (shape_by given (points_in_order given) (faces_of (points_in_order given)) refl h.range h.solid refl)
 
-pub hull_inside : (given : List (List ℤ)) → HaveHull given → (q : Coordinates) → pos 0 <ℤ q.w → IsInside (hull_of given) q ↔ IsInnerCombination (different given) q
-hull_inside given h = inside_by given (different given) refl h.solid
+pub hull_inside : (given : List (List ℤ)) → HaveHull given → (q : Coordinates) → pos 0 <ℤ q.w → IsInside (hull_of given) q ↔ IsInnerCombination (points_in_order given) q
+hull_inside given h = inside_by given (points_in_order given) refl h.solid

@@ -3,7 +3,7 @@ use Rattle.std.proofs.Common.{◌≡◌, ℕ, List, [], ◌∷◌, ℤ, pos, neg
 use Rattle.std.proofs.lemmas.List.Elements.{All-from_recursion}
 use Rattle.plane_predicate.proofs.IntegerRing.{sums}
 use Rattle.scad_hull.specs.Combinations.{IsInnerCombination}
-use Rattle.scad_hull.specs.Hulls.{different, faces_of}
+use Rattle.scad_hull.specs.Hulls.{points_in_order, faces_of}
 
 abbrev at : ℕ → ℕ → ℕ → List ℤ
 at x y z = pos x ∷ pos y ∷ pos z ∷ []
@@ -15,14 +15,14 @@ three i j k = i ∷ j ∷ k ∷ []
 abbrev corner : List (List ℤ)
 corner = at 0 0 0 ∷ at 0 0 2 ∷ at 0 2 0 ∷ at 3 0 0 ∷ []
 
-corner_points : different (at 3 0 0 ∷ at 0 0 2 ∷ at 3 0 0 ∷ at 0 2 0 ∷ at 0 0 0 ∷ at 0 0 0 ∷ []) ≡ corner
+corner_points : points_in_order (at 3 0 0 ∷ at 0 0 2 ∷ at 3 0 0 ∷ at 0 2 0 ∷ at 0 0 0 ∷ at 0 0 0 ∷ []) ≡ corner
 corner_points = refl
 
 corner_faces : faces_of corner ≡ three 0 1 2 ∷ three 0 1 3 ∷ three 0 2 3 ∷ three 1 2 3 ∷ []
 corner_faces = refl
 
 -- points below 0 come first
-ascending_points : different (at 0 0 0 ∷ (negsuc 0 ∷ pos 5 ∷ pos 5 ∷ []) ∷ (pos 0 ∷ negsuc 1 ∷ pos 7 ∷ []) ∷ []) ≡ (negsuc 0 ∷ pos 5 ∷ pos 5 ∷ []) ∷ (pos 0 ∷ negsuc 1 ∷ pos 7 ∷ []) ∷ at 0 0 0 ∷ []
+ascending_points : points_in_order (at 0 0 0 ∷ (negsuc 0 ∷ pos 5 ∷ pos 5 ∷ []) ∷ (pos 0 ∷ negsuc 1 ∷ pos 7 ∷ []) ∷ []) ≡ (negsuc 0 ∷ pos 5 ∷ pos 5 ∷ []) ∷ (pos 0 ∷ negsuc 1 ∷ pos 7 ∷ []) ∷ at 0 0 0 ∷ []
 ascending_points = refl
 
 -- a point inside stays a point, and is on no face

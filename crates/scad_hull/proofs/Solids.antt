@@ -9,8 +9,8 @@ use Rattle.plane_predicate.proofs.Opposites.{size_of_negative}
 use Rattle.plane_predicate.proofs.Polynomials.{var, num, plus, times, minus, ring}
 use Rattle.plane_predicate.proofs.Signs.{signs, pos_neg, neg_neg, most_most, most_least, neg_pos}
 use Rattle.plane_predicate.proofs.Vectors.{minorP, value-opposite}
-use Rattle.shape_planes.specs.Shapes.{Mesh, corner, value_at, HasFreeSide, HasTriangle, IsBehindFace, IsFacePlane, IsInRange, IsInside, IsOnOnePlane, MakesShape}
-use Rattle.shape_planes.proofs.Moves.{cancelled}
+use Rattle.primitives.specs.Shapes.{Mesh, corner, value_at, HasFreeSide, HasTriangle, IsBehindFace, IsFacePlane, IsInRange, IsInside, IsOnOnePlane, MakesShape}
+use Rattle.primitives.proofs.Moves.{cancelled}
 use Rattle.scad_hull.specs.Combinations.{IsInnerCombination}
 use Rattle.scad_hull.specs.Hulls.{faces_of, plane_of, AreOnOnePlane}
 use Rattle.scad_hull.proofs.Supporting.{all_faces, crossed, has_face, not_nowhere, own, same_zeros, IsSupport, IsTriple}

@@ -2,7 +2,7 @@
 use Rattle.std.proofs.Common.{◌≡◌, inl, inr, List, length, ◌<◌, ℕ, ℤ, pos}
 use Rattle.plane_predicate.specs.Space.{Coefficients, Coordinates, AreCollinear}
 use Rattle.plane_predicate.proofs.Signs.{signs}
-use Rattle.shape_planes.specs.Shapes.{corner, value_at}
+use Rattle.primitives.specs.Shapes.{corner, value_at}
 use Rattle.scad_hull.specs.Hulls.{AreOnOnePlane}
 use Rattle.scad_hull.proofs.Lines.{cyclic, holds_first, holds_second, holds_third, in_plane, plane, some_off, some_triangle, swapped}
 use Rattle.scad_hull.proofs.Turns.{both_signs, Bounds, turn}

@@ -6,7 +6,7 @@ use Rattle.std.proofs.lemmas.Bool.Decides.{Decides-int_eq}
 use Rattle.std.proofs.lemmas.Int.{ints}
 use Rattle.std.proofs.lemmas.List.Elements.{All-from_recursion, recursion_from_All}
 use Rattle.plane_predicate.specs.Space.{Coefficients, point_at, value, opposite_of, AreCollinear}
-use Rattle.shape_planes.specs.Shapes.{corner, value_at}
+use Rattle.primitives.specs.Shapes.{corner, value_at}
 use Rattle.scad_hull.specs.Hulls.{is_directed, has_none_ahead, is_supporting, plane_of, shares_plane}
 use Rattle.scad_hull.proofs.Lines.{plane}
 

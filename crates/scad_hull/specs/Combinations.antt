@@ -3,15 +3,15 @@ use Rattle.std.specs.Prelude.{◌≡◌, ℤ, pos, ◌+ℤ◌, ◌*ℤ◌, ◌<�
 use Rattle.plane_predicate.specs.Space.{Coordinates, point_at}
 
 -- the sum of the weights
-abbrev pub total : List ℤ → ℤ
-total [] = pos 0
-total (m ∷ weights) = m +ℤ total weights
+abbrev pub sum_of_weights : List ℤ → ℤ
+sum_of_weights [] = pos 0
+sum_of_weights (m ∷ weights) = m +ℤ sum_of_weights weights
 
 -- the sum of some numbers, each times its weight
-abbrev pub weighted : List ℤ → List ℤ → ℤ
-weighted [] numbers = pos 0
-weighted (m ∷ weights) [] = pos 0
-weighted (m ∷ weights) (x ∷ numbers) = m *ℤ x +ℤ weighted weights numbers
+abbrev pub weighted_sum : List ℤ → List ℤ → ℤ
+weighted_sum [] numbers = pos 0
+weighted_sum (m ∷ weights) [] = pos 0
+weighted_sum (m ∷ weights) (x ∷ numbers) = m *ℤ x +ℤ weighted_sum weights numbers
 
 -- the point (x, y, z, w) is a combination of the points with weights above 0: the sum of the weights, times (x, y, z),
 -- is w times the sum of the points, each times its weight
@@ -19,6 +19,6 @@ pub record IsInnerCombination (points : List (List ℤ)) (q : Coordinates) : Typ
   pub weights : List ℤ
   pub one_each : length weights ≡ length points
   pub above : All (λ m. pos 0 <ℤ m) weights
-  pub x : total weights *ℤ q.x ≡ q.w *ℤ weighted weights (map (λ p. (point_at p).x) points)
-  pub y : total weights *ℤ q.y ≡ q.w *ℤ weighted weights (map (λ p. (point_at p).y) points)
-  pub z : total weights *ℤ q.z ≡ q.w *ℤ weighted weights (map (λ p. (point_at p).z) points)
+  pub x : sum_of_weights weights *ℤ q.x ≡ q.w *ℤ weighted_sum weights (map (λ p. (point_at p).x) points)
+  pub y : sum_of_weights weights *ℤ q.y ≡ q.w *ℤ weighted_sum weights (map (λ p. (point_at p).y) points)
+  pub z : sum_of_weights weights *ℤ q.z ≡ q.w *ℤ weighted_sum weights (map (λ p. (point_at p).z) points)

@@ -5,16 +5,16 @@ use Rattle.std.specs.Ordering.{int_eq, int_cmp}
 use Rattle.std.specs.Cmp.Lexicographic.{slice_cmp}
 use Rattle.std.specs.declared.cmp.Ordering.TheVariants.{Less, Equal, Greater}
 use Rattle.plane_predicate.specs.Space.{Coefficients, point_at, value, through, opposite_of}
-use Rattle.shape_planes.specs.Shapes.{Mesh, corner, value_at}
+use Rattle.primitives.specs.Shapes.{Mesh, corner, value_at}
 
 -- a point put into its place among ascending points, by x, then y, then z, unless it is among them
-abbrev pub put : List ℤ → List (List ℤ) → List (List ℤ)
-put p [] = p ∷ []
-put p (q ∷ points) = elim (slice_cmp int_cmp q p) [ Less ↦ q ∷ put p points | Equal ↦ q ∷ points | Greater ↦ p ∷ q ∷ points ]
+abbrev pub point_put_among : List ℤ → List (List ℤ) → List (List ℤ)
+point_put_among p [] = p ∷ []
+point_put_among p (q ∷ points) = elim (slice_cmp int_cmp q p) [ Less ↦ q ∷ point_put_among p points | Equal ↦ q ∷ points | Greater ↦ p ∷ q ∷ points ]
 
 -- the different points, in ascending order
-abbrev pub different : List (List ℤ) → List (List ℤ)
-different given = fold (λ points p. put p points) [] given
+abbrev pub points_in_order : List (List ℤ) → List (List ℤ)
+points_in_order given = fold (λ points p. point_put_among p points) [] given
 
 -- the plane through three points, by their numbers
 abbrev pub plane_of : List (List ℤ) → List ℕ → Coefficients
@@ -47,9 +47,11 @@ from a n = range_with_len a (n - a)
 abbrev pub triples_by : ℕ → ℕ → ℕ → List (List ℕ)
 triples_by n i j = map (λ k. i ∷ j ∷ k ∷ []) (from (j + 1) n)
 
+-- the triples of ascending numbers below n that begin with i
 abbrev pub triples_from : ℕ → ℕ → List (List ℕ)
 triples_from n i = flat_map (triples_by n i) (from (i + 1) n)
 
+-- the triples of ascending numbers below n
 abbrev pub triples : ℕ → List (List ℕ)
 triples n = flat_map (triples_from n) (from 0 n)
 
@@ -64,7 +66,7 @@ faces_of points = first_of_planes points (filter (is_supporting points) (triples
 
 -- the hull of the given points
 abbrev pub hull_of : List (List ℤ) → Mesh
-hull_of given = record { points = different given; faces = faces_of (different given) }
+hull_of given = record { points = points_in_order given; faces = faces_of (points_in_order given) }
 
 -- all points are on one plane
 pub record AreOnOnePlane (points : List (List ℤ)) : Type 0 where

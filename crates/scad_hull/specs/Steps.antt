@@ -2,7 +2,7 @@
 use Rattle.std.specs.Prelude.{◌≡◌, ℕ, ◌<◌, ◌≤◌, not, cond, ◌&&◌, ℤ, List, [], ◌∷◌, ◌++◌, length, fold, All}
 use Rattle.std.specs.List.{list_any}
 use Rattle.plane_predicate.specs.Space.{point_at}
-use Rattle.shape_planes.specs.Sizes.{IsOnGrid}
+use Rattle.primitives.specs.GridSizes.{IsOnGrid}
 use Rattle.scad_hull.specs.Hulls.{from, is_supporting, shares_plane}
 
 -- the faces so far, and one more triple if it is supporting and its plane is not that of a face so far

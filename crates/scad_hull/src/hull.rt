@@ -2,15 +2,15 @@
 
 ghost use Rattle.std.specs.Prelude.{◌≡◌, ◌↔◌, ◌<ℤ◌, pos, IfOk, IfErr, OnOk};
 ghost use Rattle.plane_predicate.specs.Space.{Coordinates};
-ghost use Rattle.shape_planes.specs.Shapes.{IsInside};
+ghost use Rattle.primitives.specs.Shapes.{IsInside};
 ghost use Rattle.scad_hull.specs.Combinations.{IsInnerCombination};
-ghost use Rattle.scad_hull.specs.Hulls.{different, hull_of};
+ghost use Rattle.scad_hull.specs.Hulls.{points_in_order, hull_of};
 ghost use Rattle.scad_hull.specs.Refusals.{HaveHull, IsHullStop};
 
 use crate::faces::{hull_faces, numbers};
 use crate::plane::are_on_one_plane;
 use crate::points::different_points;
-use shape_planes::{Shape, ShapeStop, are_in_range};
+use primitives::{Shape, ShapeStop, are_in_range};
 use std::alloc::Global;
 use text_place::FaultKind;
 
@@ -23,7 +23,7 @@ use text_place::FaultKind;
 /// plane.
 pub fn hull_shape(alloc: Global, points: &[[i64; 3]]) -> Result<Shape, ShapeStop>
     ensures hull { IfOk result (λ s. s ≡ hull_of points.now) }
-    ensures inside { OnOk result ((q : Coordinates) → pos 0 <ℤ q.w → IsInside (hull_of points.now) q ↔ IsInnerCombination (different points.now) q) }
+    ensures inside { OnOk result ((q : Coordinates) → pos 0 <ℤ q.w → IsInside (hull_of points.now) q ↔ IsInnerCombination (points_in_order points.now) q) }
     ensures checks { OnOk result (HaveHull points.now) }
     ensures stops { IfErr result (IsHullStop points.now) }
 {

@@ -1,4 +1,4 @@
-//! Hulls of points.
+//! The hull of points, whose inside is their inner combinations, or the first fault.
 #![tactic(auto)]
 
 mod faces;

@@ -3,12 +3,12 @@
 ghost use Rattle.std.specs.Prelude.{◌≡◌, pos, All};
 ghost use Rattle.std.specs.Bool.{OnTrue, OnFalse};
 ghost use Rattle.plane_predicate.specs.Space.{point_at, value};
-ghost use Rattle.shape_planes.specs.Sizes.{IsOnGrid};
+ghost use Rattle.primitives.specs.GridSizes.{IsOnGrid};
 ghost use Rattle.scad_hull.specs.Hulls.{AreOnOnePlane};
 ghost use Rattle.scad_hull.specs.Steps.{AreNumbered};
 
-use shape_planes::facing::{FacePlane, goes_through, plane_through};
-use shape_planes::find_triangle;
+use primitives::facing::{FacePlane, goes_through, plane_through};
+use primitives::find_triangle;
 
 /// Whether all points are on one plane, by a triangle of them.
 pub fn are_on_one_plane(points: &[[i64; 3]], all: &[u32]) -> bool

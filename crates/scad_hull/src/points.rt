@@ -1,10 +1,10 @@
 //! The different ones of some points, in ascending order.
 
 ghost use Rattle.std.specs.Prelude.{◌≡◌, ◌≤◌, IfSome, IfOk, IfErr, OnOk, IsNone, insert, length};
-ghost use Rattle.scad_hull.specs.Hulls.{different, put};
+ghost use Rattle.scad_hull.specs.Hulls.{points_in_order, point_put_among};
 ghost use Rattle.scad_hull.specs.Refusals.{IsCountStop};
 
-use shape_planes::ShapeStop;
+use primitives::ShapeStop;
 use std::alloc::{AllocError, Global};
 use std::cmp::Ordering;
 use text_place::FaultKind;
@@ -15,8 +15,8 @@ const POINTS: usize = 128;
 /// The different points in ascending order of x, then y, then z. `LongList` comes exactly where
 /// there are more than 128 of them.
 pub fn different_points(alloc: Global, points: &[[i64; 3]]) -> Result<Vec<[i64; 3]>, ShapeStop>
-    ensures all { IfOk result (λ v. v.items ≡ different points.now) }
-    ensures few { OnOk result (length (different points.now) ≤ 128) }
+    ensures all { IfOk result (λ v. v.items ≡ points_in_order points.now) }
+    ensures few { OnOk result (length (points_in_order points.now) ≤ 128) }
     ensures stops { IfErr result (IsCountStop points.now) }
 {
     let mut found = Vec::new(alloc);
@@ -31,7 +31,7 @@ pub fn different_points(alloc: Global, points: &[[i64; 3]]) -> Result<Vec<[i64; 
 
 // Puts a point into its place among ascending points, unless it is among them.
 fn put_point(points: &mut Vec<[i64; 3]>, point: [i64; 3]) -> Result<(), AllocError>
-    ensures { OnOk result (points.new.items ≡ put point points.old.items) }
+    ensures { OnOk result (points.new.items ≡ point_put_among point points.old.items) }
 {
     if let Some(place) = place_of(points, point) {
         points.insert(place, point)?;
@@ -42,8 +42,8 @@ fn put_point(points: &mut Vec<[i64; 3]>, point: [i64; 3]) -> Result<(), AllocErr
 // The place of a point among ascending points. `None` where it is among them.
 fn place_of(points: &[[i64; 3]], point: [i64; 3]) -> Option<usize>
     ensures within { IfSome result (λ i. i ≤ length points.now) }
-    ensures some { IfSome result (λ i. put point points.now ≡ insert points.now i point) }
-    ensures none { IsNone result → put point points.now ≡ points.now }
+    ensures some { IfSome result (λ i. point_put_among point points.now ≡ insert points.now i point) }
+    ensures none { IsNone result → point_put_among point points.now ≡ points.now }
 {
     for place in 0..points.len() {
         match points[place].cmp(&point) {

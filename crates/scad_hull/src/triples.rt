@@ -4,12 +4,12 @@ ghost use Rattle.std.specs.Prelude.{◌≡◌, pos, All, length};
 ghost use Rattle.std.specs.List.{list_any};
 ghost use Rattle.std.specs.Ordering.{int_eq};
 ghost use Rattle.plane_predicate.specs.Space.{point_at, value};
-ghost use Rattle.shape_planes.specs.Sizes.{IsOnGrid};
+ghost use Rattle.primitives.specs.GridSizes.{IsOnGrid};
 ghost use Rattle.scad_hull.specs.Hulls.{is_directed, has_none_ahead, is_supporting, plane_of, shares_plane};
 ghost use Rattle.scad_hull.specs.Steps.{AreNumbered, AreThree};
 
-use shape_planes::face_has_ahead;
-use shape_planes::facing::{FacePlane, goes_through, has_direction, opposite, plane_through};
+use primitives::face_has_ahead;
+use primitives::facing::{FacePlane, goes_through, has_direction, opposite, plane_through};
 
 /// Whether three points are not on one line, and no point lies strictly on one side of their plane.
 pub fn supports(points: &[[i64; 3]], all: &[u32], triple: [u32; 3]) -> bool

@@ -14,11 +14,11 @@ use Rattle.scad_value.specs.declared.value.Value.TheOpen.{Number as NumberIn}
 use Rattle.scad_value.specs.declared.value.Value.TheFolds.{fold-roll-Value}
 use Rattle.scad_value.specs.Values.{Val, NumberVal}
 use Rattle.scad_value.specs.View.{val_of, value_step, values_step}
-use Rattle.scad_blocks.specs.Blocks.{NumberedText}
-use Rattle.scad_evaluation.specs.Meaning.{Env, no_call, entered_scope}
-use Rattle.scad_evaluation.specs.View.{source_text}
-use Rattle.scad_evaluation.specs.Definitions.{statements_at, block_scope, IsWhole}
-use Rattle.scad_evaluation.specs.declared.source.Source.{Source}
+use Rattle.scad_definitions.specs.Blocks.{BlockTable}
+use Rattle.scad_func.specs.Meaning.{Env, no_activation, entered_scope}
+use Rattle.scad_func.specs.View.{table_in}
+use Rattle.scad_func.specs.Definitions.{statements_at, block_scope, IsWhole}
+use Rattle.scad_func.specs.declared.source.Source.{Source}
 use Rattle.scad_instances.specs.declared.numbered.NumberedInstance.{NumberedInstance}
 use Rattle.scad_meaning.specs.Bodies.{is_child, evaluated_in, children_in}
 use Rattle.scad_instances.specs.Positions.{term_of_numbered, HasBlocks, HaveBodyBlocks}
@@ -41,36 +41,36 @@ module _ (env : Env) (xs found : List NumberedInstance) (n : ℕ) (is : found �
   all_seen : found ≡ filter (is_child_here env) xs
   all_seen = is ∙ ap (filter (is_child_here env)) (take_all n xs h)
 
-  pub children_numbered : (text : NumberedText) (body : StatementTerms) → HaveBodyBlocks text (evaluated_in body) xs
-      → HaveBodyBlocks text (children_in env body) found
-  children_numbered text body all = record {
+  pub children_numbered : (table : BlockTable) (body : StatementTerms) → HaveBodyBlocks table (evaluated_in body) xs
+      → HaveBodyBlocks table (children_in env body) found
+  children_numbered table body all = record {
     found = ap (map term_of_numbered) all_seen ∙ map_filtered term_of_numbered (is_child env) xs ∙ ap (filter (is_child env)) all.found;
-    blocks = subst (All (HasBlocks text)) (sym all_seen) (All-filter (is_child_here env) (HasBlocks text) xs all.blocks);
+    blocks = subst (All (HasBlocks table)) (sym all_seen) (All-filter (is_child_here env) (HasBlocks table) xs all.blocks);
   }
 
 -- the chosen ones of some children
 module _ {E : Type 0} (r : Result (Vec NumberedInstance Global) E) (children : List NumberedInstance) (call : ChosenCall)
     (h : IfOk r (λ found. found.items ≡ chosen_among children call)) where
-  pub chosen_numbered : (text : NumberedText) (xs : List InstanceTerm) → HaveBodyBlocks text xs children
-      → IfOk r (λ found. HaveBodyBlocks text (chosen_among xs call) found.items)
-  chosen_numbered text xs all = go r h
+  pub chosen_numbered : (table : BlockTable) (xs : List InstanceTerm) → HaveBodyBlocks table xs children
+      → IfOk r (λ found. HaveBodyBlocks table (chosen_among xs call) found.items)
+  chosen_numbered table xs all = go r h
     where
       go : (r : Result (Vec NumberedInstance Global) E) → IfOk r (λ found. found.items ≡ chosen_among children call)
-          → IfOk r (λ found. HaveBodyBlocks text (chosen_among xs call) found.items)
+          → IfOk r (λ found. HaveBodyBlocks table (chosen_among xs call) found.items)
       go (Ok found) h = record {
         found = ap (map term_of_numbered) h ∙ map_chosen term_of_numbered children call ∙ ap (λ l. chosen_among l call) all.found;
-        blocks = subst (All (HasBlocks text)) (sym h) (all_chosen (HasBlocks text) children call all.blocks);
+        blocks = subst (All (HasBlocks table)) (sym h) (all_chosen (HasBlocks table) children call all.blocks);
       }
       go (Err stop) h = tt
 
 -- how many children there are
-pub children_counted : (old new : Source) (block : ℕ) (env inner : Env) (found : List NumberedInstance) → IsWhole (source_text old) → new ≡ old
-    → inner ≡ block_scope (source_text old) block no_call env → map term_of_numbered found ≡ children_in inner (statements_at (source_text new) block)
-    → length found ≡ length (children_in (entered_scope (statements_at (source_text old) block) no_call env) (statements_at (source_text old) block))
+pub children_counted : (old new : Source) (block : ℕ) (env inner : Env) (found : List NumberedInstance) → IsWhole (table_in old) → new ≡ old
+    → inner ≡ block_scope (table_in old) block no_activation env → map term_of_numbered found ≡ children_in inner (statements_at (table_in new) block)
+    → length found ≡ length (children_in (entered_scope (statements_at (table_in old) block) no_activation env) (statements_at (table_in old) block))
 children_counted old new block env inner found whole same is e =
     sym (length-map found term_of_numbered) ∙ ap length e
-    ∙ ap (λ (x : Source). length (children_in inner (statements_at (source_text x) block))) same
-    ∙ ap (λ (x : Env). length (children_in x (statements_at (source_text old) block))) (is ∙ whole.scopes block no_call env)
+    ∙ ap (λ (x : Source). length (children_in inner (statements_at (table_in x) block))) same
+    ∙ ap (λ (x : Env). length (children_in x (statements_at (table_in old) block))) (is ∙ whole.scopes block no_activation env)
 
 -- a number in memory
 pub number_form : (n : ℤ) → val_of (Number n) ≡ NumberVal n

@@ -4,3 +4,5 @@ mod KeptChildren
 mod NumberedItems
 mod Numbering
 mod RangeNumbers
+mod ShapeAnswers
+mod Said

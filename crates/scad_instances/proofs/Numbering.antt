@@ -11,14 +11,14 @@ use Rattle.scad_ast.specs.declared.statement.Instance.{Instance}
 use Rattle.scad_ast.specs.declared.statement.Body.TheFolds.{fold_out-Instance, fold_out-Statements, fold-roll-Statement}
 use Rattle.scad_ast.specs.Terms.{StatementTerm, EmptyStatement, BlockStatement, AssignmentTerm, SpecialAssignmentTerm, ModuleTerm, FunctionTerm, InstanceStatement, StatementTerms, no_statements, and_statement, statements_from, InstanceTerm, AnInstance, CoreTerm, IfTerm, IfElseTerm, ForTerm, IntersectionForTerm, ModuleCallTerm, BodyTerm, EmptyBody, BlockBody, InstanceBody}
 use Rattle.scad_ast.specs.StatementView.{statement_of, statements_of, instance_of, core_of, body_step, core_step, statement_step, instance_step, statements_step}
-use Rattle.scad_blocks.specs.Blocks.{Beginning, a_block, a_function, a_module, beginnings_of, beginnings_in, beginnings_of_instance, beginnings_of_core, beginnings_of_body, count_blocks, nothing_there, NumberedText, StandAt}
-use Rattle.scad_evaluation.specs.Definitions.{statements_at, IsBlockOf, IsWhole}
+use Rattle.scad_definitions.specs.Blocks.{Entity, a_block, a_function, a_module, entities_of, entities_in, entities_of_instance, entities_of_core, entities_of_body, count_blocks, nothing_there, BlockTable, StandAt}
+use Rattle.scad_func.specs.Definitions.{statements_at, IsBlockOf, IsWhole}
 use Rattle.scad_meaning.specs.Bodies.{is_on, instances_in, instances_of, evaluated_in}
 use Rattle.scad_meaning.specs.Meaning.{core_of_instance}
 use Rattle.scad_instances.specs.Positions.{CoreHasBlocks, has_else}
 
 -- counts of two texts
-count_joined : (xs ys : List Beginning) → count_blocks (xs ++ ys) ≡ count_blocks xs + count_blocks ys
+count_joined : (xs ys : List Entity) → count_blocks (xs ++ ys) ≡ count_blocks xs + count_blocks ys
 count_joined [] ys = omega arith
 count_joined (a_block s ∷ xs) ys = omega (arith, count_joined xs ys)
 count_joined (a_function f ∷ xs) ys = count_joined xs ys
@@ -30,73 +30,73 @@ no_two e = absurd (no e)
     no : ◌≡◌ {A = Bool} true false → ⊥
     no e = cc
 
-module _ (text : NumberedText) where
+module _ (table : BlockTable) where
   -- the two parts of a text
-  pub stand_front : (n : ℕ) (xs ys : List Beginning) → StandAt text n (xs ++ ys) → StandAt text n xs
+  pub stand_front : (n : ℕ) (xs ys : List Entity) → StandAt table n (xs ++ ys) → StandAt table n xs
   stand_front n [] ys h = tt
   stand_front n (a_block s ∷ xs) ys h = (h.0, h.1, stand_front (n + 1) xs ys h.2)
   stand_front n (a_function f ∷ xs) ys h = stand_front n xs ys h
   stand_front n (a_module d ∷ xs) ys h = stand_front n xs ys h
 
-  pub stand_behind : (n : ℕ) (xs ys : List Beginning) → StandAt text n (xs ++ ys) → StandAt text (n + count_blocks xs) ys
-  stand_behind n [] ys h = subst (λ k. StandAt text k ys) (omega arith) h
-  stand_behind n (a_block s ∷ xs) ys h = subst (λ k. StandAt text k ys) (omega arith) (stand_behind (n + 1) xs ys h.2)
+  pub stand_behind : (n : ℕ) (xs ys : List Entity) → StandAt table n (xs ++ ys) → StandAt table (n + count_blocks xs) ys
+  stand_behind n [] ys h = subst (λ k. StandAt table k ys) (omega arith) h
+  stand_behind n (a_block s ∷ xs) ys h = subst (λ k. StandAt table k ys) (omega arith) (stand_behind (n + 1) xs ys h.2)
   stand_behind n (a_function f ∷ xs) ys h = stand_behind n xs ys h
   stand_behind n (a_module d ∷ xs) ys h = stand_behind n xs ys h
 
   abbrev pub Ends : ℕ → ℕ → Type 0
-  Ends n end = (get_or text.entries n nothing_there).behind ≡ end
+  Ends n end = (get_or table.entries n nothing_there).block_end ≡ end
 
   -- a body's block is there, with the body's statements
-  pub body_is_there : (b : BodyTerm) (n : ℕ) → StandAt text n (beginnings_of_body b) → n < length text.entries
+  pub body_is_there : (b : BodyTerm) (n : ℕ) → StandAt table n (entities_of_body b) → n < length table.entries
   body_is_there (EmptyBody at) n h = h.0
   body_is_there (BlockBody at inner) n h = h.0
   body_is_there (InstanceBody instance) n h = h.0
 
-  body_stands : (b : BodyTerm) (n : ℕ) → StandAt text n (beginnings_of_body b) → IsBlockOf text n b
+  body_stands : (b : BodyTerm) (n : ℕ) → StandAt table n (entities_of_body b) → IsBlockOf table n b
   body_stands (EmptyBody at) n h = h.1
   body_stands (BlockBody at inner) n h = h.1
   body_stands (InstanceBody instance) n h = h.1
 
-  module _ (whole : IsWhole text) where
+  module _ (whole : IsWhole table) where
     -- a body's block ends behind all that stands in it
-    ends_behind : (n : ℕ) (ss : StatementTerms) → n < length text.entries → statements_at text n ≡ ss
-        → Ends n (n + 1 + count_blocks (beginnings_in ss))
-    ends_behind n ss there h = whole.behind n there ∙ ap (λ (s : StatementTerms). n + 1 + count_blocks (beginnings_in s)) h
+    ends_behind : (n : ℕ) (ss : StatementTerms) → n < length table.entries → statements_at table n ≡ ss
+        → Ends n (n + 1 + count_blocks (entities_in ss))
+    ends_behind n ss there h = whole.block_end n there ∙ ap (λ (s : StatementTerms). n + 1 + count_blocks (entities_in s)) h
 
-    pub body_ends : (b : BodyTerm) (n : ℕ) → StandAt text n (beginnings_of_body b) → Ends n (n + count_blocks (beginnings_of_body b))
+    pub body_ends : (b : BodyTerm) (n : ℕ) → StandAt table n (entities_of_body b) → Ends n (n + count_blocks (entities_of_body b))
     body_ends (EmptyBody at) n h = ends_behind n no_statements h.0 h.1 ∙ omega arith
     body_ends (BlockBody at inner) n h = ends_behind n inner h.0 h.1 ∙ omega arith
     body_ends (InstanceBody instance) n h =
         ends_behind n (and_statement (InstanceStatement instance) no_statements) h.0 h.1
-        ∙ ap (λ (xs : List Beginning). n + 1 + count_blocks xs) (append-nil (beginnings_of_instance instance)) ∙ omega arith
+        ∙ ap (λ (xs : List Entity). n + 1 + count_blocks xs) (append-nil (entities_of_instance instance)) ∙ omega arith
 
     -- the second body of a choice
-    other_stands : (b o : BodyTerm) (n other : ℕ) → StandAt text n (beginnings_of_body b ++ beginnings_of_body o) → Ends n other
-        → StandAt text other (beginnings_of_body o)
+    other_stands : (b o : BodyTerm) (n other : ℕ) → StandAt table n (entities_of_body b ++ entities_of_body o) → Ends n other
+        → StandAt table other (entities_of_body o)
     other_stands b o n other h e =
-        subst (λ k. StandAt text k (beginnings_of_body o)) (sym (body_ends b n (stand_front n (beginnings_of_body b) (beginnings_of_body o) h)) ∙ e)
-        (stand_behind n (beginnings_of_body b) (beginnings_of_body o) h)
+        subst (λ k. StandAt table k (entities_of_body o)) (sym (body_ends b n (stand_front n (entities_of_body b) (entities_of_body o) h)) ∙ e)
+        (stand_behind n (entities_of_body b) (entities_of_body o) h)
 
-    two_end : (b o : BodyTerm) (n other : ℕ) → StandAt text n (beginnings_of_body b ++ beginnings_of_body o) → Ends n other
-        → Ends other (n + count_blocks (beginnings_of_body b ++ beginnings_of_body o))
+    two_end : (b o : BodyTerm) (n other : ℕ) → StandAt table n (entities_of_body b ++ entities_of_body o) → Ends n other
+        → Ends other (n + count_blocks (entities_of_body b ++ entities_of_body o))
     two_end b o n other h e =
-        let first = body_ends b n (stand_front n (beginnings_of_body b) (beginnings_of_body o) h) in
+        let first = body_ends b n (stand_front n (entities_of_body b) (entities_of_body o) h) in
         body_ends o other (other_stands b o n other h e)
-        ∙ omega (arith, sym e ∙ first, count_joined (beginnings_of_body b) (beginnings_of_body o))
+        ∙ omega (arith, sym e ∙ first, count_joined (entities_of_body b) (entities_of_body o))
 
     -- a core's first block is there
-    core_is_there : (c : CoreTerm) (n : ℕ) → StandAt text n (beginnings_of_core c) → n < length text.entries
+    core_is_there : (c : CoreTerm) (n : ℕ) → StandAt table n (entities_of_core c) → n < length table.entries
     core_is_there (IfTerm at test body) n h = body_is_there body n h
-    core_is_there (IfElseTerm at test body else_) n h = body_is_there body n (stand_front n (beginnings_of_body body) (beginnings_of_body else_) h)
+    core_is_there (IfElseTerm at test body else_) n h = body_is_there body n (stand_front n (entities_of_body body) (entities_of_body else_) h)
     core_is_there (ForTerm at binders body) n h = body_is_there body n h
     core_is_there (IntersectionForTerm at binders body) n h = body_is_there body n h
     core_is_there (ModuleCallTerm at name args body) n h = body_is_there body n h
 
-    core_blocks : (c : CoreTerm) (n other : ℕ) → StandAt text n (beginnings_of_core c) → Ends n other → CoreHasBlocks text c n other
+    core_blocks : (c : CoreTerm) (n other : ℕ) → StandAt table n (entities_of_core c) → Ends n other → CoreHasBlocks table c n other
     core_blocks (IfTerm at test body) n other h e = body_stands body n h
     core_blocks (IfElseTerm at test body else_) n other h e = (
-      body_stands body n (stand_front n (beginnings_of_body body) (beginnings_of_body else_) h),
+      body_stands body n (stand_front n (entities_of_body body) (entities_of_body else_) h),
       body_stands else_ other (other_stands body else_ n other h e),
     )
     core_blocks (ForTerm at binders body) n other h e = body_stands body n h
@@ -104,24 +104,24 @@ module _ (text : NumberedText) where
     core_blocks (ModuleCallTerm at name args body) n other h e = body_stands body n h
 
     -- a core ends behind its one body, or behind the second one
-    core_ends : (c : CoreTerm) (n : ℕ) → StandAt text n (beginnings_of_core c) → has_else c ≡ false
-        → Ends n (n + count_blocks (beginnings_of_core c))
+    core_ends : (c : CoreTerm) (n : ℕ) → StandAt table n (entities_of_core c) → has_else c ≡ false
+        → Ends n (n + count_blocks (entities_of_core c))
     core_ends (IfTerm at test body) n h not_so = body_ends body n h
     core_ends (IfElseTerm at test body else_) n h not_so = no_two not_so
     core_ends (ForTerm at binders body) n h not_so = body_ends body n h
     core_ends (IntersectionForTerm at binders body) n h not_so = body_ends body n h
     core_ends (ModuleCallTerm at name args body) n h not_so = body_ends body n h
 
-    else_is_there : (c : CoreTerm) (n other : ℕ) → StandAt text n (beginnings_of_core c) → Ends n other → has_else c ≡ true
-        → other < length text.entries
+    else_is_there : (c : CoreTerm) (n other : ℕ) → StandAt table n (entities_of_core c) → Ends n other → has_else c ≡ true
+        → other < length table.entries
     else_is_there (IfTerm at test body) n other h e is_so = no_two (sym is_so)
     else_is_there (IfElseTerm at test body else_) n other h e is_so = body_is_there else_ other (other_stands body else_ n other h e)
     else_is_there (ForTerm at binders body) n other h e is_so = no_two (sym is_so)
     else_is_there (IntersectionForTerm at binders body) n other h e is_so = no_two (sym is_so)
     else_is_there (ModuleCallTerm at name args body) n other h e is_so = no_two (sym is_so)
 
-    else_ends : (c : CoreTerm) (n other : ℕ) → StandAt text n (beginnings_of_core c) → Ends n other → has_else c ≡ true
-        → Ends other (n + count_blocks (beginnings_of_core c))
+    else_ends : (c : CoreTerm) (n other : ℕ) → StandAt table n (entities_of_core c) → Ends n other → has_else c ≡ true
+        → Ends other (n + count_blocks (entities_of_core c))
     else_ends (IfTerm at test body) n other h e is_so = no_two (sym is_so)
     else_ends (IfElseTerm at test body else_) n other h e is_so = two_end body else_ n other h e
     else_ends (ForTerm at binders body) n other h e is_so = no_two (sym is_so)
@@ -129,24 +129,24 @@ module _ (text : NumberedText) where
     else_ends (ModuleCallTerm at name args body) n other h e is_so = no_two (sym is_so)
 
     -- the same of an instance
-    pub instance_is_there : (i : InstanceTerm) (n : ℕ) → StandAt text n (beginnings_of_instance i) → n < length text.entries
-    instance_is_there (AnInstance at beginnings core) n h = core_is_there core n h
+    pub instance_is_there : (i : InstanceTerm) (n : ℕ) → StandAt table n (entities_of_instance i) → n < length table.entries
+    instance_is_there (AnInstance at marks core) n h = core_is_there core n h
 
-    pub instance_blocks : (i : InstanceTerm) (n other : ℕ) → StandAt text n (beginnings_of_instance i) → Ends n other
-        → CoreHasBlocks text (core_of_instance i) n other
-    instance_blocks (AnInstance at beginnings core) n other h e = core_blocks core n other h e
+    pub instance_blocks : (i : InstanceTerm) (n other : ℕ) → StandAt table n (entities_of_instance i) → Ends n other
+        → CoreHasBlocks table (core_of_instance i) n other
+    instance_blocks (AnInstance at marks core) n other h e = core_blocks core n other h e
 
-    pub instance_ends : (i : InstanceTerm) (n : ℕ) → StandAt text n (beginnings_of_instance i) → has_else (core_of_instance i) ≡ false
-        → Ends n (n + count_blocks (beginnings_of_instance i))
-    instance_ends (AnInstance at beginnings core) n h not_so = core_ends core n h not_so
+    pub instance_ends : (i : InstanceTerm) (n : ℕ) → StandAt table n (entities_of_instance i) → has_else (core_of_instance i) ≡ false
+        → Ends n (n + count_blocks (entities_of_instance i))
+    instance_ends (AnInstance at marks core) n h not_so = core_ends core n h not_so
 
-    pub second_is_there : (i : InstanceTerm) (n other : ℕ) → StandAt text n (beginnings_of_instance i) → Ends n other
-        → has_else (core_of_instance i) ≡ true → other < length text.entries
-    second_is_there (AnInstance at beginnings core) n other h e is_so = else_is_there core n other h e is_so
+    pub second_is_there : (i : InstanceTerm) (n other : ℕ) → StandAt table n (entities_of_instance i) → Ends n other
+        → has_else (core_of_instance i) ≡ true → other < length table.entries
+    second_is_there (AnInstance at marks core) n other h e is_so = else_is_there core n other h e is_so
 
-    pub second_ends : (i : InstanceTerm) (n other : ℕ) → StandAt text n (beginnings_of_instance i) → Ends n other
-        → has_else (core_of_instance i) ≡ true → Ends other (n + count_blocks (beginnings_of_instance i))
-    second_ends (AnInstance at beginnings core) n other h e is_so = else_ends core n other h e is_so
+    pub second_ends : (i : InstanceTerm) (n other : ℕ) → StandAt table n (entities_of_instance i) → Ends n other
+        → has_else (core_of_instance i) ≡ true → Ends other (n + count_blocks (entities_of_instance i))
+    second_ends (AnInstance at marks core) n other h e is_so = else_ends core n other h e is_so
 
 -- the core of an instance in memory
 pub core_there : (i : Instance) → core_of_instance (instance_of i) ≡ core_of i.core
@@ -183,24 +183,24 @@ pub evaluated_first : (s : StatementTerm) (rest : StatementTerms)
 evaluated_first s rest = filter-append is_on (instances_of s) (instances_in rest)
 
 -- one statement more of a list, of which these are remaining
-pub record RemainingStatements (text : NumberedText) (first next : ℕ) (all remaining : StatementTerms) (before now : List InstanceTerm) : Type 0 where
-  pub stand : StandAt text next (beginnings_in remaining)
-  pub count : next + count_blocks (beginnings_in remaining) ≡ first + count_blocks (beginnings_in all)
+pub record RemainingStatements (table : BlockTable) (first next : ℕ) (all remaining : StatementTerms) (before now : List InstanceTerm) : Type 0 where
+  pub stand : StandAt table next (entities_in remaining)
+  pub count : next + count_blocks (entities_in remaining) ≡ first + count_blocks (entities_in all)
   pub found : now ++ evaluated_in remaining ≡ before ++ evaluated_in all
 
-pub remaining_more : (text : NumberedText) (first next then : ℕ) (all remaining : StatementTerms) (before now later : List InstanceTerm)
-    (s : StatementTerm) (rest : StatementTerms) → RemainingStatements text first next all remaining before now → remaining ≡ and_statement s rest
-    → then ≡ next + count_blocks (beginnings_of s) → later ≡ now ++ filter is_on (instances_of s)
-    → RemainingStatements text first then all rest before later
-remaining_more text first next then all remaining before now later s rest l e c f =
-    let stand = subst (λ (ss : StatementTerms). StandAt text next (beginnings_in ss)) e l.stand in
+pub remaining_more : (table : BlockTable) (first next then : ℕ) (all remaining : StatementTerms) (before now later : List InstanceTerm)
+    (s : StatementTerm) (rest : StatementTerms) → RemainingStatements table first next all remaining before now → remaining ≡ and_statement s rest
+    → then ≡ next + count_blocks (entities_of s) → later ≡ now ++ filter is_on (instances_of s)
+    → RemainingStatements table first then all rest before later
+remaining_more table first next then all remaining before now later s rest l e c f =
+    let stand = subst (λ (ss : StatementTerms). StandAt table next (entities_in ss)) e l.stand in
     record {
-      stand = subst (λ k. StandAt text k (beginnings_in rest)) (sym c) (stand_behind text next (beginnings_of s) (beginnings_in rest) stand);
+      stand = subst (λ k. StandAt table k (entities_in rest)) (sym c) (stand_behind table next (entities_of s) (entities_in rest) stand);
       count = omega (
         arith,
         c,
-        count_joined (beginnings_of s) (beginnings_in rest),
-        ap (λ (ss : StatementTerms). next + count_blocks (beginnings_in ss)) (sym e) ∙ l.count,
+        count_joined (entities_of s) (entities_in rest),
+        ap (λ (ss : StatementTerms). next + count_blocks (entities_in ss)) (sym e) ∙ l.count,
       );
       found = ap (λ (is : List InstanceTerm). is ++ evaluated_in rest) f
           ∙ append_assoc now (filter is_on (instances_of s)) (evaluated_in rest)
@@ -208,26 +208,26 @@ remaining_more text first next then all remaining before now later s rest l e c 
           ∙ ap (λ (ss : StatementTerms). now ++ evaluated_in ss) (sym e) ∙ l.found;
     }
 
-pub remaining_first : (text : NumberedText) (first next : ℕ) (all remaining : StatementTerms) (before now : List InstanceTerm)
-    (s : StatementTerm) (rest : StatementTerms) → RemainingStatements text first next all remaining before now → remaining ≡ and_statement s rest
-    → StandAt text next (beginnings_of s)
-remaining_first text first next all remaining before now s rest l e =
-    stand_front text next (beginnings_of s) (beginnings_in rest) (subst (λ (ss : StatementTerms). StandAt text next (beginnings_in ss)) e l.stand)
+pub remaining_first : (table : BlockTable) (first next : ℕ) (all remaining : StatementTerms) (before now : List InstanceTerm)
+    (s : StatementTerm) (rest : StatementTerms) → RemainingStatements table first next all remaining before now → remaining ≡ and_statement s rest
+    → StandAt table next (entities_of s)
+remaining_first table first next all remaining before now s rest l e =
+    stand_front table next (entities_of s) (entities_in rest) (subst (λ (ss : StatementTerms). StandAt table next (entities_in ss)) e l.stand)
 
-pub remaining_none : (text : NumberedText) (first next : ℕ) (all remaining : StatementTerms) (before now : List InstanceTerm)
-    → RemainingStatements text first next all remaining before now → remaining ≡ no_statements
-    → (next ≡ first + count_blocks (beginnings_in all)) × (now ≡ before ++ evaluated_in all)
-remaining_none text first next all remaining before now l e = (
-  omega (arith, ap (λ (ss : StatementTerms). next + count_blocks (beginnings_in ss)) (sym e) ∙ l.count),
+pub remaining_none : (table : BlockTable) (first next : ℕ) (all remaining : StatementTerms) (before now : List InstanceTerm)
+    → RemainingStatements table first next all remaining before now → remaining ≡ no_statements
+    → (next ≡ first + count_blocks (entities_in all)) × (now ≡ before ++ evaluated_in all)
+remaining_none table first next all remaining before now l e = (
+  omega (arith, ap (λ (ss : StatementTerms). next + count_blocks (entities_in ss)) (sym e) ∙ l.count),
   sym (append-nil now) ∙ ap (λ (ss : StatementTerms). now ++ evaluated_in ss) (sym e) ∙ l.found,
 )
 
 -- the next statement of a list in memory stands where it is looked for
-pub here_stands : (text : NumberedText) (first next : ℕ) (all : StatementTerms) (before now : List InstanceTerm) (ss : List Statement) (i : ℕ)
+pub here_stands : (table : BlockTable) (first next : ℕ) (all : StatementTerms) (before now : List InstanceTerm) (ss : List Statement) (i : ℕ)
     (s : Statement) → i < length ss → s ≡ get_or ss i s
-    → RemainingStatements text first next all (statements_from (map statement_of (drop i ss))) before now → StandAt text next (beginnings_of (statement_of s))
-here_stands text first next all before now ss i s h e l =
-    remaining_first text first next all _ before now (statement_of s) (statements_from (map statement_of (drop (i + 1) ss))) l
+    → RemainingStatements table first next all (statements_from (map statement_of (drop i ss))) before now → StandAt table next (entities_of (statement_of s))
+here_stands table first next all before now ss i s h e l =
+    remaining_first table first next all _ before now (statement_of s) (statements_from (map statement_of (drop (i + 1) ss))) l
     (statements_here ss i s h e)
 
 -- how deep bare blocks stand in one another

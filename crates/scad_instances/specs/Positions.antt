@@ -2,8 +2,8 @@
 use Rattle.std.specs.Prelude.{◌≡◌, ℕ, ◌+◌, ◌++◌, Bool, true, false, List, map, All, slice_index_or, Result, IfOk, OnOk}
 use Rattle.scad_ast.specs.StatementView.{instance_of}
 use Rattle.scad_ast.specs.Terms.{InstanceTerm, CoreTerm, IfTerm, IfElseTerm, ForTerm, IntersectionForTerm, ModuleCallTerm}
-use Rattle.scad_blocks.specs.Blocks.{Beginning, NumberedText, StandAt, beginnings_of_instance, count_blocks, nothing_there}
-use Rattle.scad_evaluation.specs.Definitions.{IsBlockOf}
+use Rattle.scad_definitions.specs.Blocks.{Entity, BlockTable, StandAt, entities_of_instance, count_blocks, nothing_there}
+use Rattle.scad_func.specs.Definitions.{IsBlockOf}
 use Rattle.scad_meaning.specs.Meaning.{core_of_instance}
 use Rattle.scad_instances.specs.declared.numbered.NumberedInstance.{NumberedInstance}
 
@@ -12,16 +12,16 @@ abbrev pub term_of_numbered : NumberedInstance → InstanceTerm
 term_of_numbered numbered = instance_of numbered.instance.now
 
 -- the bodies of a core stand in these blocks; the second one counts behind an `else` alone
-abbrev pub CoreHasBlocks : NumberedText → CoreTerm → ℕ → ℕ → Type 0
-CoreHasBlocks text (IfTerm at test body) block other = IsBlockOf text block body
-CoreHasBlocks text (IfElseTerm at test body else_) block other = IsBlockOf text block body × IsBlockOf text other else_
-CoreHasBlocks text (ForTerm at binders body) block other = IsBlockOf text block body
-CoreHasBlocks text (IntersectionForTerm at binders body) block other = IsBlockOf text block body
-CoreHasBlocks text (ModuleCallTerm at name args body) block other = IsBlockOf text block body
+abbrev pub CoreHasBlocks : BlockTable → CoreTerm → ℕ → ℕ → Type 0
+CoreHasBlocks table (IfTerm at test body) block other = IsBlockOf table block body
+CoreHasBlocks table (IfElseTerm at test body else_) block other = IsBlockOf table block body × IsBlockOf table other else_
+CoreHasBlocks table (ForTerm at binders body) block other = IsBlockOf table block body
+CoreHasBlocks table (IntersectionForTerm at binders body) block other = IsBlockOf table block body
+CoreHasBlocks table (ModuleCallTerm at name args body) block other = IsBlockOf table block body
 
 -- the bodies of an instance stand in its blocks
-abbrev pub HasBlocks : NumberedText → NumberedInstance → Type 0
-HasBlocks text numbered = CoreHasBlocks text (core_of_instance (term_of_numbered numbered)) numbered.block numbered.other
+abbrev pub HasBlocks : BlockTable → NumberedInstance → Type 0
+HasBlocks table numbered = CoreHasBlocks table (core_of_instance (term_of_numbered numbered)) numbered.block numbered.other
 
 -- whether a core is a choice with an `else`
 abbrev pub has_else : CoreTerm → Bool
@@ -32,25 +32,25 @@ has_else (IntersectionForTerm at binders body) = false
 has_else (ModuleCallTerm at name args body) = false
 
 -- an instance whose blocks begin at its first number, and whose other number is that behind the first block
-pub record BlocksBegin (text : NumberedText) (numbered : NumberedInstance) : Type 0 where
-  pub stand : StandAt text numbered.block (beginnings_of_instance (term_of_numbered numbered))
-  pub other : numbered.other ≡ (slice_index_or text.entries numbered.block nothing_there).behind
+pub record BlocksBegin (table : BlockTable) (numbered : NumberedInstance) : Type 0 where
+  pub stand : StandAt table numbered.block (entities_of_instance (term_of_numbered numbered))
+  pub other : numbered.other ≡ (slice_index_or table.entries numbered.block nothing_there).block_end
 
 -- these instances in order, each with the blocks of its bodies
-pub record HaveBodyBlocks (text : NumberedText) (instances : List InstanceTerm) (numbered : List NumberedInstance) : Type 0 where
+pub record HaveBodyBlocks (table : BlockTable) (instances : List InstanceTerm) (numbered : List NumberedInstance) : Type 0 where
   pub found : map term_of_numbered numbered ≡ instances
-  pub blocks : All (HasBlocks text) numbered
+  pub blocks : All (HasBlocks table) numbered
 
 -- What adding instances does to those that were found, unless memory runs out: these stand behind them, and where those had
 -- the blocks of their bodies, all have.
-pub record AddsInstances {A E : Type 0} (text : NumberedText) (added : List InstanceTerm) (old new : List NumberedInstance)
+pub record AddsInstances {A E : Type 0} (table : BlockTable) (added : List InstanceTerm) (old new : List NumberedInstance)
     (result : Result A E) : Type 0 where
   pub instances : OnOk result (map term_of_numbered new ≡ map term_of_numbered old ++ added)
-  pub blocks : All (HasBlocks text) old → OnOk result (All (HasBlocks text) new)
+  pub blocks : All (HasBlocks table) old → OnOk result (All (HasBlocks table) new)
 
 -- What passing over a part of a text does whose blocks begin at a number: it adds these instances, and answers the number
 -- behind all of the part's blocks, unless memory runs out.
-pub record PassesOver {E : Type 0} (text : NumberedText) (first : ℕ) (beginnings : List Beginning) (added : List InstanceTerm)
+pub record PassesOver {E : Type 0} (table : BlockTable) (first : ℕ) (entities : List Entity) (added : List InstanceTerm)
     (old new : List NumberedInstance) (result : Result ℕ E) : Type 0 where
-  pub behind : IfOk result (λ next. next ≡ first + count_blocks beginnings)
-  pub adds : AddsInstances text added old new result
+  pub block_end : IfOk result (λ next. next ≡ first + count_blocks entities)
+  pub adds : AddsInstances table added old new result

@@ -3,10 +3,10 @@
 ghost use Rattle.std.specs.Prelude.{◌≡◌, IfOk, is_some, codes, not, ◌||◌, ◌&&◌};
 ghost use Rattle.std.specs.Str.{bytes_eq};
 ghost use Rattle.scad_ast.specs.StatementView.{instance_of};
-ghost use Rattle.scad_evaluation.specs.Meaning.{visible_module};
-ghost use Rattle.scad_evaluation.specs.View.{source_text};
-ghost use Rattle.scad_evaluation.specs.Definitions.{statements_at, IsWhole};
-ghost use Rattle.scad_evaluation.specs.Evaluations.{env_here};
+ghost use Rattle.scad_func.specs.Meaning.{visible_module};
+ghost use Rattle.scad_func.specs.View.{table_in};
+ghost use Rattle.scad_func.specs.Definitions.{statements_at, IsWhole};
+ghost use Rattle.scad_func.specs.Evaluations.{env_here};
 ghost use Rattle.scad_meaning.specs.Bodies.{children_in, is_child};
 ghost use Rattle.scad_meaning.specs.Meaning.{instances_chosen};
 ghost use Rattle.scad_instances.specs.Choosing.{chosen_seen, IsSafeChosen};
@@ -16,7 +16,7 @@ ghost use Rattle.scad_instances.specs.Positions.{HaveBodyBlocks};
 use crate::chosen::chosen_among;
 use crate::numbered::{NumberedInstance, numbered_instances};
 use scad_ast::{Core, Instance};
-use scad_evaluation::Evaluation;
+use scad_func::Evaluation;
 use scad_modules::Chosen;
 use scad_value::{BoundedValue, Value};
 use text_place::NoMemory;
@@ -30,7 +30,7 @@ pub fn is_child(evaluation: &Evaluation<'_, '_>, instance: &Instance) -> bool
     ensures { result ≡ is_child (env_here evaluation.now) (instance_of instance.now) }
 {
     match &instance.core {
-        Core::Call(_, name, _, _) => !says_only(evaluation, name.items()),
+        Core::Call(_, name, _, _) => !has_no_geometry(evaluation, name.items()),
         Core::If(_, _, _)
         | Core::IfElse(_, _, _, _)
         | Core::For(_, _, _)
@@ -39,7 +39,7 @@ pub fn is_child(evaluation: &Evaluation<'_, '_>, instance: &Instance) -> bool
 }
 
 // Whether a name is `echo` or `assert`, and no module of the source, seen from the scope.
-fn says_only(evaluation: &Evaluation<'_, '_>, name: &[u8]) -> bool
+fn has_no_geometry(evaluation: &Evaluation<'_, '_>, name: &[u8]) -> bool
     ensures { result ≡ ((bytes_eq name.now (codes "echo") || bytes_eq name.now (codes "assert"))
         && not (is_some (visible_module (env_here evaluation.now) name.now))) }
 {
@@ -52,9 +52,10 @@ fn children<'a>(
     evaluation: &Evaluation<'a, '_>,
     block: u32,
 ) -> Result<Vec<NumberedInstance<'a>>, NoMemory>
-    requires { IsWhole (source_text evaluation.now.source.now) }
-    ensures { let text = source_text evaluation.now.source.now in
-        IfOk result (λ found. HaveBodyBlocks text (children_in (env_here evaluation.now) (statements_at text block)) found.items) }
+    requires { IsWhole (table_in evaluation.now.source.now) }
+    ensures { let table = table_in evaluation.now.source.now in
+        IfOk result (λ found. HaveBodyBlocks table (children_in (env_here evaluation.now)
+        (statements_at table block)) found.items) }
 {
     let alloc = evaluation.alloc;
     let instances = numbered_instances(alloc, evaluation.source, block)?;
@@ -72,8 +73,8 @@ pub fn count_children(
     evaluation: &mut Evaluation<'_, '_>,
     block: u32,
 ) -> Result<BoundedValue, NoMemory>
-    requires { IsWhole (source_text evaluation.old.source.now) }
-    ensures { CountsChildren (statements_at (source_text evaluation.old.source.now) block) evaluation.old evaluation.new result }
+    requires { IsWhole (table_in evaluation.old.source.now) }
+    ensures { CountsChildren (statements_at (table_in evaluation.old.source.now) block) evaluation.old evaluation.new result }
 {
     let outer = evaluation.scope;
     let before = evaluation.enter_body(outer, block)?;
@@ -94,11 +95,11 @@ pub fn chosen_instances<'a>(
     block: u32,
     chosen: Option<&Chosen>,
 ) -> Result<Vec<NumberedInstance<'a>>, NoMemory>
-    requires whole { IsWhole (source_text evaluation.now.source.now) }
+    requires whole { IsWhole (table_in evaluation.now.source.now) }
     requires safe { IsSafeChosen chosen }
-    ensures { let text = source_text evaluation.now.source.now in
-        let wanted = instances_chosen (env_here evaluation.now) (chosen_seen chosen.entry) (statements_at text block) in
-        IfOk result (λ found. HaveBodyBlocks text wanted found.items) }
+    ensures { let table = table_in evaluation.now.source.now in
+        let wanted = instances_chosen (env_here evaluation.now) (chosen_seen chosen.entry) (statements_at table block) in
+        IfOk result (λ found. HaveBodyBlocks table wanted found.items) }
 {
     let alloc = evaluation.alloc;
     match chosen {

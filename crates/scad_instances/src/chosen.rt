@@ -15,7 +15,7 @@ use text_place::NoMemory;
 
 /// The chosen ones of some children, in the order in which they are chosen. A number that none has
 /// chooses nothing.
-pub fn chosen_among<T: Copy>(
+pub(crate) fn chosen_among<T: Copy>(
     alloc: Global,
     children: Vec<T>,
     chosen: &Chosen,

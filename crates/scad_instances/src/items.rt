@@ -115,9 +115,11 @@ impl Items {
 
     /// The next item, where one is left.
     pub fn next(&mut self) -> Option<BoundedValue>
-        ensures next { MatchOption result ((remaining_in self.old.remaining ≡ no_vals) × (remaining_in self.new.remaining ≡ no_vals))
+        ensures next { MatchOption result ((remaining_in self.old.remaining ≡ no_vals)
+            × (remaining_in self.new.remaining ≡ no_vals))
             (λ v. remaining_in self.old.remaining ≡ and_val (bounded_val v) (remaining_in self.new.remaining)) }
-        ensures fewer { IfSome result (λ _. count_of (remaining_in self.new.remaining) < count_of (remaining_in self.old.remaining)) }
+        ensures fewer { IfSome result (λ _. count_of (remaining_in self.new.remaining)
+            < count_of (remaining_in self.old.remaining)) }
     {
         match self.remaining.next() {
             Some(value) => Some(BoundedValue { value }),

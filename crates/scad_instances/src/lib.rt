@@ -1,16 +1,25 @@
-//! Which instances of a block are evaluated, with the blocks of their bodies, which of them are children and which of these are
-//! chosen, and which items a loop goes through.
+//! What leads to no other instance when instances are evaluated: which are, children, loops, shapes and joins.
 #![tactic(auto)]
 
+mod arguments;
+mod bodies;
 mod children;
 mod chosen;
+mod hulls;
 mod items;
+mod joins;
 mod marks;
 mod numbered;
+mod position;
 mod ranges;
+mod shapes;
 
+pub use arguments::{arguments_for, effect_of, unknown_module, without_geometry};
 pub use children::{chosen_instances, count_children, is_child};
-pub use chosen::chosen_among;
+pub use hulls::{design_hull, is_nothing};
 pub use items::Items;
-pub use marks::is_marked;
-pub use numbered::{NumberedInstance, numbered_instances};
+pub use joins::{as_root, join_members, no_members, nothing_made, with_made, with_members};
+pub use marks::has_root_modifier;
+pub use numbered::NumberedInstance;
+pub use position::{InstanceResult, MemberResults, NumberedBody, Position};
+pub use shapes::{flat_shape, solid_shape};

@@ -3,7 +3,7 @@
 ghost use Rattle.std.specs.Prelude.{◌≡◌};
 ghost use Rattle.std.specs.List.{list_any};
 ghost use Rattle.scad_ast.specs.StatementView.{marks_of, instance_of};
-ghost use Rattle.scad_meaning.specs.Bodies.{switches_off, is_root, is_on, is_marked};
+ghost use Rattle.scad_meaning.specs.Bodies.{switches_off, is_root, is_on, has_root_modifier};
 
 use scad_ast::{Instance, Modifier, PlacedModifiers};
 
@@ -15,8 +15,8 @@ pub(crate) fn is_on(instance: &Instance) -> bool
 }
 
 /// Whether an instance is marked `!`.
-pub fn is_marked(instance: &Instance) -> bool
-    ensures { result ≡ is_marked (instance_of instance.now) }
+pub fn has_root_modifier(instance: &Instance) -> bool
+    ensures { result ≡ has_root_modifier (instance_of instance.now) }
 {
     any_root(&instance.marks)
 }

@@ -5,15 +5,15 @@ ghost use Rattle.std.specs.Prelude.{◌≡◌, ◌<◌, ◌+◌, ◌++◌, ◌�
 ghost use Rattle.std.specs.List.{All, filter};
 ghost use Rattle.scad_ast.specs.Terms.{statements_from};
 ghost use Rattle.scad_ast.specs.StatementView.{core_of, instance_of, statement_of, statements_of};
-ghost use Rattle.scad_blocks.specs.Blocks.{NumberedText, StandAt, beginnings_in, beginnings_of, beginnings_of_instance, count_blocks};
-ghost use Rattle.scad_evaluation.specs.Definitions.{statements_at, IsWhole};
-ghost use Rattle.scad_evaluation.specs.View.{source_text};
+ghost use Rattle.scad_definitions.specs.Blocks.{BlockTable, StandAt, entities_in, entities_of, entities_of_instance, count_blocks};
+ghost use Rattle.scad_func.specs.Definitions.{statements_at, IsWhole};
+ghost use Rattle.scad_func.specs.View.{table_in};
 ghost use Rattle.scad_meaning.specs.Bodies.{instances_of, evaluated_in, is_on};
 ghost use Rattle.scad_instances.specs.Positions.{term_of_numbered, HasBlocks, HaveBodyBlocks, AddsInstances, PassesOver, BlocksBegin, has_else};
 
 use crate::marks::is_on;
 use scad_ast::{Core, Instance, Statement, Statements};
-use scad_evaluation::Source;
+use scad_func::Source;
 use scad_scope::BlockText;
 use std::alloc::Global;
 use text_place::NoMemory;
@@ -29,14 +29,14 @@ pub struct NumberedInstance<'a> {
 
 /// The instances of a block that are evaluated, in order, those of bare blocks too, with the numbers of their
 /// bodies' blocks. A block that isn't there has none. Its time is that of the block's own statements.
-pub fn numbered_instances<'a>(
+pub(crate) fn numbered_instances<'a>(
     alloc: Global,
     source: &Source<'a>,
     block: u32,
 ) -> Result<Vec<NumberedInstance<'a>>, NoMemory>
-    requires { IsWhole (source_text source.now) }
-    ensures { let text = source_text source.now in
-        IfOk result (λ found. HaveBodyBlocks text (evaluated_in (statements_at text block)) found.items) }
+    requires { IsWhole (table_in source.now) }
+    ensures { let table = table_in source.now in
+        IfOk result (λ found. HaveBodyBlocks table (evaluated_in (statements_at table block)) found.items) }
 {
     let mut found = Vec::new(alloc);
     if (block as usize) < source.blocks.count() {
@@ -51,10 +51,10 @@ fn add_block<'a>(
     block: u32,
     found: &mut Vec<NumberedInstance<'a>>,
 ) -> Result<(), NoMemory>
-    requires whole { IsWhole (source_text source.now) }
-    requires there { block < length (source_text source.now).entries }
-    ensures { let text = source_text source.now in
-        AddsInstances text (evaluated_in (statements_at text block)) found.old.items found.new.items result }
+    requires whole { IsWhole (table_in source.now) }
+    requires there { block < length (table_in source.now).entries }
+    ensures { let table = table_in source.now in
+        AddsInstances table (evaluated_in (statements_at table block)) found.old.items found.new.items result }
 {
     // What stands in a block begins behind it. No program has so many blocks that there is no number.
     let Some(first) = block.checked_add(1) else {
@@ -81,10 +81,10 @@ fn add_all<'a>(
     first: u32,
     found: &mut Vec<NumberedInstance<'a>>,
 ) -> Result<u32, NoMemory>
-    requires whole { IsWhole (source_text source.now) }
-    requires stand { StandAt (source_text source.now) first (beginnings_in (statements_from (statements_of statements.now))) }
+    requires whole { IsWhole (table_in source.now) }
+    requires stand { StandAt (table_in source.now) first (entities_in (statements_from (statements_of statements.now))) }
     ensures { let terms = statements_from (statements_of statements.now) in
-        PassesOver (source_text source.now) first (beginnings_in terms) (evaluated_in terms) found.old.items found.new.items result }
+        PassesOver (table_in source.now) first (entities_in terms) (evaluated_in terms) found.old.items found.new.items result }
 {
     let mut next = first;
     'each: for statement in &statements.items {
@@ -100,16 +100,17 @@ fn add<'a>(
     first: u32,
     found: &mut Vec<NumberedInstance<'a>>,
 ) -> Result<u32, NoMemory>
-    requires whole { IsWhole (source_text source.now) }
-    requires stand { StandAt (source_text source.now) first (beginnings_of (statement_of statement.now)) }
+    requires whole { IsWhole (table_in source.now) }
+    requires stand { StandAt (table_in source.now) first (entities_of (statement_of statement.now)) }
     ensures { let term = statement_of statement.now in
-        PassesOver (source_text source.now) first (beginnings_of term) (filter is_on (instances_of term)) found.old.items found.new.items result }
+        PassesOver (table_in source.now) first (entities_of term)
+        (filter is_on (instances_of term)) found.old.items found.new.items result }
 {
     match statement {
         Statement::Block(_, statements) => add_all(source, statements, first, found),
         Statement::Instantiation(instance) => add_instance(source, instance, first, found),
-        Statement::Module(_, _, _, _, _) => Ok(source.blocks.behind(first)),
-        Statement::Function(_, _, _, _, _) => Ok(source.blocks.behind(first)),
+        Statement::Module(_, _, _, _, _) => Ok(source.blocks.block_end(first)),
+        Statement::Function(_, _, _, _, _) => Ok(source.blocks.block_end(first)),
         Statement::Empty(_) => Ok(first),
         Statement::Assignment(_, _, _) => Ok(first),
         Statement::SpecialAssignment(_, _, _) => Ok(first),
@@ -122,28 +123,29 @@ fn add_instance<'a>(
     block: u32,
     found: &mut Vec<NumberedInstance<'a>>,
 ) -> Result<u32, NoMemory>
-    requires whole { IsWhole (source_text source.now) }
-    requires stand { StandAt (source_text source.now) block (beginnings_of_instance (instance_of instance.now)) }
+    requires whole { IsWhole (table_in source.now) }
+    requires stand { StandAt (table_in source.now) block (entities_of_instance (instance_of instance.now)) }
     ensures { let term = instance_of instance.now in
-        PassesOver (source_text source.now) block (beginnings_of_instance term) (filter is_on (term ∷ [])) found.old.items found.new.items result }
+        PassesOver (table_in source.now) block (entities_of_instance term)
+        (filter is_on (term ∷ [])) found.old.items found.new.items result }
 {
     let numbered = NumberedInstance {
         instance,
         block,
-        other: source.blocks.behind(block),
+        other: source.blocks.block_end(block),
     };
     add_if_on(numbered, found)?;
-    Ok(behind(source, numbered))
+    Ok(block_end(source, numbered))
 }
 
 // The number behind all blocks of an instance.
-fn behind(source: &Source<'_>, numbered: NumberedInstance<'_>) -> u32
-    requires whole { IsWhole (source_text source.now) }
-    requires begins { BlocksBegin (source_text source.now) numbered }
-    ensures { result ≡ numbered.entry.block + count_blocks (beginnings_of_instance (term_of_numbered numbered.entry)) }
+fn block_end(source: &Source<'_>, numbered: NumberedInstance<'_>) -> u32
+    requires whole { IsWhole (table_in source.now) }
+    requires begins { BlocksBegin (table_in source.now) numbered }
+    ensures { result ≡ numbered.entry.block + count_blocks (entities_of_instance (term_of_numbered numbered.entry)) }
 {
     if has_else(&numbered.instance.core) {
-        source.blocks.behind(numbered.other)
+        source.blocks.block_end(numbered.other)
     } else {
         numbered.other
     }
@@ -167,8 +169,8 @@ fn add_if_on<'a>(
 ) -> Result<(), NoMemory>
     ensures instances { OnOk result (map term_of_numbered found.new.items ≡ map term_of_numbered found.old.items
         ++ filter is_on (term_of_numbered numbered.entry ∷ [])) }
-    ensures blocks { (text : NumberedText) → HasBlocks text numbered.entry → All (HasBlocks text) found.old.items
-        → OnOk result (All (HasBlocks text) found.new.items) }
+    ensures blocks { (table : BlockTable) → HasBlocks table numbered.entry → All (HasBlocks table) found.old.items
+        → OnOk result (All (HasBlocks table) found.new.items) }
 {
     if is_on(numbered.instance) {
         found.push(numbered)?;

@@ -12,7 +12,7 @@ use Rattle.scad_lexer.specs.declared.word.Word.TheVariants.{Blank, UnclosedComme
 use Rattle.scad_lexer.specs.declared.meaning.WordMeaning.{WordMeaning}
 use Rattle.scad_lexer.specs.declared.meaning.WordMeaning.TheVariants.{NoToken, OneToken, BadWord}
 use Rattle.scad_lexer.specs.Words.{has, digit, run_of}
-use Rattle.scad_lexer.specs.Tokens.{zero_fraction, number_from, bounded, numeral_of, or_letter, escape_at, with_byte, with_escape, decoded, decoded_escape, inside, text_from, meaning_of, moved, LexOutcome, GivesTokens, FaultAt, tokens_in_front, tokens_at, IsEnd, IsStray, IsFaulty, Piece, ReadsWords, IsLexStop, IsPlaceOfByteFrom, StandsAtByte}
+use Rattle.scad_lexer.specs.Tokens.{zero_fraction, number_from, numeral_or_too_large, numeral_of, or_letter, escape_at, with_byte, with_escape, bytes_written, bytes_after_backslash, without_quotes, text_from, meaning_of, place_after, LexOutcome, GivesTokens, FaultAt, tokens_in_front, tokens_at, IsEnd, IsStray, IsFaulty, Piece, ReadsWords, IsLexStop, IsPlaceOfByteFrom, StandsAtByte}
 use Rattle.scad_lexer.proofs.Lengths.{some_bytes}
 
 -- ---- a fault of a word stands before one of its bytes
@@ -27,7 +27,7 @@ inside_cond n false m o h k = k
 
 inside_numeral : (n : ℕ) (w : List ℕ) → 1 ≤ n → IsInside n (numeral_of w)
 inside_numeral n w some =
-    inside_cond n (zero_fraction (drop (run_of digit w) w)) (bounded (number_from 0 (take (run_of digit w) w))) _
+    inside_cond n (zero_fraction (drop (run_of digit w) w)) (numeral_or_too_large (number_from 0 (take (run_of digit w) w))) _
     (inside_cond n (nat_lt (number_from 0 (take (run_of digit w) w)) (2 ^ 53)) _ _ tt (omega (arith, some))) (omega (arith, some))
 
 inside_letter : (n : ℕ) (m : WordMeaning) (at : ℕ) → at < n → IsInside n m → IsInside n (or_letter m at)
@@ -56,19 +56,19 @@ more_bytes : (n m : ℕ) (r : Result (List ℕ) ℕ) → n ≡ m → HasByte n r
 more_bytes n m r e h = subst (λ n. HasByte n r) e h
 
 mutual
-  unfolding decoded decoded_escape
+  unfolding bytes_written bytes_after_backslash
 
-  text_byte : (w : List ℕ) → HasByte (length w) (decoded w)
+  text_byte : (w : List ℕ) → HasByte (length w) (bytes_written w)
   text_byte [] = tt
   text_byte (b ∷ w) =
-      byte_cond (length (b ∷ w)) (nat_eq b 92) (decoded_escape w) _ (escape_byte w)
-      (byte_cond (length (b ∷ w)) (has Printable b) _ (Err 0) (more_bytes (1 + length w) (length (b ∷ w)) _ (omega arith) (byte_behind (length w) 1 b (decoded w) (text_byte w))) (omega arith))
+      byte_cond (length (b ∷ w)) (nat_eq b 92) (bytes_after_backslash w) _ (escape_byte w)
+      (byte_cond (length (b ∷ w)) (has Printable b) _ (Err 0) (more_bytes (1 + length w) (length (b ∷ w)) _ (omega arith) (byte_behind (length w) 1 b (bytes_written w) (text_byte w))) (omega arith))
 
-  escape_byte : (w : List ℕ) → HasByte (suc (length w)) (decoded_escape w)
+  escape_byte : (w : List ℕ) → HasByte (suc (length w)) (bytes_after_backslash w)
   escape_byte [] = omega arith
-  escape_byte (c ∷ w) = more_bytes (2 + length w) (suc (length (c ∷ w))) _ (omega arith) (byte_escape (length w) (escape_at (c ∷ w)) (decoded w) (text_byte w))
+  escape_byte (c ∷ w) = more_bytes (2 + length w) (suc (length (c ∷ w))) _ (omega arith) (byte_escape (length w) (escape_at (c ∷ w)) (bytes_written w) (text_byte w))
 
-inside_length : (w : List ℕ) → length (inside w) ≤ length w - 1 - 1
+inside_length : (w : List ℕ) → length (without_quotes w) ≤ length w - 1 - 1
 inside_length w = omega (arith, length-take-le (length w - 1 - 1) (drop 1 w) (omega (arith, length-drop 1 w)))
 
 inside_text : (n m : ℕ) (r : Result (List ℕ) ℕ) → m ≤ n - 1 - 1 → HasByte m r → IsInside n (text_from r)
@@ -84,12 +84,12 @@ inside_word Numeral bytes some = inside_numeral (length bytes) bytes some
 inside_word NumeralAndLetter bytes some =
     inside_letter (length bytes) (numeral_of (take (length bytes - 1) bytes)) (length bytes - 1) (omega (arith, some))
     (inside_numeral (length bytes) (take (length bytes - 1) bytes) some)
-inside_word Text bytes some = inside_text (length bytes) (length (inside bytes)) (decoded (inside bytes)) (inside_length bytes) (text_byte (inside bytes))
+inside_word Text bytes some = inside_text (length bytes) (length (without_quotes bytes)) (bytes_written (without_quotes bytes)) (inside_length bytes) (text_byte (without_quotes bytes))
 inside_word UnclosedText bytes some = omega (arith, some)
 inside_word (Symbol s) bytes some = tt
 
 -- ---- places of bytes
-moved_on : (p : Place) (xs ys : List ℕ) → moved p (xs ++ ys) ≡ moved (moved p xs) ys
+moved_on : (p : Place) (xs ys : List ℕ) → place_after p (xs ++ ys) ≡ place_after (place_after p xs) ys
 moved_on p [] ys = refl
 moved_on p (b ∷ xs) ys = moved_on (cond (nat_eq b 10) (record { line = suc p.line; column = 1 }) (record { line = p.line; column = suc p.column })) xs ys
 
@@ -98,7 +98,7 @@ first_byte p [] some = absurd (omega (arith, some))
 first_byte p (b ∷ text) some = ([], b, text, refl, refl)
 
 -- a byte behind a front
-byte_further : (p : Place) (n : ℕ) (text : List ℕ) (at : Place) → IsPlaceOfByteFrom (moved p (take n text)) (drop n text) at → IsPlaceOfByteFrom p text at
+byte_further : (p : Place) (n : ℕ) (text : List ℕ) (at : Place) → IsPlaceOfByteFrom (place_after p (take n text)) (drop n text) at → IsPlaceOfByteFrom p text at
 byte_further p n text at h = (
   take n text ++ h.0,
   h.1,
@@ -122,14 +122,14 @@ faulty_byte p text o h =
     let before : h.before < length (take h.length text) = subst (IsInside (length (take h.length text))) h.means (inside_word h.word (take h.length text) (omega (arith, count, some_bytes text h.length h.word h.longest.found))) in
     let behind : 1 ≤ length (drop h.before text) = omega (arith, before, count, h.longest.within, length-drop h.before text) in
     subst (FaultsAtByte p text) (sym h.outcome)
-    (byte_further p h.before text (moved p (take h.before text)) (first_byte (moved p (take h.before text)) (drop h.before text) behind))
+    (byte_further p h.before text (place_after p (take h.before text)) (first_byte (place_after p (take h.before text)) (drop h.before text) behind))
 
 last_byte : (p : Place) (text : List ℕ) (o : LexOutcome) → (IsEnd p text o ⊎ (IsStray p text o ⊎ IsFaulty p text o)) → FaultsAtByte p text o
 last_byte p text o (inl a) = subst (FaultsAtByte p text) (sym a.1) tt
 last_byte p text o (inr (inl a)) = subst (FaultsAtByte p text) (sym a.2) (first_byte p text (some_text text a.0))
 last_byte p text o (inr (inr a)) = faulty_byte p text o a
 
-further : (p : Place) (n : ℕ) (text : List ℕ) (ts : List Token) (o : LexOutcome) → FaultsAtByte (moved p (take n text)) (drop n text) o → FaultsAtByte p text (tokens_in_front ts o)
+further : (p : Place) (n : ℕ) (text : List ℕ) (ts : List Token) (o : LexOutcome) → FaultsAtByte (place_after p (take n text)) (drop n text) o → FaultsAtByte p text (tokens_in_front ts o)
 further p n text ts (GivesTokens us) h = tt
 further p n text ts (FaultAt k at) h = byte_further p n text at h
 
@@ -138,7 +138,7 @@ reads_byte [] p text o h = last_byte p text o h
 reads_byte (x ∷ xs) p text o h =
     subst (FaultsAtByte p text) (sym h.2.2)
     (further p x.bytes text (tokens_at p (meaning_of x.word (take x.bytes text))) h.2.0
-    (reads_byte xs (moved p (take x.bytes text)) (drop x.bytes text) h.2.0 h.2.1))
+    (reads_byte xs (place_after p (take x.bytes text)) (drop x.bytes text) h.2.0 h.2.1))
 
 pub stands_at_byte : (text : List ℕ) (r : Result (Vec Token) Stop) → IfErr r (λ stop. IsLexStop text stop) → IfErr r (λ stop. StandsAtByte text stop)
 stands_at_byte text (Ok ts) h = tt

@@ -8,7 +8,7 @@ use Rattle.scad_lexer.specs.declared.word.Word.{Word}
 use Rattle.scad_lexer.specs.declared.meaning.WordMeaning.{WordMeaning}
 use Rattle.scad_lexer.specs.declared.meaning.WordMeaning.TheVariants.{NoToken, OneToken, BadWord}
 use Rattle.scad_lexer.specs.Words.{word_of}
-use Rattle.scad_lexer.specs.Tokens.{LexOutcome, GivesTokens, FaultAt, tokens_in_front, tokens_at, IsEnd, IsStray, IsFaulty, Piece, ReadsWords, LexesFrom, meaning_of, moved}
+use Rattle.scad_lexer.specs.Tokens.{LexOutcome, GivesTokens, FaultAt, tokens_in_front, tokens_at, IsEnd, IsStray, IsFaulty, Piece, ReadsWords, LexesFrom, meaning_of, place_after}
 
 abbrev HasFew : ℕ → LexOutcome → Type 0
 HasFew n (GivesTokens ts) = length ts ≤ n + 1
@@ -41,7 +41,7 @@ reads_few (x ∷ xs) p text o h =
     let rest = length-drop x.bytes text in
     subst (HasFew (length text)) (sym h.2.2)
     (fewer (suc (length (drop x.bytes text))) (length text) _ (omega (arith, some, rest, h.0.within))
-    (one_more p (meaning_of x.word (take x.bytes text)) (length (drop x.bytes text)) h.2.0 (reads_few xs (moved p (take x.bytes text)) (drop x.bytes text) h.2.0 h.2.1)))
+    (one_more p (meaning_of x.word (take x.bytes text)) (length (drop x.bytes text)) h.2.0 (reads_few xs (place_after p (take x.bytes text)) (drop x.bytes text) h.2.0 h.2.1)))
 
 pub few_tokens : (p : Place) (text : List ℕ) (r : Result (Vec Token) Stop) → IfOk r (λ ts. LexesFrom p text (GivesTokens ts.items)) → IfOk r (λ ts. length ts.items ≤ length text + 1)
 few_tokens p text (Ok ts) h = reads_few h.0 p text (GivesTokens ts.items) h.1

@@ -16,7 +16,7 @@ use Rattle.scad_lexer.specs.declared.word.Word.TheVariants.{Symbol as SymbolWord
 use Rattle.scad_lexer.specs.declared.meaning.WordMeaning.{WordMeaning}
 use Rattle.scad_lexer.specs.declared.meaning.WordMeaning.TheVariants.{NoToken, OneToken, BadWord}
 use Rattle.scad_lexer.specs.Words.{word_from, word_of, IsLongest, HasNoWord}
-use Rattle.scad_lexer.specs.Tokens.{LexOutcome, GivesTokens, FaultAt, tokens_in_front, tokens_at, IsFaultless, IsEnd, IsStray, IsFaulty, Piece, ReadsWords, LexesFrom, Lexes, IsLexStopFrom, IsLexStop, Agrees, meaning_of, moved, AppendsNext}
+use Rattle.scad_lexer.specs.Tokens.{LexOutcome, GivesTokens, FaultAt, tokens_in_front, tokens_at, IsFaultless, IsEnd, IsStray, IsFaulty, Piece, ReadsWords, LexesFrom, Lexes, IsLexStopFrom, IsLexStop, Agrees, meaning_of, place_after, AppendsNext}
 use Rattle.scad_lexer.proofs.Longest.{drop_more}
 use Rattle.scad_lexer.proofs.Scanned.{rest_all}
 
@@ -51,7 +51,7 @@ last_once p text o q (inr (inr a)) (inr (inr b)) =
     let means : BadWord a.kind a.before ≡ BadWord b.kind b.before = sym a.means ∙ ap (λ n. meaning_of a.word (take n text)) one.0 ∙ ap (λ w. meaning_of w (take b.length text)) one.1 ∙ b.means in
     let kind : a.kind ≡ b.kind = cc in
     let before : a.before ≡ b.before = cc in
-    a.outcome ∙ ap (λ k. FaultAt k (moved p (take a.before text))) kind ∙ ap (λ n. FaultAt b.kind (moved p (take n text))) before ∙ sym b.outcome
+    a.outcome ∙ ap (λ k. FaultAt k (place_after p (take a.before text))) kind ∙ ap (λ n. FaultAt b.kind (place_after p (take n text))) before ∙ sym b.outcome
 
 fault_unsound : (m : WordMeaning) (k : FaultKind) (n : ℕ) → m ≡ BadWord k n → IsFaultless m → ⊥
 fault_unsound (BadWord k n) j i e h = h
@@ -72,8 +72,8 @@ reads_once [] (y ∷ ys) p text o q a b = absurd (not_last p text o y.bytes y.wo
 reads_once (x ∷ xs) [] p text o q a b = absurd (not_last p text q x.bytes x.word b a.0 a.1)
 reads_once (x ∷ xs) (y ∷ ys) p text o q a b =
     let one = longest_once text x.bytes y.bytes x.word y.word a.0 b.0 in
-    let next : ReadsWords ys (moved p (take x.bytes text)) (drop x.bytes text) b.2.0 = subst (λ n. ReadsWords ys (moved p (take n text)) (drop n text) b.2.0) (sym one.0) b.2.1 in
-    let rest : a.2.0 ≡ b.2.0 = reads_once xs ys (moved p (take x.bytes text)) (drop x.bytes text) a.2.0 b.2.0 a.2.1 next in
+    let next : ReadsWords ys (place_after p (take x.bytes text)) (drop x.bytes text) b.2.0 = subst (λ n. ReadsWords ys (place_after p (take n text)) (drop n text) b.2.0) (sym one.0) b.2.1 in
+    let rest : a.2.0 ≡ b.2.0 = reads_once xs ys (place_after p (take x.bytes text)) (drop x.bytes text) a.2.0 b.2.0 a.2.1 next in
     a.2.2 ∙ ap (tokens_in_front (tokens_at p (meaning_of x.word (take x.bytes text)))) rest
     ∙ ap (λ n. tokens_in_front (tokens_at p (meaning_of x.word (take n text))) b.2.0) one.0 ∙ ap (λ w. tokens_in_front (tokens_at p (meaning_of w (take y.bytes text))) b.2.0) one.1 ∙ sym b.2.2
 
@@ -100,10 +100,10 @@ goes_first text (GivesTokens ts) h = h
 goes_first text (FaultAt k p) h = h
 
 -- one word more
-pub goes_on : (text : List ℕ) (ts us : List Token) (p : Place) (rest : List ℕ) (n : ℕ) → GoesOn text ts p rest → AppendsNext ts us p rest n → GoesOn text us (moved p (take n rest)) (take (length rest - n) (drop n rest))
+pub goes_on : (text : List ℕ) (ts us : List Token) (p : Place) (rest : List ℕ) (n : ℕ) → GoesOn text ts p rest → AppendsNext ts us p rest n → GoesOn text us (place_after p (take n rest)) (take (length rest - n) (drop n rest))
 goes_on text ts us p rest n told next o h =
     let made : List Token = tokens_at p (meaning_of next.word (take n rest)) in
-    let here : ReadsWords h.0 (moved p (take n rest)) (drop n rest) o = subst (λ l. ReadsWords h.0 (moved p (take n rest)) l o) (rest_all rest n) h.1 in
+    let here : ReadsWords h.0 (place_after p (take n rest)) (drop n rest) o = subst (λ l. ReadsWords h.0 (place_after p (take n rest)) l o) (rest_all rest n) h.1 in
     subst (λ l. Lexes text (tokens_in_front l o)) (sym next.appended)
     (subst (Lexes text) (in_front_twice ts made o)
     (told (tokens_in_front made o) (record { bytes = n; word = next.word } ∷ h.0, (next.longest, next.sound, (o, here, refl)))))
@@ -121,7 +121,7 @@ pub stray : (p : Place) (text : List ℕ) → 1 ≤ length text → HasNoWord te
 stray p [] some h = absurd (omega arith)
 stray p (b ∷ t) some h = ([], inr (inl ((λ e. cc), h, refl)))
 
-pub faulty : (p : Place) (text : List ℕ) (n : ℕ) (w : Word) (k : FaultKind) (m : ℕ) → IsLongest text n w → BadWord k m ≡ meaning_of w (take n text) → LexesFrom p text (FaultAt k (moved p (take m text)))
+pub faulty : (p : Place) (text : List ℕ) (n : ℕ) (w : Word) (k : FaultKind) (m : ℕ) → IsLongest text n w → BadWord k m ≡ meaning_of w (take n text) → LexesFrom p text (FaultAt k (place_after p (take m text)))
 faulty p text n w k m h e = ([], inr (inr (record { length = n; word = w; kind = k; before = m; longest = h; means = sym e; outcome = refl })))
 
 pub word_some : (text : List ℕ) (n : ℕ) (w : Word) → IsLongest text n w → 1 ≤ n
@@ -142,11 +142,11 @@ taken_some text n w h = omega (arith, word_some text n w h, length-take-le n tex
 abbrev pub behind : Place → ℕ → Place
 behind p b = cond (nat_eq b 10) (record { line = suc p.line; column = 1 }) (record { line = p.line; column = suc p.column })
 
-pub moved_more : (p : Place) (t : List ℕ) (n : ℕ) → n < length t → moved p (drop n t) ≡ moved (behind p (get_or t n 0)) (drop (n + 1) t)
-moved_more p t n h = ap (moved p) (drop_more t n h)
+pub moved_more : (p : Place) (t : List ℕ) (n : ℕ) → n < length t → place_after p (drop n t) ≡ place_after (behind p (get_or t n 0)) (drop (n + 1) t)
+moved_more p t n h = ap (place_after p) (drop_more t n h)
 
 -- the place behind a symbol of one byte, which is no newline
-pub moved_symbol : (p : Place) (t : List ℕ) (s : Symbol) → IsLongest t 1 (SymbolWord s) → moved p (take 1 t) ≡ record { line = p.line; column = p.column + 1 }
+pub moved_symbol : (p : Place) (t : List ℕ) (s : Symbol) → IsLongest t 1 (SymbolWord s) → place_after p (take 1 t) ≡ record { line = p.line; column = p.column + 1 }
 unfolding word_from
 moved_symbol p [] s h = absurd (omega (arith, h.within))
 moved_symbol p (b ∷ t) s h = let found : word_from b [] ≡ Some (SymbolWord s) = h.found in grind (arith, nat_tests)

@@ -1,7 +1,7 @@
 -- The longest front of a text that is a word.
 use Rattle.std.proofs.Common.{◌≡◌, ℕ, zero, suc, ◌+◌, ◌<◌, ◌≤◌, List, [], ◌∷◌, length, take, drop, get_or, Bool, true, false, cond, Option, Some, None, refl, sym, ap, ◌∙◌, subst, arith, drop-cons, add-one}
 use Rattle.scad_lexer.specs.declared.word.Word.{Word}
-use Rattle.scad_lexer.specs.Words.{run_of, every, when, alone, with_bytes, more_bytes, one_longer, longest, word_of, word_from, IsLongest, HasNoWord}
+use Rattle.scad_lexer.specs.Words.{run_of, every, when, where_last, with_bytes, more_bytes, one_longer, longest, word_of, word_from, IsLongest, HasNoWord}
 
 -- what the longest word is
 pub record IsBest (f : List ℕ → Option Word) (t : List ℕ) (w : Word) (n : ℕ) : Type 0 where
@@ -70,9 +70,9 @@ longest_never (b ∷ t) = ap (λ r. one_longer r None) (longest_never t)
 pub longest_stop : (f : List ℕ → Option Word) (b : ℕ) → ((w : List ℕ) → f (b ∷ w) ≡ None) → (t : List ℕ) → longest f (b ∷ t) ≡ with_bytes 0 (f [])
 longest_stop f b h t = longest_step f (λ w. None) b h t ∙ ap (λ r. one_longer r (with_bytes 0 (f []))) (longest_never t)
 
-pub longest_alone : (x : Word) (t : List ℕ) → longest (alone x) t ≡ Some (x, 0)
-longest_alone x [] = longest_end (alone x)
-longest_alone x (b ∷ t) = longest_stop (alone x) b (λ w. refl) t
+pub longest_alone : (x : Word) (t : List ℕ) → longest (where_last x) t ≡ Some (x, 0)
+longest_alone x [] = longest_end (where_last x)
+longest_alone x (b ∷ t) = longest_stop (where_last x) b (λ w. refl) t
 
 -- where nothing need follow, something is found
 pub longest_some : (f : List ℕ → Option Word) (x : Word) → f [] ≡ Some x → (t : List ℕ) → (p : Word × ℕ) × (longest f t ≡ Some p)

@@ -2,7 +2,7 @@
 use Rattle.std.proofs.Common.{◌≡◌, ℕ, zero, suc, ◌+◌, ◌-◌, ◌*◌, ◌<◌, ◌≤◌, List, [], ◌∷◌, ◌++◌, length, take, drop, get_or, Bool, true, false, cond, ◌&&◌, Some, None, Result, Ok, Err, refl, sym, ap, ◌∙◌, arith, nat_eq, append_assoc, append-nil}
 use Rattle.scad_lexer.specs.declared.class.ByteClass.TheVariants.{Byte, Printable}
 use Rattle.scad_lexer.specs.Words.{has, begins_with, every}
-use Rattle.scad_lexer.specs.Tokens.{number_from, zero_fraction, with_byte, escape_of, escape_at, with_escape, decoded, decoded_escape}
+use Rattle.scad_lexer.specs.Tokens.{number_from, zero_fraction, with_byte, escape_of, escape_at, with_escape, bytes_written, bytes_after_backslash}
 use Rattle.scad_lexer.proofs.Longest.{drop_more}
 use Rattle.scad_lexer.proofs.Scanned.{rest_all}
 
@@ -40,31 +40,31 @@ zero_point_none [] h e = absurd (omega arith)
 zero_point_none (c ∷ t) h e = ap (λ x. x && every (λ c. nat_eq c 48) t) e
 
 -- one byte of a text's inside
-pub step_escape : (t : List ℕ) (b : ℕ) → begins_with (has (Byte 92)) t ≡ true → Some b ≡ escape_at (take (length t - 1) (drop 1 t)) → decoded t ≡ with_byte b 2 (decoded (drop 2 t))
-unfolding decoded decoded_escape
+pub step_escape : (t : List ℕ) (b : ℕ) → begins_with (has (Byte 92)) t ≡ true → Some b ≡ escape_at (take (length t - 1) (drop 1 t)) → bytes_written t ≡ with_byte b 2 (bytes_written (drop 2 t))
+unfolding bytes_written bytes_after_backslash
 step_escape [] b e g = absurd (cc)
 step_escape (c ∷ []) b e g = absurd (let f = g ∙ ap escape_at (rest_all (c ∷ []) 1) in cc)
 step_escape (c ∷ d ∷ t) b e g =
-    ap (λ x. cond x (with_escape (escape_of d) (decoded t)) (cond (has Printable c) (with_byte c 1 (decoded (d ∷ t))) (Err 0))) e
-    ∙ ap (λ x. with_escape x (decoded t)) (sym (g ∙ ap escape_at (rest_all (c ∷ d ∷ t) 1)))
+    ap (λ x. cond x (with_escape (escape_of d) (bytes_written t)) (cond (has Printable c) (with_byte c 1 (bytes_written (d ∷ t))) (Err 0))) e
+    ∙ ap (λ x. with_escape x (bytes_written t)) (sym (g ∙ ap escape_at (rest_all (c ∷ d ∷ t) 1)))
 
-pub bad_escape : (t : List ℕ) → begins_with (has (Byte 92)) t ≡ true → None ≡ escape_at (take (length t - 1) (drop 1 t)) → decoded t ≡ Err 0
-unfolding decoded decoded_escape
+pub bad_escape : (t : List ℕ) → begins_with (has (Byte 92)) t ≡ true → None ≡ escape_at (take (length t - 1) (drop 1 t)) → bytes_written t ≡ Err 0
+unfolding bytes_written bytes_after_backslash
 bad_escape [] e g = absurd (cc)
 bad_escape (c ∷ []) e g = ap (λ x. cond x (Err 0) (cond (has Printable c) (with_byte c 1 (Ok [])) (Err 0))) e
 bad_escape (c ∷ d ∷ t) e g =
-    ap (λ x. cond x (with_escape (escape_of d) (decoded t)) (cond (has Printable c) (with_byte c 1 (decoded (d ∷ t))) (Err 0))) e
-    ∙ ap (λ x. with_escape x (decoded t)) (sym (g ∙ ap escape_at (rest_all (c ∷ d ∷ t) 1)))
+    ap (λ x. cond x (with_escape (escape_of d) (bytes_written t)) (cond (has Printable c) (with_byte c 1 (bytes_written (d ∷ t))) (Err 0))) e
+    ∙ ap (λ x. with_escape x (bytes_written t)) (sym (g ∙ ap escape_at (rest_all (c ∷ d ∷ t) 1)))
 
-pub step_plain : (t : List ℕ) → begins_with (has (Byte 92)) t ≡ false → begins_with (has Printable) t ≡ true → decoded t ≡ with_byte (get_or t 0 0) 1 (decoded (drop 1 t))
-unfolding decoded decoded_escape
+pub step_plain : (t : List ℕ) → begins_with (has (Byte 92)) t ≡ false → begins_with (has Printable) t ≡ true → bytes_written t ≡ with_byte (get_or t 0 0) 1 (bytes_written (drop 1 t))
+unfolding bytes_written bytes_after_backslash
 step_plain [] e g = absurd (cc)
-step_plain (c ∷ t) e g = ap (λ x. cond x (decoded_escape t) (cond (has Printable c) (with_byte c 1 (decoded t)) (Err 0))) e ∙ ap (λ x. cond x (with_byte c 1 (decoded t)) (Err 0)) g
+step_plain (c ∷ t) e g = ap (λ x. cond x (bytes_after_backslash t) (cond (has Printable c) (with_byte c 1 (bytes_written t)) (Err 0))) e ∙ ap (λ x. cond x (with_byte c 1 (bytes_written t)) (Err 0)) g
 
-pub step_bad : (t : List ℕ) → 1 ≤ length t → begins_with (has (Byte 92)) t ≡ false → begins_with (has Printable) t ≡ false → decoded t ≡ Err 0
-unfolding decoded decoded_escape
+pub step_bad : (t : List ℕ) → 1 ≤ length t → begins_with (has (Byte 92)) t ≡ false → begins_with (has Printable) t ≡ false → bytes_written t ≡ Err 0
+unfolding bytes_written bytes_after_backslash
 step_bad [] h e g = absurd (omega arith)
-step_bad (c ∷ t) h e g = ap (λ x. cond x (decoded_escape t) (cond (has Printable c) (with_byte c 1 (decoded t)) (Err 0))) e ∙ ap (λ x. cond x (with_byte c 1 (decoded t)) (Err 0)) g
+step_bad (c ∷ t) h e g = ap (λ x. cond x (bytes_after_backslash t) (cond (has Printable c) (with_byte c 1 (bytes_written t)) (Err 0))) e ∙ ap (λ x. cond x (with_byte c 1 (bytes_written t)) (Err 0)) g
 
 -- what was decoded so far, and what is left
 abbrev pub joined : List ℕ → ℕ → Result (List ℕ) ℕ → Result (List ℕ) ℕ
@@ -85,16 +85,16 @@ drop_twice [] (suc n) zero = let same : suc n + 0 ≡ suc n = omega arith in ap 
 drop_twice [] (suc n) (suc k) = let same : suc n + suc k ≡ suc (n + suc k) = omega arith in ap (λ (n : ℕ). drop n []) (sym same)
 drop_twice (b ∷ t) (suc n) k = let same : suc n + k ≡ suc (n + k) = omega arith in drop_twice t n k ∙ ap (λ n. drop n (b ∷ t)) (sym same)
 
-pub decode_more : (t : List ℕ) (whole : Result (List ℕ) ℕ) (bs : List ℕ) (n b k : ℕ) → whole ≡ joined bs n (decoded (drop n t)) → decoded (take (length t - n) (drop n t)) ≡ with_byte b k (decoded (drop k (take (length t - n) (drop n t)))) → whole ≡ joined (bs ++ b ∷ []) (n + k) (decoded (drop (n + k) t))
+pub decode_more : (t : List ℕ) (whole : Result (List ℕ) ℕ) (bs : List ℕ) (n b k : ℕ) → whole ≡ joined bs n (bytes_written (drop n t)) → bytes_written (take (length t - n) (drop n t)) ≡ with_byte b k (bytes_written (drop k (take (length t - n) (drop n t)))) → whole ≡ joined (bs ++ b ∷ []) (n + k) (bytes_written (drop (n + k) t))
 decode_more t whole bs n b k h e =
-    h ∙ ap (λ l. joined bs n (decoded l)) (sym (rest_all t n)) ∙ ap (joined bs n) e
-    ∙ joined_byte bs n b k (decoded (drop k (take (length t - n) (drop n t))))
-    ∙ ap (λ l. joined (bs ++ b ∷ []) (n + k) (decoded l)) (ap (drop k) (rest_all t n) ∙ drop_twice t n k)
+    h ∙ ap (λ l. joined bs n (bytes_written l)) (sym (rest_all t n)) ∙ ap (joined bs n) e
+    ∙ joined_byte bs n b k (bytes_written (drop k (take (length t - n) (drop n t))))
+    ∙ ap (λ l. joined (bs ++ b ∷ []) (n + k) (bytes_written l)) (ap (drop k) (rest_all t n) ∙ drop_twice t n k)
 
-pub decode_fault : (t : List ℕ) (whole : Result (List ℕ) ℕ) (bs : List ℕ) (n : ℕ) → whole ≡ joined bs n (decoded (drop n t)) → decoded (take (length t - n) (drop n t)) ≡ Err 0 → whole ≡ Err n
+pub decode_fault : (t : List ℕ) (whole : Result (List ℕ) ℕ) (bs : List ℕ) (n : ℕ) → whole ≡ joined bs n (bytes_written (drop n t)) → bytes_written (take (length t - n) (drop n t)) ≡ Err 0 → whole ≡ Err n
 decode_fault t whole bs n h e =
     let none : n + 0 ≡ n = omega arith in
-    h ∙ ap (λ l. joined bs n (decoded l)) (sym (rest_all t n)) ∙ ap (joined bs n) e ∙ ap Err none
+    h ∙ ap (λ l. joined bs n (bytes_written l)) (sym (rest_all t n)) ∙ ap (joined bs n) e ∙ ap Err none
 
 drop_past : (t : List ℕ) (n : ℕ) → length t ≤ n → drop n t ≡ []
 drop_past [] zero h = refl
@@ -102,9 +102,9 @@ drop_past [] (suc n) h = refl
 drop_past (b ∷ t) zero h = absurd (omega arith)
 drop_past (b ∷ t) (suc n) h = drop_past t n (omega arith)
 
-empty_decoded : decoded [] ≡ Ok []
-unfolding decoded
+empty_decoded : bytes_written [] ≡ Ok []
+unfolding bytes_written
 empty_decoded = refl
 
-pub decode_end : (t : List ℕ) (whole : Result (List ℕ) ℕ) (bs : List ℕ) (n : ℕ) → length t ≤ n → whole ≡ joined bs n (decoded (drop n t)) → whole ≡ Ok bs
-decode_end t whole bs n l h = h ∙ ap (λ u. joined bs n (decoded u)) (drop_past t n l) ∙ ap (joined bs n) empty_decoded ∙ ap Ok (append-nil bs)
+pub decode_end : (t : List ℕ) (whole : Result (List ℕ) ℕ) (bs : List ℕ) (n : ℕ) → length t ≤ n → whole ≡ joined bs n (bytes_written (drop n t)) → whole ≡ Ok bs
+decode_end t whole bs n l h = h ∙ ap (λ u. joined bs n (bytes_written u)) (drop_past t n l) ∙ ap (joined bs n) empty_decoded ∙ ap Ok (append-nil bs)

@@ -11,15 +11,15 @@ use Rattle.scad_lexer.specs.declared.word.Word.{Word}
 use Rattle.scad_lexer.specs.declared.meaning.WordMeaning.{WordMeaning}
 use Rattle.scad_lexer.specs.declared.meaning.WordMeaning.TheVariants.{NoToken, OneToken, BadWord}
 use Rattle.scad_lexer.specs.Words.{longest, word_of, in_exponent, in_fraction, in_whole, in_text, in_escape, in_comment, after_star, word_from, IsLongest}
-use Rattle.scad_lexer.specs.Tokens.{meaning_of, moved, decoded, decoded_escape, LexOutcome, GivesTokens, FaultAt, tokens_in_front, tokens_at, IsFaultless, LexesFrom, Lexes}
+use Rattle.scad_lexer.specs.Tokens.{meaning_of, place_after, bytes_written, bytes_after_backslash, LexOutcome, GivesTokens, FaultAt, tokens_in_front, tokens_at, IsFaultless, LexesFrom, Lexes}
 use Rattle.scad_lexer.proofs.Longest.{best, Best}
 
 -- ---- the outcome of a text, by trying every front of it
 -- behind the longest word
 abbrev behind : (Place → List ℕ → Option LexOutcome) → Place → List ℕ → ℕ → WordMeaning → Option LexOutcome
-behind go p t k (BadWord kind before) = Some (FaultAt kind (moved p (take before t)))
-behind go p t k NoToken = option_map (tokens_in_front []) (go (moved p (take k t)) (drop k t))
-behind go p t k (OneToken kind) = option_map (tokens_in_front (record { kind = kind; place = p } ∷ [])) (go (moved p (take k t)) (drop k t))
+behind go p t k (BadWord kind before) = Some (FaultAt kind (place_after p (take before t)))
+behind go p t k NoToken = option_map (tokens_in_front []) (go (place_after p (take k t)) (drop k t))
+behind go p t k (OneToken kind) = option_map (tokens_in_front (record { kind = kind; place = p } ∷ [])) (go (place_after p (take k t)) (drop k t))
 
 abbrev by_word : (Place → List ℕ → Option LexOutcome) → Place → List ℕ → Option (Word × ℕ) → Option LexOutcome
 by_word go p t None = Some (FaultAt BadCharacter p)
@@ -36,7 +36,7 @@ abbrev IsRight : (Place → List ℕ → Option LexOutcome) → Type 0
 IsRight go = (p : Place) (t : List ℕ) (o : LexOutcome) → go p t ≡ Some o → LexesFrom p t o
 
 more : (p : Place) (t : List ℕ) (w : Word) (k : ℕ) → IsLongest t k w → (m : WordMeaning) → meaning_of w (take k t) ≡ m → IsFaultless m →
-    (rest : LexOutcome) → LexesFrom (moved p (take k t)) (drop k t) rest → (o : LexOutcome) → o ≡ tokens_in_front (tokens_at p m) rest → LexesFrom p t o
+    (rest : LexOutcome) → LexesFrom (place_after p (take k t)) (drop k t) rest → (o : LexOutcome) → o ≡ tokens_in_front (tokens_at p m) rest → LexesFrom p t o
 more p t w k l m e s rest h o g =
     (record { bytes = k; word = w } ∷ h.0, (l, subst IsFaultless (sym e) s, (rest, h.1, subst (λ (x : WordMeaning). o ≡ tokens_in_front (tokens_at p x) rest) (sym e) g)))
 
@@ -49,11 +49,11 @@ behind_is : (go : Place → List ℕ → Option LexOutcome) → IsRight go → (
 behind_is go right p t w k l (BadWord kind before) e o h =
     ([], inr (inr (record { length = k; word = w; kind = kind; before = before; longest = l; means = e; outcome = cc })))
 behind_is go right p t w k l NoToken e o h =
-    let r = mapped (tokens_in_front []) (go (moved p (take k t)) (drop k t)) o h in
-    more p t w k l NoToken e tt r.0 (right (moved p (take k t)) (drop k t) r.0 r.1) o r.2
+    let r = mapped (tokens_in_front []) (go (place_after p (take k t)) (drop k t)) o h in
+    more p t w k l NoToken e tt r.0 (right (place_after p (take k t)) (drop k t) r.0 r.1) o r.2
 behind_is go right p t w k l (OneToken kind) e o h =
-    let r = mapped (tokens_in_front (record { kind = kind; place = p } ∷ [])) (go (moved p (take k t)) (drop k t)) o h in
-    more p t w k l (OneToken kind) e tt r.0 (right (moved p (take k t)) (drop k t) r.0 r.1) o r.2
+    let r = mapped (tokens_in_front (record { kind = kind; place = p } ∷ [])) (go (place_after p (take k t)) (drop k t)) o h in
+    more p t w k l (OneToken kind) e tt r.0 (right (place_after p (take k t)) (drop k t) r.0 r.1) o r.2
 
 by_word_is : (go : Place → List ℕ → Option LexOutcome) → IsRight go → (p : Place) (b : ℕ) (t : List ℕ) (r : Option (Word × ℕ)) →
     Best word_of (b ∷ t) r → (o : LexOutcome) → by_word go p (b ∷ t) r ≡ Some o → LexesFrom p (b ∷ t) o
@@ -100,7 +100,7 @@ tokens =
     ∷ []
 
 tokens_lexed : AreLexed tokens
-unfolding longest in_exponent in_fraction in_whole in_text in_escape in_comment after_star word_from decoded decoded_escape
+unfolding longest in_exponent in_fraction in_whole in_text in_escape in_comment after_star word_from bytes_written bytes_after_backslash
 tokens_lexed = (refl, (refl, (refl, (refl, (refl, (refl, (refl, tt)))))))
 
 tokens_given : AreGiven tokens
@@ -120,7 +120,7 @@ bad_numerals =
     ∷ []
 
 bad_numerals_lexed : AreLexed bad_numerals
-unfolding longest in_exponent in_fraction in_whole in_text in_escape in_comment after_star word_from decoded decoded_escape
+unfolding longest in_exponent in_fraction in_whole in_text in_escape in_comment after_star word_from bytes_written bytes_after_backslash
 bad_numerals_lexed = (refl, (refl, (refl, (refl, (refl, (refl, (refl, (refl, tt))))))))
 
 bad_numerals_given : AreGiven bad_numerals
@@ -136,7 +136,7 @@ bad_texts =
     ∷ []
 
 bad_texts_lexed : AreLexed bad_texts
-unfolding longest in_exponent in_fraction in_whole in_text in_escape in_comment after_star word_from decoded decoded_escape
+unfolding longest in_exponent in_fraction in_whole in_text in_escape in_comment after_star word_from bytes_written bytes_after_backslash
 bad_texts_lexed = (refl, (refl, (refl, (refl, tt))))
 
 bad_texts_given : AreGiven bad_texts
@@ -153,7 +153,7 @@ bad_bytes =
     ∷ []
 
 bad_bytes_lexed : AreLexed bad_bytes
-unfolding longest in_exponent in_fraction in_whole in_text in_escape in_comment after_star word_from decoded decoded_escape
+unfolding longest in_exponent in_fraction in_whole in_text in_escape in_comment after_star word_from bytes_written bytes_after_backslash
 bad_bytes_lexed = (refl, (refl, (refl, (refl, (refl, tt)))))
 
 bad_bytes_given : AreGiven bad_bytes

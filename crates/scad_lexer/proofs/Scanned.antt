@@ -7,7 +7,7 @@ use Rattle.scad_lexer.specs.declared.token.Symbol.{Symbol}
 use Rattle.scad_lexer.specs.declared.token.Symbol.TheVariants.{Dot, Divide}
 use Rattle.scad_lexer.specs.declared.word.Word.{Word}
 use Rattle.scad_lexer.specs.declared.word.Word.TheVariants.{Blank, UnclosedComment, Name, Special, Numeral, NumeralAndLetter, Text, UnclosedText, Symbol as SymbolWord}
-use Rattle.scad_lexer.specs.Words.{has, digit, letter, blank, name_byte, begins_with, run_of, every, when, alone, with_bytes, more_bytes, one_longer, longest, in_whole, in_fraction, number_end, exponent, after_sign, in_exponent, after_point, after_dollar, after_slash, in_comment, after_star, in_text, in_escape, single, double, double_of, symbol_word, symbol_of, word_from, IsLongest, HasNoWord}
+use Rattle.scad_lexer.specs.Words.{has, digit, letter, blank, name_byte, begins_with, run_of, every, when, where_last, with_bytes, more_bytes, one_longer, longest, in_whole, in_fraction, number_end, exponent, after_sign, in_exponent, after_point, after_dollar, after_slash, in_comment, after_star, in_text, in_escape, single, double, double_of, symbol_word, symbol_of, word_from, IsLongest, HasNoWord}
 use Rattle.scad_lexer.proofs.Longest.{longest_end, longest_step, longest_taken, longest_stop, longest_alone, longest_some, longest_same, longest_every, run_then, behind_run, drop_more, longest_is, longest_isnt}
 
 not_equal : (b c : ℕ) → (b ≡ c → ⊥) → nat_eq b c ≡ false
@@ -101,12 +101,12 @@ fraction_then t n same y m g = digits_then in_fraction Numeral fraction_empty fr
 
 -- the end of a number
 end_power : (b : ℕ) (w : List ℕ) → has Exponent b ≡ true → number_end (b ∷ w) ≡ exponent w
-end_power b w e = ap (λ c. cond c (exponent w) (cond (letter b) (alone NumeralAndLetter w) None)) e
+end_power b w e = ap (λ c. cond c (exponent w) (cond (letter b) (where_last NumeralAndLetter w) None)) e
 
 pub power_then : (t : List ℕ) (x : Word) (n : ℕ) → begins_with (has Exponent) t ≡ true → longest exponent (take (length t - 1) (drop 1 t)) ≡ Some (x, n) → longest number_end t ≡ Some (x, 1 + n)
 power_then = begin_then (has Exponent) number_end exponent end_power
 
-end_letter : (b : ℕ) (w : List ℕ) → has Exponent b ≡ false → letter b ≡ true → number_end (b ∷ w) ≡ alone NumeralAndLetter w
+end_letter : (b : ℕ) (w : List ℕ) → has Exponent b ≡ false → letter b ≡ true → number_end (b ∷ w) ≡ where_last NumeralAndLetter w
 end_letter b w e l = rw (e, l) refl
 
 end_none : (b : ℕ) (w : List ℕ) → has Exponent b ≡ false → letter b ≡ false → number_end (b ∷ w) ≡ None
@@ -114,7 +114,7 @@ end_none b w e l = rw (e, l) refl
 
 pub letter_ends : (t : List ℕ) → begins_with (has Exponent) t ≡ false → begins_with letter t ≡ true → longest number_end t ≡ Some (NumeralAndLetter, 1)
 letter_ends [] e l = absurd (cc)
-letter_ends (b ∷ t) e l = longest_taken number_end (alone NumeralAndLetter) b (λ w. end_letter b w e l) t NumeralAndLetter 0 (longest_alone NumeralAndLetter t)
+letter_ends (b ∷ t) e l = longest_taken number_end (where_last NumeralAndLetter) b (λ w. end_letter b w e l) t NumeralAndLetter 0 (longest_alone NumeralAndLetter t)
 
 pub number_ends : (t : List ℕ) → begins_with (has Exponent) t ≡ false → begins_with letter t ≡ false → longest number_end t ≡ Some (Numeral, 0)
 number_ends t e l = begin_none number_end (Some Numeral) refl t (λ b u w h. end_none b w (begins_at (has Exponent) t b u false e h) (begins_at letter t b u false l h))
@@ -165,9 +165,9 @@ no_power (b ∷ t) d e g =
 
 in_exponent_digit : (b : ℕ) (w : List ℕ) → digit b ≡ true → in_exponent (b ∷ w) ≡ in_exponent w
 unfolding in_exponent
-in_exponent_digit b w e = ap (λ c. cond c (in_exponent w) (cond (letter b) (alone NumeralAndLetter w) None)) e
+in_exponent_digit b w e = ap (λ c. cond c (in_exponent w) (cond (letter b) (where_last NumeralAndLetter w) None)) e
 
-in_exponent_letter : (b : ℕ) (w : List ℕ) → digit b ≡ false → letter b ≡ true → in_exponent (b ∷ w) ≡ alone NumeralAndLetter w
+in_exponent_letter : (b : ℕ) (w : List ℕ) → digit b ≡ false → letter b ≡ true → in_exponent (b ∷ w) ≡ where_last NumeralAndLetter w
 unfolding in_exponent
 in_exponent_letter b w d e = rw (d, e) refl
 
@@ -181,7 +181,7 @@ in_exponent_empty = refl
 
 behind_letter : (t : List ℕ) → begins_with digit t ≡ false → begins_with letter t ≡ true → longest in_exponent t ≡ Some (NumeralAndLetter, 1)
 behind_letter [] d e = absurd (cc)
-behind_letter (b ∷ t) d e = longest_taken in_exponent (alone NumeralAndLetter) b (λ w. in_exponent_letter b w d e) t NumeralAndLetter 0 (longest_alone NumeralAndLetter t)
+behind_letter (b ∷ t) d e = longest_taken in_exponent (where_last NumeralAndLetter) b (λ w. in_exponent_letter b w d e) t NumeralAndLetter 0 (longest_alone NumeralAndLetter t)
 
 pub power_letter : (t : List ℕ) (n : ℕ) → n ≡ run_of digit t → begins_with letter (take (length t - n) (drop n t)) ≡ true → longest in_exponent t ≡ Some (NumeralAndLetter, n + 1)
 power_letter t n same e = digits_then in_exponent Numeral in_exponent_empty in_exponent_digit t n same NumeralAndLetter 1 (behind_letter (take (length t - n) (drop n t)) (no_digit t n same) e)
@@ -287,7 +287,7 @@ text_open false = refl
 
 comment_go : (s : Bool) (b : ℕ) (w : List ℕ) → (s && nat_eq b 47) ≡ false → comment_state s (b ∷ w) ≡ comment_state (nat_eq b 42) w
 unfolding in_comment after_star
-comment_go true b w e = ap (λ c. cond c (alone Blank w) (cond (nat_eq b 42) (after_star w) (in_comment w))) e
+comment_go true b w e = ap (λ c. cond c (where_last Blank w) (cond (nat_eq b 42) (after_star w) (in_comment w))) e
 comment_go false b w e = refl
 
 pub comment_more : (t : List ℕ) (r : Option (Word × ℕ)) (s : Bool) (n : ℕ) → n < length t → r ≡ more_bytes n (longest (comment_state s) (drop n t)) → (s && nat_eq (get_or t n 0) 47) ≡ false → r ≡ more_bytes (n + 1) (longest (comment_state (nat_eq (get_or t n 0) 42)) (drop (n + 1) t))
@@ -296,14 +296,14 @@ comment_more t r s n l h e =
     ∙ ap (more_bytes n) (longest_on (comment_state s) (comment_state (nat_eq (get_or t n 0) 42)) UnclosedComment (state_open (nat_eq (get_or t n 0) 42)) (get_or t n 0) (λ w. comment_go s (get_or t n 0) w e) (drop (n + 1) t))
     ∙ more_twice n (longest (comment_state (nat_eq (get_or t n 0) 42)) (drop (n + 1) t))
 
-comment_close : (b : ℕ) (w : List ℕ) → nat_eq b 47 ≡ true → comment_state true (b ∷ w) ≡ alone Blank w
+comment_close : (b : ℕ) (w : List ℕ) → nat_eq b 47 ≡ true → comment_state true (b ∷ w) ≡ where_last Blank w
 unfolding after_star
-comment_close b w e = ap (λ c. cond c (alone Blank w) (cond (nat_eq b 42) (after_star w) (in_comment w))) e
+comment_close b w e = ap (λ c. cond c (where_last Blank w) (cond (nat_eq b 42) (after_star w) (in_comment w))) e
 
 pub comment_closed : (t : List ℕ) (r : Option (Word × ℕ)) (s : Bool) (n : ℕ) → n < length t → r ≡ more_bytes n (longest (comment_state s) (drop n t)) → (s && nat_eq (get_or t n 0) 47) ≡ true → r ≡ Some (Blank, n + 1)
 comment_closed t r true n l h e =
     h ∙ ap (λ u. more_bytes n (longest (comment_state true) u)) (drop_more t n l)
-    ∙ ap (more_bytes n) (longest_taken (comment_state true) (alone Blank) (get_or t n 0) (λ w. comment_close (get_or t n 0) w e) (drop (n + 1) t) Blank 0 (longest_alone Blank (drop (n + 1) t)))
+    ∙ ap (more_bytes n) (longest_taken (comment_state true) (where_last Blank) (get_or t n 0) (λ w. comment_close (get_or t n 0) w e) (drop (n + 1) t) Blank 0 (longest_alone Blank (drop (n + 1) t)))
 comment_closed t r false n l h e = absurd (cc)
 
 drop_past : (t : List ℕ) (n : ℕ) → length t ≤ n → drop n t ≡ []
@@ -351,18 +351,18 @@ text_newline t r s n l h e =
     ∙ ap (more_bytes n) (longest_stop (text_state s) (get_or t n 0) (λ w. text_line s (get_or t n 0) w is.0 is.1 is.2) (drop (n + 1) t) ∙ ap (with_bytes 0) (text_open s))
     ∙ ap (λ n. Some (UnclosedText, n)) none
 
-text_quote : (b : ℕ) (w : List ℕ) → nat_eq b 34 ≡ true → text_state false (b ∷ w) ≡ alone Text w
+text_quote : (b : ℕ) (w : List ℕ) → nat_eq b 34 ≡ true → text_state false (b ∷ w) ≡ where_last Text w
 unfolding in_text
-text_quote b w e = ap (λ c. cond c (alone Text w) (cond (nat_eq b 92) (in_escape w) (cond (nat_eq b 10) None (in_text w)))) e
+text_quote b w e = ap (λ c. cond c (where_last Text w) (cond (nat_eq b 92) (in_escape w) (cond (nat_eq b 10) None (in_text w)))) e
 
 pub text_closed : (t : List ℕ) (r : Option (Word × ℕ)) (s : Bool) (n : ℕ) → n < length t → r ≡ more_bytes n (longest (text_state s) (drop n t)) → (not s && nat_eq (get_or t n 0) 34) ≡ true → r ≡ Some (Text, n + 1)
 text_closed t r false n l h e =
     h ∙ ap (λ u. more_bytes n (longest (text_state false) u)) (drop_more t n l)
-    ∙ ap (more_bytes n) (longest_taken (text_state false) (alone Text) (get_or t n 0) (λ w. text_quote (get_or t n 0) w e) (drop (n + 1) t) Text 0 (longest_alone Text (drop (n + 1) t)))
+    ∙ ap (more_bytes n) (longest_taken (text_state false) (where_last Text) (get_or t n 0) (λ w. text_quote (get_or t n 0) w e) (drop (n + 1) t) Text 0 (longest_alone Text (drop (n + 1) t)))
 text_closed t r true n l h e = absurd (cc)
 
 -- what a word is that begins with a byte of a class
-is_blank : (b : ℕ) (w : List ℕ) → blank b ≡ true → word_from b w ≡ alone Blank w
+is_blank : (b : ℕ) (w : List ℕ) → blank b ≡ true → word_from b w ≡ where_last Blank w
 unfolding word_from
 is_blank b w e = rw e refl
 
@@ -375,7 +375,7 @@ unfolding word_from
 is_numeral b w e f g = rw (e, f, g) refl
 
 pub blank_word : (b : ℕ) (t : List ℕ) → blank b ≡ true → Some (Blank, 0) ≡ longest (word_from b) t
-blank_word b t e = sym (longest_same (word_from b) (alone Blank) (λ w. is_blank b w e) t ∙ longest_alone Blank t)
+blank_word b t e = sym (longest_same (word_from b) (where_last Blank) (λ w. is_blank b w e) t ∙ longest_alone Blank t)
 
 pub name_word : (b : ℕ) (t : List ℕ) (n : ℕ) → blank b ≡ false → letter b ≡ true → n ≡ run_of name_byte t → Some (Name, n) ≡ longest (word_from b) t
 name_word b t n e f h = ap (λ n. Some (Name, n)) h ∙ sym (longest_same (word_from b) (λ w. when (every name_byte w) Name) (λ w. is_name b w e f) t ∙ longest_every name_byte Name t)

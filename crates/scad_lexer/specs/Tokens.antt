@@ -55,12 +55,12 @@ abbrev pub too_large : ℕ
 too_large = 2 ^ 53
 
 -- a number, unless it is too large
-abbrev pub bounded : ℕ → WordMeaning
-bounded n = cond (nat_lt n too_large) (OneToken (NumeralToken n)) (BadWord TooLarge 0)
+abbrev pub numeral_or_too_large : ℕ → WordMeaning
+numeral_or_too_large n = cond (nat_lt n too_large) (OneToken (NumeralToken n)) (BadWord TooLarge 0)
 
 -- a numeral: its whole part, where nothing but zeros is behind its point, and no exponent
 abbrev pub numeral_of : List ℕ → WordMeaning
-numeral_of bytes = cond (zero_fraction (drop (run_of digit bytes) bytes)) (bounded (number_from 0 (take (run_of digit bytes) bytes))) (BadWord NotWhole 0)
+numeral_of bytes = cond (zero_fraction (drop (run_of digit bytes) bytes)) (numeral_or_too_large (number_from 0 (take (run_of digit bytes) bytes))) (BadWord NotWhole 0)
 
 -- the fault that a numeral has, or else that of the letter behind so many bytes
 abbrev pub or_letter : WordMeaning → ℕ → WordMeaning
@@ -94,18 +94,18 @@ with_escape (Some byte) rest = with_byte byte 2 rest
 
 -- the bytes that a text's inside writes, or how many bytes stand before its first fault
 unfoldable mutual
-  pub decoded : List ℕ → Result (List ℕ) ℕ
-  decoded [] = Ok []
-  decoded (byte ∷ bytes) = cond (nat_eq byte 92) (decoded_escape bytes) (cond (has Printable byte) (with_byte byte 1 (decoded bytes)) (Err 0))
+  pub bytes_written : List ℕ → Result (List ℕ) ℕ
+  bytes_written [] = Ok []
+  bytes_written (byte ∷ bytes) = cond (nat_eq byte 92) (bytes_after_backslash bytes) (cond (has Printable byte) (with_byte byte 1 (bytes_written bytes)) (Err 0))
 
   -- the same behind a backslash
-  pub decoded_escape : List ℕ → Result (List ℕ) ℕ
-  decoded_escape [] = Err 0
-  decoded_escape (byte ∷ bytes) = with_escape (escape_of byte) (decoded bytes)
+  pub bytes_after_backslash : List ℕ → Result (List ℕ) ℕ
+  bytes_after_backslash [] = Err 0
+  bytes_after_backslash (byte ∷ bytes) = with_escape (escape_of byte) (bytes_written bytes)
 
 -- a text without its quotes
-abbrev pub inside : List ℕ → List ℕ
-inside bytes = take (length bytes - 1 - 1) (drop 1 bytes)
+abbrev pub without_quotes : List ℕ → List ℕ
+without_quotes bytes = take (length bytes - 1 - 1) (drop 1 bytes)
 
 -- the token of a text's bytes, or a fault behind its quote and so many bytes
 abbrev pub text_from : Result (List ℕ) ℕ → WordMeaning
@@ -114,7 +114,7 @@ text_from (Err at) = BadWord BadCharacter (1 + at)
 
 -- what a text with both its quotes stands for
 abbrev pub text_of : List ℕ → WordMeaning
-text_of bytes = text_from (decoded (inside bytes))
+text_of bytes = text_from (bytes_written (without_quotes bytes))
 
 -- what a word stands for
 abbrev pub meaning_of : Word → List ℕ → WordMeaning
@@ -129,10 +129,10 @@ meaning_of UnclosedText bytes = BadWord OpenText 0
 meaning_of (Symbol symbol) bytes = OneToken (SymbolToken symbol)
 
 -- the place behind these bytes: a newline begins a line
-abbrev pub moved : Place → List ℕ → Place
-moved place [] = place
-moved place (byte ∷ bytes) =
-    moved (cond (nat_eq byte 10) (record { line = suc place.line; column = 1 }) (record { line = place.line; column = suc place.column })) bytes
+abbrev pub place_after : Place → List ℕ → Place
+place_after place [] = place
+place_after place (byte ∷ bytes) =
+    place_after (cond (nat_eq byte 10) (record { line = suc place.line; column = 1 }) (record { line = place.line; column = suc place.column })) bytes
 
 -- what a source gives: its tokens, or its first fault
 pub data LexOutcome : Type 0 where
@@ -172,7 +172,7 @@ pub record IsFaulty (at : Place) (text : List ℕ) (given : LexOutcome) : Type 0
   pub before : ℕ
   pub longest : IsLongest text length word
   pub means : meaning_of word (take length text) ≡ BadWord kind before
-  pub outcome : given ≡ FaultAt kind (moved at (take before text))
+  pub outcome : given ≡ FaultAt kind (place_after at (take before text))
 
 -- a word of a source, by its length
 pub record Piece : Type 0 where
@@ -184,7 +184,7 @@ abbrev pub ReadsWords : List Piece → Place → List ℕ → LexOutcome → Typ
 ReadsWords [] at text outcome = IsEnd at text outcome ⊎ (IsStray at text outcome ⊎ IsFaulty at text outcome)
 ReadsWords (piece ∷ pieces) at text outcome =
     IsLongest text piece.bytes piece.word × IsFaultless (meaning_of piece.word (take piece.bytes text))
-    × ((rest : LexOutcome) × ReadsWords pieces (moved at (take piece.bytes text)) (drop piece.bytes text) rest
+    × ((rest : LexOutcome) × ReadsWords pieces (place_after at (take piece.bytes text)) (drop piece.bytes text) rest
     × (outcome ≡ tokens_in_front (tokens_at at (meaning_of piece.word (take piece.bytes text))) rest))
 
 -- what a text gives from a place on
@@ -206,7 +206,7 @@ IsLexStop text stop = IsLexStopFrom (record { line = 1; column = 1 }) text stop
 
 -- a place is that of a byte of the text, whose first byte stands at the start
 abbrev pub IsPlaceOfByteFrom : Place → List ℕ → Place → Type 0
-IsPlaceOfByteFrom start text at = (front : List ℕ) × (byte : ℕ) × (rest : List ℕ) × (text ≡ front ++ byte ∷ rest) × (at ≡ moved start front)
+IsPlaceOfByteFrom start text at = (front : List ℕ) × (byte : ℕ) × (rest : List ℕ) × (text ≡ front ++ byte ∷ rest) × (at ≡ place_after start front)
 
 -- a fault stands at a byte of the source; want of memory has no place
 abbrev pub StandsAtByte : List ℕ → Stop → Type 0

@@ -55,16 +55,16 @@ abbrev pub when : Bool → Word → Option Word
 when holds word = cond holds (Some word) None
 
 -- this word, where nothing more follows
-abbrev pub alone : Word → List ℕ → Option Word
-alone word [] = Some word
-alone word (byte ∷ bytes) = None
+abbrev pub where_last : Word → List ℕ → Option Word
+where_last word [] = Some word
+where_last word (byte ∷ bytes) = None
 
 -- The words below are read as follows: what a word is, by the bytes of it that are left.
 
 -- a numeral: digits, then maybe a point and digits, then maybe an exponent; here behind a digit of its exponent
 unfoldable pub in_exponent : List ℕ → Option Word
 in_exponent [] = Some Numeral
-in_exponent (byte ∷ bytes) = cond (digit byte) (in_exponent bytes) (cond (letter byte) (alone NumeralAndLetter bytes) None)
+in_exponent (byte ∷ bytes) = cond (digit byte) (in_exponent bytes) (cond (letter byte) (where_last NumeralAndLetter bytes) None)
 
 -- after the sign of an exponent
 abbrev pub after_sign : List ℕ → Option Word
@@ -79,7 +79,7 @@ exponent (byte ∷ bytes) = cond (digit byte) (in_exponent bytes) (cond (has Sig
 -- after the last digit of the whole part or the fraction
 abbrev pub number_end : List ℕ → Option Word
 number_end [] = Some Numeral
-number_end (byte ∷ bytes) = cond (has Exponent byte) (exponent bytes) (cond (letter byte) (alone NumeralAndLetter bytes) None)
+number_end (byte ∷ bytes) = cond (has Exponent byte) (exponent bytes) (cond (letter byte) (where_last NumeralAndLetter bytes) None)
 
 -- after the point of a numeral, or a digit of its fraction
 unfoldable pub in_fraction : List ℕ → Option Word
@@ -100,7 +100,7 @@ after_point (byte ∷ bytes) = cond (digit byte) (in_fraction bytes) None
 unfoldable mutual
   pub in_text : List ℕ → Option Word
   in_text [] = Some UnclosedText
-  in_text (byte ∷ bytes) = cond (nat_eq byte 34) (alone Text bytes) (cond (nat_eq byte 92) (in_escape bytes) (cond (nat_eq byte 10) None (in_text bytes)))
+  in_text (byte ∷ bytes) = cond (nat_eq byte 34) (where_last Text bytes) (cond (nat_eq byte 92) (in_escape bytes) (cond (nat_eq byte 10) None (in_text bytes)))
 
   -- after a backslash
   pub in_escape : List ℕ → Option Word
@@ -116,7 +116,7 @@ unfoldable mutual
   -- after a `*` in it
   pub after_star : List ℕ → Option Word
   after_star [] = Some UnclosedComment
-  after_star (byte ∷ bytes) = cond (nat_eq byte 47) (alone Blank bytes) (cond (nat_eq byte 42) (after_star bytes) (in_comment bytes))
+  after_star (byte ∷ bytes) = cond (nat_eq byte 47) (where_last Blank bytes) (cond (nat_eq byte 42) (after_star bytes) (in_comment bytes))
 
 -- after `/`: a symbol, or one of the two comments
 abbrev pub after_slash : List ℕ → Option Word
@@ -167,7 +167,7 @@ symbol_of byte (next ∷ third ∷ bytes) = None
 -- what a word is that begins with this byte
 unfoldable pub word_from : ℕ → List ℕ → Option Word
 word_from byte bytes =
-    cond (blank byte) (alone Blank bytes)
+    cond (blank byte) (where_last Blank bytes)
     (cond (letter byte) (when (every name_byte bytes) Name)
     (cond (digit byte) (in_whole bytes)
     (cond (nat_eq byte 36) (after_dollar bytes)

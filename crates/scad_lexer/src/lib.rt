@@ -1,5 +1,4 @@
-//! Tokens of the modelling language: a source is blanks, comments and tokens, each as long as
-//! possible.
+//! The lexer of the modelling language: the tokens of a source, each as long as possible, or its first fault.
 #![tactic(auto)]
 
 mod class;

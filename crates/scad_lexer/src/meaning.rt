@@ -1,15 +1,13 @@
 ghost use Rattle.std.specs.Prelude.{◌≡◌, ◌-◌, ◌^◌, ◌<◌, ◌≤◌, length, IfOk, IfErr, IfSome, IfNone, MatchOption, drop, nat_eq, MatchResult, Ok, Err};
 ghost use Rattle.std.specs.Str.{bytes_eq};
 ghost use Rattle.scad_lexer.specs.Words.{every};
-ghost use Rattle.scad_lexer.specs.Tokens.{reserved_of, escape_at, with_byte, zero_fraction, number_from, numeral_of, letter_behind, decoded, inside, text_of, meaning_of, name_token, IsWithin};
+ghost use Rattle.scad_lexer.specs.Tokens.{reserved_of, escape_at, with_byte, zero_fraction, number_from, numeral_of, letter_behind, bytes_written, without_quotes, text_of, meaning_of, name_token, IsWithin};
 
 use crate::class::ByteClass;
 use crate::token::{Reserved, TokenKind};
 use crate::word::Word;
-use compact_bytes::CompactBytes;
 use std::alloc::Global;
-use text_place::{FaultKind, NoMemory};
-use whole_numeral::{Numeral, TOO_LARGE};
+use text_place::{CompactBytes, FaultKind, NoMemory, Numeral, TOO_LARGE};
 
 /// What a word stands for.
 #[derive(Drop)]
@@ -156,7 +154,7 @@ fn text(alloc: Global, bytes: &[u8]) -> Result<WordMeaning, NoMemory>
 }
 
 fn without_quotes(bytes: &[u8]) -> &[u8]
-    ensures inside { result.now ≡ inside bytes.now }
+    ensures without_quotes { result.now ≡ without_quotes bytes.now }
     ensures within { length result.now ≡ length bytes.now - 1 - 1 }
 {
     if bytes.len() < 2 {
@@ -167,14 +165,14 @@ fn without_quotes(bytes: &[u8]) -> &[u8]
 }
 
 // The bytes that the inside of a text writes, or how many bytes stand before its first fault.
-fn decode(alloc: Global, inside: &[u8]) -> Result<Result<Vec<u8>, usize>, NoMemory>
-    ensures value { IfOk result (λ r. MatchResult r (λ v. decoded inside.now ≡ Ok v.items) (λ n. decoded inside.now ≡ Err n)) }
-    ensures within { IfOk result (λ r. IfErr r (λ n. n < length inside.now)) }
+fn decode(alloc: Global, without_quotes: &[u8]) -> Result<Result<Vec<u8>, usize>, NoMemory>
+    ensures value { IfOk result (λ r. MatchResult r (λ v. bytes_written without_quotes.now ≡ Ok v.items) (λ n. bytes_written without_quotes.now ≡ Err n)) }
+    ensures within { IfOk result (λ r. IfErr r (λ n. n < length without_quotes.now)) }
 {
     let mut bytes = Vec::new(alloc);
     let mut count = 0;
-    while count < inside.len() {
-        match next_byte(&inside[count..]) {
+    while count < without_quotes.len() {
+        match next_byte(&without_quotes[count..]) {
             Some((byte, written)) => {
                 bytes.push(byte)?;
                 count += written;
@@ -186,19 +184,19 @@ fn decode(alloc: Global, inside: &[u8]) -> Result<Result<Vec<u8>, usize>, NoMemo
 }
 
 // The byte that the front of a text's inside writes, and in how many bytes.
-fn next_byte(inside: &[u8]) -> Option<(u8, usize)>
-    requires { 1 ≤ length inside.now }
-    ensures some { IfSome result (λ p. decoded inside.now ≡ with_byte p.0 p.1 (decoded (drop p.1 inside.now))) }
-    ensures within { IfSome result (λ p. (1 ≤ p.1) × (p.1 ≤ length inside.now)) }
-    ensures none { IfNone result (decoded inside.now ≡ Err 0) }
+fn next_byte(without_quotes: &[u8]) -> Option<(u8, usize)>
+    requires { 1 ≤ length without_quotes.now }
+    ensures some { IfSome result (λ p. bytes_written without_quotes.now ≡ with_byte p.0 p.1 (bytes_written (drop p.1 without_quotes.now))) }
+    ensures within { IfSome result (λ p. (1 ≤ p.1) × (p.1 ≤ length without_quotes.now)) }
+    ensures none { IfNone result (bytes_written without_quotes.now ≡ Err 0) }
 {
-    if ByteClass::Byte(b'\\').begins(inside) {
-        match escape(&inside[1..]) {
+    if ByteClass::Byte(b'\\').begins(without_quotes) {
+        match escape(&without_quotes[1..]) {
             Some(byte) => Some((byte, 2)),
             None => None,
         }
-    } else if ByteClass::Printable.begins(inside) {
-        Some((inside[0], 1))
+    } else if ByteClass::Printable.begins(without_quotes) {
+        Some((without_quotes[0], 1))
     } else {
         None
     }

@@ -32,7 +32,7 @@ pub fn lone_symbol(text: &[u8]) -> Option<Symbol>
 // The symbol of a byte that begins no symbol of two bytes.
 fn lone(byte: u8) -> Option<Symbol>
     ensures found { IfSome result (λ s. single byte ≡ Some s) }
-    ensures alone { IfSome result (λ s. (next : ℕ) → double byte next ≡ None) }
+    ensures where_last { IfSome result (λ s. (next : ℕ) → double byte next ≡ None) }
 {
     match one_byte(byte) {
         Some(Symbol::Less | Symbol::Greater | Symbol::Assign | Symbol::Not) => None,

@@ -1,6 +1,4 @@
-use compact_bytes::CompactBytes;
-use text_place::Place;
-use whole_numeral::Numeral;
+use text_place::{CompactBytes, Numeral, Place};
 
 /// A token of a source.
 #[derive(Drop)]

@@ -1,6 +1,6 @@
 ghost use Rattle.std.specs.Prelude.{◌≡◌, ℕ, List, true, ◌+◌, ◌-◌, ◌^◌, ◌<◌, ◌≤◌, ◌++◌, ◌∷◌, [], ◌⊎◌, length, IfOk, IfErr, OnOk};
 ghost use Rattle.scad_lexer.specs.Words.{IsLongest};
-ghost use Rattle.scad_lexer.specs.Tokens.{LexOutcome, GivesTokens, FaultAt, Lexes, Agrees, IsLexStop, IsLexStopFrom, StandsAtByte, moved, AppendsNext, ends_once};
+ghost use Rattle.scad_lexer.specs.Tokens.{LexOutcome, GivesTokens, FaultAt, Lexes, Agrees, IsLexStop, IsLexStopFrom, StandsAtByte, place_after, AppendsNext, ends_once};
 
 use crate::class::ByteClass;
 use crate::meaning::{WordMeaning, meant};
@@ -110,7 +110,7 @@ fn push_token(tokens: &mut Vec<Token>, kind: TokenKind, place: Place) -> Result<
 fn advance(place: Place, bytes: &[u8]) -> Place
     requires line { place.line + length bytes.now < 2 ^ 32 }
     requires column { place.column + length bytes.now < 2 ^ 32 }
-    ensures moved { result ≡ moved place bytes.now }
+    ensures place_after { result ≡ place_after place bytes.now }
     ensures line { result.line ≤ place.line + length bytes.now }
     ensures column { result.column ≤ place.column + length bytes.now }
 {

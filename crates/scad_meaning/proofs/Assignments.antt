@@ -7,8 +7,8 @@ use Rattle.std.specs.Str.{bytes_eq}
 use Rattle.std.proofs.lemmas.Slice.Eq.{bytes_eq-Decides}
 use Rattle.std.proofs.lemmas.Bool.{false≢true}
 use Rattle.scad_ast.specs.Terms.{StatementTerms}
-use Rattle.scad_blocks.specs.Blocks.{Assigned, same_name, with_assigned, all_assigned, assigned_in, assignments_of}
-use Rattle.scad_meaning.specs.Bodies.{is_named_in, first_of_its_name, or_later, last_of, StandsForAll, HaveOwnNames}
+use Rattle.scad_definitions.specs.Blocks.{Assigned, same_name, with_assigned, all_assigned, assigned_in, assignments_of}
+use Rattle.scad_meaning.specs.Bodies.{is_named_in, first_of_its_name, or_later, last_of, StandsForAll, HaveDistinctNames}
 
 either : (b : Bool) → (b ≡ true) ⊎ (b ≡ false)
 either true = inl refl
@@ -44,11 +44,11 @@ same_test a b h c =
     ap (λ (s : Bool). beq s c.special && bytes_eq a.name c.name) (same_truth a.special b.special (left_true (beq a.special b.special) (bytes_eq a.name b.name) h))
     ∙ ap (λ (n : List ℕ). beq b.special c.special && bytes_eq n c.name) ((bytes_eq-Decides a.name b.name).0 (right_true (beq a.special b.special) (bytes_eq a.name b.name) h))
 
-turned : (a b : Assigned) → same_name a b ≡ true → same_name b a ≡ true
-turned a b h = sym (same_test a b h a) ∙ itself a
+quarter_turns_about : (a b : Assigned) → same_name a b ≡ true → same_name b a ≡ true
+quarter_turns_about a b h = sym (same_test a b h a) ∙ itself a
 
 not_turned : (a b : Assigned) → same_name a b ≡ false → same_name b a ≡ false
-not_turned a b h = ⊎_elim (λ k. absurd (false≢true (sym h ∙ turned b a k))) (λ k. k) (either (same_name b a))
+not_turned a b h = ⊎_elim (λ k. absurd (false≢true (sym h ∙ quarter_turns_about b a k))) (λ k. k) (either (same_name b a))
 
 same_named : (a b : Assigned) → same_name a b ≡ true → (xs : List Assigned) → is_named_in xs a ≡ is_named_in xs b
 same_named a b h [] = refl
@@ -112,7 +112,7 @@ first_new a (x ∷ xs) h = new_by a (same_name a x) x xs h (first_new a xs)
 -- what some assignments come to: each stands for all of its name, the names are different, and each name is among them
 record Settled (all found : List Assigned) : Type 0 where
   stand : AllByRecursion (StandsForAll all) found
-  own : HaveOwnNames found
+  local : HaveDistinctNames found
   named : AllByRecursion (λ b. is_named_in found b ≡ true) all
 
 mapped : {P Q : Assigned → Type 0} → ((a : Assigned) → P a → Q a) → (xs : List Assigned) → AllByRecursion P xs → AllByRecursion Q xs
@@ -203,24 +203,24 @@ not_assigned found (x ∷ xs) a h named =
 still_new : (a b : Assigned) (bs : List Assigned) (P : Type 0) → ((same_name a b || is_named_in bs a) ≡ false → P) → same_name b a ≡ false → is_named_in bs a ≡ false → P
 still_new a b bs P new h k = new (or_false (same_name a b) (is_named_in bs a) (not_turned b a h) k)
 
-stands_with : (all : List Assigned) (a : Assigned) (found : List Assigned) → HaveOwnNames found → AllByRecursion (StandsForAll all) found →
+stands_with : (all : List Assigned) (a : Assigned) (found : List Assigned) → HaveDistinctNames found → AllByRecursion (StandsForAll all) found →
     (is_named_in found a ≡ false → first_of_its_name a all ≡ None) → AllByRecursion (StandsForAll (all ++ a ∷ [])) (with_assigned found a)
-stands_with all a [] own s new = (new_stands all a (new refl), tt)
-stands_with all a (b ∷ bs) own s new =
+stands_with all a [] local s new = (new_stands all a (new refl), tt)
+stands_with all a (b ∷ bs) local s new =
     ⊎_elim
     (λ h. subst (λ (t : Bool). AllByRecursion (StandsForAll (all ++ a ∷ [])) (cond t (renewed b a ∷ bs) (b ∷ with_assigned bs a))) (sym h)
-    (renewed_stands all a b h s.0, all_other all a bs (each_other a bs (sym (same_named b a h bs) ∙ own.0)) s.1))
+    (renewed_stands all a b h s.0, all_other all a bs (each_other a bs (sym (same_named b a h bs) ∙ local.0)) s.1))
     (λ h. subst (λ (t : Bool). AllByRecursion (StandsForAll (all ++ a ∷ [])) (cond t (renewed b a ∷ bs) (b ∷ with_assigned bs a))) (sym h)
-    (other_stands all a b h s.0, stands_with all a bs own.1 s.1 (still_new a b bs (first_of_its_name a all ≡ None) new h)))
+    (other_stands all a b h s.0, stands_with all a bs local.1 s.1 (still_new a b bs (first_of_its_name a all ≡ None) new h)))
     (either (same_name b a))
 
-own_by : (t : Bool) (b a : Assigned) (bs : List Assigned) → same_name b a ≡ t → HaveOwnNames (b ∷ bs) → HaveOwnNames (with_assigned bs a) → HaveOwnNames (cond t (renewed b a ∷ bs) (b ∷ with_assigned bs a))
-own_by true b a bs h own next = own
-own_by false b a bs h own next = (named_with bs a b ∙ or_false (is_named_in bs b) (same_name b a) own.0 h, next)
+locals_by : (t : Bool) (b a : Assigned) (bs : List Assigned) → same_name b a ≡ t → HaveDistinctNames (b ∷ bs) → HaveDistinctNames (with_assigned bs a) → HaveDistinctNames (cond t (renewed b a ∷ bs) (b ∷ with_assigned bs a))
+locals_by true b a bs h local next = local
+locals_by false b a bs h local next = (named_with bs a b ∙ or_false (is_named_in bs b) (same_name b a) local.0 h, next)
 
-own_with : (found : List Assigned) (a : Assigned) → HaveOwnNames found → HaveOwnNames (with_assigned found a)
-own_with [] a own = (refl, tt)
-own_with (b ∷ bs) a own = own_by (same_name b a) b a bs refl own (own_with bs a own.1)
+locals_with : (found : List Assigned) (a : Assigned) → HaveDistinctNames found → HaveDistinctNames (with_assigned found a)
+locals_with [] a local = (refl, tt)
+locals_with (b ∷ bs) a local = locals_by (same_name b a) b a bs refl local (locals_with bs a local.1)
 
 or_true_left : (a b : Bool) → a ≡ true → (a || b) ≡ true
 or_true_left a b h = ap (λ (t : Bool). t || b) h
@@ -235,8 +235,8 @@ named_all found a (x ∷ xs) h = (named_with found a x ∙ or_true_left (is_name
 
 one_more : (all found : List Assigned) (a : Assigned) → Settled all found → Settled (all ++ a ∷ []) (with_assigned found a)
 one_more all found a s = record {
-  stand = stands_with all a found s.own s.stand (λ h. not_assigned found all a h s.named);
-  own = own_with found a s.own;
+  stand = stands_with all a found s.local s.stand (λ h. not_assigned found all a h s.named);
+  local = locals_with found a s.local;
   named = named_all found a all s.named;
 }
 
@@ -246,14 +246,14 @@ all_more done found (a ∷ as_) s =
     subst (λ (l : List Assigned). Settled l (all_assigned (with_assigned found a) as_)) (append_assoc done (a ∷ []) as_)
     (all_more (done ++ a ∷ []) (with_assigned found a) as_ (one_more done found a s))
 
-settled : (statements : StatementTerms) → Settled (assigned_in statements) (assignments_of statements)
-settled statements = all_more [] [] (assigned_in statements) (record { stand = tt; own = tt; named = tt })
+count_where_whole : (statements : StatementTerms) → Settled (assigned_in statements) (assignments_of statements)
+count_where_whole statements = all_more [] [] (assigned_in statements) (record { stand = tt; local = tt; named = tt })
 
 pub last_counts : (statements : StatementTerms) → AllByRecursion (StandsForAll (assigned_in statements)) (assignments_of statements)
-last_counts statements = (settled statements).stand
+last_counts statements = (count_where_whole statements).stand
 
-pub own_names : (statements : StatementTerms) → HaveOwnNames (assignments_of statements)
-own_names statements = (settled statements).own
+pub own_names : (statements : StatementTerms) → HaveDistinctNames (assignments_of statements)
+own_names statements = (count_where_whole statements).local
 
 pub all_named : (statements : StatementTerms) → AllByRecursion (λ b. is_named_in (assignments_of statements) b ≡ true) (assigned_in statements)
-all_named statements = (settled statements).named
+all_named statements = (count_where_whole statements).named

@@ -12,9 +12,9 @@ use Rattle.scad_ast.specs.Places.{places_of_term, places_of_param, places_of_sta
 use Rattle.scad_value.specs.Values.{Val}
 use Rattle.scad_value.specs.Operators.{Answer}
 use Rattle.scad_scope.specs.Names.{Pairs, find_in, or_else}
-use Rattle.scad_blocks.specs.Blocks.{SourceFunction, SourceModule, Assigned, same_name, with_assigned, all_assigned, assigned_in, assigned_by, assignments_of, statements_of_body}
-use Rattle.scad_evaluation.specs.Limits.{most_turns}
-use Rattle.scad_evaluation.specs.Meaning.{Outcome, Gives, Faults, then_with, or_fault, answered, Env, Outermost, Within, Opened, no_call, opened, with_home, visible_function, visible_module, or_outer, call_in, functions_standing_in, function_standing, modules_standing_in, module_standing, entered_scope, with_value, turn, one_call_fewer}
+use Rattle.scad_definitions.specs.Blocks.{SourceFunction, SourceModule, Assigned, same_name, with_assigned, all_assigned, assigned_in, assigned_by, assignments_of, statements_of_body}
+use Rattle.scad_func.specs.Limits.{most_turns}
+use Rattle.scad_func.specs.Meaning.{Outcome, Gives, Faults, then_with, or_fault, answer_at, Env, Outermost, Within, Activation, no_activation, activation, with_defining_scope, visible_function, visible_module, or_outer_activation, activation_in, functions_standing_in, function_standing, modules_standing_in, module_standing, entered_scope, with_value, turn, one_call_fewer}
 use Rattle.scad_meaning.specs.Bodies.{instances_in, instances_of, is_on, evaluated_in}
 
 -- lists
@@ -63,37 +63,37 @@ module _ (P : Place → Type 0) where
     ScopeHeld (Within variables functions modules call outer) =
         AllByRecursion (λ p. FunctionHeld p.1) functions × AllByRecursion (λ p. ModuleHeld p.1) modules × CallHeld call × ScopeHeld outer
 
-    pub CallHeld : Opened → Type 0
-    CallHeld no_call = Unit {0}
-    CallHeld (opened children caller) = Held (places_of_statements children) × ScopeHeld caller
+    pub CallHeld : Activation → Type 0
+    CallHeld no_activation = Unit {0}
+    CallHeld (activation children caller) = Held (places_of_statements children) × ScopeHeld caller
 
   -- what is found in a scope
   standing_held : {A : Type 0} (Q : A → Type 0) (env : Env) (o : Option A) → ScopeHeld env → IfSome o Q
-      → IfSome (with_home env o) (λ found. Q found.0 × ScopeHeld found.1)
+      → IfSome (with_defining_scope env o) (λ found. Q found.0 × ScopeHeld found.1)
   standing_held Q env None s h = tt
   standing_held Q env (Some x) s h = (h, s)
 
   pub function_found : (env : Env) (name : List ℕ) → ScopeHeld env → IfSome (visible_function env name) (λ found. FunctionHeld found.0 × ScopeHeld found.1)
   function_found Outermost name s = tt
   function_found (Within vs fs ms call outer) name s =
-      or_keeps (λ found. FunctionHeld found.0 × ScopeHeld found.1) (with_home (Within vs fs ms call outer) (find_in fs name)) (visible_function outer name)
+      or_keeps (λ found. FunctionHeld found.0 × ScopeHeld found.1) (with_defining_scope (Within vs fs ms call outer) (find_in fs name)) (visible_function outer name)
       (standing_held FunctionHeld (Within vs fs ms call outer) (find_in fs name) s (find_keeps FunctionHeld fs name s.0))
       (function_found outer name s.3)
 
   pub module_found : (env : Env) (name : List ℕ) → ScopeHeld env → IfSome (visible_module env name) (λ found. ModuleHeld found.0 × ScopeHeld found.1)
   module_found Outermost name s = tt
   module_found (Within vs fs ms call outer) name s =
-      or_keeps (λ found. ModuleHeld found.0 × ScopeHeld found.1) (with_home (Within vs fs ms call outer) (find_in ms name)) (visible_module outer name)
+      or_keeps (λ found. ModuleHeld found.0 × ScopeHeld found.1) (with_defining_scope (Within vs fs ms call outer) (find_in ms name)) (visible_module outer name)
       (standing_held ModuleHeld (Within vs fs ms call outer) (find_in ms name) s (find_keeps ModuleHeld ms name s.1))
       (module_found outer name s.3)
 
-  outer_call : (call outer : Opened) → CallHeld call → CallHeld outer → CallHeld (or_outer call outer)
-  outer_call no_call outer h g = g
-  outer_call (opened children caller) outer h g = h
+  outer_call : (call outer : Activation) → CallHeld call → CallHeld outer → CallHeld (or_outer_activation call outer)
+  outer_call no_activation outer h g = g
+  outer_call (activation children caller) outer h g = h
 
-  pub call_found : (env : Env) → ScopeHeld env → CallHeld (call_in env)
+  pub call_found : (env : Env) → ScopeHeld env → CallHeld (activation_in env)
   call_found Outermost s = tt
-  call_found (Within vs fs ms call outer) s = outer_call call (call_in outer) s.2 (call_found outer s.3)
+  call_found (Within vs fs ms call outer) s = outer_call call (activation_in outer) s.2 (call_found outer s.3)
 
   pub variable_held : (name : List ℕ) (value : Val) (env : Env) → ScopeHeld env → ScopeHeld (with_value name value env)
   variable_held name value Outermost s = tt
@@ -144,7 +144,7 @@ module _ (P : Place → Type 0) where
     module_held (FunctionTerm at name name_at params value) h = tt
     module_held (InstanceStatement instance) h = tt
 
-  pub entered_held : (ss : StatementTerms) (call : Opened) (outer : Env) → Held (places_of_statements ss) → CallHeld call → ScopeHeld outer
+  pub entered_held : (ss : StatementTerms) (call : Activation) (outer : Env) → Held (places_of_statements ss) → CallHeld call → ScopeHeld outer
       → ScopeHeld (entered_scope ss call outer)
   entered_held ss call outer h c o = (functions_held ss h, modules_held ss h, c, o)
 
@@ -243,6 +243,6 @@ module _ (P : Place → Type 0) where
   call_keeps Q zero at go p g = p
   call_keeps Q (suc calls) at go p g = g calls
 
-  pub answered_keeps : (answer : Answer Val) (at : Place) (turns : ℕ) → P at → Keeps Whatever (answered answer at turns)
+  pub answered_keeps : (answer : Answer Val) (at : Place) (turns : ℕ) → P at → Keeps Whatever (answer_at answer at turns)
   answered_keeps (Ok v) at turns p = tt
   answered_keeps (Err kind) at turns p = p

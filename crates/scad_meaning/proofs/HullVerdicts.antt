@@ -3,14 +3,14 @@ use Rattle.std.proofs.Common.{◌≡◌, ◌⊎◌, inl, inr, ⊎_elim, ℕ, pos
 use Rattle.text_place.specs.declared.fault.FaultKind.{FaultKind}
 use Rattle.text_place.specs.declared.fault.FaultKind.TheVariants.{NotInProfile, TooLarge, OutOfRange, LongList, FewPoints}
 use Rattle.plane_predicate.specs.Space.{point_at, value}
-use Rattle.shape_planes.specs.Shapes.{HasTriangle, IsInRange}
-use Rattle.shape_planes.specs.Spanning.{IsTriangle}
-use Rattle.shape_planes.specs.declared.spanning.Triangle.{Triangle}
-use Rattle.scad_hull.specs.Hulls.{different, from, AreOnOnePlane}
+use Rattle.primitives.specs.Shapes.{HasTriangle, IsInRange}
+use Rattle.primitives.specs.Spanning.{IsTriangle}
+use Rattle.primitives.specs.declared.spanning.Triangle.{Triangle}
+use Rattle.scad_hull.specs.Hulls.{points_in_order, from, AreOnOnePlane}
 use Rattle.scad_hull.specs.Steps.{AreNumbered}
 use Rattle.scad_hull.proofs.Lines.{plane}
 use Rattle.scad_hull.proofs.Loops.{flat_by_lines, flat_by_plane, numbered_by, solid_by_plane}
-use Rattle.scad_design.specs.Designs.{DesignTree, empty, a_part, joined_designs}
+use Rattle.scad_design.specs.Designs.{DesignTree, empty, a_leaf, joined_designs}
 use Rattle.scad_design.proofs.Deciding.{Decided, decided_all, decided_both, decided_same_ℤ, at_most_or_more}
 use Rattle.scad_design.proofs.SomePlacing.{decided_safe}
 use Rattle.scad_meaning.specs.Hulls.{is_union, points_of, StaySafe, HasHull, IsHullFault}
@@ -37,7 +37,7 @@ decided_one_plane points all h =
 -- parts that stay safe, and joins by union
 decided_stay_safe : (design : DesignTree) → Decided (StaySafe design)
 decided_stay_safe empty = inl tt
-decided_stay_safe (a_part part) = decided_safe part
+decided_stay_safe (a_leaf part) = decided_safe part
 decided_stay_safe (joined_designs op left right) = decided_both (decided_stay_safe left) (decided_stay_safe right)
 
 true_or_false : (b : Bool) → (b ≡ true) ⊎ (b ≡ false)
@@ -54,9 +54,9 @@ points_verdict design union safe =
     ⊎_elim (λ few.
     ⊎_elim (λ flat. inr (FewPoints, (union, safe, (range, few, flat))))
     (λ solid. inl (record { union = union; safe = safe; points = record { range = range; few = few; solid = solid } }))
-    (decided_one_plane (different given) (from 0 (length (different given))) (numbered_by given (different given) (from 0 (length (different given))) refl range few refl)))
+    (decided_one_plane (points_in_order given) (from 0 (length (points_in_order given))) (numbered_by given (points_in_order given) (from 0 (length (points_in_order given))) refl range few refl)))
     (λ many. inr (LongList, (union, safe, (range, many))))
-    (at_most_or_more (length (different given)) 128))
+    (at_most_or_more (length (points_in_order given)) 128))
     (λ past. inr (OutOfRange, (union, safe, past)))
     (decided_all (λ p. IsInRange (point_at p)) (λ p. decided_point_range (point_at p)) given)
 

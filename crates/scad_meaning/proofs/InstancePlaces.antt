@@ -10,32 +10,32 @@ use Rattle.csg_tree.specs.declared.op.Op.{Op}
 use Rattle.csg_tree.specs.declared.op.Op.TheVariants.{Union, Intersection, Difference}
 use Rattle.int_transform.specs.declared.affine.Affine.{Affine}
 use Rattle.plane_predicate.specs.declared.unit.Unit.{Unit as LengthUnit}
-use Rattle.shape_planes.specs.Shapes.{Mesh, IsShape}
+use Rattle.primitives.specs.Shapes.{Mesh, IsShape}
 use Rattle.scad_ast.specs.Terms.{BinderTerm, StatementTerms, InstanceTerm, AnInstance, CoreTerm, IfTerm, IfElseTerm, ForTerm, IntersectionForTerm, ModuleCallTerm, BodyTerm, ArgTerm, ArgTerms, no_args, and_named, and_special, and_positional, SpecialArgTerm, args_from, place_of_core}
 use Rattle.scad_ast.specs.Places.{places_of_term, places_of_args, places_of_binder, places_of_mark, places_of_statements, places_of_core, places_of_body}
 use Rattle.scad_value.specs.Values.{Val, Vals, no_vals, and_val, truth_of}
 use Rattle.scad_value.specs.Operators.{Answer}
 use Rattle.scad_scope.specs.Names.{Pairs, find_in}
-use Rattle.scad_arguments.specs.Arguments.{names_of, nothing_given, taker_of, with_argument}
-use Rattle.scad_blocks.specs.Blocks.{SourceModule, Assigned, assignments_of, statements_of_body}
-use Rattle.scad_evaluation.specs.Limits.{most_evaluations}
-use Rattle.scad_evaluation.specs.Meaning.{Outcome, Gives, Faults, then_with, Env, Outermost, Within, Opened, no_call, opened, visible_module, call_in, entered_scope, with_value, Setting, value_at, Arguments, each_argument, each_parameter}
+use Rattle.scad_definitions.specs.Arguments.{names_of, no_arguments_of, destination_of, with_argument}
+use Rattle.scad_definitions.specs.Blocks.{SourceModule, Assigned, assignments_of, statements_of_body}
+use Rattle.scad_func.specs.Limits.{most_evaluations}
+use Rattle.scad_func.specs.Meaning.{Outcome, Gives, Faults, then_with, Env, Outermost, Within, Activation, no_activation, activation, visible_module, activation_in, entered_scope, with_value, Setting, value_at, Arguments, each_argument, each_parameter}
 use Rattle.scad_modules.specs.declared.table.BuiltinModule.{BuiltinModule}
 use Rattle.scad_modules.specs.declared.table.BuiltinModule.TheVariants.{Echo}
 use Rattle.scad_modules.specs.Table.{module_named, parameters_of}
-use Rattle.scad_modules.specs.Effects.{EffectCall, a_solid, a_flat, a_move, a_join, a_hull, an_extrusion, silence, some_children, FlatCall, ChosenCall}
+use Rattle.scad_modules.specs.Effects.{EffectCall, a_solid, a_flat, a_move, a_join, a_hull, an_extrusion, no_geometry, some_children, FlatCall, ChosenCall}
 use Rattle.scad_modules.specs.Calls.{effect_of}
-use Rattle.scad_design.specs.Designs.{DesignTree, empty, a_part, joined_designs, join, designs_within, balanced, grouped, moved_by}
+use Rattle.scad_design.specs.Designs.{DesignTree, empty, a_leaf, joined_designs, join, designs_within, balanced, join_children, moved_by}
 use Rattle.int_transform.proofs.Ranges.{IsRegular}
 use Rattle.primitives.specs.Sizes.{AreSizes}
 use Rattle.scad_design.specs.Trees.{AreRegular, IsSound}
 use Rattle.scad_hull.proofs.Loops.{hull_is_shape}
 use Rattle.scad_meaning.specs.declared.extrusion.Extrusion.{Extrusion}
 use Rattle.scad_meaning.specs.Hulls.{is_nothing, points_of, hull_mesh}
-use Rattle.scad_meaning.specs.Verdicts.{Judge, Verdict, IsRight, IsSolidVerdict, IsFlatVerdict, IsHeightVerdict, IsHullVerdict, solid_of, extruded}
-use Rattle.scad_meaning.specs.Bodies.{evaluated_in, is_child, children_in, is_marked, says_only, is_bare}
+use Rattle.scad_meaning.specs.Verdicts.{Judge, Verdict, IsRight, IsSolidVerdict, IsFlatVerdict, IsHeightVerdict, IsHullVerdict, solid_of, extrusion_mesh}
+use Rattle.scad_meaning.specs.Bodies.{evaluated_in, is_child, children_in, has_root_modifier, has_no_geometry, is_bare}
 use Rattle.scad_meaning.specs.Loops.{items_of}
-use Rattle.scad_meaning.specs.Meaning.{Context, inside_scope, with_chain, with_calls_left, inside_mark, inside_extrusion, setting, InstanceDesign, MemberDesigns, first_marked, no_design, no_members, as_member, and_members, joined_members, EvaluatesInstance, Evaluator, assigned_value, assigned, each_assigned, core_of_instance, each_member, each_in_scope, each_in_body, body_design, after_step, each_step, in_loop, each_turn, loop_design, leaf_design, checked, hulled, hull_design, answered_with, module_scope, module_design, each_said, arguments_for, children_design, flat_design, effect_design, built_in_design, call_design, core_design, marked_design, instance_design, design_within, evaluator_with, program_context, or_all, design_of, counted_step, instances_chosen, block_members, module_given, most_leaves}
+use Rattle.scad_meaning.specs.Meaning.{Context, inside_scope, with_bindings, with_calls_left, inside_root, inside_extrusion, setting, InstanceDesign, MemberDesigns, first_root, no_design, no_members, as_member, and_members, joined_members, EvaluatesInstance, Evaluator, assigned_value, with_assignment, each_assigned, core_of_instance, each_member, each_in_scope, each_in_body, body_design, after_step, each_step, in_loop, each_iteration, loop_design, leaf_design, unless_refused, with_leaf_of, hull_design, answered_with, module_scope, module_design, each_echo_argument, arguments_for, children_design, flat_design, effect_design, built_in_design, call_design, core_design, root_design, instance_design, design_within, evaluator_with, program_context, or_all, design_of, counted_step, instances_chosen, block_members, module_given, most_leaves}
 use Rattle.scad_meaning.proofs.Choosing.{all_chosen}
 use Rattle.scad_meaning.proofs.HeldPlaces.{if_keeps, Whatever, Held, first_held, rest_held, ModuleHeld, ScopeHeld, CallHeld, module_found, call_found, variable_held, functions_held, modules_held, entered_held, body_held, AssignedHeld, assignments_held, InstanceHeld, evaluated_held, Keeps, then_keeps, skip_keeps, some_keeps, turn_keeps, call_keeps}
 use Rattle.scad_meaning.proofs.SoundShapes.{HasFlatSides, IsSoundCall, effect_sound, solid_is_shape, extruded_is_shape}
@@ -45,28 +45,28 @@ module _ (P : Place → Type 0) where
   -- a sound design whose parts all stand at places among the given ones
   abbrev pub DesignHeld : DesignTree → Type 0
   DesignHeld empty = Unit {0}
-  DesignHeld (a_part part) = P part.at × IsSound (a_part part)
+  DesignHeld (a_leaf part) = P part.at × IsSound (a_leaf part)
   DesignHeld (joined_designs op left right) = DesignHeld left × DesignHeld right
 
   join_held : (op : Op) (left right : DesignTree) → DesignHeld left → DesignHeld right → DesignHeld (join op left right)
   join_held Union empty right hl hr = hr
   join_held Intersection empty right hl hr = tt
   join_held Difference empty right hl hr = tt
-  join_held Union (a_part p) empty hl hr = hl
-  join_held Intersection (a_part p) empty hl hr = tt
-  join_held Difference (a_part p) empty hl hr = hl
-  join_held Union (a_part p) (a_part q) hl hr = (hl, hr)
-  join_held Intersection (a_part p) (a_part q) hl hr = (hl, hr)
-  join_held Difference (a_part p) (a_part q) hl hr = (hl, hr)
-  join_held Union (a_part p) (joined_designs k c d) hl hr = (hl, hr)
-  join_held Intersection (a_part p) (joined_designs k c d) hl hr = (hl, hr)
-  join_held Difference (a_part p) (joined_designs k c d) hl hr = (hl, hr)
+  join_held Union (a_leaf p) empty hl hr = hl
+  join_held Intersection (a_leaf p) empty hl hr = tt
+  join_held Difference (a_leaf p) empty hl hr = hl
+  join_held Union (a_leaf p) (a_leaf q) hl hr = (hl, hr)
+  join_held Intersection (a_leaf p) (a_leaf q) hl hr = (hl, hr)
+  join_held Difference (a_leaf p) (a_leaf q) hl hr = (hl, hr)
+  join_held Union (a_leaf p) (joined_designs k c d) hl hr = (hl, hr)
+  join_held Intersection (a_leaf p) (joined_designs k c d) hl hr = (hl, hr)
+  join_held Difference (a_leaf p) (joined_designs k c d) hl hr = (hl, hr)
   join_held Union (joined_designs o a b) empty hl hr = hl
   join_held Intersection (joined_designs o a b) empty hl hr = tt
   join_held Difference (joined_designs o a b) empty hl hr = hl
-  join_held Union (joined_designs o a b) (a_part q) hl hr = (hl, hr)
-  join_held Intersection (joined_designs o a b) (a_part q) hl hr = (hl, hr)
-  join_held Difference (joined_designs o a b) (a_part q) hl hr = (hl, hr)
+  join_held Union (joined_designs o a b) (a_leaf q) hl hr = (hl, hr)
+  join_held Intersection (joined_designs o a b) (a_leaf q) hl hr = (hl, hr)
+  join_held Difference (joined_designs o a b) (a_leaf q) hl hr = (hl, hr)
   join_held Union (joined_designs o a b) (joined_designs k c d) hl hr = (hl, hr)
   join_held Intersection (joined_designs o a b) (joined_designs k c d) hl hr = (hl, hr)
   join_held Difference (joined_designs o a b) (joined_designs k c d) hl hr = (hl, hr)
@@ -81,7 +81,7 @@ module _ (P : Place → Type 0) where
       join_held op (designs_within n op (take half all)) (designs_within n op (drop half all))
       (within_held n op (take half all) (All-take DesignHeld half all h)) (within_held n op (drop half all) (All-drop DesignHeld half all h))
 
-  grouped_held : (op : Op) (designs : List DesignTree) → All DesignHeld designs → DesignHeld (grouped op designs)
+  grouped_held : (op : Op) (designs : List DesignTree) → All DesignHeld designs → DesignHeld (join_children op designs)
   grouped_held Union designs h = within_held (length designs) Union designs h
   grouped_held Intersection designs h = within_held (length designs) Intersection designs h
   grouped_held Difference [] h = tt
@@ -91,22 +91,22 @@ module _ (P : Place → Type 0) where
 
   moved_held : (steps : List Affine) (design : DesignTree) → AreRegular steps → DesignHeld design → DesignHeld (moved_by steps design)
   moved_held steps empty r h = tt
-  moved_held steps (a_part part) r h = (h.0, (h.1.0, All-append IsRegular part.steps steps h.1.1 r))
+  moved_held steps (a_leaf part) r h = (h.0, (h.1.0, All-append IsRegular part.steps steps h.1.1 r))
   moved_held steps (joined_designs op left right) r h = (moved_held steps left r h.0, moved_held steps right r h.1)
 
   -- what instances give
   abbrev DesignsHeld : InstanceDesign → Type 0
-  DesignsHeld m = DesignHeld m.design × IfSome m.marked DesignHeld
+  DesignsHeld m = DesignHeld m.design × IfSome m.root DesignHeld
 
   abbrev MembersHeld : MemberDesigns → Type 0
-  MembersHeld ms = All DesignHeld ms.designs × IfSome ms.marked DesignHeld
+  MembersHeld ms = All DesignHeld ms.designs × IfSome ms.root DesignHeld
 
-  first_marked_held : (x y : Option DesignTree) → IfSome x DesignHeld → IfSome y DesignHeld → IfSome (first_marked x y) DesignHeld
+  first_marked_held : (x y : Option DesignTree) → IfSome x DesignHeld → IfSome y DesignHeld → IfSome (first_root x y) DesignHeld
   first_marked_held (Some d) y h g = h
   first_marked_held None y h g = g
 
   and_held : (ms more : MemberDesigns) → MembersHeld ms → MembersHeld more → MembersHeld (and_members ms more)
-  and_held ms more h g = (All-append DesignHeld ms.designs more.designs h.0 g.0, first_marked_held ms.marked more.marked h.1 g.1)
+  and_held ms more h g = (All-append DesignHeld ms.designs more.designs h.0 g.0, first_marked_held ms.root more.root h.1 g.1)
 
   as_member_held : (b : Bool) (m : InstanceDesign) → DesignsHeld m → MembersHeld (as_member b m)
   as_member_held true m h = (All-cons DesignHeld m.design [] h.0 (All-nil DesignHeld), h.1)
@@ -121,10 +121,10 @@ module _ (P : Place → Type 0) where
   leaf_keeps : (at : Place) (mesh : Mesh) (turns leaves : ℕ) → P at → IsShape mesh → Keeps P DesignsHeld (leaf_design at mesh turns leaves)
   leaf_keeps at mesh turns leaves p shape =
       if_keeps (Keeps P DesignsHeld) (nat_lt leaves most_leaves)
-      (Gives turns (record { leaves = leaves + 1; design = a_part (record { mesh = mesh; steps = []; at = at }); marked = None }))
+      (Gives turns (record { leaves = leaves + 1; design = a_leaf (record { mesh = mesh; steps = []; at = at }); root = None }))
       (Faults TooManyParts at) ((p, (shape, All-nil IsRegular)), tt) p
 
-  checked_keeps : {A : Type 0} (Q : A → Type 0) (v : Verdict) (at : Place) (out : Outcome A) → P at → (v ≡ None → Keeps P Q out) → Keeps P Q (checked v at out)
+  checked_keeps : {A : Type 0} (Q : A → Type 0) (v : Verdict) (at : Place) (out : Outcome A) → P at → (v ≡ None → Keeps P Q out) → Keeps P Q (unless_refused v at out)
   checked_keeps Q None at out p h = h refl
   checked_keeps Q (Some kind) at out p h = p
 
@@ -155,9 +155,9 @@ module _ (P : Place → Type 0) where
     assigned_keeps zero here a turns s h = h.0
     assigned_keeps (suc evaluations) here a turns s h = value_keeps P (setting evaluations here) (sits evaluations here s) true a.value turns h.1
 
-    still_held : (a : Assigned) (v : Val) (here : Context) → ContextHeld here → ContextHeld (assigned a v here)
+    still_held : (a : Assigned) (v : Val) (here : Context) → ContextHeld here → ContextHeld (with_assignment a v here)
     still_held a v here s =
-        if_keeps ContextHeld a.special (with_chain here ((a.name, v) ∷ here.chain)) (inside_scope here (with_value a.name v here.env)) s
+        if_keeps ContextHeld a.special (with_bindings here ((a.name, v) ∷ here.bindings)) (inside_scope here (with_value a.name v here.env)) s
         (variable_held P a.name v here.env s.0, s.1)
 
     assignments_keep : (evaluations : ℕ) (here : Context) (as_ : List Assigned) (turns : ℕ) → ContextHeld here → AllByRecursion (AssignedHeld P) as_
@@ -165,45 +165,45 @@ module _ (P : Place → Type 0) where
     assignments_keep evaluations here [] turns s h = s
     assignments_keep evaluations here (a ∷ as_) turns s h =
         skip_keeps P ContextHeld (assigned_value evaluations here a turns) _ (assigned_keeps evaluations here a turns s h.0) (λ turns v.
-        assignments_keep evaluations (assigned a v here) as_ turns (still_held a v here s) h.1)
+        assignments_keep evaluations (with_assignment a v here) as_ turns (still_held a v here s) h.1)
 
     -- instances one evaluation deeper
     abbrev IsGood : EvaluatesInstance → Type 0
-    IsGood deeper = (here : Context) (i : InstanceTerm) (turns leaves : ℕ) → ContextHeld here → InstanceHeld P i → Keeps P DesignsHeld (deeper here i turns leaves)
+    IsGood at_next_depth = (here : Context) (i : InstanceTerm) (turns leaves : ℕ) → ContextHeld here → InstanceHeld P i → Keeps P DesignsHeld (at_next_depth here i turns leaves)
 
     said_keeps : (here : Setting) → Sits P here → (args : ArgTerms) (given : Arguments) (turns : ℕ) → Held P (places_of_args args)
-        → Keeps P Whatever (each_said here args given turns)
+        → Keeps P Whatever (each_echo_argument here args given turns)
     said_keeps here s no_args given turns h = tt
     said_keeps here s (and_named at name value rest) given turns h =
         skip_keeps P Whatever (value_at here true value turns) _ (value_keeps P here s true value turns (first_held P (places_of_term value) (places_of_args rest) h.1)) (λ turns v.
         said_keeps here s rest given turns (rest_held P (places_of_term value) (places_of_args rest) h.1))
     said_keeps here s (and_special at name value rest) given turns h =
-        some_keeps P Whatever (taker_of [] 0 given (SpecialArgTerm at name value)) BadArgument at _ h.0 (λ taker.
+        some_keeps P Whatever (destination_of [] 0 given (SpecialArgTerm at name value)) BadArgument at _ h.0 (λ target.
         skip_keeps P Whatever (value_at here true value turns) _ (value_keeps P here s true value turns (first_held P (places_of_term value) (places_of_args rest) h.1)) (λ turns v.
-        said_keeps here s rest (with_argument given taker v) turns (rest_held P (places_of_term value) (places_of_args rest) h.1)))
+        said_keeps here s rest (with_argument given target v) turns (rest_held P (places_of_term value) (places_of_args rest) h.1)))
     said_keeps here s (and_positional value rest) given turns h =
         skip_keeps P Whatever (value_at here true value turns) _ (value_keeps P here s true value turns (first_held P (places_of_term value) (places_of_args rest) h)) (λ turns v.
         said_keeps here s rest given turns (rest_held P (places_of_term value) (places_of_args rest) h))
 
     given_keeps : (m : BuiltinModule) (here : Setting) → Sits P here → (args : ArgTerms) (turns : ℕ) → Held P (places_of_args args)
         → Keeps P Whatever (arguments_for m here args turns)
-    given_keeps Echo here s args turns h = said_keeps here s args (nothing_given 0) turns h
-    given_keeps m here s args turns h = arguments_keep P here s (parameters_of m) 0 args (nothing_given (length (parameters_of m))) turns h
+    given_keeps Echo here s args turns h = said_keeps here s args (no_arguments_of 0) turns h
+    given_keeps m here s args turns h = arguments_keep P here s (parameters_of m) 0 args (no_arguments_of (length (parameters_of m))) turns h
 
     module _ (judge : Judge) (right : IsRight judge) where
-      module _ (evaluations : ℕ) (deeper : EvaluatesInstance) (good : IsGood deeper) where
+      module _ (evaluations : ℕ) (at_next_depth : EvaluatesInstance) (good : IsGood at_next_depth) where
         abbrev evaluator : Evaluator
-        evaluator = record { unit = unit; judge = judge; evaluations = evaluations; deeper = deeper }
+        evaluator = record { unit = unit; judge = judge; evaluations = evaluations; at_next_depth = at_next_depth }
 
         members_keep : (here : Context) (is : List InstanceTerm) (turns leaves : ℕ) → ContextHeld here → All (InstanceHeld P) is
             → Keeps P MembersHeld (each_member evaluator here is turns leaves)
         members_keep here [] turns leaves s h = none_held leaves
         members_keep here (i ∷ is) turns leaves s h =
-            then_keeps P DesignsHeld MembersHeld (deeper here i turns leaves) _ (good here i turns leaves s (All-head (InstanceHeld P) i is h)) (λ turns m k.
+            then_keeps P DesignsHeld MembersHeld (at_next_depth here i turns leaves) _ (good here i turns leaves s (All-head (InstanceHeld P) i is h)) (λ turns m k.
             then_keeps P MembersHeld MembersHeld (each_member evaluator here is turns m.leaves) _
             (members_keep here is turns m.leaves s (All-tail (InstanceHeld P) i is h)) (λ turns ms g.
-            and_held (as_member (if says_only here.env (core_of_instance i) then false else true) m) ms
-            (as_member_held (if says_only here.env (core_of_instance i) then false else true) m k) g))
+            and_held (as_member (if has_no_geometry here.env (core_of_instance i) then false else true) m) ms
+            (as_member_held (if has_no_geometry here.env (core_of_instance i) then false else true) m k) g))
 
         chosen_held : (env : Env) (chosen : Option ChosenCall) (statements : StatementTerms) → Held P (places_of_statements statements)
             → All (InstanceHeld P) (instances_chosen env chosen statements)
@@ -226,8 +226,8 @@ module _ (P : Place → Type 0) where
             → Keeps P DesignsHeld (body_design evaluator op here body turns leaves)
         body_keeps op here body turns leaves s h =
             then_keeps P MembersHeld DesignsHeld (each_in_body evaluator here body turns leaves) _
-            (scope_keeps (inside_scope here (entered_scope (statements_of_body body) no_call here.env)) (statements_of_body body) turns leaves
-            (entered_held P (statements_of_body body) no_call here.env (body_held P body h) tt s.0, s.1) (body_held P body h))
+            (scope_keeps (inside_scope here (entered_scope (statements_of_body body) no_activation here.env)) (statements_of_body body) turns leaves
+            (entered_held P (statements_of_body body) no_activation here.env (body_held P body h) tt s.0, s.1) (body_held P body h))
             (λ turns ms k. grouped_members op ms k)
 
         steps_keep : (at : Place) (step : Val → ℕ → ℕ → Outcome MemberDesigns) → P at
@@ -243,7 +243,7 @@ module _ (P : Place → Type 0) where
 
         turns_keep : (at : Place) (binders : List BinderTerm) (body : BodyTerm) (here : Context) (turns leaves : ℕ) → P at
             → Held P (flat_map places_of_binder binders) → Held P (places_of_body body) → ContextHeld here
-            → Keeps P MembersHeld (each_turn evaluator at binders body here turns leaves)
+            → Keeps P MembersHeld (each_iteration evaluator at binders body here turns leaves)
         turns_keep at [] body here turns leaves p h k s =
             turn_keeps P MembersHeld at turns
             (λ turns. then_with (body_design evaluator Union here body turns leaves) (λ turns m. Gives turns (as_member true m))) p (λ turns.
@@ -254,7 +254,7 @@ module _ (P : Place → Type 0) where
             skip_keeps P MembersHeld (value_at (setting evaluations here) true b.values turns) _
             (value_keeps P (setting evaluations here) (sits evaluations here s) true b.values turns first.1) (λ turns v.
             some_keeps P MembersHeld (items_of v) TypeMismatch at _ p (λ items.
-            steps_keep at (λ item. each_turn evaluator at bs body (in_loop here b.name item)) p
+            steps_keep at (λ item. each_iteration evaluator at bs body (in_loop here b.name item)) p
             (λ item turns leaves. turns_keep at bs body (in_loop here b.name item) turns leaves p
             (rest_held P (places_of_binder b) (flat_map places_of_binder bs) h) k ((tt, tt, tt, s.0), s.1)) items turns leaves))
 
@@ -262,32 +262,32 @@ module _ (P : Place → Type 0) where
             → Held P (flat_map places_of_binder binders ++ places_of_body body) → ContextHeld here
             → Keeps P DesignsHeld (loop_design evaluator op here at binders body turns leaves)
         loop_keeps op here at binders body turns leaves p h s =
-            then_keeps P MembersHeld DesignsHeld (each_turn evaluator at binders body here turns leaves) _
+            then_keeps P MembersHeld DesignsHeld (each_iteration evaluator at binders body here turns leaves) _
             (turns_keep at binders body here turns leaves p (first_held P (flat_map places_of_binder binders) (places_of_body body) h)
             (rest_held P (flat_map places_of_binder binders) (places_of_body body) h) s)
             (λ turns ms k. grouped_members op ms k)
 
-        children_keep : (here : Context) (call : Opened) (chosen : ChosenCall) (turns leaves : ℕ) → CallHeld P call → IsSized here.inside
+        children_keep : (here : Context) (call : Activation) (chosen : ChosenCall) (turns leaves : ℕ) → CallHeld P call → IsSized here.inside
             → Keeps P DesignsHeld (children_design evaluator here call chosen turns leaves)
-        children_keep here no_call chosen turns leaves c i = (tt, tt)
-        children_keep here (opened children caller) chosen turns leaves c i =
-            then_keeps P MembersHeld DesignsHeld (block_members evaluator (Some chosen) children (inside_scope here (entered_scope children no_call caller)) turns leaves) _
-            (block_keeps (Some chosen) (inside_scope here (entered_scope children no_call caller)) children turns leaves
-            (entered_held P children no_call caller c.0 tt c.1, i) c.0)
+        children_keep here no_activation chosen turns leaves c i = (tt, tt)
+        children_keep here (activation children caller) chosen turns leaves c i =
+            then_keeps P MembersHeld DesignsHeld (block_members evaluator (Some chosen) children (inside_scope here (entered_scope children no_activation caller)) turns leaves) _
+            (block_keeps (Some chosen) (inside_scope here (entered_scope children no_activation caller)) children turns leaves
+            (entered_held P children no_activation caller c.0 tt c.1, i) c.0)
             (λ turns ms k. grouped_members Union ms k)
 
         flat_keeps : (inside : Option Extrusion) (at : Place) (call : FlatCall) (turns leaves : ℕ) → P at → IsSized inside → HasFlatSides call
             → Keeps P DesignsHeld (flat_design evaluator inside at call turns leaves)
         flat_keeps None at call turns leaves p i sides = p
         flat_keeps (Some through) at call turns leaves p i sides =
-            checked_keeps DesignsHeld (judge.flat unit call) at (leaf_design at (extruded unit through call) turns leaves) p (λ none.
-            leaf_keeps at (extruded unit through call) turns leaves p
+            checked_keeps DesignsHeld (judge.flat unit call) at (leaf_design at (extrusion_mesh unit through call) turns leaves) p (λ none.
+            leaf_keeps at (extrusion_mesh unit through call) turns leaves p
             (extruded_is_shape unit through call i sides (subst (IsFlatVerdict unit call) none (right.flat unit call))))
 
         hull_keeps : (at : Place) (m : InstanceDesign) (turns : ℕ) → P at → DesignsHeld m → Keeps P DesignsHeld (hull_design (judge.hull m.design) at m turns)
         hull_keeps at m turns p k =
-            let next : Outcome InstanceDesign = then_with (leaf_design at (hull_mesh m.design) turns m.leaves) (λ turns leaf. Gives turns (hulled m leaf)) in
-            if_keeps (Keeps P DesignsHeld) (is_nothing m.design) (Gives turns m) (checked (judge.hull m.design) at next) k
+            let next : Outcome InstanceDesign = then_with (leaf_design at (hull_mesh m.design) turns m.leaves) (λ turns leaf. Gives turns (with_leaf_of m leaf)) in
+            if_keeps (Keeps P DesignsHeld) (is_nothing m.design) (Gives turns m) (unless_refused (judge.hull m.design) at next) k
             (checked_keeps DesignsHeld (judge.hull m.design) at next p (λ none.
             then_keeps P DesignsHeld DesignsHeld (leaf_design at (hull_mesh m.design) turns m.leaves) _
             (leaf_keeps at (hull_mesh m.design) turns m.leaves p
@@ -314,11 +314,11 @@ module _ (P : Place → Type 0) where
             (body_design evaluator Union (inside_extrusion here (record { center = center; height = height })) body turns leaves) p (λ none.
             body_keeps Union (inside_extrusion here (record { center = center; height = height })) body turns leaves
             (s.0, subst (IsHeightVerdict unit center height) none (right.height unit center height)) h)
-        call_effect_keeps here at silence body turns leaves p h s sound =
+        call_effect_keeps here at no_geometry body turns leaves p h s sound =
             if_keeps (Keeps P DesignsHeld) (is_bare body) (Gives turns (no_design leaves)) (Faults NotInProfile at) (tt, tt) p
         call_effect_keeps here at (some_children chosen) body turns leaves p h s sound =
-            call_keeps P DesignsHeld here.calls at _ p (λ calls.
-            children_keep (with_calls_left here calls) (call_in here.env) chosen turns leaves (call_found P here.env s.0) s.1)
+            call_keeps P DesignsHeld here.calls_left at _ p (λ calls.
+            children_keep (with_calls_left here calls) (activation_in here.env) chosen turns leaves (call_found P here.env s.0) s.1)
 
         built_in_keeps : (here : Context) (at : Place) (name : List ℕ) (args : List ArgTerm) (body : BodyTerm) (found : Option BuiltinModule) (turns leaves : ℕ)
             → P at → Held P (places_of_args (args_from args)) → Held P (places_of_body body) → ContextHeld here
@@ -327,24 +327,24 @@ module _ (P : Place → Type 0) where
         built_in_keeps here at name args body (Some m) turns leaves p a h s =
             skip_keeps P DesignsHeld (arguments_for m (setting evaluations here) (args_from args) turns) _
             (given_keeps m (setting evaluations here) (sits evaluations here s) (args_from args) turns a) (λ turns given.
-            effect_keeps IsSoundCall DesignsHeld (effect_of unit (is_some here.inside) (find_in (given.specials ++ here.chain) (codes "fn")) m given.slots) at _ p
-            (effect_sound unit (is_some here.inside) (find_in (given.specials ++ here.chain) (codes "fn")) m given.slots) (λ effect sound.
-            call_effect_keeps (with_chain here (given.specials ++ here.chain)) at effect body turns leaves p h s sound))
+            effect_keeps IsSoundCall DesignsHeld (effect_of unit (is_some here.inside) (find_in (given.dynamic ++ here.bindings) (codes "fn")) m given.bound) at _ p
+            (effect_sound unit (is_some here.inside) (find_in (given.dynamic ++ here.bindings) (codes "fn")) m given.bound) (λ effect sound.
+            call_effect_keeps (with_bindings here (given.dynamic ++ here.bindings)) at effect body turns leaves p h s sound))
 
         module_keeps : (here : Context) (at : Place) (found : SourceModule × Env) (given : Arguments) (body : BodyTerm) (turns leaves : ℕ) → P at
             → ModuleHeld P found.0 → ScopeHeld P found.1 → Held P (places_of_body body) → ContextHeld here
             → Keeps P DesignsHeld (module_design evaluator here at found given body turns leaves)
         module_keeps here at found given body turns leaves p m o h s =
-            call_keeps P DesignsHeld here.calls at _ p (λ calls.
-            let there = with_calls_left (with_chain here (given.specials ++ here.chain)) calls in
+            call_keeps P DesignsHeld here.calls_left at _ p (λ calls.
+            let there = with_calls_left (with_bindings here (given.dynamic ++ here.bindings)) calls in
             turn_keeps P DesignsHeld at turns (λ turns. module_given evaluator found given body (with_calls_left here calls) turns leaves) p (λ turns.
-            skip_keeps P DesignsHeld (each_parameter (setting evaluations (inside_scope there found.1)) found.0.params given.slots turns) _
-            (parameters_keep P (setting evaluations (inside_scope there found.1)) (sits evaluations (inside_scope there found.1) (o, s.1)) found.0.params given.slots turns m.0) (λ turns vs.
+            skip_keeps P DesignsHeld (each_parameter (setting evaluations (inside_scope there found.1)) found.0.params given.bound turns) _
+            (parameters_keep P (setting evaluations (inside_scope there found.1)) (sits evaluations (inside_scope there found.1) (o, s.1)) found.0.params given.bound turns m.0) (λ turns vs.
             let inner = inside_scope there (module_scope found.1 found.0 vs (statements_of_body body) here.env) in
-            let own = body_held P found.0.body m.1 in
+            let local = body_held P found.0.body m.1 in
             then_keeps P MembersHeld DesignsHeld (each_in_scope evaluator inner (statements_of_body found.0.body) turns leaves) _
             (scope_keeps inner (statements_of_body found.0.body) turns leaves
-            ((functions_held P (statements_of_body found.0.body) own, modules_held P (statements_of_body found.0.body) own, (body_held P body h, s.0), o), s.1) own)
+            ((functions_held P (statements_of_body found.0.body) local, modules_held P (statements_of_body found.0.body) local, (body_held P body h, s.0), o), s.1) local)
             (λ turns ms k. grouped_members Union ms k))))
 
         called_keeps : (here : Context) (at : Place) (name : List ℕ) (args : List ArgTerm) (body : BodyTerm) (found : Option (SourceModule × Env)) (turns leaves : ℕ)
@@ -352,8 +352,8 @@ module _ (P : Place → Type 0) where
             → IfSome found (λ f. ModuleHeld P f.0 × ScopeHeld P f.1)
             → Keeps P DesignsHeld (call_design evaluator here at name args body found turns leaves)
         called_keeps here at name args body (Some found) turns leaves p a h s f =
-            skip_keeps P DesignsHeld (each_argument (setting evaluations here) (names_of found.0.params) 0 (args_from args) (nothing_given (length found.0.params)) turns) _
-            (arguments_keep P (setting evaluations here) (sits evaluations here s) (names_of found.0.params) 0 (args_from args) (nothing_given (length found.0.params)) turns a)
+            skip_keeps P DesignsHeld (each_argument (setting evaluations here) (names_of found.0.params) 0 (args_from args) (no_arguments_of (length found.0.params)) turns) _
+            (arguments_keep P (setting evaluations here) (sits evaluations here s) (names_of found.0.params) 0 (args_from args) (no_arguments_of (length found.0.params)) turns a)
             (λ turns given. module_keeps here at found given body turns leaves p f.0 f.1 h s)
         called_keeps here at name args body None turns leaves p a h s f = built_in_keeps here at name args body (module_named name) turns leaves p a h s
 
@@ -379,11 +379,11 @@ module _ (P : Place → Type 0) where
             s (module_found P here.env name s.0)
 
         marked_keeps : (here : Context) (core : CoreTerm) (turns leaves : ℕ) → ContextHeld here → Held P (places_of_core core)
-            → Keeps P DesignsHeld (marked_design evaluator here core turns leaves)
+            → Keeps P DesignsHeld (root_design evaluator here core turns leaves)
         marked_keeps here core turns leaves s h =
-            if_keeps (Keeps P DesignsHeld) here.under_mark (core_design evaluator here core turns leaves) _ (core_keeps here core turns leaves s h)
-            (then_keeps P DesignsHeld DesignsHeld (core_design evaluator (inside_mark here) core turns leaves) _
-            (core_keeps (inside_mark here) core turns leaves s h) (λ turns m k. (tt, k.0)))
+            if_keeps (Keeps P DesignsHeld) here.under_root (core_design evaluator here core turns leaves) _ (core_keeps here core turns leaves s h)
+            (then_keeps P DesignsHeld DesignsHeld (core_design evaluator (inside_root here) core turns leaves) _
+            (core_keeps (inside_root here) core turns leaves s h) (λ turns m k. (tt, k.0)))
 
         core_place_held : (core : CoreTerm) → Held P (places_of_core core) → P (place_of_core core)
         core_place_held (IfTerm at test body) h = h.0
@@ -395,8 +395,8 @@ module _ (P : Place → Type 0) where
         instance_keeps : IsGood (instance_design evaluator)
         instance_keeps here (AnInstance at marks core) turns leaves s h =
             let inner = rest_held P (flat_map places_of_mark marks) (places_of_core core) h.1 in
-            if_keeps (Keeps P DesignsHeld) (is_marked (AnInstance at marks core)) _ (core_design evaluator here core turns leaves)
-            (if_keeps (Keeps P DesignsHeld) (is_some here.inside) (Faults WrongDimension (place_of_core core)) (marked_design evaluator here core turns leaves)
+            if_keeps (Keeps P DesignsHeld) (has_root_modifier (AnInstance at marks core)) _ (core_design evaluator here core turns leaves)
+            (if_keeps (Keeps P DesignsHeld) (is_some here.inside) (Faults WrongDimension (place_of_core core)) (root_design evaluator here core turns leaves)
             (core_place_held core inner) (marked_keeps here core turns leaves s inner)) (core_keeps here core turns leaves s inner)
 
       within_keeps : (evaluations : ℕ) → IsGood (design_within unit judge evaluations)
@@ -405,15 +405,15 @@ module _ (P : Place → Type 0) where
       within_keeps (suc evaluations) here i turns leaves s h = instance_keeps evaluations (design_within unit judge evaluations) (within_keeps evaluations) here i turns leaves s h
 
       -- the design of a program
-      or_all_held : (marked : Option DesignTree) (designs : List DesignTree) → IfSome marked DesignHeld → All DesignHeld designs → DesignHeld (or_all marked designs)
+      or_all_held : (root : Option DesignTree) (designs : List DesignTree) → IfSome root DesignHeld → All DesignHeld designs → DesignHeld (or_all root designs)
       or_all_held None designs m h = grouped_held Union designs h
       or_all_held (Some design) designs m h = m
 
-      pub design_keeps : (chain : Pairs Val) (statements : StatementTerms) → Held P (places_of_statements statements)
-          → Keeps P DesignHeld (design_of unit judge chain statements)
+      pub design_keeps : (bindings : Pairs Val) (statements : StatementTerms) → Held P (places_of_statements statements)
+          → Keeps P DesignHeld (design_of unit judge bindings statements)
       unfolding design_of
-      design_keeps chain statements h =
-          then_keeps P MembersHeld DesignHeld (each_in_scope (evaluator_with unit judge most_evaluations) (program_context chain statements) statements 0 0) _
-          (scope_keeps most_evaluations (design_within unit judge most_evaluations) (within_keeps most_evaluations) (program_context chain statements) statements 0 0
-          (entered_held P statements no_call (Within [] [] [] no_call Outermost) h tt (tt, tt, tt, tt), tt) h)
-          (λ turns ms k. or_all_held ms.marked ms.designs k.1 k.0)
+      design_keeps bindings statements h =
+          then_keeps P MembersHeld DesignHeld (each_in_scope (evaluator_with unit judge most_evaluations) (program_context bindings statements) statements 0 0) _
+          (scope_keeps most_evaluations (design_within unit judge most_evaluations) (within_keeps most_evaluations) (program_context bindings statements) statements 0 0
+          (entered_held P statements no_activation (Within [] [] [] no_activation Outermost) h tt (tt, tt, tt, tt), tt) h)
+          (λ turns ms k. or_all_held ms.root ms.designs k.1 k.0)

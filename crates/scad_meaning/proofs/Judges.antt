@@ -6,20 +6,20 @@ use Rattle.text_place.specs.declared.fault.FaultKind.{FaultKind}
 use Rattle.text_place.specs.declared.fault.FaultKind.TheVariants.{BadSize, NotOnGrid, TooLarge, OutOfRange, LongList, FewPoints, NotConvex}
 use Rattle.plane_predicate.specs.declared.unit.Unit.{Unit as LengthUnit}
 use Rattle.plane_predicate.specs.Space.{Coefficients, point_at, opposite_of, inner, through}
-use Rattle.shape_planes.specs.Shapes.{Mesh, corner, value_at, HasTriangle, IsInRange as IsPointInRange, IsOnOnePlane}
+use Rattle.primitives.specs.Shapes.{Mesh, corner, value_at, HasTriangle, IsInRange as IsPointInRange, IsOnOnePlane}
 use Rattle.primitives.specs.Sizes.{AreSizes, IsSizeFault, IsLong, IsEven, IsSafe, AreOnGrid, grid_steps}
-use Rattle.primitives.specs.Polygons.{polygon_of, IsPolygon, IsPolygonFault, IsInRange, IsConvex, GoesLeft, GoesRight, HasCorner, turn, point, after, x_of, y_of}
+use Rattle.primitives.specs.Polygons.{polygon_of, IsPolygon, IsPolygonFault, IsInRange, IsConvex, GoesLeft, GoesRight, HasCorner, orientation, point, after, x_of, y_of}
 use Rattle.round_four.specs.Circles.{IsCircleSize, IsCircleFault}
 use Rattle.round_four.specs.Cylinders.{AreCylinderSizes, IsCylinderFault, HasBody, AreNear, IsOnGrid as IsCentredOnGrid, IsInRange as IsCylinderInRange}
-use Rattle.polyhedra.specs.declared.ways.Way.{Way}
-use Rattle.polyhedra.specs.Checks.{IsWithinLimits, HasEnoughCorners, AreThere, IsFlat, IsClosed, HasOuterPlane, IsConvex as IsConvexMesh}
-use Rattle.polyhedra.specs.Ways.{nowhere, turned, all_ways, ways_of, IsMetOnce, HasNoneLeft}
-use Rattle.polyhedra.specs.Spanning.{SpansFace}
-use Rattle.polyhedra.specs.Bounding.{Bounds, IsBounded}
-use Rattle.polyhedra.specs.Polyhedra.{mesh_of, IsPolyhedron, IsFaultOf, IsFirstToFail, checks, faults}
-use Rattle.polyhedra.proofs.Planes.{flat_by, flat_on}
-use Rattle.polyhedra.proofs.OuterPlanes.{one_plane, bounded_spanned, bounded_opposite}
-use Rattle.polyhedra.proofs.Solids.{convex_by}
+use Rattle.primitives.specs.declared.ways.Way.{Way}
+use Rattle.primitives.specs.Checks.{IsWithinLimits, HasEnoughCorners, AreThere, IsFlat, IsClosed, HasOuterPlane, IsConvex as IsConvexMesh}
+use Rattle.primitives.specs.Ways.{nowhere, turned, all_ways, ways_of, IsMetOnce, HasNoneLeft}
+use Rattle.primitives.specs.CornerPlanes.{IsCornerPlane}
+use Rattle.primitives.specs.Bounding.{Bounds, IsBounded}
+use Rattle.primitives.specs.Polyhedra.{mesh_of, IsPolyhedron, IsFaultOf, IsFirstToFail, checks, faults}
+use Rattle.primitives.proofs.ThroughCorners.{flat_by, flat_on}
+use Rattle.primitives.proofs.OuterPlanes.{one_plane, bounded_spanned, bounded_opposite}
+use Rattle.primitives.proofs.Solids.{convex_by}
 use Rattle.scad_modules.specs.Effects.{SolidCall, cube_call, polyhedron_call, cylinder_call, FlatCall, square_call, polygon_call, circle_call}
 use Rattle.scad_design.specs.Designs.{DesignTree}
 use Rattle.scad_meaning.specs.Verdicts.{Verdict, Judge, IsRight, IsSolidVerdict, IsFlatVerdict, IsHeightVerdict, IsHullVerdict}
@@ -70,27 +70,27 @@ decided_in_range p =
 
 decided_left : (points : List (List ℤ)) → Decided (GoesLeft points)
 decided_left points =
-    decided_all_below (length points) (λ i. All (λ r. pos 0 ≤ℤ turn (point points i) (point points (after (length points) i)) r) points)
-    (λ i h. decided_all (λ r. pos 0 ≤ℤ turn (point points i) (point points (after (length points) i)) r) (λ r. decided_at_most_ℤ (pos 0) (turn (point points i) (point points (after (length points) i)) r)) points)
+    decided_all_below (length points) (λ i. All (λ r. pos 0 ≤ℤ orientation (point points i) (point points (after (length points) i)) r) points)
+    (λ i h. decided_all (λ r. pos 0 ≤ℤ orientation (point points i) (point points (after (length points) i)) r) (λ r. decided_at_most_ℤ (pos 0) (orientation (point points i) (point points (after (length points) i)) r)) points)
 
 decided_right : (points : List (List ℤ)) → Decided (GoesRight points)
 decided_right points =
-    decided_all_below (length points) (λ i. All (λ r. pos 0 ≤ℤ turn (point points (after (length points) i)) (point points i) r) points)
-    (λ i h. decided_all (λ r. pos 0 ≤ℤ turn (point points (after (length points) i)) (point points i) r) (λ r. decided_at_most_ℤ (pos 0) (turn (point points (after (length points) i)) (point points i) r)) points)
+    decided_all_below (length points) (λ i. All (λ r. pos 0 ≤ℤ orientation (point points (after (length points) i)) (point points i) r) points)
+    (λ i h. decided_all (λ r. pos 0 ≤ℤ orientation (point points (after (length points) i)) (point points i) r) (λ r. decided_at_most_ℤ (pos 0) (orientation (point points (after (length points) i)) (point points i) r)) points)
 
 abbrev SomeCorner : List (List ℤ) → Type 0
 SomeCorner points = (i : ℕ) × (i < length points) × ((j : ℕ) × (j < length points) × ((k : ℕ) × (k < length points)
-    × (turn (point points i) (point points j) (point points k) ≡ pos 0 → ⊥)))
+    × (orientation (point points i) (point points j) (point points k) ≡ pos 0 → ⊥)))
 
 decided_corner : (points : List (List ℤ)) → Decided (HasCorner points)
 decided_corner points =
     decided_by {P = SomeCorner points}
     (λ h. record { first = h.0; second = h.2.0; third = h.2.2.0; first_in = h.1; second_in = h.2.1; third_in = h.2.2.1; apart = h.2.2.2 })
     (λ h. (h.first, h.first_in, (h.second, h.second_in, (h.third, h.third_in, h.apart))))
-    (decided_some_below (length points) (λ i. (j : ℕ) × (j < length points) × ((k : ℕ) × (k < length points) × (turn (point points i) (point points j) (point points k) ≡ pos 0 → ⊥)))
-    (λ i h. decided_some_below (length points) (λ j. (k : ℕ) × (k < length points) × (turn (point points i) (point points j) (point points k) ≡ pos 0 → ⊥))
-    (λ j h. decided_some_below (length points) (λ k. turn (point points i) (point points j) (point points k) ≡ pos 0 → ⊥)
-    (λ k h. decided_not (decided_same_ℤ (turn (point points i) (point points j) (point points k)) (pos 0))))))
+    (decided_some_below (length points) (λ i. (j : ℕ) × (j < length points) × ((k : ℕ) × (k < length points) × (orientation (point points i) (point points j) (point points k) ≡ pos 0 → ⊥)))
+    (λ i h. decided_some_below (length points) (λ j. (k : ℕ) × (k < length points) × (orientation (point points i) (point points j) (point points k) ≡ pos 0 → ⊥))
+    (λ j h. decided_some_below (length points) (λ k. orientation (point points i) (point points j) (point points k) ≡ pos 0 → ⊥)
+    (λ k h. decided_not (decided_same_ℤ (orientation (point points i) (point points j) (point points k)) (pos 0))))))
 
 decided_convex : (points : List (List ℤ)) → Decided (IsConvex points)
 decided_convex points =
@@ -189,7 +189,7 @@ decided_there points faces = decided_all (λ f. All (λ i. i < points) f) (λ f.
 abbrev plane_by : (points : List (List ℤ)) (face : List ℕ) → HasTriangle points face → Coefficients
 plane_by points face t = through (at_place points face t.first) (at_place points face t.second) (at_place points face t.third)
 
-spans : (points : List (List ℤ)) (face : List ℕ) (t : HasTriangle points face) → SpansFace points face (plane_by points face t)
+spans : (points : List (List ℤ)) (face : List ℕ) (t : HasTriangle points face) → IsCornerPlane points face (plane_by points face t)
 spans points face t = record {
   first = t.first;
   second = t.second;

@@ -3,8 +3,8 @@ use Rattle.std.proofs.Common.{◌≡◌, List, [], sym, subst, ◌∙◌}
 use Rattle.plane_predicate.specs.declared.unit.Unit.{Unit as LengthUnit}
 use Rattle.plane_predicate.specs.Space.{Coefficients}
 use Rattle.scad_ast.specs.Terms.{StatementTerm, statements_from}
-use Rattle.scad_scope.specs.Names.{first_chain}
-use Rattle.scad_evaluation.specs.Meaning.{Outcome, Gives, Faults}
+use Rattle.scad_scope.specs.Names.{first_bindings}
+use Rattle.scad_func.specs.Meaning.{Outcome, Gives, Faults}
 use Rattle.scad_design.specs.Designs.{DesignTree}
 use Rattle.scad_design.specs.Placing.{Placed, placed, unplaced, Places}
 use Rattle.scad_meaning.specs.Verdicts.{Judge, IsRight}
@@ -27,4 +27,4 @@ one_of_design one (Gives turns design) m n h g =
 pub one_meaning : (judge : Judge) → IsRight judge → OnePlacing →
     (unit : LengthUnit) (program : List StatementTerm) (m n : Meaning) → IsMeaning unit program m → IsMeaning unit program n → m ≡ n
 one_meaning judge right one unit program m n h g =
-    one_of_design one (design_of unit judge first_chain (statements_from program)) m n (h judge right) (g judge right)
+    one_of_design one (design_of unit judge first_bindings (statements_from program)) m n (h judge right) (g judge right)

@@ -13,9 +13,9 @@ use Rattle.csg_tree.specs.declared.tree.CsgTree.{CsgTree}
 use Rattle.csg_tree.specs.Formulas.{Formula}
 use Rattle.scad_ast.specs.Terms.{StatementTerm, statements_from}
 use Rattle.scad_ast.specs.Places.{places_of_program, HoldsPlace}
-use Rattle.scad_scope.specs.Names.{first_chain}
-use Rattle.scad_evaluation.specs.Meaning.{Outcome, Gives, Faults}
-use Rattle.scad_design.specs.Designs.{DesignTree, empty, a_part, joined_designs}
+use Rattle.scad_scope.specs.Names.{first_bindings}
+use Rattle.scad_func.specs.Meaning.{Outcome, Gives, Faults}
+use Rattle.scad_design.specs.Designs.{DesignTree, empty, a_leaf, joined_designs}
 use Rattle.scad_design.specs.Placing.{Placed, placed, unplaced, joined_placed, PlacesRight, Places}
 use Rattle.scad_meaning.specs.Verdicts.{Judge, IsRight}
 use Rattle.scad_meaning.specs.Meaning.{design_of}
@@ -41,8 +41,8 @@ module _ (P : Place → Type 0) where
 
   places_held : (design : DesignTree) (known : List Coefficients) (out : Placed) → DesignHeld P design → Places design known out → PlacedHeld out
   places_held empty known out d h = subst PlacedHeld (sym h) tt
-  places_held (a_part part) known (placed tree now) d h = tt
-  places_held (a_part part) known (unplaced kind at) d h = subst P (sym h.1) d.0
+  places_held (a_leaf part) known (placed tree now) d h = tt
+  places_held (a_leaf part) known (unplaced kind at) d h = subst P (sym h.1) d.0
   places_held (joined_designs op left right) known out d h =
       right_held (Places right) (λ known out r. places_held right known out d.1 r) op h.0 out (places_held left known h.0 d.0 h.1) h.2
 
@@ -61,16 +61,16 @@ module _ (P : Place → Type 0) where
 
 -- the design of a program is sound, and its parts and its fault stand at places of the program
 pub program_keeps : (unit : LengthUnit) (judge : Judge) → IsRight judge → (program : List StatementTerm)
-    → let P : Place → Type 0 = λ at. HoldsPlace program at in Keeps P (DesignHeld P) (design_of unit judge first_chain (statements_from program))
+    → let P : Place → Type 0 = λ at. HoldsPlace program at in Keeps P (DesignHeld P) (design_of unit judge first_bindings (statements_from program))
 program_keeps unit judge right program =
-    design_keeps (λ at. HoldsPlace program at) unit judge right first_chain (statements_from program)
+    design_keeps (λ at. HoldsPlace program at) unit judge right first_bindings (statements_from program)
     (recursion_from_All (λ at. HoldsPlace program at) (places_of_program program) (All-contains_itself (places_of_program program)))
 
 pub fault_held : (unit : LengthUnit) (program : List StatementTerm) (kind : FaultKind) (at : Place)
     → IsMeaning unit program (a_fault kind at) → HoldsPlace program at
 fault_held unit program kind at h =
     let judge = some_judge in
-    design_means (λ at. HoldsPlace program at) (design_of unit judge.0 first_chain (statements_from program)) (a_fault kind at)
+    design_means (λ at. HoldsPlace program at) (design_of unit judge.0 first_bindings (statements_from program)) (a_fault kind at)
     (program_keeps unit judge.0 judge.1 program) (h judge.0 judge.1)
 
 pub stop_held : (unit : LengthUnit) (program : List StatementTerm) (stop : Stop) → IsMeaningStop unit program stop → HoldsFault program stop

@@ -9,11 +9,11 @@ use Rattle.csg_tree.specs.declared.op.Op.{Op}
 use Rattle.csg_tree.specs.Formulas.{Formula}
 use Rattle.csg_tree.specs.ProperTrees.{IsProper}
 use Rattle.scad_ast.specs.Terms.{StatementTerm, statements_from}
-use Rattle.scad_scope.specs.Names.{first_chain}
-use Rattle.scad_evaluation.specs.Meaning.{Outcome, Gives, Faults}
-use Rattle.scad_design.specs.Designs.{DesignTree, grouped, moved_by}
+use Rattle.scad_scope.specs.Names.{first_bindings}
+use Rattle.scad_func.specs.Meaning.{Outcome, Gives, Faults}
+use Rattle.scad_design.specs.Designs.{DesignTree, join_children, moved_by}
 use Rattle.scad_design.specs.Placing.{Placed, placed, unplaced, Places}
-use Rattle.scad_design.specs.Trees.{part_count, pieces_in, IsPlacedAs, IsSound, IsTrim}
+use Rattle.scad_design.specs.Trees.{leaf_count, pieces_in, IsPlacedAs, IsSound, IsTrim}
 use Rattle.scad_meaning.specs.Verdicts.{Judge, IsRight}
 use Rattle.scad_meaning.specs.Meaning.{design_of}
 use Rattle.scad_meaning.specs.Sources.{a_tree, IsMeaning, IsMeaningOf, IsMeaningOfDesign}
@@ -26,11 +26,11 @@ use Rattle.scad_meaning.proofs.SomeMeaning.{sound}
 same_tree : (f g : Formula) → a_tree f ≡ a_tree g → f ≡ g
 same_tree f g e = cc
 
-module _ (grouped_trim : (op : Op) (designs : List DesignTree) → All IsTrim designs → IsTrim (grouped op designs))
-    (grouped_parts : (op : Op) (designs : List DesignTree) → part_count (grouped op designs) ≤ sum_by part_count designs)
+module _ (grouped_trim : (op : Op) (designs : List DesignTree) → All IsTrim designs → IsTrim (join_children op designs))
+    (grouped_parts : (op : Op) (designs : List DesignTree) → leaf_count (join_children op designs) ≤ sum_by leaf_count designs)
     (moved_trim : (steps : List Affine) (design : DesignTree) → IsTrim design → IsTrim (moved_by steps design))
-    (moved_parts : (steps : List Affine) (design : DesignTree) → part_count (moved_by steps design) ≡ part_count design)
-    (pieces : (design : DesignTree) → IsTrim design → pieces_in design ≤ 1 + 2 * part_count design)
+    (moved_parts : (steps : List Affine) (design : DesignTree) → leaf_count (moved_by steps design) ≡ leaf_count design)
+    (pieces : (design : DesignTree) → IsTrim design → pieces_in design ≤ 1 + 2 * leaf_count design)
     (proper : (design : DesignTree) (tree : Formula) → IsSound design → pieces_in design < 2 ^ 32 → IsPlacedAs design tree → IsProper tree) where
   proper_placed : (tree : Formula) (design : DesignTree) (out : Placed) → IsSound design → pieces_in design < 2 ^ 32 → Places design [] out → IsMeaningOf out (a_tree tree) → IsProper tree
   proper_placed tree design (placed other known) is few places e = subst IsProper (sym (same_tree tree other e)) (proper design other is few (known, places))
@@ -43,5 +43,5 @@ module _ (grouped_trim : (op : Op) (designs : List DesignTree) → All IsTrim de
 
   pub proper_meaning : (judge : Judge) → IsRight judge → (unit : LengthUnit) (program : List StatementTerm) (tree : Formula) → IsMeaning unit program (a_tree tree) → IsProper tree
   proper_meaning judge right unit program tree means =
-      proper_design _ tree (design_of unit judge first_chain (statements_from program)) (program_keeps unit judge right program)
-      (design_small grouped_trim grouped_parts moved_trim moved_parts pieces unit judge first_chain (statements_from program)) (means judge right)
+      proper_design _ tree (design_of unit judge first_bindings (statements_from program)) (program_keeps unit judge right program)
+      (design_small grouped_trim grouped_parts moved_trim moved_parts pieces unit judge first_bindings (statements_from program)) (means judge right)

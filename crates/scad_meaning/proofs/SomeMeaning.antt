@@ -5,9 +5,9 @@ use Rattle.text_place.specs.declared.fault.Place.{Place}
 use Rattle.plane_predicate.specs.declared.unit.Unit.{Unit as LengthUnit}
 use Rattle.plane_predicate.specs.Space.{Coefficients}
 use Rattle.scad_ast.specs.Terms.{StatementTerm, statements_from}
-use Rattle.scad_scope.specs.Names.{first_chain}
-use Rattle.scad_evaluation.specs.Meaning.{Outcome, Gives, Faults}
-use Rattle.scad_design.specs.Designs.{DesignTree, empty, a_part, joined_designs}
+use Rattle.scad_scope.specs.Names.{first_bindings}
+use Rattle.scad_func.specs.Meaning.{Outcome, Gives, Faults}
+use Rattle.scad_design.specs.Designs.{DesignTree, empty, a_leaf, joined_designs}
 use Rattle.scad_design.specs.Placing.{Placed, placed, unplaced, Places}
 use Rattle.scad_design.specs.Trees.{IsSound}
 use Rattle.scad_meaning.specs.Verdicts.{Judge, IsRight}
@@ -33,7 +33,7 @@ SomePlacing = (design : DesignTree) (known : List Coefficients) → IsSound desi
 
 pub sound : (P : Place → Type 0) (design : DesignTree) → DesignHeld P design → IsSound design
 sound P empty h = tt
-sound P (a_part part) h = h.1
+sound P (a_leaf part) h = h.1
 sound P (joined_designs op left right) h = (sound P left h.0, sound P right h.1)
 
 some_of_placed : (out : Placed) → (meaning : Meaning) × IsMeaningOf out meaning
@@ -50,5 +50,5 @@ some_of_design some P (Gives turns design) h =
 pub some_meaning : (judge : Judge) → IsRight judge → SomePlacing → (unit : LengthUnit) (program : List StatementTerm) → (meaning : Meaning) × IsMeaning unit program meaning
 some_meaning judge right some unit program =
     let statements = statements_from program in
-    let meaning = some_of_design some _ (design_of unit judge first_chain statements) (program_keeps unit judge right program) in
-    (meaning.0, λ other also. subst (λ (j : Judge). IsMeaningOfDesign (design_of unit j first_chain statements) meaning.0) (same_judge judge other right also) meaning.1)
+    let meaning = some_of_design some _ (design_of unit judge first_bindings statements) (program_keeps unit judge right program) in
+    (meaning.0, λ other also. subst (λ (j : Judge). IsMeaningOfDesign (design_of unit j first_bindings statements) meaning.0) (same_judge judge other right also) meaning.1)

@@ -12,13 +12,13 @@ use Rattle.text_place.specs.declared.fault.FaultKind.TheVariants.{AssertFailed, 
 use Rattle.plane_predicate.specs.declared.unit.Unit.{Unit as LengthUnit}
 use Rattle.plane_predicate.proofs.IntegerRing.{sums}
 use Rattle.int_transform.specs.declared.affine.Affine.{Affine}
-use Rattle.int_transform.specs.Maps.{affine_of, determinant_of, mirroring, moving, quarter_turn, repeated, scaling}
-use Rattle.int_transform.proofs.Images.{determinant-composed}
+use Rattle.int_transform.specs.Maps.{affine_of, determinant_of, reflection, translation, quarter_turn, power_of, scale_map}
+use Rattle.int_transform.proofs.Images.{determinant-composition}
 use Rattle.int_transform.proofs.Ranges.{IsRegular}
 use Rattle.int_transform.proofs.Regular.{determinant-diagonal, no_product}
 use Rattle.plane_predicate.specs.Space.{point_at}
-use Rattle.shape_planes.specs.Shapes.{Mesh, value_at, HasBodyBehind, IsShape}
-use Rattle.shape_planes.proofs.FacePlanes.{found}
+use Rattle.primitives.specs.Shapes.{Mesh, value_at, HasBodyBehind, IsShape}
+use Rattle.primitives.proofs.FacePlanes.{found}
 use Rattle.primitives.specs.Sizes.{AreSizes, low_end, high_end}
 use Rattle.primitives.specs.Polygons.{IsFlat}
 use Rattle.primitives.proofs.BoxBodies.{cube_is_shape}
@@ -28,22 +28,22 @@ use Rattle.primitives.proofs.PrismBodies.{prism_is_shape}
 use Rattle.primitives.proofs.Rectangles.{square_is_flat}
 use Rattle.round_four.proofs.Circles.{sized_circle_is_flat}
 use Rattle.round_four.proofs.Cylinders.{cylinder_is_shape}
-use Rattle.polyhedra.specs.Checks.{HasOuterPlane, IsConvex}
-use Rattle.polyhedra.specs.Polyhedra.{mesh_of, IsPolyhedron}
-use Rattle.polyhedra.proofs.Solids.{shape_of}
+use Rattle.primitives.specs.Checks.{HasOuterPlane, IsConvex}
+use Rattle.primitives.specs.Polyhedra.{mesh_of, IsPolyhedron}
+use Rattle.primitives.proofs.Solids.{shape_of}
 use Rattle.scad_value.specs.Values.{Val, NumberVal, truth_of}
 use Rattle.scad_value.specs.Operators.{Answer}
-use Rattle.scad_slots.specs.Reading.{Slots, slot, number_in, truth_in, numbers_in, of_length, sides_in, coordinates_in, angles_in, factors_in, points_in, faces_in, or_default, required, refused_where, of_type}
+use Rattle.scad_modules.specs.Reading.{BoundArguments, bound_argument, number_in, truth_in, numbers_in, of_length, sides_in, coordinates_in, angles_in, factors_in, points_in, faces_in, or_default, required_argument, refused_where, of_type}
 use Rattle.scad_modules.specs.declared.table.BuiltinModule.{BuiltinModule}
 use Rattle.scad_modules.specs.declared.table.BuiltinModule.TheVariants.{Cube, Polyhedron, Cylinder, Square, Polygon, Circle, LinearExtrude, Translate, Rotate, Mirror, Scale, Multmatrix, Union, Difference, Intersection, Hull, Color, Render, Echo, Assert, Children}
-use Rattle.scad_modules.specs.Effects.{SolidCall, cube_call, polyhedron_call, cylinder_call, FlatCall, square_call, polygon_call, circle_call, EffectCall, a_solid, a_flat, a_move, a_join, a_hull, an_extrusion, silence, some_children, ChosenCall, all_children}
-use Rattle.scad_modules.specs.Transforms.{part, is_zero, is_past, on_grid, some_part, leaves_plane, is_skew, quarters_of, tilts_plane, turns_of, axis_of, along, factors_for, matrix_rows, some_row, is_past_matrix, leaves_plane_by, rows_on_grid, moves_past}
+use Rattle.scad_modules.specs.Effects.{SolidCall, cube_call, polyhedron_call, cylinder_call, FlatCall, square_call, polygon_call, circle_call, EffectCall, a_solid, a_flat, a_move, a_join, a_hull, an_extrusion, no_geometry, some_children, ChosenCall, all_children}
+use Rattle.scad_modules.specs.Transforms.{component, is_zero, is_past, on_grid, some_component, leaves_plane, is_skew, quarters_of, tilts_plane, quarter_turns, axis_of, for_axis, factors_for, matrix_rows, some_row, is_past_matrix, leaves_plane_by, rows_on_grid, moves_past}
 use Rattle.scad_modules.specs.Calls.{chosen_in, effect_of}
 use Rattle.scad_modules.specs.Shapes.{fragments_in, with_four, cylinder_effect}
 use Rattle.scad_design.specs.Trees.{AreRegular}
 use Rattle.scad_design.proofs.Deciding.{all_or_any}
 use Rattle.scad_meaning.specs.declared.extrusion.Extrusion.{Extrusion}
-use Rattle.scad_meaning.specs.Verdicts.{IsSolidVerdict, IsFlatVerdict, solid_of, outline_of, extruded}
+use Rattle.scad_meaning.specs.Verdicts.{IsSolidVerdict, IsFlatVerdict, solid_of, outline_of, extrusion_mesh}
 
 -- ---- calls with as many sides as their shapes have, and steps that are not singular
 abbrev pub HasSides : SolidCall → Type 0
@@ -63,7 +63,7 @@ IsSoundCall (a_move steps) = AreRegular steps
 IsSoundCall (a_join op) = Unit {0}
 IsSoundCall a_hull = Unit {0}
 IsSoundCall (an_extrusion center height) = Unit {0}
-IsSoundCall silence = Unit {0}
+IsSoundCall no_geometry = Unit {0}
 IsSoundCall (some_children chosen) = Unit {0}
 
 -- ---- what stands behind a test
@@ -106,18 +106,18 @@ one_is_some e = omega (arith, sums, e)
 none_is_some : negsuc 0 ≡ pos 0 → ⊥
 none_is_some e = omega (arith, sums, e)
 
-repeated_regular : (step : Affine) → IsRegular step → (n : ℕ) → IsRegular (repeated step n)
+repeated_regular : (step : Affine) → IsRegular step → (n : ℕ) → IsRegular (power_of step n)
 repeated_regular step h zero e = one_is_some e
 repeated_regular step h (suc n) e =
-    no_product (determinant_of step) (determinant_of (repeated step n)) h (repeated_regular step h n) (sym (determinant-composed step (repeated step n)) ∙ e)
+    no_product (determinant_of step) (determinant_of (power_of step n)) h (repeated_regular step h n) (sym (determinant-composition step (power_of step n)) ∙ e)
 
-turns_regular : (x y z : ℕ) → AreRegular (repeated (quarter_turn 0) x ∷ repeated (quarter_turn 1) y ∷ repeated (quarter_turn 2) z ∷ [])
+turns_regular : (x y z : ℕ) → AreRegular (power_of (quarter_turn 0) x ∷ power_of (quarter_turn 1) y ∷ power_of (quarter_turn 2) z ∷ [])
 turns_regular x y z =
-    All-cons IsRegular (repeated (quarter_turn 0) x) (repeated (quarter_turn 1) y ∷ repeated (quarter_turn 2) z ∷ []) (repeated_regular (quarter_turn 0) one_is_some x)
-    (All-cons IsRegular (repeated (quarter_turn 1) y) (repeated (quarter_turn 2) z ∷ []) (repeated_regular (quarter_turn 1) one_is_some y)
-    (one_step (repeated (quarter_turn 2) z) (repeated_regular (quarter_turn 2) one_is_some z)))
+    All-cons IsRegular (power_of (quarter_turn 0) x) (power_of (quarter_turn 1) y ∷ power_of (quarter_turn 2) z ∷ []) (repeated_regular (quarter_turn 0) one_is_some x)
+    (All-cons IsRegular (power_of (quarter_turn 1) y) (power_of (quarter_turn 2) z ∷ []) (repeated_regular (quarter_turn 1) one_is_some y)
+    (one_step (power_of (quarter_turn 2) z) (repeated_regular (quarter_turn 2) one_is_some z)))
 
-mirror_regular : (axis : ℕ) → IsRegular (mirroring axis)
+mirror_regular : (axis : ℕ) → IsRegular (reflection axis)
 mirror_regular zero = none_is_some
 mirror_regular (suc zero) = none_is_some
 mirror_regular (suc (suc n)) = none_is_some
@@ -133,20 +133,20 @@ later_not : (a b : Bool) → (a || b) ≡ false → b ≡ false
 later_not true b h = absurd (false≢true (sym h))
 later_not false b h = h
 
-scale_regular : (x y z : ℤ) → (x ≡ pos 0 → ⊥) → (y ≡ pos 0 → ⊥) → (z ≡ pos 0 → ⊥) → IsRegular (scaling (point_at (x ∷ y ∷ z ∷ [])))
+scale_regular : (x y z : ℤ) → (x ≡ pos 0 → ⊥) → (y ≡ pos 0 → ⊥) → (z ≡ pos 0 → ⊥) → IsRegular (scale_map (point_at (x ∷ y ∷ z ∷ [])))
 scale_regular x y z hx hy hz e = no_product x _ hx (no_product y z hy hz) (sym (determinant-diagonal x y z) ∙ e)
 
-factors_regular : (inside : Bool) (by : List ℤ) → some_part is_zero by ≡ false → IsRegular (scaling (point_at (factors_for inside by)))
+factors_regular : (inside : Bool) (by : List ℤ) → some_component is_zero by ≡ false → IsRegular (scale_map (point_at (factors_for inside by)))
 factors_regular inside by h =
-    let x = some_number (part by 0) (first_not (is_zero (part by 0)) _ h) in
-    let rest = later_not (is_zero (part by 0)) _ h in
-    let y = some_number (part by 1) (first_not (is_zero (part by 1)) _ rest) in
-    let z = some_number (part by 2) (later_not (is_zero (part by 1)) _ rest) in
+    let x = some_number (component by 0) (first_not (is_zero (component by 0)) _ h) in
+    let rest = later_not (is_zero (component by 0)) _ h in
+    let y = some_number (component by 1) (first_not (is_zero (component by 1)) _ rest) in
+    let z = some_number (component by 2) (later_not (is_zero (component by 1)) _ rest) in
     by_place inside x y z
   where
-    by_place : (b : Bool) → (part by 0 ≡ pos 0 → ⊥) → (part by 1 ≡ pos 0 → ⊥) → (part by 2 ≡ pos 0 → ⊥) → IsRegular (scaling (point_at (factors_for b by)))
-    by_place true x y z = scale_regular (part by 0) (part by 1) (pos 1) x y one_is_some
-    by_place false x y z = scale_regular (part by 0) (part by 1) (part by 2) x y z
+    by_place : (b : Bool) → (component by 0 ≡ pos 0 → ⊥) → (component by 1 ≡ pos 0 → ⊥) → (component by 2 ≡ pos 0 → ⊥) → IsRegular (scale_map (point_at (factors_for b by)))
+    by_place true x y z = scale_regular (component by 0) (component by 1) (pos 1) x y one_is_some
+    by_place false x y z = scale_regular (component by 0) (component by 1) (component by 2) x y z
 
 -- ---- each module, by what is read of its arguments
 cube_sound : (inside : Bool) (size : Option (List ℤ)) (center : Option Bool) → IfSome size (λ xs. length xs ≡ 3) →
@@ -171,7 +171,7 @@ polyhedron_read true (Some points) (Some faces) = tt
 polyhedron_read false (Some points) (Some faces) = tt
 
 polyhedron_sound : (inside : Bool) (v w : Option Val) →
-    IfOk (required v (λ v. required w (λ w. of_type (points_in 3 v) (λ points. of_type (faces_in w) (λ faces. refused_where inside WrongDimension (Ok (a_solid (polyhedron_call points faces)))))))) IsSoundCall
+    IfOk (required_argument v (λ v. required_argument w (λ w. of_type (points_in 3 v) (λ points. of_type (faces_in w) (λ faces. refused_where inside WrongDimension (Ok (a_solid (polyhedron_call points faces)))))))) IsSoundCall
 polyhedron_sound inside None w = tt
 polyhedron_sound inside (Some v) None = tt
 polyhedron_sound inside (Some v) (Some w) = polyhedron_read inside (points_in 3 v) (faces_in w)
@@ -184,7 +184,7 @@ polygon_read true false (Some points) = tt
 polygon_read false false (Some points) = tt
 
 polygon_sound : (inside left : Bool) (v : Option Val) →
-    IfOk (required v (λ v. refused_where left NotInProfile (of_type (points_in 2 v) (λ points. refused_where (not inside) WrongDimension (Ok (a_flat (polygon_call points))))))) IsSoundCall
+    IfOk (required_argument v (λ v. refused_where left NotInProfile (of_type (points_in 2 v) (λ points. refused_where (not inside) WrongDimension (Ok (a_flat (polygon_call points))))))) IsSoundCall
 polygon_sound inside left None = tt
 polygon_sound inside left (Some v) = polygon_read inside left (points_in 2 v)
 
@@ -218,17 +218,17 @@ four_refused false false true d next h = tt
 four_refused false false false true next h = tt
 four_refused false false false false next h = h
 
-cylinder_sound : (inside : Bool) (fragments : Option Val) (slots : Slots) → IfOk (cylinder_effect inside fragments slots) IsSoundCall
-cylinder_sound inside fragments slots =
-    four_refused (is_some (slot slots 5)) (is_some (slot slots 6)) (is_some (slot slots 7)) (is_some (slot slots 4) && (is_some (slot slots 1) || is_some (slot slots 2)))
-    (of_type (or_default (pos 1) number_in (slot slots 0)) (λ height.
-    of_type (or_default (pos 1) number_in (slot slots 4)) (λ radius.
-    of_type (or_default radius number_in (slot slots 1)) (λ low.
-    of_type (or_default radius number_in (slot slots 2)) (λ high.
-    of_type (or_default false truth_in (slot slots 3)) (λ center.
+cylinder_sound : (inside : Bool) (fragments : Option Val) (bound : BoundArguments) → IfOk (cylinder_effect inside fragments bound) IsSoundCall
+cylinder_sound inside fragments bound =
+    four_refused (is_some (bound_argument bound 5)) (is_some (bound_argument bound 6)) (is_some (bound_argument bound 7)) (is_some (bound_argument bound 4) && (is_some (bound_argument bound 1) || is_some (bound_argument bound 2)))
+    (of_type (or_default (pos 1) number_in (bound_argument bound 0)) (λ height.
+    of_type (or_default (pos 1) number_in (bound_argument bound 4)) (λ radius.
+    of_type (or_default radius number_in (bound_argument bound 1)) (λ low.
+    of_type (or_default radius number_in (bound_argument bound 2)) (λ high.
+    of_type (or_default false truth_in (bound_argument bound 3)) (λ center.
     refused_where inside WrongDimension (with_four fragments (Ok (a_solid (cylinder_call center height low high))))))))))
-    (cylinder_read inside fragments (or_default (pos 1) number_in (slot slots 0)) (or_default (pos 1) number_in (slot slots 4))
-    (λ radius. or_default radius number_in (slot slots 1)) (λ radius. or_default radius number_in (slot slots 2)) (or_default false truth_in (slot slots 3)))
+    (cylinder_read inside fragments (or_default (pos 1) number_in (bound_argument bound 0)) (or_default (pos 1) number_in (bound_argument bound 4))
+    (λ radius. or_default radius number_in (bound_argument bound 1)) (λ radius. or_default radius number_in (bound_argument bound 2)) (or_default false truth_in (bound_argument bound 3)))
 
 extrusion_read : (inside : Bool) (height : Option ℤ) (center : Option Bool) →
     IfOk (of_type height (λ height. of_type center (λ center. refused_where inside WrongDimension (Ok (an_extrusion center height))))) IsSoundCall
@@ -238,7 +238,7 @@ extrusion_read true (Some height) (Some center) = tt
 extrusion_read false (Some height) (Some center) = tt
 
 extrusion_sound : (inside a b c : Bool) (v : Option Val) (center : Option Bool) →
-    IfOk (required v (λ v. refused_where a NotInProfile (refused_where b NotInProfile (refused_where c NotInProfile
+    IfOk (required_argument v (λ v. refused_where a NotInProfile (refused_where b NotInProfile (refused_where c NotInProfile
     (of_type (number_in v) (λ height. of_type center (λ center. refused_where inside WrongDimension (Ok (an_extrusion center height))))))))) IsSoundCall
 extrusion_sound inside a b c None center = tt
 extrusion_sound inside true b c (Some v) center = tt
@@ -247,119 +247,119 @@ extrusion_sound inside false false true (Some v) center = tt
 extrusion_sound inside false false false (Some v) center = extrusion_read inside (number_in v) center
 
 translate_read : (unit : LengthUnit) (inside : Bool) (by : Option (List ℤ)) →
-    IfOk (of_type by (λ by. refused_where (leaves_plane inside by) WrongDimension (refused_where (some_part is_past (on_grid unit by)) TooLarge (Ok (a_move (moving (point_at (on_grid unit by)) ∷ [])))))) IsSoundCall
+    IfOk (of_type by (λ by. refused_where (leaves_plane inside by) WrongDimension (refused_where (some_component is_past (on_grid unit by)) TooLarge (Ok (a_move (translation (point_at (on_grid unit by)) ∷ [])))))) IsSoundCall
 translate_read unit inside None = tt
 translate_read unit inside (Some by) =
-    refused_sound (leaves_plane inside by) WrongDimension (refused_where (some_part is_past (on_grid unit by)) TooLarge (Ok (a_move (moving (point_at (on_grid unit by)) ∷ [])))) (λ _.
-    refused_sound (some_part is_past (on_grid unit by)) TooLarge (Ok (a_move (moving (point_at (on_grid unit by)) ∷ []))) (λ _.
-    one_step (moving (point_at (on_grid unit by))) one_is_some))
+    refused_sound (leaves_plane inside by) WrongDimension (refused_where (some_component is_past (on_grid unit by)) TooLarge (Ok (a_move (translation (point_at (on_grid unit by)) ∷ [])))) (λ _.
+    refused_sound (some_component is_past (on_grid unit by)) TooLarge (Ok (a_move (translation (point_at (on_grid unit by)) ∷ []))) (λ _.
+    one_step (translation (point_at (on_grid unit by))) one_is_some))
 
 translate_sound : (unit : LengthUnit) (inside : Bool) (v : Option Val) →
-    IfOk (required v (λ v. of_type (coordinates_in (pos 0) v) (λ by. refused_where (leaves_plane inside by) WrongDimension
-    (refused_where (some_part is_past (on_grid unit by)) TooLarge (Ok (a_move (moving (point_at (on_grid unit by)) ∷ []))))))) IsSoundCall
+    IfOk (required_argument v (λ v. of_type (coordinates_in (pos 0) v) (λ by. refused_where (leaves_plane inside by) WrongDimension
+    (refused_where (some_component is_past (on_grid unit by)) TooLarge (Ok (a_move (translation (point_at (on_grid unit by)) ∷ []))))))) IsSoundCall
 translate_sound unit inside None = tt
 translate_sound unit inside (Some v) = translate_read unit inside (coordinates_in (pos 0) v)
 
 rotate_read : (inside left : Bool) (angles : Option (List ℤ)) →
-    IfOk (refused_where left NotInProfile (of_type angles (λ angles. refused_where (some_part is_skew angles) NotQuarter (refused_where (tilts_plane inside angles) WrongDimension (Ok (a_move (turns_of angles))))))) IsSoundCall
+    IfOk (refused_where left NotInProfile (of_type angles (λ angles. refused_where (some_component is_skew angles) NotQuarter (refused_where (tilts_plane inside angles) WrongDimension (Ok (a_move (quarter_turns angles))))))) IsSoundCall
 rotate_read inside true angles = tt
 rotate_read inside false None = tt
 rotate_read inside false (Some angles) =
-    refused_sound (some_part is_skew angles) NotQuarter (refused_where (tilts_plane inside angles) WrongDimension (Ok (a_move (turns_of angles)))) (λ _.
-    refused_sound (tilts_plane inside angles) WrongDimension (Ok (a_move (turns_of angles))) (λ _.
-    turns_regular (quarters_of (part angles 0)) (quarters_of (part angles 1)) (quarters_of (part angles 2))))
+    refused_sound (some_component is_skew angles) NotQuarter (refused_where (tilts_plane inside angles) WrongDimension (Ok (a_move (quarter_turns angles)))) (λ _.
+    refused_sound (tilts_plane inside angles) WrongDimension (Ok (a_move (quarter_turns angles))) (λ _.
+    turns_regular (quarters_of (component angles 0)) (quarters_of (component angles 1)) (quarters_of (component angles 2))))
 
 rotate_sound : (inside left : Bool) (v : Option Val) →
-    IfOk (required v (λ v. refused_where left NotInProfile (of_type (angles_in v) (λ angles. refused_where (some_part is_skew angles) NotQuarter
-    (refused_where (tilts_plane inside angles) WrongDimension (Ok (a_move (turns_of angles)))))))) IsSoundCall
+    IfOk (required_argument v (λ v. refused_where left NotInProfile (of_type (angles_in v) (λ angles. refused_where (some_component is_skew angles) NotQuarter
+    (refused_where (tilts_plane inside angles) WrongDimension (Ok (a_move (quarter_turns angles)))))))) IsSoundCall
 rotate_sound inside left None = tt
 rotate_sound inside left (Some v) = rotate_read inside left (angles_in v)
 
 mirror_along : (inside : Bool) (axis : Option ℕ) →
-    IfOk (along axis (λ axis. refused_where (inside && nat_eq axis 2) WrongDimension (Ok (a_move (mirroring axis ∷ []))))) IsSoundCall
+    IfOk (for_axis axis (λ axis. refused_where (inside && nat_eq axis 2) WrongDimension (Ok (a_move (reflection axis ∷ []))))) IsSoundCall
 mirror_along inside None = tt
 mirror_along inside (Some axis) =
-    refused_sound (inside && nat_eq axis 2) WrongDimension (Ok (a_move (mirroring axis ∷ []))) (λ _. one_step (mirroring axis) (mirror_regular axis))
+    refused_sound (inside && nat_eq axis 2) WrongDimension (Ok (a_move (reflection axis ∷ []))) (λ _. one_step (reflection axis) (mirror_regular axis))
 
 mirror_read : (inside : Bool) (by : Option (List ℤ)) →
-    IfOk (of_type by (λ by. along (axis_of by) (λ axis. refused_where (inside && nat_eq axis 2) WrongDimension (Ok (a_move (mirroring axis ∷ [])))))) IsSoundCall
+    IfOk (of_type by (λ by. for_axis (axis_of by) (λ axis. refused_where (inside && nat_eq axis 2) WrongDimension (Ok (a_move (reflection axis ∷ [])))))) IsSoundCall
 mirror_read inside None = tt
 mirror_read inside (Some by) = mirror_along inside (axis_of by)
 
 mirror_sound : (inside : Bool) (v : Option Val) →
-    IfOk (required v (λ v. of_type (coordinates_in (pos 0) v) (λ by. along (axis_of by) (λ axis. refused_where (inside && nat_eq axis 2) WrongDimension (Ok (a_move (mirroring axis ∷ []))))))) IsSoundCall
+    IfOk (required_argument v (λ v. of_type (coordinates_in (pos 0) v) (λ by. for_axis (axis_of by) (λ axis. refused_where (inside && nat_eq axis 2) WrongDimension (Ok (a_move (reflection axis ∷ []))))))) IsSoundCall
 mirror_sound inside None = tt
 mirror_sound inside (Some v) = mirror_read inside (coordinates_in (pos 0) v)
 
 scale_read : (inside : Bool) (by : Option (List ℤ)) →
-    IfOk (of_type by (λ by. refused_where (some_part is_zero by) Singular (Ok (a_move (scaling (point_at (factors_for inside by)) ∷ []))))) IsSoundCall
+    IfOk (of_type by (λ by. refused_where (some_component is_zero by) Singular (Ok (a_move (scale_map (point_at (factors_for inside by)) ∷ []))))) IsSoundCall
 scale_read inside None = tt
 scale_read inside (Some by) =
-    refused_sound (some_part is_zero by) Singular (Ok (a_move (scaling (point_at (factors_for inside by)) ∷ []))) (λ some.
-    one_step (scaling (point_at (factors_for inside by))) (factors_regular inside by some))
+    refused_sound (some_component is_zero by) Singular (Ok (a_move (scale_map (point_at (factors_for inside by)) ∷ []))) (λ some.
+    one_step (scale_map (point_at (factors_for inside by))) (factors_regular inside by some))
 
 scale_sound : (inside : Bool) (v : Option Val) →
-    IfOk (required v (λ v. of_type (factors_in v) (λ by. refused_where (some_part is_zero by) Singular (Ok (a_move (scaling (point_at (factors_for inside by)) ∷ [])))))) IsSoundCall
+    IfOk (required_argument v (λ v. of_type (factors_in v) (λ by. refused_where (some_component is_zero by) Singular (Ok (a_move (scale_map (point_at (factors_for inside by)) ∷ [])))))) IsSoundCall
 scale_sound inside None = tt
 scale_sound inside (Some v) = scale_read inside (factors_in v)
 
 matrix_read : (unit : LengthUnit) (inside : Bool) (rows : Option (List (List ℤ))) →
-    IfOk (of_type rows (λ rows. refused_where (some_row (some_part is_past_matrix) rows) TooLarge (refused_where (is_zero (determinant_of (affine_of rows))) Singular
+    IfOk (of_type rows (λ rows. refused_where (some_row (some_component is_past_matrix) rows) TooLarge (refused_where (is_zero (determinant_of (affine_of rows))) Singular
     (refused_where (leaves_plane_by inside rows) WrongDimension (refused_where (some_row (moves_past unit) rows) TooLarge (Ok (a_move (affine_of (rows_on_grid unit rows) ∷ [])))))))) IsSoundCall
 matrix_read unit inside None = tt
 matrix_read unit inside (Some rows) =
     let moved : Answer EffectCall = Ok (a_move (affine_of (rows_on_grid unit rows) ∷ [])) in
     let near : Answer EffectCall = refused_where (some_row (moves_past unit) rows) TooLarge moved in
     let flat : Answer EffectCall = refused_where (leaves_plane_by inside rows) WrongDimension near in
-    refused_sound (some_row (some_part is_past_matrix) rows) TooLarge (refused_where (is_zero (determinant_of (affine_of rows))) Singular flat) (λ _.
+    refused_sound (some_row (some_component is_past_matrix) rows) TooLarge (refused_where (is_zero (determinant_of (affine_of rows))) Singular flat) (λ _.
     refused_sound (is_zero (determinant_of (affine_of rows))) Singular flat (λ regular.
     refused_sound (leaves_plane_by inside rows) WrongDimension near (λ _.
     refused_sound (some_row (moves_past unit) rows) TooLarge moved (λ _.
     one_step (affine_of (rows_on_grid unit rows)) (some_number (determinant_of (affine_of rows)) regular)))))
 
 matrix_sound : (unit : LengthUnit) (inside : Bool) (v : Option Val) →
-    IfOk (required v (λ v. of_type (matrix_rows v) (λ rows. refused_where (some_row (some_part is_past_matrix) rows) TooLarge (refused_where (is_zero (determinant_of (affine_of rows))) Singular
+    IfOk (required_argument v (λ v. of_type (matrix_rows v) (λ rows. refused_where (some_row (some_component is_past_matrix) rows) TooLarge (refused_where (is_zero (determinant_of (affine_of rows))) Singular
     (refused_where (leaves_plane_by inside rows) WrongDimension (refused_where (some_row (moves_past unit) rows) TooLarge (Ok (a_move (affine_of (rows_on_grid unit rows) ∷ []))))))))) IsSoundCall
 matrix_sound unit inside None = tt
 matrix_sound unit inside (Some v) = matrix_read unit inside (matrix_rows v)
 
-assert_sound : (v : Option Val) → IfOk (required v (λ v. refused_where (not (truth_of v)) AssertFailed (Ok silence))) IsSoundCall
+assert_sound : (v : Option Val) → IfOk (required_argument v (λ v. refused_where (not (truth_of v)) AssertFailed (Ok no_geometry))) IsSoundCall
 assert_sound None = tt
-assert_sound (Some v) = refused_sound (not (truth_of v)) AssertFailed (Ok silence) (λ _. tt)
+assert_sound (Some v) = refused_sound (not (truth_of v)) AssertFailed (Ok no_geometry) (λ _. tt)
 
 children_sound : (chosen : Option ChosenCall) → IfOk (of_type chosen (λ chosen. Ok (some_children chosen))) IsSoundCall
 children_sound None = tt
 children_sound (Some chosen) = tt
 
-pub effect_sound : (unit : LengthUnit) (inside : Bool) (fragments : Option Val) (m : BuiltinModule) (slots : Slots) → IfOk (effect_of unit inside fragments m slots) IsSoundCall
-effect_sound unit inside fragments Cube slots =
+pub effect_sound : (unit : LengthUnit) (inside : Bool) (fragments : Option Val) (m : BuiltinModule) (bound : BoundArguments) → IfOk (effect_of unit inside fragments m bound) IsSoundCall
+effect_sound unit inside fragments Cube bound =
     let one : List ℤ = pos 1 ∷ pos 1 ∷ pos 1 ∷ [] in
-    cube_sound inside (or_default one (sides_in 3) (slot slots 0)) (or_default false truth_in (slot slots 1))
-    (sides_or_default (λ xs. length xs ≡ 3) one (sides_in 3) (slot slots 0) refl three_sides)
-effect_sound unit inside fragments Polyhedron slots = polyhedron_sound inside (slot slots 0) (slot slots 1)
-effect_sound unit inside fragments Cylinder slots = cylinder_sound inside fragments slots
-effect_sound unit inside fragments Square slots =
+    cube_sound inside (or_default one (sides_in 3) (bound_argument bound 0)) (or_default false truth_in (bound_argument bound 1))
+    (sides_or_default (λ xs. length xs ≡ 3) one (sides_in 3) (bound_argument bound 0) refl three_sides)
+effect_sound unit inside fragments Polyhedron bound = polyhedron_sound inside (bound_argument bound 0) (bound_argument bound 1)
+effect_sound unit inside fragments Cylinder bound = cylinder_sound inside fragments bound
+effect_sound unit inside fragments Square bound =
     let one : List ℤ = pos 1 ∷ pos 1 ∷ [] in
-    square_sound inside (or_default one (sides_in 2) (slot slots 0)) (or_default false truth_in (slot slots 1))
-    (sides_or_default (λ xs. length xs ≡ 2) one (sides_in 2) (slot slots 0) refl two_sides)
-effect_sound unit inside fragments Polygon slots = polygon_sound inside (is_some (slot slots 1)) (slot slots 0)
-effect_sound unit inside fragments Circle slots = circle_sound inside (is_some (slot slots 1)) fragments (or_default (pos 1) number_in (slot slots 0))
-effect_sound unit inside fragments LinearExtrude slots =
-    extrusion_sound inside (is_some (slot slots 3)) (is_some (slot slots 4)) (is_some (slot slots 5)) (slot slots 0) (or_default false truth_in (slot slots 1))
-effect_sound unit inside fragments Translate slots = translate_sound unit inside (slot slots 0)
-effect_sound unit inside fragments Rotate slots = rotate_sound inside (is_some (slot slots 1)) (slot slots 0)
-effect_sound unit inside fragments Mirror slots = mirror_sound inside (slot slots 0)
-effect_sound unit inside fragments Scale slots = scale_sound inside (slot slots 0)
-effect_sound unit inside fragments Multmatrix slots = matrix_sound unit inside (slot slots 0)
-effect_sound unit inside fragments Union slots = tt
-effect_sound unit inside fragments Difference slots = tt
-effect_sound unit inside fragments Intersection slots = tt
-effect_sound unit inside fragments Hull slots = refused_sound inside WrongDimension (Ok a_hull) (λ _. tt)
-effect_sound unit inside fragments Color slots = tt
-effect_sound unit inside fragments Render slots = tt
-effect_sound unit inside fragments Echo slots = tt
-effect_sound unit inside fragments Assert slots = assert_sound (slot slots 0)
-effect_sound unit inside fragments Children slots = children_sound (or_default all_children chosen_in (slot slots 0))
+    square_sound inside (or_default one (sides_in 2) (bound_argument bound 0)) (or_default false truth_in (bound_argument bound 1))
+    (sides_or_default (λ xs. length xs ≡ 2) one (sides_in 2) (bound_argument bound 0) refl two_sides)
+effect_sound unit inside fragments Polygon bound = polygon_sound inside (is_some (bound_argument bound 1)) (bound_argument bound 0)
+effect_sound unit inside fragments Circle bound = circle_sound inside (is_some (bound_argument bound 1)) fragments (or_default (pos 1) number_in (bound_argument bound 0))
+effect_sound unit inside fragments LinearExtrude bound =
+    extrusion_sound inside (is_some (bound_argument bound 3)) (is_some (bound_argument bound 4)) (is_some (bound_argument bound 5)) (bound_argument bound 0) (or_default false truth_in (bound_argument bound 1))
+effect_sound unit inside fragments Translate bound = translate_sound unit inside (bound_argument bound 0)
+effect_sound unit inside fragments Rotate bound = rotate_sound inside (is_some (bound_argument bound 1)) (bound_argument bound 0)
+effect_sound unit inside fragments Mirror bound = mirror_sound inside (bound_argument bound 0)
+effect_sound unit inside fragments Scale bound = scale_sound inside (bound_argument bound 0)
+effect_sound unit inside fragments Multmatrix bound = matrix_sound unit inside (bound_argument bound 0)
+effect_sound unit inside fragments Union bound = tt
+effect_sound unit inside fragments Difference bound = tt
+effect_sound unit inside fragments Intersection bound = tt
+effect_sound unit inside fragments Hull bound = refused_sound inside WrongDimension (Ok a_hull) (λ _. tt)
+effect_sound unit inside fragments Color bound = tt
+effect_sound unit inside fragments Render bound = tt
+effect_sound unit inside fragments Echo bound = tt
+effect_sound unit inside fragments Assert bound = assert_sound (bound_argument bound 0)
+effect_sound unit inside fragments Children bound = children_sound (or_default all_children chosen_in (bound_argument bound 0))
 
 -- ---- shapes with nothing wrong
 both_most : (v : ℤ) → v ≤ℤ pos 0 → pos 0 ≤ℤ v → v ≡ pos 0
@@ -394,7 +394,7 @@ outline_is_flat unit (square_call center size) sides h = square_is_flat unit cen
 outline_is_flat unit (polygon_call points) sides h = polygon_is_flat unit points h
 outline_is_flat unit (circle_call radius) sides h = sized_circle_is_flat unit radius h
 
-pub extruded_is_shape : (unit : LengthUnit) (through : Extrusion) (call : FlatCall) → AreSizes unit through.center (through.height ∷ []) → HasFlatSides call → IsFlatVerdict unit call None → IsShape (extruded unit through call)
+pub extruded_is_shape : (unit : LengthUnit) (through : Extrusion) (call : FlatCall) → AreSizes unit through.center (through.height ∷ []) → HasFlatSides call → IsFlatVerdict unit call None → IsShape (extrusion_mesh unit through call)
 extruded_is_shape unit through call sizes sides h =
     prism_is_shape (outline_of unit call) (low_end unit through.center through.height) (high_end unit through.center through.height)
     (ends_of_side unit through.center through.height (sizes.long 0 (pos 0) (omega arith)) (sizes.safe 0 (pos 0) (omega arith)))

@@ -1,7 +1,7 @@
 -- Points in range, and corners that are not on one line.
 use Rattle.std.proofs.Common.{ℕ, ◌<◌, ℤ, pos, unsigned_abs, List, length, get_or}
 use Rattle.plane_predicate.specs.Space.{Coordinates, through, AreCollinear}
-use Rattle.shape_planes.specs.Shapes.{corner, HasTriangle, IsInRange}
+use Rattle.primitives.specs.Shapes.{corner, HasTriangle, IsInRange}
 use Rattle.scad_design.proofs.Deciding.{Decided, decided_by, decided_both, decided_not, decided_at_most, decided_same_ℤ, decided_some_below}
 
 pub decided_point_range : (p : Coordinates) → Decided (IsInRange p)

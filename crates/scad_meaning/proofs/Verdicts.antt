@@ -10,9 +10,9 @@ use Rattle.primitives.specs.Sizes.{AreSizes, IsSizeFault, IsLong, IsEven, IsSafe
 use Rattle.primitives.specs.Polygons.{polygon_of, IsPolygonFault, IsInRange, IsConvex}
 use Rattle.round_four.specs.Circles.{IsCircleFault}
 use Rattle.round_four.specs.Cylinders.{IsCylinderFault, HasBody, IsOnGrid as IsCentredOnGrid, IsInRange as IsCylinderInRange}
-use Rattle.polyhedra.specs.Polyhedra.{IsPolyhedron, IsFaultOf, IsFirstToFail, checks, faults}
+use Rattle.primitives.specs.Polyhedra.{IsPolyhedron, IsFaultOf, IsFirstToFail, checks, faults}
 use Rattle.scad_modules.specs.Effects.{SolidCall, cube_call, polyhedron_call, cylinder_call, FlatCall, square_call, polygon_call, circle_call}
-use Rattle.scad_hull.specs.Hulls.{different, AreOnOnePlane}
+use Rattle.scad_hull.specs.Hulls.{points_in_order, AreOnOnePlane}
 use Rattle.scad_hull.specs.Refusals.{AreInRange}
 use Rattle.scad_design.specs.Designs.{DesignTree}
 use Rattle.scad_meaning.specs.Hulls.{is_union, points_of, StaySafe, IsHullFault}
@@ -185,8 +185,8 @@ one_height_verdict unit center height v w h k =
 -- the design and the points of a hull
 abbrev hull_checks : DesignTree → List (Type 0)
 hull_checks design =
-    (is_union design ≡ true) ∷ StaySafe design ∷ AreInRange (points_of design) ∷ (length (different (points_of design)) ≤ 128)
-    ∷ (AreOnOnePlane (different (points_of design)) → ⊥) ∷ []
+    (is_union design ≡ true) ∷ StaySafe design ∷ AreInRange (points_of design) ∷ (length (points_in_order (points_of design)) ≤ 128)
+    ∷ (AreOnOnePlane (points_in_order (points_of design)) → ⊥) ∷ []
 
 abbrev hull_faults : List FaultKind
 hull_faults = NotInProfile ∷ TooLarge ∷ OutOfRange ∷ LongList ∷ FewPoints ∷ []
@@ -195,7 +195,7 @@ hull_fault : (design : DesignTree) (kind : FaultKind) → IsHullFault design kin
 hull_fault design NotInProfile h = record { number = 0; is = refl; fails = λ e. true≢false (sym e ∙ h) }
 hull_fault design TooLarge h = record { number = 1; is = refl; fails = (h.0, h.1) }
 hull_fault design OutOfRange h = record { number = 2; is = refl; fails = (h.0, (h.1, h.2)) }
-hull_fault design LongList h = record { number = 3; is = refl; fails = (h.0, (h.1, (h.2.0, more_than 128 (length (different (points_of design))) h.2.1))) }
+hull_fault design LongList h = record { number = 3; is = refl; fails = (h.0, (h.1, (h.2.0, more_than 128 (length (points_in_order (points_of design))) h.2.1))) }
 hull_fault design FewPoints h = record { number = 4; is = refl; fails = (h.0, (h.1, (h.2.0, (h.2.1, λ solid. solid h.2.2)))) }
 hull_fault design kind h = absurd h.2
 

@@ -5,8 +5,8 @@ use Rattle.std.specs.Str.{bytes_eq}
 use Rattle.scad_ast.specs.declared.operator.Modifier.{Modifier}
 use Rattle.scad_ast.specs.declared.operator.Modifier.TheVariants.{Disable, Background, Highlight, Root}
 use Rattle.scad_ast.specs.Terms.{StatementTerm, EmptyStatement, BlockStatement, AssignmentTerm, SpecialAssignmentTerm, ModuleTerm, FunctionTerm, InstanceStatement, StatementTerms, no_statements, and_statement, InstanceTerm, AnInstance, CoreTerm, ModuleCallTerm, BodyTerm, EmptyBody, BlockBody, InstanceBody}
-use Rattle.scad_blocks.specs.Blocks.{Assigned, same_name}
-use Rattle.scad_evaluation.specs.Meaning.{Env, visible_module}
+use Rattle.scad_definitions.specs.Blocks.{Assigned, same_name}
+use Rattle.scad_func.specs.Meaning.{Env, visible_module}
 
 -- whether an assignment's name is among those of others
 abbrev pub is_named_in : List Assigned → Assigned → Bool
@@ -33,9 +33,9 @@ pub record StandsForAll (assignments : List Assigned) (assignment : Assigned) : 
   pub first : option_map (λ found. found.at) (first_of_its_name assignment assignments) ≡ Some assignment.at
 
 -- assignments to different names
-abbrev pub HaveOwnNames : List Assigned → Type 0
-HaveOwnNames [] = ⊤
-HaveOwnNames (assignment ∷ rest) = (is_named_in rest assignment ≡ false) × HaveOwnNames rest
+abbrev pub HaveDistinctNames : List Assigned → Type 0
+HaveDistinctNames [] = ⊤
+HaveDistinctNames (assignment ∷ rest) = (is_named_in rest assignment ≡ false) × HaveDistinctNames rest
 
 -- the instances of a body in order
 abbrev mutual
@@ -43,6 +43,7 @@ abbrev mutual
   instances_in no_statements = []
   instances_in (and_statement statement rest) = instances_of statement ++ instances_in rest
 
+  -- the instance that a statement is; a block has those of its statements
   pub instances_of : StatementTerm → List InstanceTerm
   instances_of (EmptyStatement at) = []
   instances_of (BlockStatement at statements) = instances_in statements
@@ -71,22 +72,22 @@ abbrev pub is_on : InstanceTerm → Bool
 is_on (AnInstance at marks core) = not (list_any (λ mark. switches_off mark.modifier) marks)
 
 -- an instance marked `!`
-abbrev pub is_marked : InstanceTerm → Bool
-is_marked (AnInstance at marks core) = list_any (λ mark. is_root mark.modifier) marks
+abbrev pub has_root_modifier : InstanceTerm → Bool
+has_root_modifier (AnInstance at marks core) = list_any (λ mark. is_root mark.modifier) marks
 
 -- the instances of a body that are evaluated
 abbrev pub evaluated_in : StatementTerms → List InstanceTerm
 evaluated_in statements = filter is_on (instances_in statements)
 
 -- `echo` and `assert`, where the source defines no module of that name, seen from the scope
-abbrev pub says_only : Env → CoreTerm → Bool
-says_only env (ModuleCallTerm at name args body) =
+abbrev pub has_no_geometry : Env → CoreTerm → Bool
+has_no_geometry env (ModuleCallTerm at name args body) =
     (bytes_eq name (codes "echo") || bytes_eq name (codes "assert")) && not (is_some (visible_module env name))
-says_only env core = false
+has_no_geometry env core = false
 
--- whether an instance is a child: one that doesn't only say something
+-- whether an instance is a child: one that doesn't have no geometry
 abbrev pub is_child : Env → InstanceTerm → Bool
-is_child env (AnInstance at marks core) = not (says_only env core)
+is_child env (AnInstance at marks core) = not (has_no_geometry env core)
 
 -- the children of a call with this body, in the body's scope
 abbrev pub children_in : Env → StatementTerms → List InstanceTerm

@@ -6,104 +6,104 @@ use Rattle.text_place.specs.declared.fault.FaultKind.TheVariants.{TypeMismatch, 
 use Rattle.csg_tree.specs.declared.op.Op.{Op}
 use Rattle.csg_tree.specs.declared.op.Op.TheVariants.{Union, Intersection}
 use Rattle.plane_predicate.specs.declared.unit.Unit.{Unit as LengthUnit}
-use Rattle.shape_planes.specs.Shapes.{Mesh}
+use Rattle.primitives.specs.Shapes.{Mesh}
 use Rattle.scad_ast.specs.Terms.{BinderTerm, StatementTerms, InstanceTerm, AnInstance, CoreTerm, IfTerm, IfElseTerm, ForTerm, IntersectionForTerm, ModuleCallTerm, BodyTerm, ArgTerm, ArgTerms, no_args, and_named, and_special, and_positional, SpecialArgTerm, args_from, place_of_instance, place_of_core}
 use Rattle.scad_value.specs.Values.{Val, NumberVal, Vals, no_vals, and_val, truth_of}
 use Rattle.scad_value.specs.Operators.{Answer}
 use Rattle.scad_scope.specs.Names.{Pairs, find_in}
-use Rattle.scad_arguments.specs.Arguments.{names_of, nothing_given, taker_of, with_argument}
-use Rattle.scad_blocks.specs.Blocks.{SourceModule, Assigned, assignments_of, statements_of_body}
-use Rattle.scad_evaluation.specs.Limits.{most_calls, most_evaluations}
-use Rattle.scad_evaluation.specs.Meaning.{Outcome, Gives, Faults, then_with, or_fault, Env, Outermost, Within, Opened, no_call, opened, visible_module, call_in, functions_standing_in, modules_standing_in, entered_scope, with_value, turn, Setting, value_at, one_call_fewer, Arguments, each_argument, each_parameter, paired, evaluated}
+use Rattle.scad_definitions.specs.Arguments.{names_of, no_arguments_of, destination_of, with_argument}
+use Rattle.scad_definitions.specs.Blocks.{SourceModule, Assigned, assignments_of, statements_of_body}
+use Rattle.scad_func.specs.Limits.{most_calls, most_evaluations}
+use Rattle.scad_func.specs.Meaning.{Outcome, Gives, Faults, then_with, or_fault, Env, Outermost, Within, Activation, no_activation, activation, visible_module, activation_in, functions_standing_in, modules_standing_in, entered_scope, with_value, turn, Setting, value_at, one_call_fewer, Arguments, each_argument, each_parameter, with_pairs, value_within}
 use Rattle.scad_modules.specs.declared.table.BuiltinModule.{BuiltinModule}
 use Rattle.scad_modules.specs.declared.table.BuiltinModule.TheVariants.{Echo}
 use Rattle.scad_modules.specs.Table.{module_named, is_left_out_module, parameters_of}
-use Rattle.scad_modules.specs.Effects.{EffectCall, a_solid, a_flat, a_move, a_join, a_hull, an_extrusion, silence, some_children, FlatCall, ChosenCall}
+use Rattle.scad_modules.specs.Effects.{EffectCall, a_solid, a_flat, a_move, a_join, a_hull, an_extrusion, no_geometry, some_children, FlatCall, ChosenCall}
 use Rattle.scad_modules.specs.Calls.{effect_of}
-use Rattle.scad_design.specs.Designs.{DesignTree, empty, a_part, balanced, grouped, moved_by}
+use Rattle.scad_design.specs.Designs.{DesignTree, empty, a_leaf, balanced, join_children, moved_by}
 use Rattle.scad_meaning.specs.declared.extrusion.Extrusion.{Extrusion}
 use Rattle.scad_meaning.specs.Hulls.{is_nothing, hull_mesh}
-use Rattle.scad_meaning.specs.Verdicts.{Judge, Verdict, solid_of, extruded}
-use Rattle.scad_meaning.specs.Bodies.{evaluated_in, children_in, is_marked, says_only, is_bare}
+use Rattle.scad_meaning.specs.Verdicts.{Judge, Verdict, solid_of, extrusion_mesh}
+use Rattle.scad_meaning.specs.Bodies.{evaluated_in, children_in, has_root_modifier, has_no_geometry, is_bare}
 use Rattle.scad_meaning.specs.Loops.{items_of, chosen_among}
 
--- the context of an instance: the calls that are left, the scope, the chain of special names, the extrusion that it is inside
+-- the context of an instance: the calls that are left, the scope, the dynamic bindings of special names, the extrusion that it is inside
 -- of, and whether it is inside an instance that is marked `!`
 pub record Context : Type 0 where
-  pub calls : ℕ
+  pub calls_left : ℕ
   pub env : Env
-  pub chain : Pairs Val
+  pub bindings : Pairs Val
   pub inside : Option Extrusion
-  pub under_mark : Bool
+  pub under_root : Bool
 
 -- the same context in another scope
 abbrev pub inside_scope : Context → Env → Context
-inside_scope here env = record { calls = here.calls; env = env; chain = here.chain; inside = here.inside; under_mark = here.under_mark }
+inside_scope here env = record { calls_left = here.calls_left; env = env; bindings = here.bindings; inside = here.inside; under_root = here.under_root }
 
--- the same context with another chain of special names
-abbrev pub with_chain : Context → Pairs Val → Context
-with_chain here chain = record { calls = here.calls; env = here.env; chain = chain; inside = here.inside; under_mark = here.under_mark }
+-- the same context with other dynamic bindings
+abbrev pub with_bindings : Context → Pairs Val → Context
+with_bindings here bindings = record { calls_left = here.calls_left; env = here.env; bindings = bindings; inside = here.inside; under_root = here.under_root }
 
 -- the same context with so many calls left
 abbrev pub with_calls_left : Context → ℕ → Context
-with_calls_left here calls = record { calls = calls; env = here.env; chain = here.chain; inside = here.inside; under_mark = here.under_mark }
+with_calls_left here calls = record { calls_left = calls; env = here.env; bindings = here.bindings; inside = here.inside; under_root = here.under_root }
 
 -- the same context inside an instance that is marked `!`
-abbrev pub inside_mark : Context → Context
-inside_mark here = record { calls = here.calls; env = here.env; chain = here.chain; inside = here.inside; under_mark = true }
+abbrev pub inside_root : Context → Context
+inside_root here = record { calls_left = here.calls_left; env = here.env; bindings = here.bindings; inside = here.inside; under_root = true }
 
 -- the same context inside an extrusion
 abbrev pub inside_extrusion : Context → Extrusion → Context
-inside_extrusion here through = record { calls = here.calls; env = here.env; chain = here.chain; inside = Some through; under_mark = here.under_mark }
+inside_extrusion here through = record { calls_left = here.calls_left; env = here.env; bindings = here.bindings; inside = Some through; under_root = here.under_root }
 
 -- where an expression of an instance stands, with so many evaluations in one another left
 abbrev pub setting : ℕ → Context → Setting
-setting evaluations here = record { deeper = evaluated evaluations; calls = here.calls; env = here.env; chain = here.chain }
+setting evaluations here = record { at_next_depth = value_within evaluations; calls_left = here.calls_left; env = here.env; bindings = here.bindings }
 
 -- What an instance gives: the leaves so far, its design, and the first of the designs in it that is marked `!`
 pub record InstanceDesign : Type 0 where
   pub leaves : ℕ
   pub design : DesignTree
-  pub marked : Option DesignTree
+  pub root : Option DesignTree
 
 -- what the instances of a body give, from the first on
 pub record MemberDesigns : Type 0 where
   pub leaves : ℕ
   pub designs : List DesignTree
-  pub marked : Option DesignTree
+  pub root : Option DesignTree
 
 -- the first of the designs that are marked `!`
-abbrev pub first_marked : Option DesignTree → Option DesignTree → Option DesignTree
-first_marked (Some design) later = Some design
-first_marked None later = later
+abbrev pub first_root : Option DesignTree → Option DesignTree → Option DesignTree
+first_root (Some design) later = Some design
+first_root None later = later
 
 -- an instance that gives nothing
 abbrev pub no_design : ℕ → InstanceDesign
-no_design leaves = record { leaves = leaves; design = empty; marked = None }
+no_design leaves = record { leaves = leaves; design = empty; root = None }
 
 -- instances that give nothing
 abbrev pub no_members : ℕ → MemberDesigns
-no_members leaves = record { leaves = leaves; designs = []; marked = None }
+no_members leaves = record { leaves = leaves; designs = []; root = None }
 
 -- one member, or none where the instance is no member
 abbrev pub as_member : Bool → InstanceDesign → MemberDesigns
-as_member is_member result = record { leaves = result.leaves; designs = if is_member then result.design ∷ [] else []; marked = result.marked }
+as_member is_member result = record { leaves = result.leaves; designs = if is_member then result.design ∷ [] else []; root = result.root }
 
 -- members before others
 abbrev pub and_members : MemberDesigns → MemberDesigns → MemberDesigns
 and_members first later = record {
   leaves = later.leaves;
   designs = first.designs ++ later.designs;
-  marked = first_marked first.marked later.marked;
+  root = first_root first.root later.root;
 }
 
 -- members joined by an operation
 abbrev pub joined_members : Op → MemberDesigns → InstanceDesign
-joined_members op members = record { leaves = members.leaves; design = grouped op members.designs; marked = members.marked }
+joined_members op members = record { leaves = members.leaves; design = join_children op members.designs; root = members.root }
 
 -- what an instance gives, with its design moved
 abbrev pub moved_design : (DesignTree → DesignTree) → InstanceDesign → InstanceDesign
-moved_design move result = record { leaves = result.leaves; design = move result.design; marked = result.marked }
+moved_design move result = record { leaves = result.leaves; design = move result.design; root = result.root }
 
 -- how an instance is evaluated: by where it stands, the instance, and the turns and the leaves so far
 abbrev pub EvaluatesInstance : Type 0
@@ -115,17 +115,17 @@ pub record Evaluator : Type 0 where
   pub unit : LengthUnit
   pub judge : Judge
   pub evaluations : ℕ
-  pub deeper : EvaluatesInstance
+  pub at_next_depth : EvaluatesInstance
 
 -- the value of an assignment: its statement is one evaluation deeper, and its expression one more
 abbrev pub assigned_value : ℕ → Context → Assigned → ℕ → Outcome Val
 assigned_value zero here assignment turns = Faults TooDeep assignment.at
 assigned_value (suc evaluations) here assignment turns = value_at (setting evaluations here) true assignment.value turns
 
--- the context with one more assignment: a special name goes on the chain, a variable into the scope
-abbrev pub assigned : Assigned → Val → Context → Context
-assigned assignment value here =
-    if assignment.special then with_chain here ((assignment.name, value) ∷ here.chain)
+-- the context with one more assignment: a special name goes among the dynamic bindings, a variable into the scope
+abbrev pub with_assignment : Assigned → Val → Context → Context
+with_assignment assignment value here =
+    if assignment.special then with_bindings here ((assignment.name, value) ∷ here.bindings)
     else inside_scope here (with_value assignment.name value here.env)
 
 -- the scope with its assignments, from the first on
@@ -133,19 +133,19 @@ abbrev pub each_assigned : ℕ → Context → List Assigned → ℕ → Outcome
 each_assigned evaluations here [] turns = Gives turns here
 each_assigned evaluations here (assignment ∷ rest) turns =
     then_with (assigned_value evaluations here assignment turns) (λ turns value.
-    each_assigned evaluations (assigned assignment value here) rest turns)
+    each_assigned evaluations (with_assignment assignment value here) rest turns)
 
--- instances in order; those that only say something are no members
+-- an instance without its place and its modifiers
 abbrev pub core_of_instance : InstanceTerm → CoreTerm
 core_of_instance (AnInstance at marks core) = core
 
--- what instances give as members, from the first on
+-- what instances give as members, in order; those that have no geometry are no members
 abbrev pub each_member : Evaluator → Context → List InstanceTerm → ℕ → ℕ → Outcome MemberDesigns
 each_member evaluator here [] turns leaves = Gives turns (no_members leaves)
 each_member evaluator here (instance ∷ instances) turns leaves =
-    then_with (evaluator.deeper here instance turns leaves) (λ turns result.
+    then_with (evaluator.at_next_depth here instance turns leaves) (λ turns result.
     then_with (each_member evaluator here instances turns result.leaves) (λ turns members.
-    Gives turns (and_members (as_member (if says_only here.env (core_of_instance instance) then false else true) result) members)))
+    Gives turns (and_members (as_member (if has_no_geometry here.env (core_of_instance instance) then false else true) result) members)))
 
 -- the instances of a block that are evaluated, or the chosen ones of its children
 abbrev pub instances_chosen : Env → Option ChosenCall → StatementTerms → List InstanceTerm
@@ -165,7 +165,7 @@ each_in_scope evaluator here statements turns leaves = block_members evaluator N
 -- a body, in a new scope inside where it stands
 abbrev pub each_in_body : Evaluator → Context → BodyTerm → ℕ → ℕ → Outcome MemberDesigns
 each_in_body evaluator here body turns leaves =
-    each_in_scope evaluator (inside_scope here (entered_scope (statements_of_body body) no_call here.env)) (statements_of_body body) turns leaves
+    each_in_scope evaluator (inside_scope here (entered_scope (statements_of_body body) no_activation here.env)) (statements_of_body body) turns leaves
 
 -- a body's members in a new scope, joined by an operation
 abbrev pub body_design : Evaluator → Op → Context → BodyTerm → ℕ → ℕ → Outcome InstanceDesign
@@ -190,24 +190,24 @@ each_step at step (and_val item items) turns leaves =
 
 -- a variable of a loop, in a scope of its own
 abbrev pub in_loop : Context → List ℕ → Val → Context
-in_loop here name value = inside_scope here (Within ((name, value) ∷ []) [] [] no_call here.env)
+in_loop here name value = inside_scope here (Within ((name, value) ∷ []) [] [] no_activation here.env)
 
--- The turns of a loop: one for each choice of a value for every variable, the first one slowest. Each gives the union of
+-- The iterations of a loop: one for each choice of a value for every variable, the first one slowest. Each gives the union of
 -- its body, which stands inside the scopes of the variables
-abbrev pub each_turn : Evaluator → Place → List BinderTerm → BodyTerm → Context → ℕ → ℕ → Outcome MemberDesigns
-each_turn evaluator at [] body here turns leaves =
+abbrev pub each_iteration : Evaluator → Place → List BinderTerm → BodyTerm → Context → ℕ → ℕ → Outcome MemberDesigns
+each_iteration evaluator at [] body here turns leaves =
     turn at turns (λ turns.
     then_with (body_design evaluator Union here body turns leaves) (λ turns result.
     Gives turns (as_member true result)))
-each_turn evaluator at (binder ∷ binders) body here turns leaves =
+each_iteration evaluator at (binder ∷ binders) body here turns leaves =
     then_with (value_at (setting evaluator.evaluations here) true binder.values turns) (λ turns value.
     or_fault (items_of value) TypeMismatch at (λ items.
-    each_step at (λ item. each_turn evaluator at binders body (in_loop here binder.name item)) items turns leaves))
+    each_step at (λ item. each_iteration evaluator at binders body (in_loop here binder.name item)) items turns leaves))
 
--- the turns of a loop, joined by an operation
+-- the iterations of a loop, joined by an operation
 abbrev pub loop_design : Evaluator → Op → Context → Place → List BinderTerm → BodyTerm → ℕ → ℕ → Outcome InstanceDesign
 loop_design evaluator op here at binders body turns leaves =
-    then_with (each_turn evaluator at binders body here turns leaves) (λ turns members. Gives turns (joined_members op members))
+    then_with (each_iteration evaluator at binders body here turns leaves) (λ turns members. Gives turns (joined_members op members))
 
 -- the most leaves of one design
 abbrev pub most_leaves : ℕ
@@ -217,25 +217,24 @@ most_leaves = 1024
 abbrev pub leaf_design : Place → Mesh → ℕ → ℕ → Outcome InstanceDesign
 leaf_design at mesh turns leaves =
     if nat_lt leaves most_leaves
-    then Gives turns (record { leaves = leaves + 1; design = a_part (record { mesh = mesh; steps = []; at = at }); marked = None })
+    then Gives turns (record { leaves = leaves + 1; design = a_leaf (record { mesh = mesh; steps = []; at = at }); root = None })
     else Faults TooManyParts at
 
 -- what a module's own checks say, at its name
-abbrev pub checked : {A : Type 0} → Verdict → Place → Outcome A → Outcome A
-checked None at next = next
-checked (Some kind) at next = Faults kind at
+abbrev pub unless_refused : {A : Type 0} → Verdict → Place → Outcome A → Outcome A
+unless_refused None at next = next
+unless_refused (Some kind) at next = Faults kind at
 
--- the hull of what children give, as one leaf more behind theirs, in place of their design; where that is nothing, there is no
--- hull
-abbrev pub hulled : InstanceDesign → InstanceDesign → InstanceDesign
-hulled result leaf = record { leaves = leaf.leaves; design = leaf.design; marked = result.marked }
+-- what children give, with the leaf of their hull in place of their design
+abbrev pub with_leaf_of : InstanceDesign → InstanceDesign → InstanceDesign
+with_leaf_of result leaf = record { leaves = leaf.leaves; design = leaf.design; root = result.root }
 
--- the hull of what children give, which counts as one leaf more
+-- the hull of what children give, which counts as one leaf more behind theirs; where their design is empty, there is no hull
 abbrev pub hull_design : Verdict → Place → InstanceDesign → ℕ → Outcome InstanceDesign
 hull_design verdict at result turns =
     if is_nothing result.design then Gives turns result
-    else checked verdict at
-    (then_with (leaf_design at (hull_mesh result.design) turns result.leaves) (λ turns leaf. Gives turns (hulled result leaf)))
+    else unless_refused verdict at
+    (then_with (leaf_design at (hull_mesh result.design) turns result.leaves) (λ turns leaf. Gives turns (with_leaf_of result leaf)))
 
 -- what follows from an answer, or its fault at a place
 abbrev pub answered_with : {A B : Type 0} → Answer A → Place → (A → Outcome B) → Outcome B
@@ -245,73 +244,73 @@ answered_with (Err kind) at go = Faults kind at
 -- the number of children of a call with this body, as a variable of the called module's scope
 abbrev pub children_count : Env → StatementTerms → List ℕ × Val
 children_count caller children =
-    (codes "$children", NumberVal (pos (length (children_in (entered_scope children no_call caller) children))))
+    (codes "$children", NumberVal (pos (length (children_in (entered_scope children no_activation caller) children))))
 
 -- the scope of a module's body
 abbrev pub module_scope : Env → SourceModule → Vals → StatementTerms → Env → Env
-module_scope home defined values children caller =
-    Within (children_count caller children ∷ paired (names_of defined.params) values [])
+module_scope defining_scope defined values children caller =
+    Within (children_count caller children ∷ with_pairs (names_of defined.params) values [])
     (functions_standing_in (statements_of_body defined.body)) (modules_standing_in (statements_of_body defined.body))
-    (opened children caller) home
+    (activation children caller) defining_scope
 
--- its body, with the values of its parameters, and with its arguments, once its call is counted
+-- what a module's body gives, in its scope, by the values of its parameters
 abbrev pub module_filled : Evaluator → SourceModule × Env → Vals → BodyTerm → Context → ℕ → ℕ → Outcome InstanceDesign
 module_filled evaluator found values body here turns leaves =
     then_with (each_in_scope evaluator (inside_scope here (module_scope found.1 found.0 values (statements_of_body body) here.env))
     (statements_of_body found.0.body) turns leaves) (λ turns members.
     Gives turns (joined_members Union members))
 
--- a module with its arguments: its special arguments stand on the chain, and its defaults are evaluated in the scope of its definition
+-- a module with its arguments: its special arguments stand among the dynamic bindings, and its defaults are evaluated in the scope of its definition
 abbrev pub module_given : Evaluator → SourceModule × Env → Arguments → BodyTerm → Context → ℕ → ℕ → Outcome InstanceDesign
 module_given evaluator found given body here turns leaves =
-    let there = with_chain here (given.specials ++ here.chain) in
-    then_with (each_parameter (setting evaluator.evaluations (inside_scope there found.1)) found.0.params given.slots turns) (λ turns values.
+    let there = with_bindings here (given.dynamic ++ here.bindings) in
+    then_with (each_parameter (setting evaluator.evaluations (inside_scope there found.1)) found.0.params given.bound turns) (λ turns values.
     module_filled evaluator found values body there turns leaves)
 
 -- a module of the source, one call deeper: its defaults in the scope of its definition, then its body
 abbrev pub module_design : Evaluator → Context → Place → SourceModule × Env → Arguments → BodyTerm → ℕ → ℕ → Outcome InstanceDesign
 module_design evaluator here at found given body turns leaves =
-    one_call_fewer here.calls at (λ calls.
+    one_call_fewer here.calls_left at (λ calls.
     turn at turns (λ turns.
     module_given evaluator found given body (with_calls_left here calls) turns leaves))
 
 -- The arguments of `echo`, in order: a name may come twice, a special name may not
-abbrev pub each_said : Setting → ArgTerms → Arguments → ℕ → Outcome Arguments
-each_said here no_args given turns = Gives turns given
-each_said here (and_named at name expression rest) given turns =
-    then_with (value_at here true expression turns) (λ turns value. each_said here rest given turns)
-each_said here (and_special at name expression rest) given turns =
-    or_fault (taker_of [] 0 given (SpecialArgTerm at name expression)) BadArgument at (λ taker.
-    then_with (value_at here true expression turns) (λ turns value. each_said here rest (with_argument given taker value) turns))
-each_said here (and_positional expression rest) given turns =
-    then_with (value_at here true expression turns) (λ turns value. each_said here rest given turns)
+abbrev pub each_echo_argument : Setting → ArgTerms → Arguments → ℕ → Outcome Arguments
+each_echo_argument here no_args given turns = Gives turns given
+each_echo_argument here (and_named at name expression rest) given turns =
+    then_with (value_at here true expression turns) (λ turns value. each_echo_argument here rest given turns)
+each_echo_argument here (and_special at name expression rest) given turns =
+    or_fault (destination_of [] 0 given (SpecialArgTerm at name expression)) BadArgument at (λ target.
+    then_with (value_at here true expression turns) (λ turns value. each_echo_argument here rest (with_argument given target value) turns))
+each_echo_argument here (and_positional expression rest) given turns =
+    then_with (value_at here true expression turns) (λ turns value. each_echo_argument here rest given turns)
 
 -- the arguments of a built-in module
 abbrev pub arguments_for : BuiltinModule → Setting → ArgTerms → ℕ → Outcome Arguments
-arguments_for Echo here args turns = each_said here args (nothing_given 0) turns
+arguments_for Echo here args turns = each_echo_argument here args (no_arguments_of 0) turns
 arguments_for builtin here args turns =
-    each_argument here (parameters_of builtin) 0 args (nothing_given (length (parameters_of builtin))) turns
+    each_argument here (parameters_of builtin) 0 args (no_arguments_of (length (parameters_of builtin))) turns
 
 -- The chosen children of the enclosing call, in a new scope inside its caller's, with the assignments of their body
-abbrev pub children_design : Evaluator → Context → Opened → ChosenCall → ℕ → ℕ → Outcome InstanceDesign
-children_design evaluator here no_call chosen turns leaves = Gives turns (no_design leaves)
-children_design evaluator here (opened children caller) chosen turns leaves =
-    then_with (block_members evaluator (Some chosen) children (inside_scope here (entered_scope children no_call caller)) turns leaves) (λ turns members.
+abbrev pub children_design : Evaluator → Context → Activation → ChosenCall → ℕ → ℕ → Outcome InstanceDesign
+children_design evaluator here no_activation chosen turns leaves = Gives turns (no_design leaves)
+children_design evaluator here (activation children caller) chosen turns leaves =
+    then_with (block_members evaluator (Some chosen) children (inside_scope here (entered_scope children no_activation caller)) turns leaves) (λ turns members.
     Gives turns (joined_members Union members))
 
--- one call deeper
+-- the chosen children of the enclosing activation, one call deeper
 abbrev pub chosen_children : Evaluator → Place → ChosenCall → Context → ℕ → ℕ → Outcome InstanceDesign
 chosen_children evaluator at chosen here turns leaves =
-    one_call_fewer here.calls at (λ calls. children_design evaluator (with_calls_left here calls) (call_in here.env) chosen turns leaves)
+    one_call_fewer here.calls_left at (λ calls. children_design evaluator (with_calls_left here calls) (activation_in here.env) chosen turns leaves)
 
--- a program's scope stands inside one that is empty; its chain begins with what it is given
+-- a program's scope stands inside one that is empty; it begins with the dynamic bindings that it is given
 abbrev pub program_context : Pairs Val → StatementTerms → Context
-program_context chain statements = record {
-  calls = most_calls;
-  env = entered_scope statements no_call (Within [] [] [] no_call Outermost);
-  chain = chain;
+program_context bindings statements = record {
+  calls_left = most_calls;
+  env = entered_scope statements no_activation (Within [] [] [] no_activation Outermost);
+  bindings = bindings;
   inside = None;
-  under_mark = false;
+  under_root = false;
 }
 
 -- the design of a program: the first one marked `!`, or else all
@@ -323,12 +322,12 @@ or_all (Some design) designs = design
 abbrev pub flat_design : Evaluator → Option Extrusion → Place → FlatCall → ℕ → ℕ → Outcome InstanceDesign
 flat_design evaluator None at call turns leaves = Faults WrongDimension at
 flat_design evaluator (Some through) at call turns leaves =
-    checked (evaluator.judge.flat evaluator.unit call) at (leaf_design at (extruded evaluator.unit through call) turns leaves)
+    unless_refused (evaluator.judge.flat evaluator.unit call) at (leaf_design at (extrusion_mesh evaluator.unit through call) turns leaves)
 
--- what a call of a built-in module does, with its special arguments in the chain
+-- what a call of a built-in module does, with its special arguments among the dynamic bindings
 abbrev pub effect_design : Evaluator → Context → Place → EffectCall → BodyTerm → ℕ → ℕ → Outcome InstanceDesign
 effect_design evaluator here at (a_solid call) body turns leaves =
-    checked (evaluator.judge.solid evaluator.unit call) at (leaf_design at (solid_of evaluator.unit call) turns leaves)
+    unless_refused (evaluator.judge.solid evaluator.unit call) at (leaf_design at (solid_of evaluator.unit call) turns leaves)
 effect_design evaluator here at (a_flat call) body turns leaves = flat_design evaluator here.inside at call turns leaves
 effect_design evaluator here at (a_move steps) body turns leaves =
     then_with (body_design evaluator Union here body turns leaves) (λ turns result. Gives turns (moved_design (moved_by steps) result))
@@ -336,17 +335,17 @@ effect_design evaluator here at (a_join op) body turns leaves = body_design eval
 effect_design evaluator here at a_hull body turns leaves =
     then_with (body_design evaluator Union here body turns leaves) (λ turns result. hull_design (evaluator.judge.hull result.design) at result turns)
 effect_design evaluator here at (an_extrusion center height) body turns leaves =
-    checked (evaluator.judge.height evaluator.unit center height) at
+    unless_refused (evaluator.judge.height evaluator.unit center height) at
     (body_design evaluator Union (inside_extrusion here (record { center = center; height = height })) body turns leaves)
-effect_design evaluator here at silence body turns leaves =
+effect_design evaluator here at no_geometry body turns leaves =
     if is_bare body then Gives turns (no_design leaves) else Faults NotInProfile at
 effect_design evaluator here at (some_children chosen) body turns leaves = chosen_children evaluator at chosen here turns leaves
 
 -- a built-in module with its arguments
 abbrev pub built_in_given : Evaluator → Place → BuiltinModule → Arguments → BodyTerm → Context → ℕ → ℕ → Outcome InstanceDesign
 built_in_given evaluator at builtin given body here turns leaves =
-    let there = with_chain here (given.specials ++ here.chain) in
-    answered_with (effect_of evaluator.unit (is_some here.inside) (find_in there.chain (codes "fn")) builtin given.slots) at (λ effect.
+    let there = with_bindings here (given.dynamic ++ here.bindings) in
+    answered_with (effect_of evaluator.unit (is_some here.inside) (find_in there.bindings (codes "fn")) builtin given.bound) at (λ effect.
     effect_design evaluator there at effect body turns leaves)
 
 -- a call of a built-in module
@@ -360,7 +359,7 @@ built_in_design evaluator here at name args body (Some builtin) turns leaves =
 -- a call of a module: the source's go before built-in ones
 abbrev pub call_design : Evaluator → Context → Place → List ℕ → List ArgTerm → BodyTerm → Option (SourceModule × Env) → ℕ → ℕ → Outcome InstanceDesign
 call_design evaluator here at name args body (Some found) turns leaves =
-    then_with (each_argument (setting evaluator.evaluations here) (names_of found.0.params) 0 (args_from args) (nothing_given (length found.0.params)) turns) (λ turns given.
+    then_with (each_argument (setting evaluator.evaluations here) (names_of found.0.params) 0 (args_from args) (no_arguments_of (length found.0.params)) turns) (λ turns given.
     module_design evaluator here at found given body turns leaves)
 call_design evaluator here at name args body None turns leaves =
     built_in_design evaluator here at name args body (module_named name) turns leaves
@@ -381,37 +380,37 @@ core_design evaluator here (ModuleCallTerm at name args body) turns leaves =
     call_design evaluator here at name args body (visible_module here.env name) turns leaves
 
 -- what an instance gives that is marked `!`
-abbrev pub apart : InstanceDesign → InstanceDesign
-apart result = record { leaves = result.leaves; design = empty; marked = Some result.design }
+abbrev pub as_root : InstanceDesign → InstanceDesign
+as_root result = record { leaves = result.leaves; design = empty; root = Some result.design }
 
 -- an instance inside a mark, or one that is not marked
-abbrev pub marked_design : Evaluator → Context → CoreTerm → ℕ → ℕ → Outcome InstanceDesign
-marked_design evaluator here core turns leaves =
-    if here.under_mark then core_design evaluator here core turns leaves
-    else then_with (core_design evaluator (inside_mark here) core turns leaves) (λ turns result. Gives turns (apart result))
+abbrev pub root_design : Evaluator → Context → CoreTerm → ℕ → ℕ → Outcome InstanceDesign
+root_design evaluator here core turns leaves =
+    if here.under_root then core_design evaluator here core turns leaves
+    else then_with (core_design evaluator (inside_root here) core turns leaves) (λ turns result. Gives turns (as_root result))
 
 -- an instance: the outermost mark `!` counts, and then what it gives is no part of the design around it
 abbrev pub instance_design : Evaluator → EvaluatesInstance
 instance_design evaluator here instance turns leaves =
-    if is_marked instance
+    if has_root_modifier instance
     then (if is_some here.inside then Faults WrongDimension (place_of_core (core_of_instance instance))
-    else marked_design evaluator here (core_of_instance instance) turns leaves)
+    else root_design evaluator here (core_of_instance instance) turns leaves)
     else core_design evaluator here (core_of_instance instance) turns leaves
 
 -- with so many evaluations in one another left
 unfoldable pub design_within : LengthUnit → Judge → ℕ → EvaluatesInstance
 design_within unit judge zero here instance turns leaves = Faults TooDeep (place_of_instance instance)
 design_within unit judge (suc evaluations) here instance turns leaves =
-    instance_design (record { unit = unit; judge = judge; evaluations = evaluations; deeper = design_within unit judge evaluations })
+    instance_design (record { unit = unit; judge = judge; evaluations = evaluations; at_next_depth = design_within unit judge evaluations })
     here instance turns leaves
 
 -- the evaluator with so many evaluations in one another left
 abbrev pub evaluator_with : LengthUnit → Judge → ℕ → Evaluator
 evaluator_with unit judge evaluations =
-    record { unit = unit; judge = judge; evaluations = evaluations; deeper = design_within unit judge evaluations }
+    record { unit = unit; judge = judge; evaluations = evaluations; at_next_depth = design_within unit judge evaluations }
 
 -- the design of a program, where all evaluations in one another are left
 unfoldable pub design_of : LengthUnit → Judge → Pairs Val → StatementTerms → Outcome DesignTree
-design_of unit judge chain statements =
-    then_with (each_in_scope (evaluator_with unit judge most_evaluations) (program_context chain statements) statements 0 0) (λ turns members.
-    Gives turns (or_all members.marked members.designs))
+design_of unit judge bindings statements =
+    then_with (each_in_scope (evaluator_with unit judge most_evaluations) (program_context bindings statements) statements 0 0) (λ turns members.
+    Gives turns (or_all members.root members.designs))

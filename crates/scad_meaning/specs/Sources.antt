@@ -8,8 +8,8 @@ use Rattle.scad_ast.specs.Terms.{StatementTerm, statements_from}
 use Rattle.scad_ast.specs.Places.{HoldsPlace}
 use Rattle.text_place.specs.declared.fault.Stop.{Stop}
 use Rattle.text_place.specs.declared.fault.Stop.TheVariants.{Fault, NoMemory}
-use Rattle.scad_scope.specs.Names.{first_chain}
-use Rattle.scad_evaluation.specs.Meaning.{Outcome, Gives, Faults}
+use Rattle.scad_scope.specs.Names.{first_bindings}
+use Rattle.scad_func.specs.Meaning.{Outcome, Gives, Faults}
 use Rattle.scad_design.specs.Designs.{DesignTree}
 use Rattle.scad_meaning.specs.Verdicts.{Judge, IsRight}
 use Rattle.scad_meaning.specs.Meaning.{design_of}
@@ -33,7 +33,7 @@ IsMeaningOfDesign (Gives turns design) meaning = (out : Placed) × Places design
 -- the meaning of a program in units, by whatever is right about shapes
 abbrev pub IsMeaning : LengthUnit → List StatementTerm → Meaning → Type 0
 IsMeaning unit program meaning =
-    (judge : Judge) → IsRight judge → IsMeaningOfDesign (design_of unit judge first_chain (statements_from program)) meaning
+    (judge : Judge) → IsRight judge → IsMeaningOfDesign (design_of unit judge first_bindings (statements_from program)) meaning
 
 -- a stop of evaluation: the program's first fault, or want of memory
 abbrev pub IsMeaningStop : LengthUnit → List StatementTerm → Stop → Type 0

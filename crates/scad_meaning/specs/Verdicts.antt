@@ -2,14 +2,14 @@
 use Rattle.std.specs.Prelude.{ℤ, Bool, List, [], ◌∷◌, Option, Some, None}
 use Rattle.text_place.specs.declared.fault.FaultKind.{FaultKind}
 use Rattle.plane_predicate.specs.declared.unit.Unit.{Unit as LengthUnit}
-use Rattle.shape_planes.specs.Shapes.{Mesh}
+use Rattle.primitives.specs.Shapes.{Mesh}
 use Rattle.primitives.specs.Sizes.{AreSizes, IsSizeFault}
 use Rattle.primitives.specs.Boxes.{cube_of}
 use Rattle.primitives.specs.Polygons.{square_of, polygon_of, IsPolygon, IsPolygonFault}
 use Rattle.primitives.specs.Prisms.{extrusion_of}
 use Rattle.round_four.specs.Circles.{circle_of, IsCircleSize, IsCircleFault}
 use Rattle.round_four.specs.Cylinders.{cylinder_of, AreCylinderSizes, IsCylinderFault}
-use Rattle.polyhedra.specs.Polyhedra.{mesh_of, IsPolyhedron, IsFaultOf, checks, faults}
+use Rattle.primitives.specs.Polyhedra.{mesh_of, IsPolyhedron, IsFaultOf, checks, faults}
 use Rattle.scad_design.specs.Designs.{DesignTree}
 use Rattle.scad_meaning.specs.declared.extrusion.Extrusion.{Extrusion}
 use Rattle.scad_meaning.specs.Hulls.{HasHull, IsHullFault}
@@ -75,5 +75,5 @@ outline_of unit (polygon_call points) = polygon_of unit points
 outline_of unit (circle_call radius) = circle_of unit radius
 
 -- the extrusion of a flat shape, in grid steps
-abbrev pub extruded : LengthUnit → Extrusion → FlatCall → Mesh
-extruded unit through call = extrusion_of unit through.center (outline_of unit call) through.height
+abbrev pub extrusion_mesh : LengthUnit → Extrusion → FlatCall → Mesh
+extrusion_mesh unit through call = extrusion_of unit through.center (outline_of unit call) through.height

@@ -1,4 +1,7 @@
-//! What a program means: definitions, with laws and worked rows.
+//! What a program means: the definitions, with laws and worked rows.
+//!
+//! Read `Sources.IsMeaning` first: it says which tree a program means, or which fault comes first. It stands on
+//! `Meaning.design_of`, and that on `Meaning.core_design` of each instance.
 #![tactic(auto)]
 
 mod extrusion;

@@ -3,8 +3,8 @@ use Rattle.std.proofs.Common.{◌≡◌, ℕ, ℤ, List, [], ◌∷◌, length, 
 use Rattle.scad_value.specs.declared.value.Value.{Value}
 use Rattle.scad_value.specs.Values.{Val, vals_from}
 use Rattle.scad_value.specs.View.{vals_in}
-use Rattle.scad_slots.specs.Reading.{each_in}
-use Rattle.scad_slots.proofs.Lengths.{IsAsLong, as_long}
+use Rattle.scad_modules.specs.Reading.{each_in}
+use Rattle.scad_modules.proofs.Lengths.{IsAsLong, as_long}
 use Rattle.scad_modules.specs.Transforms.{three_rows_from}
 
 none_of_rows : (m : ℕ) (xs : Option (List (List ℤ))) → IsAsLong m xs → (m ≡ 3 → ⊥) → (m ≡ 4 → ⊥)

@@ -5,12 +5,12 @@ use Rattle.text_place.specs.declared.fault.FaultKind.TheVariants.{BadArgument, T
 use Rattle.csg_tree.specs.declared.op.Op.TheVariants as ops
 use Rattle.plane_predicate.specs.declared.unit.Unit.TheVariants.{Whole, Half}
 use Rattle.plane_predicate.specs.Space.{point_at}
-use Rattle.int_transform.specs.Maps.{identity, moving, scaling, mirroring, quarter_turn, affine_of}
+use Rattle.int_transform.specs.Maps.{identity, translation, scale_map, reflection, quarter_turn, affine_of}
 use Rattle.scad_value.specs.Values.{Val, NumberVal, TruthVal, TextVal, ListVal, RangeVal, UndefVal, vals_from}
 use Rattle.scad_value.specs.Operators.{Answer}
 use Rattle.scad_modules.specs.declared.table.BuiltinModule.{BuiltinModule}
 use Rattle.scad_modules.specs.declared.table.BuiltinModule.TheVariants.{Cube, Polyhedron, Cylinder, Square, Polygon, Circle, LinearExtrude, Translate, Rotate, Mirror, Scale, Multmatrix, Union, Hull, Color, Echo, Assert, Children}
-use Rattle.scad_modules.specs.Effects.{EffectCall, a_solid, a_flat, a_move, a_join, a_hull, an_extrusion, silence, some_children, cube_call, polyhedron_call, cylinder_call, square_call, polygon_call, circle_call, all_children, numbered_children, ranged_children}
+use Rattle.scad_modules.specs.Effects.{EffectCall, a_solid, a_flat, a_move, a_join, a_hull, an_extrusion, no_geometry, some_children, cube_call, polyhedron_call, cylinder_call, square_call, polygon_call, circle_call, all_children, numbered_children, ranged_children}
 use Rattle.scad_modules.specs.Table.{module_named, is_left_out_module}
 use Rattle.scad_modules.specs.Calls.{effect_of}
 
@@ -34,9 +34,9 @@ abbrev inside : BuiltinModule → List (Option Val) → Answer EffectCall
 inside = effect_of Whole true (given 4)
 
 -- rotate([90,0,90]), rotate(90), rotate([0,0,-90]), rotate(45), rotate([360,0,0]) inside an extrusion
-turned : outside Rotate (Some (vector (pos 90 ∷ pos 0 ∷ pos 90 ∷ [])) ∷ None ∷ [])
+quarter_turns_about : outside Rotate (Some (vector (pos 90 ∷ pos 0 ∷ pos 90 ∷ [])) ∷ None ∷ [])
     ≡ Ok (a_move (quarter_turn 0 ∷ identity ∷ quarter_turn 2 ∷ []))
-turned = refl
+quarter_turns_about = refl
 
 turned_about_z : inside Rotate (given 90 ∷ None ∷ []) ≡ Ok (a_move (identity ∷ identity ∷ quarter_turn 2 ∷ []))
 turned_about_z = refl
@@ -63,7 +63,7 @@ turned_by_nothing = refl
 
 -- translate([1,-2]), translate([1,2,3]) inside an extrusion, translate(5), translate([2^52,0,1]) with half units
 moved : inside Translate (Some (vector (pos 1 ∷ negsuc 1 ∷ [])) ∷ [])
-    ≡ Ok (a_move (moving (point_at (pos 1 ∷ negsuc 1 ∷ pos 0 ∷ [])) ∷ []))
+    ≡ Ok (a_move (translation (point_at (pos 1 ∷ negsuc 1 ∷ pos 0 ∷ [])) ∷ []))
 moved = refl
 
 moved_up : inside Translate (Some (vector (pos 1 ∷ pos 2 ∷ pos 3 ∷ [])) ∷ []) ≡ Err WrongDimension
@@ -81,15 +81,15 @@ moved_far_inside : effect_of Half true None Translate (Some (vector (pos 4503599
 moved_far_inside = refl
 
 moved_halves : effect_of Half false None Translate (Some (vector (pos 1 ∷ pos 0 ∷ pos 3 ∷ [])) ∷ [])
-    ≡ Ok (a_move (moving (point_at (pos 2 ∷ pos 0 ∷ pos 6 ∷ [])) ∷ []))
+    ≡ Ok (a_move (translation (point_at (pos 2 ∷ pos 0 ∷ pos 6 ∷ [])) ∷ []))
 moved_halves = refl
 
 -- scale([2,1]), scale(2) inside an extrusion, scale([1,0,1]), scale([1,1,0]) inside an extrusion
 scaled : outside Scale (Some (vector (pos 2 ∷ pos 1 ∷ [])) ∷ [])
-    ≡ Ok (a_move (scaling (point_at (pos 2 ∷ pos 1 ∷ pos 1 ∷ [])) ∷ []))
+    ≡ Ok (a_move (scale_map (point_at (pos 2 ∷ pos 1 ∷ pos 1 ∷ [])) ∷ []))
 scaled = refl
 
-scaled_inside : inside Scale (given 2 ∷ []) ≡ Ok (a_move (scaling (point_at (pos 2 ∷ pos 2 ∷ pos 1 ∷ [])) ∷ []))
+scaled_inside : inside Scale (given 2 ∷ []) ≡ Ok (a_move (scale_map (point_at (pos 2 ∷ pos 2 ∷ pos 1 ∷ [])) ∷ []))
 scaled_inside = refl
 
 scaled_flat : outside Scale (Some (vector (pos 1 ∷ pos 0 ∷ pos 1 ∷ [])) ∷ []) ≡ Err Singular
@@ -99,7 +99,7 @@ scaled_flat_inside : inside Scale (Some (vector (pos 1 ∷ pos 1 ∷ pos 0 ∷ [
 scaled_flat_inside = refl
 
 -- mirror([0,5]), mirror([1,1,0]), mirror([0,0,0]), mirror([0,0,-2]) inside an extrusion
-mirrored : inside Mirror (Some (vector (pos 0 ∷ pos 5 ∷ [])) ∷ []) ≡ Ok (a_move (mirroring 1 ∷ []))
+mirrored : inside Mirror (Some (vector (pos 0 ∷ pos 5 ∷ [])) ∷ []) ≡ Ok (a_move (reflection 1 ∷ []))
 mirrored = refl
 
 mirrored_along_two : outside Mirror (Some (vector (pos 1 ∷ pos 1 ∷ pos 0 ∷ [])) ∷ []) ≡ Err NotInProfile
@@ -268,7 +268,7 @@ hulled_inside = refl
 colored : inside Color (Some (TextVal (codes "red")) ∷ None ∷ []) ≡ Ok (a_join ops.Union)
 colored = refl
 
-echoed : outside Echo [] ≡ Ok silence
+echoed : outside Echo [] ≡ Ok no_geometry
 echoed = refl
 
 asserted_zero : outside Assert (given 0 ∷ None ∷ []) ≡ Err AssertFailed
@@ -277,7 +277,7 @@ asserted_zero = refl
 asserted_nothing : outside Assert (None ∷ Some UndefVal ∷ []) ≡ Err BadArgument
 asserted_nothing = refl
 
-asserted_true : outside Assert (Some (TruthVal true) ∷ Some (TextVal []) ∷ []) ≡ Ok silence
+asserted_true : outside Assert (Some (TruthVal true) ∷ Some (TextVal []) ∷ []) ≡ Ok no_geometry
 asserted_true = refl
 
 -- children(), children(2), children([1,0]), children([0:1:2]), children(undef)

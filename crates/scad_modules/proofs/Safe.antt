@@ -10,11 +10,11 @@ use Rattle.primitives.specs.Sizes.{IsSafe}
 use Rattle.scad_value.specs.declared.bounded_value.BoundedValue.{BoundedValue}
 use Rattle.scad_value.specs.BoundedView.{bounded_val}
 use Rattle.scad_value.specs.Values.{Val, NumberVal, ListVal, RangeVal, Vals, no_vals, and_val, is_small, has_small_numbers, have_small_numbers}
-use Rattle.scad_slots.specs.Reading.{slot, number_in, with_first, each_in, of_length, sides_in, filled_from, factors_in, or_default}
-use Rattle.scad_slots.specs.View.{slots_in, Reads}
+use Rattle.scad_modules.specs.Reading.{bound_argument, number_in, with_first, each_in, of_length, sides_in, with_third_from, factors_in, or_default}
+use Rattle.scad_modules.specs.ArgumentView.{bound_arguments_in, Reads}
 use Rattle.scad_modules.specs.Bounds.{IsSafeChoice}
 use Rattle.scad_modules.specs.Effects.{ChosenCall, all_children, numbered_children}
-use Rattle.scad_modules.specs.Transforms.{part, factors_for}
+use Rattle.scad_modules.specs.Transforms.{component, factors_for}
 use Rattle.scad_modules.specs.Calls.{chosen_in}
 
 -- what was read has a property
@@ -35,11 +35,11 @@ safe_number n h = record { size = omega (arith, ltb-true (unsigned_abs n) (2 ^ 5
 small_val : (v : BoundedValue) → IsSmallVal (bounded_val v)
 small_val v = (and_parts _ _ v.bounded).0
 
-slot_small : (slots : List (Option BoundedValue)) (k : ℕ) → OnRead IsSmallVal (slot (slots_in slots) k)
+slot_small : (bound : List (Option BoundedValue)) (k : ℕ) → OnRead IsSmallVal (bound_argument (bound_arguments_in bound) k)
 slot_small [] k = tt
-slot_small (None ∷ slots) zero = tt
-slot_small (Some v ∷ slots) zero = small_val v
-slot_small (given ∷ slots) (suc k) = slot_small slots k
+slot_small (None ∷ bound) zero = tt
+slot_small (Some v ∷ bound) zero = small_val v
+slot_small (given ∷ bound) (suc k) = slot_small bound k
 
 -- numbers and lists of numbers
 number_safe : (v : Val) → IsSmallVal v → OnRead IsSafe (number_in v)
@@ -74,13 +74,13 @@ sides_safe n (NumberVal side) s = copies_safe n side (safe_number side s)
 sides_safe n (ListVal items) s = length_safe n (each_in number_in items) (each_safe items s)
 sides_safe n v s = tt
 
-part_safe : (by : List ℤ) (k : ℕ) → All IsSafe by → unsigned_abs (part by k) ≤ 9007199254740991
+part_safe : (by : List ℤ) (k : ℕ) → All IsSafe by → unsigned_abs (component by k) ≤ 9007199254740991
 part_safe [] k p = omega arith
 part_safe (x ∷ xs) zero p = (p 0 x (omega arith)).size
 part_safe (x ∷ xs) (suc k) p = part_safe xs k (λ j d h. p (suc j) d (omega arith))
 
 filled_safe : (third : ℤ) (xs : Option (List ℤ)) → IsSafe third → OnRead AreSafe xs
-    → OnRead AreSafe (filled_from third xs)
+    → OnRead AreSafe (with_third_from third xs)
 filled_safe third None t p = tt
 filled_safe third (Some []) t p = tt
 filled_safe third (Some (x ∷ [])) t p = tt
@@ -113,22 +113,22 @@ default_safe : {A : Type 0} (P : A → Type 0) (default : A) (read : Val → Opt
 default_safe P default read None p h s = p
 default_safe P default read (Some v) p h s = h v s
 
-pub number_or_safe : (slots : List (Option BoundedValue)) (k : ℕ) (default : ℤ) → IsSafe default
-    → OnRead IsSafe (or_default default number_in (slot (slots_in slots) k))
-number_or_safe slots k default p =
-    default_safe IsSafe default number_in (slot (slots_in slots) k) p number_safe (slot_small slots k)
+pub number_or_safe : (bound : List (Option BoundedValue)) (k : ℕ) (default : ℤ) → IsSafe default
+    → OnRead IsSafe (or_default default number_in (bound_argument (bound_arguments_in bound) k))
+number_or_safe bound k default p =
+    default_safe IsSafe default number_in (bound_argument (bound_arguments_in bound) k) p number_safe (slot_small bound k)
 
-pub three_safe : (slots : List (Option BoundedValue))
-    → OnRead AreSafe (or_default (pos 1 ∷ pos 1 ∷ pos 1 ∷ []) (sides_in 3) (slot (slots_in slots) 0))
-three_safe slots =
-    default_safe AreSafe (pos 1 ∷ pos 1 ∷ pos 1 ∷ []) (sides_in 3) (slot (slots_in slots) 0) (copies_safe 3 (pos 1) one_safe)
-    (sides_safe 3) (slot_small slots 0)
+pub three_safe : (bound : List (Option BoundedValue))
+    → OnRead AreSafe (or_default (pos 1 ∷ pos 1 ∷ pos 1 ∷ []) (sides_in 3) (bound_argument (bound_arguments_in bound) 0))
+three_safe bound =
+    default_safe AreSafe (pos 1 ∷ pos 1 ∷ pos 1 ∷ []) (sides_in 3) (bound_argument (bound_arguments_in bound) 0) (copies_safe 3 (pos 1) one_safe)
+    (sides_safe 3) (slot_small bound 0)
 
-pub two_safe : (slots : List (Option BoundedValue))
-    → OnRead AreSafe (or_default (pos 1 ∷ pos 1 ∷ []) (sides_in 2) (slot (slots_in slots) 0))
-two_safe slots =
-    default_safe AreSafe (pos 1 ∷ pos 1 ∷ []) (sides_in 2) (slot (slots_in slots) 0) (copies_safe 2 (pos 1) one_safe)
-    (sides_safe 2) (slot_small slots 0)
+pub two_safe : (bound : List (Option BoundedValue))
+    → OnRead AreSafe (or_default (pos 1 ∷ pos 1 ∷ []) (sides_in 2) (bound_argument (bound_arguments_in bound) 0))
+two_safe bound =
+    default_safe AreSafe (pos 1 ∷ pos 1 ∷ []) (sides_in 2) (bound_argument (bound_arguments_in bound) 0) (copies_safe 2 (pos 1) one_safe)
+    (sides_safe 2) (slot_small bound 0)
 
 chosen_safe : (v : Val) → IsSmallVal v → OnRead IsSafeChoice (chosen_in v)
 chosen_safe (NumberVal n) s = All-cons IsSafe n [] (safe_number n s) (All-nil IsSafe)
@@ -141,11 +141,11 @@ chosen_safe (ListVal items) s = some_numbered (each_in number_in items) (each_sa
     some_numbered (Some ns) p = p
 chosen_safe v s = tt
 
-pub choice_safe : (slots : List (Option BoundedValue)) (choice : ChosenCall)
-    → or_default all_children chosen_in (slot (slots_in slots) 0) ≡ Some choice → IsSafeChoice choice
-choice_safe slots choice e =
+pub choice_safe : (bound : List (Option BoundedValue)) (choice : ChosenCall)
+    → or_default all_children chosen_in (bound_argument (bound_arguments_in bound) 0) ≡ Some choice → IsSafeChoice choice
+choice_safe bound choice e =
     subst (OnRead IsSafeChoice) e
-    (default_safe IsSafeChoice all_children chosen_in (slot (slots_in slots) 0) tt chosen_safe (slot_small slots 0))
+    (default_safe IsSafeChoice all_children chosen_in (bound_argument (bound_arguments_in bound) 0) tt chosen_safe (slot_small bound 0))
 
 -- what the code has read
 pub reads_safe : {A : Type 0} (P : A → Type 0) (r : Result A FaultKind) (read : Option A) → Reads r read

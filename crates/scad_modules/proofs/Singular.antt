@@ -3,7 +3,7 @@ use Rattle.std.proofs.Common.{◌≡◌, ℤ, pos, Bool, true, false, not, List,
 use Rattle.std.specs.Prelude.{is_some, IsNone, ◌↔◌}
 use Rattle.std.proofs.lemmas.Bool.Decides.{Decides-int_eq}
 use Rattle.int_transform.specs.Maps.{affine_of, determinant_of}
-use Rattle.scad_modules.specs.Transforms.{part, row_at, is_zero}
+use Rattle.scad_modules.specs.Transforms.{component, row_at, is_zero}
 
 not_zero : (d : ℤ) → (d ≡ pos 0 → ⊥) → false ≡ is_zero d
 not_zero d h = by_test (is_zero d) refl
@@ -19,7 +19,7 @@ by_answer (Some x) true d e h = cc
 by_answer (Some x) false d e h = not_zero d (λ z. let t : true ≡ false = h.1 z in cc)
 
 abbrev linear_part : List ℤ → List ℤ
-linear_part row = part row 0 ∷ part row 1 ∷ part row 2 ∷ pos 0 ∷ []
+linear_part row = component row 0 ∷ component row 1 ∷ component row 2 ∷ pos 0 ∷ []
 
 same_determinant : (rows : List (List ℤ)) (x y z : List ℤ) → x ≡ linear_part (row_at rows 0) → y ≡ linear_part (row_at rows 1)
     → z ≡ linear_part (row_at rows 2) → determinant_of (affine_of (x ∷ y ∷ z ∷ [])) ≡ determinant_of (affine_of rows)

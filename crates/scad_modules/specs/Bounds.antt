@@ -1,7 +1,7 @@
 -- Numbers of at most 2^53 - 1 in size in a call's effect.
 use Rattle.std.specs.Prelude.{All}
 use Rattle.primitives.specs.Sizes.{IsSafe}
-use Rattle.scad_modules.specs.Effects.{SolidCall, cube_call, polyhedron_call, cylinder_call, FlatCall, square_call, polygon_call, circle_call, ChosenCall, all_children, numbered_children, ranged_children, EffectCall, a_solid, a_flat, a_move, a_join, a_hull, an_extrusion, silence, some_children}
+use Rattle.scad_modules.specs.Effects.{SolidCall, cube_call, polyhedron_call, cylinder_call, FlatCall, square_call, polygon_call, circle_call, ChosenCall, all_children, numbered_children, ranged_children, EffectCall, a_solid, a_flat, a_move, a_join, a_hull, an_extrusion, no_geometry, some_children}
 
 -- what the calls of solid shapes want of sizes; they test points themselves
 abbrev pub IsSafeSolid : SolidCall → Type 0
@@ -29,5 +29,5 @@ IsSafeCall (a_move steps) = Unit {0}
 IsSafeCall (a_join op) = Unit {0}
 IsSafeCall a_hull = Unit {0}
 IsSafeCall (an_extrusion center height) = IsSafe height
-IsSafeCall silence = Unit {0}
+IsSafeCall no_geometry = Unit {0}
 IsSafeCall (some_children chosen) = IsSafeChoice chosen

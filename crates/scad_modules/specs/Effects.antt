@@ -30,5 +30,5 @@ pub data EffectCall : Type 0 where
   a_join : (op : Op) → EffectCall
   a_hull : EffectCall
   an_extrusion : (center : Bool) → (height : ℤ) → EffectCall
-  silence : EffectCall
+  no_geometry : EffectCall
   some_children : (chosen : ChosenCall) → EffectCall

@@ -5,3 +5,5 @@ pub mod Shapes
 pub mod Table
 pub mod Transforms
 pub mod View
+pub mod Reading
+pub mod ArgumentView

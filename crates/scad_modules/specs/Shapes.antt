@@ -5,40 +5,40 @@ use Rattle.std.specs.Ordering.{int_eq}
 use Rattle.text_place.specs.declared.fault.FaultKind.TheVariants.{BadArgument, NotInProfile, WrongDimension}
 use Rattle.scad_value.specs.Values.{Val}
 use Rattle.scad_value.specs.Operators.{Answer}
-use Rattle.scad_slots.specs.Reading.{Slots, slot, number_in, truth_in, sides_in, points_in, faces_in, or_default, required, left_out, of_type, refused_where}
+use Rattle.scad_modules.specs.Reading.{BoundArguments, bound_argument, number_in, truth_in, sides_in, points_in, faces_in, or_default, required_argument, unless_left_out, of_type, refused_where}
 use Rattle.scad_modules.specs.Effects.{EffectCall, a_solid, a_flat, an_extrusion, cube_call, polyhedron_call, cylinder_call, square_call, polygon_call, circle_call}
 
 -- cube(size = [1, 1, 1], center = false)
-abbrev pub cube_effect : Bool → Slots → Answer EffectCall
-cube_effect inside slots =
-    of_type (or_default (pos 1 ∷ pos 1 ∷ pos 1 ∷ []) (sides_in 3) (slot slots 0)) (λ size.
-    of_type (or_default false truth_in (slot slots 1)) (λ center.
+abbrev pub cube_effect : Bool → BoundArguments → Answer EffectCall
+cube_effect inside bound =
+    of_type (or_default (pos 1 ∷ pos 1 ∷ pos 1 ∷ []) (sides_in 3) (bound_argument bound 0)) (λ size.
+    of_type (or_default false truth_in (bound_argument bound 1)) (λ center.
     refused_where inside WrongDimension
     (Ok (a_solid (cube_call center size)))))
 
 -- polyhedron(points, faces)
-abbrev pub polyhedron_effect : Bool → Slots → Answer EffectCall
-polyhedron_effect inside slots =
-    required (slot slots 0) (λ v.
-    required (slot slots 1) (λ w.
+abbrev pub polyhedron_effect : Bool → BoundArguments → Answer EffectCall
+polyhedron_effect inside bound =
+    required_argument (bound_argument bound 0) (λ v.
+    required_argument (bound_argument bound 1) (λ w.
     of_type (points_in 3 v) (λ points.
     of_type (faces_in w) (λ faces.
     refused_where inside WrongDimension
     (Ok (a_solid (polyhedron_call points faces)))))))
 
 -- square(size = [1, 1], center = false)
-abbrev pub square_effect : Bool → Slots → Answer EffectCall
-square_effect inside slots =
-    of_type (or_default (pos 1 ∷ pos 1 ∷ []) (sides_in 2) (slot slots 0)) (λ size.
-    of_type (or_default false truth_in (slot slots 1)) (λ center.
+abbrev pub square_effect : Bool → BoundArguments → Answer EffectCall
+square_effect inside bound =
+    of_type (or_default (pos 1 ∷ pos 1 ∷ []) (sides_in 2) (bound_argument bound 0)) (λ size.
+    of_type (or_default false truth_in (bound_argument bound 1)) (λ center.
     refused_where (not inside) WrongDimension
     (Ok (a_flat (square_call center size)))))
 
 -- polygon(points), without paths
-abbrev pub polygon_effect : Bool → Slots → Answer EffectCall
-polygon_effect inside slots =
-    required (slot slots 0) (λ v.
-    left_out (slot slots 1)
+abbrev pub polygon_effect : Bool → BoundArguments → Answer EffectCall
+polygon_effect inside bound =
+    required_argument (bound_argument bound 0) (λ v.
+    unless_left_out (bound_argument bound 1)
     (of_type (points_in 2 v) (λ points.
     refused_where (not inside) WrongDimension
     (Ok (a_flat (polygon_call points))))))
@@ -54,38 +54,38 @@ with_four fragments next =
     of_type (fragments_in fragments) (λ n. refused_where (not (int_eq n (pos 4))) NotInProfile next)
 
 -- circle(r = 1), without d
-abbrev pub circle_effect : Bool → Option Val → Slots → Answer EffectCall
-circle_effect inside fragments slots =
-    left_out (slot slots 1)
-    (of_type (or_default (pos 1) number_in (slot slots 0)) (λ radius.
+abbrev pub circle_effect : Bool → Option Val → BoundArguments → Answer EffectCall
+circle_effect inside fragments bound =
+    unless_left_out (bound_argument bound 1)
+    (of_type (or_default (pos 1) number_in (bound_argument bound 0)) (λ radius.
     refused_where (not inside) WrongDimension
     (with_four fragments
     (Ok (a_flat (circle_call radius))))))
 
 -- cylinder(h = 1, r1, r2, center = false, r), without d, d1 and d2; a missing r1 or r2 is r, or 1 where r is missing too
-abbrev pub cylinder_effect : Bool → Option Val → Slots → Answer EffectCall
-cylinder_effect inside fragments slots =
-    left_out (slot slots 5)
-    (left_out (slot slots 6)
-    (left_out (slot slots 7)
-    (refused_where (is_some (slot slots 4) && (is_some (slot slots 1) || is_some (slot slots 2))) BadArgument
-    (of_type (or_default (pos 1) number_in (slot slots 0)) (λ height.
-    of_type (or_default (pos 1) number_in (slot slots 4)) (λ radius.
-    of_type (or_default radius number_in (slot slots 1)) (λ low.
-    of_type (or_default radius number_in (slot slots 2)) (λ high.
-    of_type (or_default false truth_in (slot slots 3)) (λ center.
+abbrev pub cylinder_effect : Bool → Option Val → BoundArguments → Answer EffectCall
+cylinder_effect inside fragments bound =
+    unless_left_out (bound_argument bound 5)
+    (unless_left_out (bound_argument bound 6)
+    (unless_left_out (bound_argument bound 7)
+    (refused_where (is_some (bound_argument bound 4) && (is_some (bound_argument bound 1) || is_some (bound_argument bound 2))) BadArgument
+    (of_type (or_default (pos 1) number_in (bound_argument bound 0)) (λ height.
+    of_type (or_default (pos 1) number_in (bound_argument bound 4)) (λ radius.
+    of_type (or_default radius number_in (bound_argument bound 1)) (λ low.
+    of_type (or_default radius number_in (bound_argument bound 2)) (λ high.
+    of_type (or_default false truth_in (bound_argument bound 3)) (λ center.
     refused_where inside WrongDimension
     (with_four fragments
     (Ok (a_solid (cylinder_call center height low high)))))))))))))
 
 -- linear_extrude(height, center = false), without twist, scale and slices
-abbrev pub extrude_effect : Bool → Slots → Answer EffectCall
-extrude_effect inside slots =
-    required (slot slots 0) (λ v.
-    left_out (slot slots 3)
-    (left_out (slot slots 4)
-    (left_out (slot slots 5)
+abbrev pub extrude_effect : Bool → BoundArguments → Answer EffectCall
+extrude_effect inside bound =
+    required_argument (bound_argument bound 0) (λ v.
+    unless_left_out (bound_argument bound 3)
+    (unless_left_out (bound_argument bound 4)
+    (unless_left_out (bound_argument bound 5)
     (of_type (number_in v) (λ height.
-    of_type (or_default false truth_in (slot slots 1)) (λ center.
+    of_type (or_default false truth_in (bound_argument bound 1)) (λ center.
     refused_where inside WrongDimension
     (Ok (an_extrusion center height))))))))

@@ -6,15 +6,15 @@ use Rattle.plane_predicate.specs.declared.unit.Unit.{Unit as LengthUnit}
 use Rattle.plane_predicate.specs.Units.{steps_of}
 use Rattle.plane_predicate.specs.Space.{point_at}
 use Rattle.int_transform.specs.declared.affine.Affine.{Affine}
-use Rattle.int_transform.specs.Maps.{moving, scaling, mirroring, quarter_turn, repeated, affine_of, determinant_of}
+use Rattle.int_transform.specs.Maps.{translation, scale_map, reflection, quarter_turn, power_of, affine_of, determinant_of}
 use Rattle.scad_value.specs.Values.{Val, is_small}
 use Rattle.scad_value.specs.Operators.{Answer}
-use Rattle.scad_slots.specs.Reading.{Slots, slot, coordinates_in, angles_in, factors_in, points_in, required, left_out, of_type, refused_where}
+use Rattle.scad_modules.specs.Reading.{BoundArguments, bound_argument, coordinates_in, angles_in, factors_in, points_in, required_argument, unless_left_out, of_type, refused_where}
 use Rattle.scad_modules.specs.Effects.{EffectCall, a_move}
 
 -- a number of a vector or a row, by its place from 0
-abbrev pub part : List ℤ → ℕ → ℤ
-part numbers place = get_or numbers place (pos 0)
+abbrev pub component : List ℤ → ℕ → ℤ
+component numbers place = get_or numbers place (pos 0)
 
 -- whether a number is 0
 abbrev pub is_zero : ℤ → Bool
@@ -30,24 +30,24 @@ in_steps unit length = steps_of unit *ℤ length
 
 -- a vector in units, in grid steps
 abbrev pub on_grid : LengthUnit → List ℤ → List ℤ
-on_grid unit by = in_steps unit (part by 0) ∷ in_steps unit (part by 1) ∷ in_steps unit (part by 2) ∷ []
+on_grid unit by = in_steps unit (component by 0) ∷ in_steps unit (component by 1) ∷ in_steps unit (component by 2) ∷ []
 
 -- something is so of one of three numbers
-abbrev pub some_part : (ℤ → Bool) → List ℤ → Bool
-some_part test by = test (part by 0) || (test (part by 1) || test (part by 2))
+abbrev pub some_component : (ℤ → Bool) → List ℤ → Bool
+some_component test by = test (component by 0) || (test (component by 1) || test (component by 2))
 
 -- inside an extrusion, a vector that leaves the plane
 abbrev pub leaves_plane : Bool → List ℤ → Bool
-leaves_plane inside by = inside && not (is_zero (part by 2))
+leaves_plane inside by = inside && not (is_zero (component by 2))
 
 -- translate(v): 2 or 3 numbers
-abbrev pub translate_call : LengthUnit → Bool → Slots → Answer EffectCall
-translate_call unit inside slots =
-    required (slot slots 0) (λ v.
+abbrev pub translate_call : LengthUnit → Bool → BoundArguments → Answer EffectCall
+translate_call unit inside bound =
+    required_argument (bound_argument bound 0) (λ v.
     of_type (coordinates_in (pos 0) v) (λ by.
     refused_where (leaves_plane inside by) WrongDimension
-    (refused_where (some_part is_past (on_grid unit by)) TooLarge
-    (Ok (a_move (moving (point_at (on_grid unit by)) ∷ []))))))
+    (refused_where (some_component is_past (on_grid unit by)) TooLarge
+    (Ok (a_move (translation (point_at (on_grid unit by)) ∷ []))))))
 
 -- an angle that is no number of quarter turns
 abbrev pub is_skew : ℤ → Bool
@@ -59,27 +59,27 @@ quarters_of angle =
     let quarters = (unsigned_abs angle / 90) % 4 in
     if int_lt angle (pos 0) then (4 - quarters) % 4 else quarters
 
--- the turn about an axis by an angle
-abbrev pub turned : ℕ → ℤ → Affine
-turned axis angle = repeated (quarter_turn axis) (quarters_of angle)
+-- the rotation about an axis by so many quarter turns as an angle is
+abbrev pub quarter_turns_about : ℕ → ℤ → Affine
+quarter_turns_about axis angle = power_of (quarter_turn axis) (quarters_of angle)
 
--- inside an extrusion, turns about x or y
+-- inside an extrusion, a rotation about x or y
 abbrev pub tilts_plane : Bool → List ℤ → Bool
-tilts_plane inside angles = inside && not (is_zero (part angles 0) && is_zero (part angles 1))
+tilts_plane inside angles = inside && not (is_zero (component angles 0) && is_zero (component angles 1))
 
--- the turns about x, y and z, the first done first
-abbrev pub turns_of : List ℤ → List Affine
-turns_of angles = turned 0 (part angles 0) ∷ turned 1 (part angles 1) ∷ turned 2 (part angles 2) ∷ []
+-- the rotations about x, y and z, the first done first
+abbrev pub quarter_turns : List ℤ → List Affine
+quarter_turns angles = quarter_turns_about 0 (component angles 0) ∷ quarter_turns_about 1 (component angles 1) ∷ quarter_turns_about 2 (component angles 2) ∷ []
 
 -- rotate(a): about x, then y, then z
-abbrev pub rotate_call : Bool → Slots → Answer EffectCall
-rotate_call inside slots =
-    required (slot slots 0) (λ v.
-    left_out (slot slots 1)
+abbrev pub rotate_call : Bool → BoundArguments → Answer EffectCall
+rotate_call inside bound =
+    required_argument (bound_argument bound 0) (λ v.
+    unless_left_out (bound_argument bound 1)
     (of_type (angles_in v) (λ angles.
-    refused_where (some_part is_skew angles) NotQuarter
+    refused_where (some_component is_skew angles) NotQuarter
     (refused_where (tilts_plane inside angles) WrongDimension
-    (Ok (a_move (turns_of angles)))))))
+    (Ok (a_move (quarter_turns angles)))))))
 
 -- a number that isn't 0, beside two that are
 abbrev pub is_alone : ℤ → ℤ → ℤ → Bool
@@ -88,40 +88,40 @@ is_alone n m k = not (is_zero n) && (is_zero m && is_zero k)
 -- the one axis along which a vector goes
 abbrev pub axis_of : List ℤ → Option ℕ
 axis_of by =
-    if is_alone (part by 0) (part by 1) (part by 2) then Some 0
-    else (if is_alone (part by 1) (part by 0) (part by 2) then Some 1
-    else (if is_alone (part by 2) (part by 0) (part by 1) then Some 2 else None))
+    if is_alone (component by 0) (component by 1) (component by 2) then Some 0
+    else (if is_alone (component by 1) (component by 0) (component by 2) then Some 1
+    else (if is_alone (component by 2) (component by 0) (component by 1) then Some 2 else None))
 
 -- goes on with the axis, or leaves out a vector that has none
-abbrev pub along : Option ℕ → (ℕ → Answer EffectCall) → Answer EffectCall
-along None go = Err NotInProfile
-along (Some axis) go = go axis
+abbrev pub for_axis : Option ℕ → (ℕ → Answer EffectCall) → Answer EffectCall
+for_axis None go = Err NotInProfile
+for_axis (Some axis) go = go axis
 
 -- mirror(v): 2 or 3 numbers, of which exactly one isn't 0
-abbrev pub mirror_call : Bool → Slots → Answer EffectCall
-mirror_call inside slots =
-    required (slot slots 0) (λ v.
+abbrev pub mirror_call : Bool → BoundArguments → Answer EffectCall
+mirror_call inside bound =
+    required_argument (bound_argument bound 0) (λ v.
     of_type (coordinates_in (pos 0) v) (λ by.
-    along (axis_of by) (λ axis.
+    for_axis (axis_of by) (λ axis.
     refused_where (inside && nat_eq axis 2) WrongDimension
-    (Ok (a_move (mirroring axis ∷ []))))))
+    (Ok (a_move (reflection axis ∷ []))))))
 
 -- inside an extrusion a scaling has no effect along z
 abbrev pub factors_for : Bool → List ℤ → List ℤ
-factors_for inside by = if inside then part by 0 ∷ part by 1 ∷ pos 1 ∷ [] else by
+factors_for inside by = if inside then component by 0 ∷ component by 1 ∷ pos 1 ∷ [] else by
 
 -- scale(v)
-abbrev pub scale_call : Bool → Slots → Answer EffectCall
-scale_call inside slots =
-    required (slot slots 0) (λ v.
+abbrev pub scale_call : Bool → BoundArguments → Answer EffectCall
+scale_call inside bound =
+    required_argument (bound_argument bound 0) (λ v.
     of_type (factors_in v) (λ by.
-    refused_where (some_part is_zero by) Singular
-    (Ok (a_move (scaling (point_at (factors_for inside by)) ∷ [])))))
+    refused_where (some_component is_zero by) Singular
+    (Ok (a_move (scale_map (point_at (factors_for inside by)) ∷ [])))))
 
 -- whether a row of 4 numbers is 0 0 0 1
 abbrev pub is_last_row : List ℤ → Bool
 is_last_row row =
-    is_zero (part row 0) && (is_zero (part row 1) && (is_zero (part row 2) && int_eq (part row 3) (pos 1)))
+    is_zero (component row 0) && (is_zero (component row 1) && (is_zero (component row 2) && int_eq (component row 3) (pos 1)))
 
 -- three rows, or four of which the last is that of the identity
 abbrev pub three_rows : List (List ℤ) → Option (List (List ℤ))
@@ -158,8 +158,8 @@ is_past_matrix n = nat_lt most_linear (unsigned_abs n)
 abbrev pub keeps_plane : List (List ℤ) → Bool
 keeps_plane rows =
     let x = row_at rows 0 in let y = row_at rows 1 in let z = row_at rows 2 in
-    is_zero (part x 2) && (is_zero (part y 2) && (is_zero (part z 0) && (is_zero (part z 1)
-    && (int_eq (part z 2) (pos 1) && is_zero (part z 3)))))
+    is_zero (component x 2) && (is_zero (component y 2) && (is_zero (component z 0) && (is_zero (component z 1)
+    && (int_eq (component z 2) (pos 1) && is_zero (component z 3)))))
 
 -- inside an extrusion, a matrix that leaves the plane
 abbrev pub leaves_plane_by : Bool → List (List ℤ) → Bool
@@ -167,7 +167,7 @@ leaves_plane_by inside rows = inside && not (keeps_plane rows)
 
 -- a row with its move in grid steps
 abbrev pub row_on_grid : LengthUnit → List ℤ → List ℤ
-row_on_grid unit row = part row 0 ∷ part row 1 ∷ part row 2 ∷ in_steps unit (part row 3) ∷ []
+row_on_grid unit row = component row 0 ∷ component row 1 ∷ component row 2 ∷ in_steps unit (component row 3) ∷ []
 
 -- the rows with their moves in grid steps
 abbrev pub rows_on_grid : LengthUnit → List (List ℤ) → List (List ℤ)
@@ -176,14 +176,14 @@ rows_on_grid unit rows =
 
 -- whether the move of a row is past 2^53 - 1 grid steps
 abbrev pub moves_past : LengthUnit → List ℤ → Bool
-moves_past unit row = is_past (in_steps unit (part row 3))
+moves_past unit row = is_past (in_steps unit (component row 3))
 
 -- multmatrix(m)
-abbrev pub multmatrix_call : LengthUnit → Bool → Slots → Answer EffectCall
-multmatrix_call unit inside slots =
-    required (slot slots 0) (λ v.
+abbrev pub multmatrix_call : LengthUnit → Bool → BoundArguments → Answer EffectCall
+multmatrix_call unit inside bound =
+    required_argument (bound_argument bound 0) (λ v.
     of_type (matrix_rows v) (λ rows.
-    refused_where (some_row (some_part is_past_matrix) rows) TooLarge
+    refused_where (some_row (some_component is_past_matrix) rows) TooLarge
     (refused_where (is_zero (determinant_of (affine_of rows))) Singular
     (refused_where (leaves_plane_by inside rows) WrongDimension
     (refused_where (some_row (moves_past unit) rows) TooLarge

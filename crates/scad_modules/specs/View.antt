@@ -15,7 +15,7 @@ use Rattle.scad_modules.specs.declared.effects.Chosen.{Chosen}
 use Rattle.scad_modules.specs.declared.effects.Chosen.TheVariants.{All, Numbered, Range}
 use Rattle.scad_modules.specs.declared.effects.Effect.{Effect}
 use Rattle.scad_modules.specs.declared.effects.Effect.TheVariants.{Solid, Flat, Move, Join, Hull, Extrusion, Nothing, Children}
-use Rattle.scad_modules.specs.Effects.{SolidCall, cube_call, polyhedron_call, cylinder_call, FlatCall, square_call, polygon_call, circle_call, ChosenCall, all_children, numbered_children, ranged_children, EffectCall, a_solid, a_flat, a_move, a_join, a_hull, an_extrusion, silence, some_children}
+use Rattle.scad_modules.specs.Effects.{SolidCall, cube_call, polyhedron_call, cylinder_call, FlatCall, square_call, polygon_call, circle_call, ChosenCall, all_children, numbered_children, ranged_children, EffectCall, a_solid, a_flat, a_move, a_join, a_hull, an_extrusion, no_geometry, some_children}
 use Rattle.scad_modules.specs.Bounds.{IsSafeCall}
 
 -- the value of `$fn`
@@ -48,7 +48,7 @@ call_of (Move steps) = a_move steps.items
 call_of (Join op) = a_join op
 call_of Hull = a_hull
 call_of (Extrusion height center) = an_extrusion center height
-call_of Nothing = silence
+call_of Nothing = no_geometry
 call_of (Children chosen) = some_children (chosen_of chosen)
 
 -- what was given is the effect or the fault, unless memory ran out

@@ -2,8 +2,8 @@
 
 ghost use Rattle.std.specs.Prelude.{◌≡◌};
 ghost use Rattle.scad_value.specs.View.{val_of};
-ghost use Rattle.scad_slots.specs.Reading.{slot, or_default};
-ghost use Rattle.scad_slots.specs.View.{slots_in, ReadsAs};
+ghost use Rattle.scad_modules.specs.Reading.{bound_argument, or_default};
+ghost use Rattle.scad_modules.specs.ArgumentView.{bound_arguments_in, ReadsAs};
 ghost use Rattle.scad_modules.specs.Calls.{chosen_in, assert_effect, children_effect, effect_of, hull_effect};
 ghost use Rattle.scad_modules.specs.Effects.{all_children};
 ghost use Rattle.scad_modules.specs.View.{fragments_of, chosen_of, MeetsEffect, GivesSafe};
@@ -13,9 +13,9 @@ use crate::matrix::multmatrix;
 use crate::shapes::{circle, cube, cylinder, linear_extrude, polygon, polyhedron, square};
 use crate::table::BuiltinModule;
 use crate::transforms::{mirror, rotate, scale, translate};
+use crate::{bound_argument, numbers, required_argument};
 use csg_tree::Op;
 use plane_predicate::Unit;
-use scad_slots::{given, numbers, required};
 use scad_value::{BoundedValue, Value, ValueStop, truth};
 use std::alloc::Global;
 use text_place::FaultKind;
@@ -27,7 +27,7 @@ use text_place::FaultKind;
 /// own, as their calls say.
 ///
 /// `inside` says whether the call stands inside an extrusion, `fragments` is the value of `$fn`,
-/// and `slots` has a value or none for each of the module's parameters in order; a missing slot is
+/// and `slots` has a value or none for each of the module's parameters in order; a missing one is
 /// none. Numbers of sizes, radii and heights, and those by which children are chosen, are at most
 /// 2^53 - 1 in size.
 pub fn effect(
@@ -36,24 +36,25 @@ pub fn effect(
     inside: bool,
     fragments: Option<&Value>,
     called: BuiltinModule,
-    slots: &[Option<BoundedValue>],
+    bound: &[Option<BoundedValue>],
 ) -> Result<Effect, ValueStop>
-    ensures effect { MeetsEffect result (effect_of unit inside (fragments_of fragments.entry) called (slots_in slots.now)) }
+    ensures effect { MeetsEffect result (effect_of unit inside (fragments_of fragments.entry) called
+        (bound_arguments_in bound.now)) }
     ensures safe { GivesSafe result }
 {
     match called {
-        BuiltinModule::Cube => cube(inside, slots),
-        BuiltinModule::Polyhedron => polyhedron(alloc, inside, slots),
-        BuiltinModule::Cylinder => cylinder(inside, fragments, slots),
-        BuiltinModule::Square => square(inside, slots),
-        BuiltinModule::Polygon => polygon(alloc, inside, slots),
-        BuiltinModule::Circle => circle(inside, fragments, slots),
-        BuiltinModule::LinearExtrude => linear_extrude(inside, slots),
-        BuiltinModule::Translate => translate(alloc, unit, inside, slots),
-        BuiltinModule::Rotate => rotate(alloc, inside, slots),
-        BuiltinModule::Mirror => mirror(alloc, inside, slots),
-        BuiltinModule::Scale => scale(alloc, inside, slots),
-        BuiltinModule::Multmatrix => multmatrix(alloc, unit, inside, slots),
+        BuiltinModule::Cube => cube(inside, bound),
+        BuiltinModule::Polyhedron => polyhedron(alloc, inside, bound),
+        BuiltinModule::Cylinder => cylinder(inside, fragments, bound),
+        BuiltinModule::Square => square(inside, bound),
+        BuiltinModule::Polygon => polygon(alloc, inside, bound),
+        BuiltinModule::Circle => circle(inside, fragments, bound),
+        BuiltinModule::LinearExtrude => linear_extrude(inside, bound),
+        BuiltinModule::Translate => translate(alloc, unit, inside, bound),
+        BuiltinModule::Rotate => rotate(alloc, inside, bound),
+        BuiltinModule::Mirror => mirror(alloc, inside, bound),
+        BuiltinModule::Scale => scale(alloc, inside, bound),
+        BuiltinModule::Multmatrix => multmatrix(alloc, unit, inside, bound),
         BuiltinModule::Union | BuiltinModule::Color | BuiltinModule::Render => {
             Ok(Effect::Join(Op::Union))
         }
@@ -61,8 +62,8 @@ pub fn effect(
         BuiltinModule::Intersection => Ok(Effect::Join(Op::Intersection)),
         BuiltinModule::Hull => hull(inside),
         BuiltinModule::Echo => Ok(Effect::Nothing),
-        BuiltinModule::Assert => asserted(slots),
-        BuiltinModule::Children => children(alloc, slots),
+        BuiltinModule::Assert => asserted(bound),
+        BuiltinModule::Children => children(alloc, bound),
     }
 }
 
@@ -78,29 +79,29 @@ fn hull(inside: bool) -> Result<Effect, ValueStop>
 }
 
 // The effect of `assert`, or its first fault: BadArgument or AssertFailed.
-fn asserted(slots: &[Option<BoundedValue>]) -> Result<Effect, ValueStop>
-    ensures effect { MeetsEffect result (assert_effect (slots_in slots.now)) }
+fn asserted(bound: &[Option<BoundedValue>]) -> Result<Effect, ValueStop>
+    ensures effect { MeetsEffect result (assert_effect (bound_arguments_in bound.now)) }
     ensures safe { GivesSafe result }
 {
-    if !truth(&required(slots, 0)?.value) {
+    if !truth(&required_argument(bound, 0)?.value) {
         return Err(ValueStop::Kind(FaultKind::AssertFailed));
     }
     Ok(Effect::Nothing)
 }
 
 // The effect of `children`, or TypeMismatch.
-fn children(alloc: Global, slots: &[Option<BoundedValue>]) -> Result<Effect, ValueStop>
-    ensures effect { MeetsEffect result (children_effect (slots_in slots.now)) }
+fn children(alloc: Global, bound: &[Option<BoundedValue>]) -> Result<Effect, ValueStop>
+    ensures effect { MeetsEffect result (children_effect (bound_arguments_in bound.now)) }
     ensures safe { GivesSafe result }
 {
-    Ok(Effect::Children(chosen(alloc, slots)?))
+    Ok(Effect::Children(chosen(alloc, bound)?))
 }
 
 // Which children are wanted: all, where no index is given.
-fn chosen(alloc: Global, slots: &[Option<BoundedValue>]) -> Result<Chosen, ValueStop>
-    ensures { ReadsAs chosen_of result (or_default all_children chosen_in (slot (slots_in slots.now) 0)) }
+fn chosen(alloc: Global, bound: &[Option<BoundedValue>]) -> Result<Chosen, ValueStop>
+    ensures { ReadsAs chosen_of result (or_default all_children chosen_in (bound_argument (bound_arguments_in bound.now) 0)) }
 {
-    match given(slots, 0) {
+    match bound_argument(bound, 0) {
         Some(value) => chosen_by(alloc, &value.value),
         None => Ok(Chosen::All),
     }

@@ -1,6 +1,6 @@
 use csg_tree::Op;
 use int_transform::Step;
-use shape_planes::Corners;
+use primitives::Corners;
 
 /// A solid shape, with lengths and points in units.
 #[derive(Drop)]

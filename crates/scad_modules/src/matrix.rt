@@ -5,16 +5,16 @@ ghost use Rattle.text_place.specs.declared.fault.FaultKind.TheVariants.{TooLarge
 ghost use Rattle.int_transform.specs.Maps.{affine_of, determinant_of};
 ghost use Rattle.scad_value.specs.Values.{vals_from};
 ghost use Rattle.scad_value.specs.View.{val_of, vals_in};
-ghost use Rattle.scad_slots.specs.Reading.{each_in, vector_in};
-ghost use Rattle.scad_slots.specs.View.{slots_in};
-ghost use Rattle.scad_modules.specs.Transforms.{part, row_at, is_zero, some_part, some_row, is_last_row, three_rows_from, matrix_rows, is_past_matrix, keeps_plane, leaves_plane_by, moves_past, row_on_grid, rows_on_grid, multmatrix_call};
+ghost use Rattle.scad_modules.specs.Reading.{each_in, vector_in};
+ghost use Rattle.scad_modules.specs.ArgumentView.{bound_arguments_in};
+ghost use Rattle.scad_modules.specs.Transforms.{component, row_at, is_zero, some_component, some_row, is_last_row, three_rows_from, matrix_rows, is_past_matrix, keeps_plane, leaves_plane_by, moves_past, row_on_grid, rows_on_grid, multmatrix_call};
 ghost use Rattle.scad_modules.specs.View.{MeetsEffect, GivesSafe};
 
 use crate::effects::Effect;
 use crate::transforms::{in_steps, moved};
+use crate::{quadruple, required_argument};
 use int_transform::Step;
 use plane_predicate::Unit;
-use scad_slots::{quadruple, required};
 use scad_value::{BoundedValue, Value, ValueStop};
 use std::alloc::Global;
 use text_place::FaultKind;
@@ -28,12 +28,12 @@ pub(crate) fn multmatrix(
     alloc: Global,
     unit: Unit,
     inside: bool,
-    slots: &[Option<BoundedValue>],
+    bound: &[Option<BoundedValue>],
 ) -> Result<Effect, ValueStop>
-    ensures effect { MeetsEffect result (multmatrix_call unit inside (slots_in slots.now)) }
+    ensures effect { MeetsEffect result (multmatrix_call unit inside (bound_arguments_in bound.now)) }
     ensures safe { GivesSafe result }
 {
-    let rows = rows(&required(slots, 0)?.value).ok_or(FaultKind::TypeMismatch)?;
+    let rows = rows(&required_argument(bound, 0)?.value).ok_or(FaultKind::TypeMismatch)?;
     if is_steep(rows) {
         return Err(ValueStop::Kind(FaultKind::TooLarge));
     }
@@ -86,14 +86,14 @@ fn is_last_row(row: [i64; 4]) -> bool
 
 // Whether a linear entry is past 65535 in size.
 fn is_steep(rows: [[i64; 4]; 3]) -> bool
-    ensures { result ≡ some_row (some_part is_past_matrix) rows }
+    ensures { result ≡ some_row (some_component is_past_matrix) rows }
 {
     is_steep_row(rows[0]) || is_steep_row(rows[1]) || is_steep_row(rows[2])
 }
 
 // Whether a linear entry of a row is past 65535 in size.
 fn is_steep_row(row: [i64; 4]) -> bool
-    ensures { result ≡ some_part is_past_matrix row }
+    ensures { result ≡ some_component is_past_matrix row }
 {
     is_steep_entry(row[0]) || is_steep_entry(row[1]) || is_steep_entry(row[2])
 }
@@ -107,7 +107,7 @@ fn is_steep_entry(entry: i64) -> bool
 
 // Whether the linear part is singular, which no move changes.
 fn is_singular(rows: [[i64; 4]; 3]) -> bool
-    requires { some_row (some_part is_past_matrix) rows ≡ false }
+    requires { some_row (some_component is_past_matrix) rows ≡ false }
     ensures { result ≡ is_zero (determinant_of (affine_of rows)) }
 {
     let [x, y, z] = rows;
@@ -116,7 +116,7 @@ fn is_singular(rows: [[i64; 4]; 3]) -> bool
 
 // The linear part of a row.
 fn linear(row: [i64; 4]) -> [i64; 4]
-    ensures { result ≡ part row 0 ∷ part row 1 ∷ part row 2 ∷ pos 0 ∷ [] }
+    ensures { result ≡ component row 0 ∷ component row 1 ∷ component row 2 ∷ pos 0 ∷ [] }
 {
     [row[0], row[1], row[2], 0]
 }
@@ -140,7 +140,9 @@ fn keeps_plane(rows: [[i64; 4]; 3]) -> bool
 fn on_grid(unit: Unit, rows: [[i64; 4]; 3]) -> Result<[[i64; 4]; 3], FaultKind>
     ensures value { MatchResult result (λ moved. (moved ≡ rows_on_grid unit rows) × (some_row (moves_past unit) rows ≡ false))
         (λ kind. (kind ≡ TooLarge) × (some_row (moves_past unit) rows ≡ true)) }
-    ensures safe { IfOk result (λ moved. (unsigned_abs (part (row_at moved 0) 3) ≤ 9007199254740991) × (unsigned_abs (part (row_at moved 1) 3) ≤ 9007199254740991) × (unsigned_abs (part (row_at moved 2) 3) ≤ 9007199254740991)) }
+    ensures safe { IfOk result (λ moved. (unsigned_abs (component (row_at moved 0) 3) ≤ 9007199254740991)
+        × (unsigned_abs (component (row_at moved 1) 3) ≤ 9007199254740991)
+        × (unsigned_abs (component (row_at moved 2) 3) ≤ 9007199254740991)) }
 {
     let x = row_on_grid(unit, rows[0])?;
     let y = row_on_grid(unit, rows[1])?;
@@ -152,7 +154,7 @@ fn on_grid(unit: Unit, rows: [[i64; 4]; 3]) -> Result<[[i64; 4]; 3], FaultKind>
 fn row_on_grid(unit: Unit, row: [i64; 4]) -> Result<[i64; 4], FaultKind>
     ensures value { MatchResult result (λ moved. (moved ≡ row_on_grid unit row) × (moves_past unit row ≡ false))
         (λ kind. (kind ≡ TooLarge) × (moves_past unit row ≡ true)) }
-    ensures safe { IfOk result (λ moved. unsigned_abs (part moved 3) ≤ 9007199254740991) }
+    ensures safe { IfOk result (λ moved. unsigned_abs (component moved 3) ≤ 9007199254740991) }
 {
     let by = in_steps(unit, row[3])?;
     Ok([row[0], row[1], row[2], by])

@@ -3,15 +3,15 @@
 ghost use Rattle.std.specs.Prelude.{◌≡◌, ◌&&◌, ◌||◌, [], ◌∷◌, pos, not, is_some, All, IfOk};
 ghost use Rattle.std.specs.Ordering.{int_eq};
 ghost use Rattle.primitives.specs.Sizes.{IsSafe};
-ghost use Rattle.scad_slots.specs.Reading.{slot, number_in, or_default, sides_in};
-ghost use Rattle.scad_slots.specs.View.{slots_in, Reads};
+ghost use Rattle.scad_modules.specs.Reading.{bound_argument, number_in, or_default, sides_in};
+ghost use Rattle.scad_modules.specs.ArgumentView.{bound_arguments_in, Reads};
 ghost use Rattle.scad_modules.specs.Shapes.{fragments_in, cube_effect, polyhedron_effect, square_effect, polygon_effect, circle_effect, cylinder_effect, extrude_effect};
 ghost use Rattle.scad_modules.specs.View.{fragments_of, MeetsEffect, GivesSafe};
 
 use crate::effects::{Effect, FlatShape, SolidShape};
-use scad_slots::{
-    faces, flat_points, found_number, given, is_centered, is_given, number, points, required,
-    three_sides, two_sides,
+use crate::{
+    bound_argument, faces, flat_points, found_number, is_centered, is_given, number, points,
+    required_argument, three_sides, two_sides,
 };
 use scad_value::{BoundedValue, Value, ValueStop};
 use std::alloc::Global;
@@ -81,12 +81,12 @@ const EXTRUSION_SLICES: usize = 5;
 const FRAGMENTS: i64 = 4;
 
 /// The effect of `cube`, or its first fault: TypeMismatch or WrongDimension.
-pub(crate) fn cube(inside: bool, slots: &[Option<BoundedValue>]) -> Result<Effect, ValueStop>
-    ensures effect { MeetsEffect result (cube_effect inside (slots_in slots.now)) }
+pub(crate) fn cube(inside: bool, bound: &[Option<BoundedValue>]) -> Result<Effect, ValueStop>
+    ensures effect { MeetsEffect result (cube_effect inside (bound_arguments_in bound.now)) }
     ensures safe { GivesSafe result }
 {
-    let size = cube_size(slots)?;
-    let center = is_centered(slots, CENTER)?;
+    let size = cube_size(bound)?;
+    let center = is_centered(bound, CENTER)?;
     if inside {
         return Err(ValueStop::Kind(FaultKind::WrongDimension));
     }
@@ -97,13 +97,13 @@ pub(crate) fn cube(inside: bool, slots: &[Option<BoundedValue>]) -> Result<Effec
 pub(crate) fn polyhedron(
     alloc: Global,
     inside: bool,
-    slots: &[Option<BoundedValue>],
+    bound: &[Option<BoundedValue>],
 ) -> Result<Effect, ValueStop>
-    ensures effect { MeetsEffect result (polyhedron_effect inside (slots_in slots.now)) }
+    ensures effect { MeetsEffect result (polyhedron_effect inside (bound_arguments_in bound.now)) }
     ensures safe { GivesSafe result }
 {
-    let point_list = required(slots, POINTS)?;
-    let face_list = required(slots, FACES)?;
+    let point_list = required_argument(bound, POINTS)?;
+    let face_list = required_argument(bound, FACES)?;
     let points = points(alloc, &point_list.value)?;
     let faces = faces(alloc, &face_list.value)?;
     if inside {
@@ -117,25 +117,25 @@ pub(crate) fn polyhedron(
 pub(crate) fn cylinder(
     inside: bool,
     fragments: Option<&Value>,
-    slots: &[Option<BoundedValue>],
+    bound: &[Option<BoundedValue>],
 ) -> Result<Effect, ValueStop>
-    ensures effect { MeetsEffect result (cylinder_effect inside (fragments_of fragments.entry) (slots_in slots.now)) }
+    ensures effect { MeetsEffect result (cylinder_effect inside (fragments_of fragments.entry) (bound_arguments_in bound.now)) }
     ensures safe { GivesSafe result }
 {
-    if is_given(slots, CYLINDER_DIAMETER)
-        || is_given(slots, CYLINDER_LOW_DIAMETER)
-        || is_given(slots, CYLINDER_HIGH_DIAMETER)
+    if is_given(bound, CYLINDER_DIAMETER)
+        || is_given(bound, CYLINDER_LOW_DIAMETER)
+        || is_given(bound, CYLINDER_HIGH_DIAMETER)
     {
         return Err(ValueStop::Kind(FaultKind::NotInProfile));
     }
-    if has_two_radii(slots) {
+    if has_two_radii(bound) {
         return Err(ValueStop::Kind(FaultKind::BadArgument));
     }
-    let height = number_or(slots, CYLINDER_HEIGHT, 1)?;
-    let radius = number_or(slots, CYLINDER_RADIUS, 1)?;
-    let low = number_or(slots, CYLINDER_LOW, radius)?;
-    let high = number_or(slots, CYLINDER_HIGH, radius)?;
-    let center = is_centered(slots, CYLINDER_CENTER)?;
+    let height = number_or(bound, CYLINDER_HEIGHT, 1)?;
+    let radius = number_or(bound, CYLINDER_RADIUS, 1)?;
+    let low = number_or(bound, CYLINDER_LOW, radius)?;
+    let high = number_or(bound, CYLINDER_HIGH, radius)?;
+    let center = is_centered(bound, CYLINDER_CENTER)?;
     if inside {
         return Err(ValueStop::Kind(FaultKind::WrongDimension));
     }
@@ -151,12 +151,12 @@ pub(crate) fn cylinder(
 }
 
 /// The effect of `square`, or its first fault: TypeMismatch or WrongDimension.
-pub(crate) fn square(inside: bool, slots: &[Option<BoundedValue>]) -> Result<Effect, ValueStop>
-    ensures effect { MeetsEffect result (square_effect inside (slots_in slots.now)) }
+pub(crate) fn square(inside: bool, bound: &[Option<BoundedValue>]) -> Result<Effect, ValueStop>
+    ensures effect { MeetsEffect result (square_effect inside (bound_arguments_in bound.now)) }
     ensures safe { GivesSafe result }
 {
-    let size = square_size(slots)?;
-    let center = is_centered(slots, CENTER)?;
+    let size = square_size(bound)?;
+    let center = is_centered(bound, CENTER)?;
     if !inside {
         return Err(ValueStop::Kind(FaultKind::WrongDimension));
     }
@@ -168,13 +168,13 @@ pub(crate) fn square(inside: bool, slots: &[Option<BoundedValue>]) -> Result<Eff
 pub(crate) fn polygon(
     alloc: Global,
     inside: bool,
-    slots: &[Option<BoundedValue>],
+    bound: &[Option<BoundedValue>],
 ) -> Result<Effect, ValueStop>
-    ensures effect { MeetsEffect result (polygon_effect inside (slots_in slots.now)) }
+    ensures effect { MeetsEffect result (polygon_effect inside (bound_arguments_in bound.now)) }
     ensures safe { GivesSafe result }
 {
-    let point_list = required(slots, POINTS)?;
-    if is_given(slots, PATHS) {
+    let point_list = required_argument(bound, POINTS)?;
+    if is_given(bound, PATHS) {
         return Err(ValueStop::Kind(FaultKind::NotInProfile));
     }
     let points = flat_points(alloc, &point_list.value)?;
@@ -189,15 +189,15 @@ pub(crate) fn polygon(
 pub(crate) fn circle(
     inside: bool,
     fragments: Option<&Value>,
-    slots: &[Option<BoundedValue>],
+    bound: &[Option<BoundedValue>],
 ) -> Result<Effect, ValueStop>
-    ensures effect { MeetsEffect result (circle_effect inside (fragments_of fragments.entry) (slots_in slots.now)) }
+    ensures effect { MeetsEffect result (circle_effect inside (fragments_of fragments.entry) (bound_arguments_in bound.now)) }
     ensures safe { GivesSafe result }
 {
-    if is_given(slots, CIRCLE_DIAMETER) {
+    if is_given(bound, CIRCLE_DIAMETER) {
         return Err(ValueStop::Kind(FaultKind::NotInProfile));
     }
-    let radius = number_or(slots, CIRCLE_RADIUS, 1)?;
+    let radius = number_or(bound, CIRCLE_RADIUS, 1)?;
     if !inside {
         return Err(ValueStop::Kind(FaultKind::WrongDimension));
     }
@@ -211,20 +211,20 @@ pub(crate) fn circle(
 /// WrongDimension.
 pub(crate) fn linear_extrude(
     inside: bool,
-    slots: &[Option<BoundedValue>],
+    bound: &[Option<BoundedValue>],
 ) -> Result<Effect, ValueStop>
-    ensures effect { MeetsEffect result (extrude_effect inside (slots_in slots.now)) }
+    ensures effect { MeetsEffect result (extrude_effect inside (bound_arguments_in bound.now)) }
     ensures safe { GivesSafe result }
 {
-    let given_height = required(slots, EXTRUSION_HEIGHT)?;
-    if is_given(slots, EXTRUSION_TWIST)
-        || is_given(slots, EXTRUSION_SCALE)
-        || is_given(slots, EXTRUSION_SLICES)
+    let given_height = required_argument(bound, EXTRUSION_HEIGHT)?;
+    if is_given(bound, EXTRUSION_TWIST)
+        || is_given(bound, EXTRUSION_SCALE)
+        || is_given(bound, EXTRUSION_SLICES)
     {
         return Err(ValueStop::Kind(FaultKind::NotInProfile));
     }
     let height = number(&given_height.value).ok_or(FaultKind::TypeMismatch)?;
-    let center = is_centered(slots, EXTRUSION_CENTER)?;
+    let center = is_centered(bound, EXTRUSION_CENTER)?;
     if inside {
         return Err(ValueStop::Kind(FaultKind::WrongDimension));
     }
@@ -232,36 +232,39 @@ pub(crate) fn linear_extrude(
 }
 
 // The sizes of a cube, or TypeMismatch.
-fn cube_size(slots: &[Option<BoundedValue>]) -> Result<[i64; 3], FaultKind>
-    ensures value { Reads result (or_default (pos 1 ∷ pos 1 ∷ pos 1 ∷ []) (sides_in 3) (slot (slots_in slots.now) 0)) }
+fn cube_size(bound: &[Option<BoundedValue>]) -> Result<[i64; 3], FaultKind>
+    ensures value { Reads result (or_default (pos 1 ∷ pos 1 ∷ pos 1 ∷ []) (sides_in 3)
+        (bound_argument (bound_arguments_in bound.now) 0)) }
     ensures safe { IfOk result (All IsSafe) }
 {
-    found_cube_size(slots)
+    found_cube_size(bound)
 }
 
 // The sizes of a cube: 1, where they are missing.
-fn found_cube_size(slots: &[Option<BoundedValue>]) -> Result<[i64; 3], FaultKind>
-    ensures { Reads result (or_default (pos 1 ∷ pos 1 ∷ pos 1 ∷ []) (sides_in 3) (slot (slots_in slots.now) 0)) }
+fn found_cube_size(bound: &[Option<BoundedValue>]) -> Result<[i64; 3], FaultKind>
+    ensures { Reads result (or_default (pos 1 ∷ pos 1 ∷ pos 1 ∷ []) (sides_in 3)
+        (bound_argument (bound_arguments_in bound.now) 0)) }
 {
-    match given(slots, SIZE) {
+    match bound_argument(bound, SIZE) {
         Some(value) => three_sides(&value.value).ok_or(FaultKind::TypeMismatch),
         None => Ok([1, 1, 1]),
     }
 }
 
 // The sizes of a square, or TypeMismatch.
-fn square_size(slots: &[Option<BoundedValue>]) -> Result<[i64; 2], FaultKind>
-    ensures value { Reads result (or_default (pos 1 ∷ pos 1 ∷ []) (sides_in 2) (slot (slots_in slots.now) 0)) }
+fn square_size(bound: &[Option<BoundedValue>]) -> Result<[i64; 2], FaultKind>
+    ensures value { Reads result (or_default (pos 1 ∷ pos 1 ∷ []) (sides_in 2)
+        (bound_argument (bound_arguments_in bound.now) 0)) }
     ensures safe { IfOk result (All IsSafe) }
 {
-    found_square_size(slots)
+    found_square_size(bound)
 }
 
 // The sizes of a square: 1, where they are missing.
-fn found_square_size(slots: &[Option<BoundedValue>]) -> Result<[i64; 2], FaultKind>
-    ensures { Reads result (or_default (pos 1 ∷ pos 1 ∷ []) (sides_in 2) (slot (slots_in slots.now) 0)) }
+fn found_square_size(bound: &[Option<BoundedValue>]) -> Result<[i64; 2], FaultKind>
+    ensures { Reads result (or_default (pos 1 ∷ pos 1 ∷ []) (sides_in 2) (bound_argument (bound_arguments_in bound.now) 0)) }
 {
-    match given(slots, SIZE) {
+    match bound_argument(bound, SIZE) {
         Some(value) => two_sides(&value.value).ok_or(FaultKind::TypeMismatch),
         None => Ok([1, 1]),
     }
@@ -269,23 +272,25 @@ fn found_square_size(slots: &[Option<BoundedValue>]) -> Result<[i64; 2], FaultKi
 
 // The number that a parameter has, or its default, or TypeMismatch.
 fn number_or(
-    slots: &[Option<BoundedValue>],
+    bound: &[Option<BoundedValue>],
     parameter: usize,
     default: i64,
 ) -> Result<i64, FaultKind>
     requires { IsSafe default }
-    ensures value { Reads result (or_default default number_in (slot (slots_in slots.now) parameter)) }
+    ensures value { Reads result (or_default default number_in (bound_argument (bound_arguments_in bound.now) parameter)) }
     ensures safe { IfOk result IsSafe }
 {
-    found_number(slots, parameter, default)
+    found_number(bound, parameter, default)
 }
 
 // Whether a cylinder has a radius for both its ends and one for an end.
-fn has_two_radii(slots: &[Option<BoundedValue>]) -> bool
-    ensures { result ≡ (is_some (slot (slots_in slots.now) 4) && (is_some (slot (slots_in slots.now) 1) || is_some (slot (slots_in slots.now) 2))) }
+fn has_two_radii(bound: &[Option<BoundedValue>]) -> bool
+    ensures { result ≡ (is_some (bound_argument (bound_arguments_in bound.now) 4)
+        && (is_some (bound_argument (bound_arguments_in bound.now) 1)
+        || is_some (bound_argument (bound_arguments_in bound.now) 2))) }
 {
-    is_given(slots, CYLINDER_RADIUS)
-        && (is_given(slots, CYLINDER_LOW) || is_given(slots, CYLINDER_HIGH))
+    is_given(bound, CYLINDER_RADIUS)
+        && (is_given(bound, CYLINDER_LOW) || is_given(bound, CYLINDER_HIGH))
 }
 
 // The number of fragments, or TypeMismatch.

@@ -4,15 +4,15 @@ ghost use Rattle.std.specs.Prelude.{◌≡◌, ◌<◌, ◌≤◌, ◌&&◌, tru
 ghost use Rattle.text_place.specs.declared.fault.FaultKind.TheVariants.{TooLarge};
 ghost use Rattle.plane_predicate.specs.Space.{point_at};
 ghost use Rattle.int_transform.specs.Maps.{HasSafeCoordinates};
-ghost use Rattle.scad_slots.specs.View.{slots_in};
+ghost use Rattle.scad_modules.specs.ArgumentView.{bound_arguments_in};
 ghost use Rattle.scad_modules.specs.Effects.{a_move};
-ghost use Rattle.scad_modules.specs.Transforms.{is_zero, is_past, in_steps, on_grid, some_part, leaves_plane, tilts_plane, translate_call, is_skew, quarters_of, turned, turns_of, rotate_call, is_alone, axis_of, mirror_call, factors_for, scale_call};
+ghost use Rattle.scad_modules.specs.Transforms.{is_zero, is_past, in_steps, on_grid, some_component, leaves_plane, tilts_plane, translate_call, is_skew, quarters_of, quarter_turns_about, quarter_turns, rotate_call, is_alone, axis_of, mirror_call, factors_for, scale_call};
 ghost use Rattle.scad_modules.specs.View.{MeetsEffect, GivesSafe};
 
 use crate::effects::Effect;
+use crate::{angles, coordinates, factors, is_given, required_argument};
 use int_transform::Step;
 use plane_predicate::Unit;
-use scad_slots::{angles, coordinates, factors, is_given, required};
 use scad_value::{BoundedValue, ValueStop, product_of_two};
 use std::alloc::Global;
 use text_place::FaultKind;
@@ -23,12 +23,12 @@ pub(crate) fn translate(
     alloc: Global,
     unit: Unit,
     inside: bool,
-    slots: &[Option<BoundedValue>],
+    bound: &[Option<BoundedValue>],
 ) -> Result<Effect, ValueStop>
-    ensures effect { MeetsEffect result (translate_call unit inside (slots_in slots.now)) }
+    ensures effect { MeetsEffect result (translate_call unit inside (bound_arguments_in bound.now)) }
     ensures safe { GivesSafe result }
 {
-    let by = coordinates(&required(slots, 0)?.value, 0).ok_or(FaultKind::TypeMismatch)?;
+    let by = coordinates(&required_argument(bound, 0)?.value, 0).ok_or(FaultKind::TypeMismatch)?;
     if leaves_plane(inside, by) {
         return Err(ValueStop::Kind(FaultKind::WrongDimension));
     }
@@ -41,13 +41,13 @@ pub(crate) fn translate(
 pub(crate) fn rotate(
     alloc: Global,
     inside: bool,
-    slots: &[Option<BoundedValue>],
+    bound: &[Option<BoundedValue>],
 ) -> Result<Effect, ValueStop>
-    ensures effect { MeetsEffect result (rotate_call inside (slots_in slots.now)) }
+    ensures effect { MeetsEffect result (rotate_call inside (bound_arguments_in bound.now)) }
     ensures safe { GivesSafe result }
 {
-    let angle = required(slots, 0)?;
-    if is_given(slots, 1) {
+    let angle = required_argument(bound, 0)?;
+    if is_given(bound, 1) {
         return Err(ValueStop::Kind(FaultKind::NotInProfile));
     }
     let by = angles(&angle.value).ok_or(FaultKind::TypeMismatch)?;
@@ -57,7 +57,7 @@ pub(crate) fn rotate(
     if tilts_plane(inside, by) {
         return Err(ValueStop::Kind(FaultKind::WrongDimension));
     }
-    turns(alloc, by)
+    rotation(alloc, by)
 }
 
 /// The effect of `mirror`, or its first fault: BadArgument, TypeMismatch, NotInProfile or
@@ -65,12 +65,12 @@ pub(crate) fn rotate(
 pub(crate) fn mirror(
     alloc: Global,
     inside: bool,
-    slots: &[Option<BoundedValue>],
+    bound: &[Option<BoundedValue>],
 ) -> Result<Effect, ValueStop>
-    ensures effect { MeetsEffect result (mirror_call inside (slots_in slots.now)) }
+    ensures effect { MeetsEffect result (mirror_call inside (bound_arguments_in bound.now)) }
     ensures safe { GivesSafe result }
 {
-    let by = coordinates(&required(slots, 0)?.value, 0).ok_or(FaultKind::TypeMismatch)?;
+    let by = coordinates(&required_argument(bound, 0)?.value, 0).ok_or(FaultKind::TypeMismatch)?;
     let axis = axis_of(by).ok_or(FaultKind::NotInProfile)?;
     if is_across_plane(inside, axis) {
         return Err(ValueStop::Kind(FaultKind::WrongDimension));
@@ -82,12 +82,12 @@ pub(crate) fn mirror(
 pub(crate) fn scale(
     alloc: Global,
     inside: bool,
-    slots: &[Option<BoundedValue>],
+    bound: &[Option<BoundedValue>],
 ) -> Result<Effect, ValueStop>
-    ensures effect { MeetsEffect result (scale_call inside (slots_in slots.now)) }
+    ensures effect { MeetsEffect result (scale_call inside (bound_arguments_in bound.now)) }
     ensures safe { GivesSafe result }
 {
-    let by = factors(&required(slots, 0)?.value).ok_or(FaultKind::TypeMismatch)?;
+    let by = factors(&required_argument(bound, 0)?.value).ok_or(FaultKind::TypeMismatch)?;
     if has_zero(by) {
         return Err(ValueStop::Kind(FaultKind::Singular));
     }
@@ -116,8 +116,9 @@ pub(crate) fn in_steps(unit: Unit, length: i64) -> Result<i64, FaultKind>
 
 // A vector in grid steps, or TooLarge where a number of it is past 2^53 - 1 in size.
 fn on_grid(unit: Unit, by: [i64; 3]) -> Result<[i64; 3], FaultKind>
-    ensures value { MatchResult result (λ vector. (vector ≡ on_grid unit by) × (some_part is_past (on_grid unit by) ≡ false))
-        (λ kind. (kind ≡ TooLarge) × (some_part is_past (on_grid unit by) ≡ true)) }
+    ensures value { MatchResult result (λ vector. (vector ≡ on_grid unit by)
+        × (some_component is_past (on_grid unit by) ≡ false))
+        (λ kind. (kind ≡ TooLarge) × (some_component is_past (on_grid unit by) ≡ true)) }
     ensures safe { IfOk result (λ vector. HasSafeCoordinates (point_at vector)) }
 {
     let x = in_steps(unit, by[0])?;
@@ -133,7 +134,7 @@ fn leaves_plane(inside: bool, by: [i64; 3]) -> bool
     inside && by[2] != 0
 }
 
-// Whether angles turn about x or y inside an extrusion.
+// Whether angles rotate about x or y inside an extrusion.
 fn tilts_plane(inside: bool, angles: [i64; 3]) -> bool
     ensures { result ≡ tilts_plane inside angles }
 {
@@ -149,7 +150,7 @@ fn is_skew(angle: i64) -> bool
 
 // Whether one of three angles is no number of quarter turns.
 fn are_skew(angles: [i64; 3]) -> bool
-    ensures { result ≡ some_part is_skew angles }
+    ensures { result ≡ some_component is_skew angles }
 {
     is_skew(angles[0]) || is_skew(angles[1]) || is_skew(angles[2])
 }
@@ -167,19 +168,23 @@ fn quarters(angle: i64) -> u8
     }
 }
 
-// The turns about x, then y, then z.
-fn turns(alloc: Global, by: [i64; 3]) -> Result<Effect, ValueStop>
-    ensures effect { MeetsEffect result (Ok (a_move (turns_of by))) }
+// The rotations about x, then y, then z.
+fn rotation(alloc: Global, by: [i64; 3]) -> Result<Effect, ValueStop>
+    ensures effect { MeetsEffect result (Ok (a_move (quarter_turns by))) }
     ensures safe { GivesSafe result }
 {
-    let steps = vec![in alloc; turn(0, by[0]), turn(1, by[1]), turn(2, by[2])]?;
+    let steps = vec![in alloc;
+        quarter_turns_about(0, by[0]),
+        quarter_turns_about(1, by[1]),
+        quarter_turns_about(2, by[2]),
+    ]?;
     Ok(Effect::Move(steps))
 }
 
-// The turn about axis 0, 1 or 2 by an angle.
-fn turn(axis: u8, angle: i64) -> Step
+// The rotation about axis 0, 1 or 2 by so many quarter turns as an angle is.
+fn quarter_turns_about(axis: u8, angle: i64) -> Step
     requires { axis < 3 }
-    ensures { result ≡ turned axis angle }
+    ensures { result ≡ quarter_turns_about axis angle }
 {
     Step::quarter(axis, quarters(angle))
 }
@@ -217,7 +222,7 @@ fn is_across_plane(inside: bool, axis: u8) -> bool
 
 // Whether one of three factors is 0.
 fn has_zero(by: [i64; 3]) -> bool
-    ensures { result ≡ some_part is_zero by }
+    ensures { result ≡ some_component is_zero by }
 {
     by[0] == 0 || by[1] == 0 || by[2] == 0
 }

@@ -1,2 +1,3 @@
 mod Parsed
 pub mod Whole
+mod Refusing

@@ -9,13 +9,13 @@ ghost use Rattle.scad_grammar.specs.declared.SyntaxFault.{SyntaxFault};
 ghost use Rattle.scad_grammar.specs.Grammar.{too_deep, WholeProgram};
 ghost use Rattle.scad_grammar.specs.FirstFault.{IsFirstFault};
 ghost use Rattle.scad_parser.specs.Parsing.{ends, whole_read, IsSyntaxStop, StandsAtToken, AnswersProgram, AnswersFault, IsRead, kind_of, place_at};
-ghost use Rattle.scad_tokens.specs.Views.{GivesRead};
+ghost use Rattle.scad_expressions.specs.Views.{GivesRead};
 
 use crate::statement::statements;
 use scad_ast::{Program, Statements};
+use scad_expressions::{Parsed, Stopped, TokenClass, not_expected, take};
 use scad_grammar::SyntaxFault;
 use scad_lexer::Token;
-use scad_tokens::{Parsed, Stopped, TokenClass, not_expected, take};
 use std::alloc::Global;
 use text_place::{FaultKind, Place, Stop};
 

@@ -5,15 +5,16 @@ ghost use Rattle.scad_grammar.specs.Faults.{one};
 ghost use Rattle.scad_grammar.specs.Reading.{both, many};
 ghost use Rattle.scad_grammar.specs.Reads.{expr_read, arg_in};
 ghost use Rattle.scad_grammar.specs.StatementReads.{firsts_of_statement, param_in, binder_in, if_read, loop_read, call_read, core_read, instance_in, braces_read, body_read, body_over, module_read, definition_read, statement_over, statement_read};
-ghost use Rattle.scad_tokens.specs.Views.{GivesRead};
+ghost use Rattle.scad_expressions.specs.Views.{GivesRead};
 
-use scad_ast::{Body, Core, Instance, Statement, Statements};
-use scad_expressions::arguments;
-use scad_lexer::{Reserved, Symbol, Token};
-use scad_statement_parts::{
+use crate::{
     assignment, binders, condition, function, instance_from, marks, params, special_assignment,
 };
-use scad_tokens::{Parsed, TokenClass, assigned, boxed, bytes, closed, take, too_deep, with};
+use scad_ast::{Body, Core, Instance, Statement, Statements};
+use scad_expressions::{
+    Parsed, TokenClass, arguments, assigned, boxed, bytes, closed, take, too_deep, with,
+};
+use scad_lexer::{Reserved, Symbol, Token};
 use std::alloc::Global;
 
 // Each form stands in a function that is not inlined: the locals of a function are cleared at each call, also those

@@ -1,4 +1,4 @@
--- Variables in memory and what they stand for, with the chain of special ones cut to its oldest part.
+-- Variables in memory and what they stand for, with the dynamic bindings of special ones cut to its oldest part.
 use Rattle.std.proofs.Common.{◌≡◌, ℕ, zero, suc, ◌-◌, List, [], ◌∷◌, ◌++◌, Bool, true, false, cond, Option, Some, None, length, map, drop, refl, sym, ap, ◌∙◌, arith, length-append}
 use Rattle.std.specs.Str.{bytes_eq}
 use Rattle.std.specs.Borrow.{Bor}
@@ -10,7 +10,7 @@ use Rattle.scad_value.specs.declared.bounded_value.BoundedValue.{BoundedValue}
 use Rattle.scad_scope.specs.Names.{Pairs, find_in, oldest}
 use Rattle.scad_scope.specs.View.{variable_seen, IsValueFound}
 
--- the oldest part of a chain is as long as it is said to be
+-- the oldest part of dynamic bindings is as long as it is said to be
 pub oldest_part : {A : Type 0} (n : ℕ) (newer older : List A) → length older ≡ n → oldest n (newer ++ older) ≡ older
 oldest_part n newer older h =
     let len : length (newer ++ older) - n ≡ length newer = omega (arith, length-append newer older, h) in

@@ -5,14 +5,14 @@ use Rattle.std.proofs.lemmas.List.{get_or_past, take-append-drop, length-take-le
 use Rattle.std.proofs.Math.Seq.{get_or-append_seam}
 use Rattle.scad_value.specs.Values.{Val}
 use Rattle.scad_scope.specs.declared.table.Scope.{Scope}
-use Rattle.scad_scope.specs.declared.table.Family.{Family}
-use Rattle.scad_scope.specs.declared.table.Family.TheVariants.{Functions, Modules}
+use Rattle.scad_scope.specs.declared.table.NameSpace.{NameSpace}
+use Rattle.scad_scope.specs.declared.table.NameSpace.TheVariants.{Functions, Modules}
 use Rattle.scad_scope.specs.Names.{with_variable, with_pair, bound_in}
 use Rattle.std.specs.Prelude.{IfOk, OnOk, OnErr}
 use Rattle.std.proofs.Common.{Result, Ok, Err}
-use Rattle.scad_scope.specs.Names.{Row, NumberedEnv, NumberedOutermost, NumberedWithin, NumberedCall, no_numbered_call, numbered_call, call_behind, env_behind, or_outer_call, enclosing_call, envs_from, env_of, find_in, or_else, standing_in, variable_in}
-use Rattle.scad_scope.specs.declared.table.ModuleCall.{ModuleCall}
-use Rattle.scad_scope.specs.Table.{numbered_call_of}
+use Rattle.scad_scope.specs.Names.{Row, NumberedEnv, NumberedOutermost, NumberedWithin, NumberedActivation, no_numbered_activation, numbered_activation, activation_from, env_behind, or_outer_numbered, enclosing_activation, envs_from, env_of, find_in, or_else, standing_in, variable_in}
+use Rattle.scad_scope.specs.declared.table.ModuleActivation.{ModuleActivation}
+use Rattle.scad_scope.specs.Table.{numbered_activation_of}
 use Rattle.scad_scope.specs.View.{row_of_scope, rows_in, pairs_of, definition_in}
 
 pub envs_length : (before : List NumberedEnv) (rs : List Row) → length (envs_from before rs) ≡ length before + length
@@ -45,11 +45,11 @@ outer_same before x rs o false e = get_or_past before o NumberedOutermost (ltb-f
 
 call_test : (before : List NumberedEnv) (x : NumberedEnv) (rs : List Row) (children caller : ℕ) (b : Bool)
     → nat_lt caller (length before) ≡ b
-    → cond b (numbered_call children (get_or before caller NumberedOutermost)) no_numbered_call
-    ≡ cond b (numbered_call children (get_or (envs_from (before ++ x ∷ []) rs) caller NumberedOutermost)) no_numbered_call
+    → cond b (numbered_activation children (get_or before caller NumberedOutermost)) no_numbered_activation
+    ≡ cond b (numbered_activation children (get_or (envs_from (before ++ x ∷ []) rs) caller NumberedOutermost)) no_numbered_activation
 call_test before x rs children caller true e =
     let less : caller < length before = ltb-true caller (length before) e in
-    ap (numbered_call children) (sym (envs_keep (before ++ x ∷ []) rs caller NumberedOutermost (omega (arith, length-append before (x ∷ []))) ∙
+    ap (numbered_activation children) (sym (envs_keep (before ++ x ∷ []) rs caller NumberedOutermost (omega (arith, length-append before (x ∷ []))) ∙
     get_front before (x ∷ []) caller NumberedOutermost less))
 call_test before x rs children caller false e = refl
 
@@ -58,13 +58,13 @@ abbrev among : List NumberedEnv → ℕ → NumberedEnv
 among all k = get_or all k NumberedOutermost
 
 call_same : (before : List NumberedEnv) (x : NumberedEnv) (rs : List Row) (call : Option (ℕ × ℕ))
-    → call_behind (among before) (length before) call ≡ call_behind (among (envs_from (before ++ x ∷ []) rs)) (length before) call
+    → activation_from (among before) (length before) call ≡ activation_from (among (envs_from (before ++ x ∷ []) rs)) (length before) call
 call_same before x rs None = refl
 call_same before x rs (Some call) = call_test before x rs call.0 call.1 (nat_lt call.1 (length before)) refl
 
 -- what stands at a number: its row, inside the scope that the row names where that one comes before
 abbrev Stands : List NumberedEnv → ℕ → Row → NumberedEnv → Type 0
-Stands all n r env = env ≡ NumberedWithin n r (call_behind (among all) n r.call)
+Stands all n r env = env ≡ NumberedWithin n r (activation_from (among all) n r.call)
     (cond (nat_lt r.outer n) (get_or all r.outer NumberedOutermost) NumberedOutermost)
 
 envs_at : (before : List NumberedEnv) (rs : List Row) (j : ℕ) (r : Row) → j < length rs → r ≡ get_or rs j r
@@ -76,9 +76,9 @@ envs_at before (q ∷ rs) zero r h e =
     let all = envs_from (before ++ x ∷ []) rs in
     let n : length before ≡ length before + 0 = omega arith in
     let len : length before < length (before ++ x ∷ []) = omega (arith, length-append before (x ∷ [])) in
-    let is_x : x ≡ NumberedWithin (length before) q (call_behind (among all) (length before) q.call)
+    let is_x : x ≡ NumberedWithin (length before) q (activation_from (among all) (length before) q.call)
     (cond (nat_lt q.outer (length before)) (get_or all q.outer NumberedOutermost) NumberedOutermost)
-    = ap (NumberedWithin (length before) q (call_behind (among before) (length before) q.call))
+    = ap (NumberedWithin (length before) q (activation_from (among before) (length before) q.call))
     (outer_same before x rs q.outer (nat_lt q.outer (length before)) refl)
     ∙ ap (λ call. NumberedWithin (length before) q call
     (cond (nat_lt q.outer (length before)) (get_or all q.outer NumberedOutermost) NumberedOutermost)) (call_same before x rs q.call) in
@@ -103,7 +103,7 @@ row_at (t ∷ ss) zero s h e = ap row_of_scope e
 row_at (t ∷ ss) (suc k) s h e = row_at ss k s (omega arith) e
 
 pub env_at : (ss : List Scope) (k : ℕ) (s : Scope) → k < length ss → s ≡ get_or ss k s
-    → env_of (rows_in ss) k ≡ NumberedWithin k (row_of_scope s) (call_behind (env_of (rows_in ss)) k (row_of_scope s).call)
+    → env_of (rows_in ss) k ≡ NumberedWithin k (row_of_scope s) (activation_from (env_of (rows_in ss)) k (row_of_scope s).call)
     (cond (nat_lt s.outer k) (env_of (rows_in ss) s.outer) NumberedOutermost)
 unfolding env_of
 env_at ss k s h e =
@@ -146,63 +146,63 @@ module _ (ss : List Scope) (k : ℕ) (s : Scope) (name : List ℕ) (h : k < leng
         ∙ ap (λ x. variable_in x name)
         (an_outer l)
 
-    within : (family : Family) (call : NumberedCall) (env : NumberedEnv) → definition_in family (NumberedWithin k (row_of_scope s) call env) name
-        ≡ or_else (standing_in (NumberedWithin k (row_of_scope s) call env) (find_in (pairs_of family (row_of_scope s)) name))
-        (definition_in family env name)
+    within : (name_space : NameSpace) (call : NumberedActivation) (env : NumberedEnv) → definition_in name_space (NumberedWithin k (row_of_scope s) call env) name
+        ≡ or_else (standing_in (NumberedWithin k (row_of_scope s) call env) (find_in (pairs_of name_space (row_of_scope s)) name))
+        (definition_in name_space env name)
     within Functions call env = refl
     within Modules call env = refl
 
-    standing : (family : Family) → definition_in family (env_of (rows_in ss) k) name
-        ≡ or_else (standing_in (env_of (rows_in ss) k) (find_in (pairs_of family (row_of_scope s)) name))
-        (definition_in family outside name)
+    standing : (name_space : NameSpace) → definition_in name_space (env_of (rows_in ss) k) name
+        ≡ or_else (standing_in (env_of (rows_in ss) k) (find_in (pairs_of name_space (row_of_scope s)) name))
+        (definition_in name_space outside name)
     unfolding outside
-    standing family = subst
-        (λ x. definition_in family x name
-        ≡ or_else (standing_in x (find_in (pairs_of family (row_of_scope s)) name))
-        (definition_in family outside name))
-        (sym (env_at ss k s h e)) (within family (call_behind (env_of (rows_in ss)) k (row_of_scope s).call) outside)
+    standing name_space = subst
+        (λ x. definition_in name_space x name
+        ≡ or_else (standing_in x (find_in (pairs_of name_space (row_of_scope s)) name))
+        (definition_in name_space outside name))
+        (sym (env_at ss k s h e)) (within name_space (activation_from (env_of (rows_in ss)) k (row_of_scope s).call) outside)
 
-    pub definition_found : (family : Family) (d : ℕ) → find_in (pairs_of family (row_of_scope s)) name ≡ Some d
-        → definition_in family (env_of (rows_in ss) k) name ≡ Some (env_of (rows_in ss) k, d)
-    definition_found family d f = standing family ∙ ap (λ o. or_else (standing_in (env_of (rows_in ss) k) o)
-        (definition_in family outside name)) f
+    pub definition_found : (name_space : NameSpace) (d : ℕ) → find_in (pairs_of name_space (row_of_scope s)) name ≡ Some d
+        → definition_in name_space (env_of (rows_in ss) k) name ≡ Some (env_of (rows_in ss) k, d)
+    definition_found name_space d f = standing name_space ∙ ap (λ o. or_else (standing_in (env_of (rows_in ss) k) o)
+        (definition_in name_space outside name)) f
 
-    enclosing_here : enclosing_call (env_of (rows_in ss) k)
-        ≡ or_outer_call (call_behind (env_of (rows_in ss)) k (row_of_scope s).call) (enclosing_call outside)
+    enclosing_here : enclosing_activation (env_of (rows_in ss) k)
+        ≡ or_outer_numbered (activation_from (env_of (rows_in ss)) k (row_of_scope s).call) (enclosing_activation outside)
     unfolding outside
-    enclosing_here = ap enclosing_call (env_at ss k s h e)
+    enclosing_here = ap enclosing_activation (env_at ss k s h e)
 
-    pub call_found : (call : ModuleCall) → call_behind (env_of (rows_in ss)) k (row_of_scope s).call ≡ numbered_call_of (env_of (rows_in ss)) (Some call)
-        → enclosing_call (env_of (rows_in ss) k) ≡ numbered_call_of (env_of (rows_in ss)) (Some call)
-    call_found call f = enclosing_here ∙ ap (λ c. or_outer_call c (enclosing_call outside)) f
+    pub call_found : (call : ModuleActivation) → activation_from (env_of (rows_in ss)) k (row_of_scope s).call ≡ numbered_activation_of (env_of (rows_in ss)) (Some call)
+        → enclosing_activation (env_of (rows_in ss) k) ≡ numbered_activation_of (env_of (rows_in ss)) (Some call)
+    call_found call f = enclosing_here ∙ ap (λ c. or_outer_numbered c (enclosing_activation outside)) f
 
-    pub call_none : call_behind (env_of (rows_in ss)) k (row_of_scope s).call ≡ no_numbered_call → k ≤ s.outer
-        → enclosing_call (env_of (rows_in ss) k) ≡ no_numbered_call
-    call_none f l = enclosing_here ∙ ap (λ c. or_outer_call c (enclosing_call outside)) f ∙ ap enclosing_call (no_outer l)
+    pub call_none : activation_from (env_of (rows_in ss)) k (row_of_scope s).call ≡ no_numbered_activation → k ≤ s.outer
+        → enclosing_activation (env_of (rows_in ss) k) ≡ no_numbered_activation
+    call_none f l = enclosing_here ∙ ap (λ c. or_outer_numbered c (enclosing_activation outside)) f ∙ ap enclosing_activation (no_outer l)
 
-    pub call_outer : call_behind (env_of (rows_in ss)) k (row_of_scope s).call ≡ no_numbered_call → s.outer < k
-        → enclosing_call (env_of (rows_in ss) k) ≡ enclosing_call (env_of (rows_in ss) s.outer)
-    call_outer f l = enclosing_here ∙ ap (λ c. or_outer_call c (enclosing_call outside)) f ∙ ap enclosing_call (an_outer l)
+    pub call_outer : activation_from (env_of (rows_in ss)) k (row_of_scope s).call ≡ no_numbered_activation → s.outer < k
+        → enclosing_activation (env_of (rows_in ss) k) ≡ enclosing_activation (env_of (rows_in ss) s.outer)
+    call_outer f l = enclosing_here ∙ ap (λ c. or_outer_numbered c (enclosing_activation outside)) f ∙ ap enclosing_activation (an_outer l)
 
-    nowhere : (family : Family) → definition_in family NumberedOutermost name ≡ None
+    nowhere : (name_space : NameSpace) → definition_in name_space NumberedOutermost name ≡ None
     nowhere Functions = refl
     nowhere Modules = refl
 
-    passed : (family : Family) → find_in (pairs_of family (row_of_scope s)) name ≡ None
-        → definition_in family (env_of (rows_in ss) k) name ≡ definition_in family outside name
-    passed family f = standing family ∙ ap (λ o. or_else (standing_in (env_of (rows_in ss) k) o)
-        (definition_in family outside name)) f
+    passed : (name_space : NameSpace) → find_in (pairs_of name_space (row_of_scope s)) name ≡ None
+        → definition_in name_space (env_of (rows_in ss) k) name ≡ definition_in name_space outside name
+    passed name_space f = standing name_space ∙ ap (λ o. or_else (standing_in (env_of (rows_in ss) k) o)
+        (definition_in name_space outside name)) f
 
-    pub definition_none : (family : Family) → find_in (pairs_of family (row_of_scope s)) name ≡ None → k ≤ s.outer
-        → definition_in family (env_of (rows_in ss) k) name ≡ None
-    definition_none family f l = passed family f ∙ ap (λ x. definition_in family x name) (no_outer l) ∙
-        nowhere family
+    pub definition_none : (name_space : NameSpace) → find_in (pairs_of name_space (row_of_scope s)) name ≡ None → k ≤ s.outer
+        → definition_in name_space (env_of (rows_in ss) k) name ≡ None
+    definition_none name_space f l = passed name_space f ∙ ap (λ x. definition_in name_space x name) (no_outer l) ∙
+        nowhere name_space
 
-    pub definition_outer : (family : Family) → find_in (pairs_of family (row_of_scope s)) name ≡ None → s.outer < k
-        → definition_in family (env_of (rows_in ss) k) name
-        ≡ definition_in family (env_of (rows_in ss) s.outer)
+    pub definition_outer : (name_space : NameSpace) → find_in (pairs_of name_space (row_of_scope s)) name ≡ None → s.outer < k
+        → definition_in name_space (env_of (rows_in ss) k) name
+        ≡ definition_in name_space (env_of (rows_in ss) s.outer)
         name
-    definition_outer family f l = passed family f ∙ ap (λ x. definition_in family x name) (an_outer l)
+    definition_outer name_space f l = passed name_space f ∙ ap (λ x. definition_in name_space x name) (an_outer l)
 
 envs-more : (before : List NumberedEnv) (rs : List Row) (r : Row) → envs_from before (rs ++ r ∷ [])
     ≡ envs_from before rs ++ env_behind (envs_from before rs) r ∷ []
@@ -211,15 +211,15 @@ envs-more before (q ∷ rs) r = envs-more (before ++ env_behind before q ∷ [])
 
 -- a new scope, and the scopes before it
 pub env_new : (rs : List Row) (r : Row) (n : ℕ) → n ≡ length rs → env_of (rs ++ r ∷ []) n
-    ≡ NumberedWithin n r (call_behind (env_of rs) (length rs) r.call) (env_of rs r.outer)
+    ≡ NumberedWithin n r (activation_from (env_of rs) (length rs) r.call) (env_of rs r.outer)
 unfolding env_of
 env_new rs r n h =
     let len : length (envs_from [] rs) ≡ n = omega (arith, envs_length [] rs) in
     ap (λ es. get_or es n NumberedOutermost) (envs-more [] rs r)
     ∙ ap (λ k. get_or (envs_from [] rs ++ env_behind (envs_from [] rs) r ∷ []) k NumberedOutermost) (sym len)
     ∙ get_or-append_seam (envs_from [] rs) (env_behind (envs_from [] rs) r) [] NumberedOutermost
-    ∙ ap (λ k. NumberedWithin k r (call_behind (among (envs_from [] rs)) k r.call) (get_or (envs_from [] rs) r.outer NumberedOutermost)) len
-    ∙ ap (λ k. NumberedWithin n r (call_behind (among (envs_from [] rs)) k r.call) (get_or (envs_from [] rs) r.outer NumberedOutermost)) h
+    ∙ ap (λ k. NumberedWithin k r (activation_from (among (envs_from [] rs)) k r.call) (get_or (envs_from [] rs) r.outer NumberedOutermost)) len
+    ∙ ap (λ k. NumberedWithin n r (activation_from (among (envs_from [] rs)) k r.call) (get_or (envs_from [] rs) r.outer NumberedOutermost)) h
 
 pub env_kept : (rs : List Row) (r : Row) (k : ℕ) → k < length rs → env_of (rs ++ r ∷ []) k ≡ env_of rs k
 unfolding env_of
@@ -292,16 +292,16 @@ cut_kept rs n k few h =
 
 -- a call from a scope that is there
 pub called_from : (look : ℕ → NumberedEnv) (count children caller : ℕ) → caller < count
-    → call_behind look count (Some (children, caller)) ≡ numbered_call children (look caller)
-called_from look count children caller h = ap (λ b. cond b (numbered_call children (look caller)) no_numbered_call) (lt-ltb caller count h)
+    → activation_from look count (Some (children, caller)) ≡ numbered_activation children (look caller)
+called_from look count children caller h = ap (λ b. cond b (numbered_activation children (look caller)) no_numbered_activation) (lt-ltb caller count h)
 
 -- what entering and binding leave of the scopes
 module _ {E : Type 0} (old new : List Row) (outer : ℕ) (row : Row) where
-  pub entering_told : (r : Result ℕ E) (call : NumberedCall) → row.outer ≡ outer
-      → call_behind (env_of old) (length old) row.call ≡ call → IfOk r (λ n. n ≡ length old)
+  pub entering_told : (r : Result ℕ E) (call : NumberedActivation) → row.outer ≡ outer
+      → activation_from (env_of old) (length old) row.call ≡ call → IfOk r (λ n. n ≡ length old)
       → OnOk r (new ≡ old ++ row ∷ []) → IfOk r (λ n. env_of new n ≡ NumberedWithin n row call (env_of old outer))
   entering_told (Ok n) call e c f g = ap (λ rs. env_of rs n) g ∙ env_new old row n f
-      ∙ ap (λ o. NumberedWithin n row (call_behind (env_of old) (length old) row.call) (env_of old o)) e
+      ∙ ap (λ o. NumberedWithin n row (activation_from (env_of old) (length old) row.call) (env_of old o)) e
       ∙ ap (λ c. NumberedWithin n row c (env_of old outer)) c
   entering_told (Err x) call e c f g = tt
 

@@ -4,10 +4,10 @@ use Rattle.std.specs.Prelude.{IsTrue, OnOk, OnErr}
 use Rattle.std.proofs.lemmas.Bool.{and_parts, and_from}
 use Rattle.std.proofs.lemmas.List.{reverse-append}
 use Rattle.scad_value.specs.Values.{Val}
-use Rattle.scad_blocks.specs.declared.blocks.Blocks.{Blocks}
-use Rattle.scad_blocks.specs.Tables.{text_held, functions_held, modules_held}
-use Rattle.scad_blocks.specs.Numbered.{numbers_below}
-use Rattle.scad_blocks.proofs.Numbered.{below_joined, own_below}
+use Rattle.scad_definitions.specs.declared.blocks.Blocks.{Blocks}
+use Rattle.scad_definitions.specs.Tables.{table_held, functions_held, modules_held}
+use Rattle.scad_definitions.specs.Numbered.{numbers_below}
+use Rattle.scad_definitions.proofs.Numbered.{below_joined, own_below}
 use Rattle.scad_scope.specs.Names.{Pairs, Row, with_variable, bound_in}
 use Rattle.scad_scope.specs.Rows.{row_of_block}
 use Rattle.scad_scope.specs.Numbered.{each_row, StaysBelow}
@@ -21,8 +21,8 @@ below_reversed n (p ∷ ps) h =
 
 -- a new scope of a block has no function and no module beyond those that are held
 entered_below : (outer : ℕ) (b : Blocks) (number : ℕ)
-    → IsTrue (numbers_below (length (functions_held b)) (row_of_block outer (text_held b) number).functions)
-    × IsTrue (numbers_below (length (modules_held b)) (row_of_block outer (text_held b) number).modules)
+    → IsTrue (numbers_below (length (functions_held b)) (row_of_block outer (table_held b) number).functions)
+    × IsTrue (numbers_below (length (modules_held b)) (row_of_block outer (table_held b) number).modules)
 entered_below outer b number =
     let below = own_below b number in (
       below_reversed (length (functions_held b)) _ below.0,
@@ -44,8 +44,8 @@ module _ {A E : Type 0} (test : Row → Bool) (old new : List Row) where
 
 -- a new scope with the functions and modules of a block
 pub block_stays_below : {E : Type 0} (old new : List Row) (outer : ℕ) (b : Blocks) (block : ℕ) (row : Row) (r : Result ℕ E)
-    → row.functions ≡ (row_of_block outer (text_held b) block).functions
-    → row.modules ≡ (row_of_block outer (text_held b) block).modules
+    → row.functions ≡ (row_of_block outer (table_held b) block).functions
+    → row.modules ≡ (row_of_block outer (table_held b) block).modules
     → OnOk r (new ≡ old ++ row ∷ []) → OnErr r (new ≡ old)
     → StaysBelow (length (functions_held b)) (length (modules_held b)) old new
 block_stays_below old new outer b block row r f m added refused =

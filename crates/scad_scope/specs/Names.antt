@@ -1,7 +1,7 @@
 -- Scopes as lists of pairs of a name and what it stands for, searched from the newest.
 use Rattle.std.specs.Prelude.{ℕ, zero, suc, ◌-◌, ◌^◌, pos, List, [], ◌∷◌, ◌++◌, length, Option, Some, None, slice_index_or, if◌then◌else◌, nat_lt, codes}
 use Rattle.scad_value.specs.Values.{Val, NumberVal}
-pub use Rattle.newest_names.specs.Newest.{Pairs, find_in, oldest}
+pub use Rattle.scad_definitions.specs.Newest.{Pairs, find_in, oldest}
 
 -- a scope in the table of scopes: its pairs, and the number of the scope outside it
 pub record Row : Type 0 where
@@ -13,26 +13,26 @@ pub record Row : Type 0 where
   -- of the caller's scope
   pub call : Option (ℕ × ℕ)
 
--- a scope with its number, the call whose scope it is, and the scopes outside it
+-- a scope with its number, the activation whose scope it is, and the scopes outside it
 mutual
   pub data NumberedEnv : Type 0 where
     NumberedOutermost : NumberedEnv
-    NumberedWithin : (number : ℕ) → (row : Row) → (call : NumberedCall) → (outer : NumberedEnv) → NumberedEnv
+    NumberedWithin : (number : ℕ) → (row : Row) → (call : NumberedActivation) → (outer : NumberedEnv) → NumberedEnv
 
-  -- a call of a module of the source: the number of the block of its children, and the scope of its caller
-  pub data NumberedCall : Type 0 where
-    no_numbered_call : NumberedCall
-    numbered_call : (children : ℕ) → (caller : NumberedEnv) → NumberedCall
+  -- the activation of a call of a module of the source: the number of the block of its children, and the scope of its caller; or none
+  pub data NumberedActivation : Type 0 where
+    no_numbered_activation : NumberedActivation
+    numbered_activation : (children : ℕ) → (caller : NumberedEnv) → NumberedActivation
 
--- a call by numbers, where the caller's scope is one of the first so many
-abbrev pub call_behind : (ℕ → NumberedEnv) → ℕ → Option (ℕ × ℕ) → NumberedCall
-call_behind scope count None = no_numbered_call
-call_behind scope count (Some call) = if nat_lt call.1 count then numbered_call call.0 (scope call.1) else no_numbered_call
+-- an activation by numbers, where the caller's scope is one of the first so many
+abbrev pub activation_from : (ℕ → NumberedEnv) → ℕ → Option (ℕ × ℕ) → NumberedActivation
+activation_from scope count None = no_numbered_activation
+activation_from scope count (Some call) = if nat_lt call.1 count then numbered_activation call.0 (scope call.1) else no_numbered_activation
 
 -- a row behind these scopes, inside one of them or inside none
 abbrev pub env_behind : List NumberedEnv → Row → NumberedEnv
 env_behind before row =
-    NumberedWithin (length before) row (call_behind (λ number. slice_index_or before number NumberedOutermost) (length before) row.call)
+    NumberedWithin (length before) row (activation_from (λ number. slice_index_or before number NumberedOutermost) (length before) row.call)
     (slice_index_or before row.outer NumberedOutermost)
 
 -- each scope of a table
@@ -44,15 +44,15 @@ envs_from before (row ∷ rows) = envs_from (before ++ env_behind before row ∷
 unfoldable pub env_of : List Row → ℕ → NumberedEnv
 env_of rows number = slice_index_or (envs_from [] rows) number NumberedOutermost
 
--- a call, or where there is none the one outside it
-abbrev pub or_outer_call : NumberedCall → NumberedCall → NumberedCall
-or_outer_call no_numbered_call outer = outer
-or_outer_call (numbered_call children caller) outer = numbered_call children caller
+-- an activation, or where there is none the one outside it
+abbrev pub or_outer_numbered : NumberedActivation → NumberedActivation → NumberedActivation
+or_outer_numbered no_numbered_activation outer = outer
+or_outer_numbered (numbered_activation children caller) outer = numbered_activation children caller
 
--- The call that encloses a scope: the innermost one whose scope it is or stands in (OpenSCAD User Manual, "Children").
-abbrev pub enclosing_call : NumberedEnv → NumberedCall
-enclosing_call NumberedOutermost = no_numbered_call
-enclosing_call (NumberedWithin number row call outer) = or_outer_call call (enclosing_call outer)
+-- The activation that encloses a scope: the innermost one whose scope it is or stands in (OpenSCAD User Manual, "Children").
+abbrev pub enclosing_activation : NumberedEnv → NumberedActivation
+enclosing_activation NumberedOutermost = no_numbered_activation
+enclosing_activation (NumberedWithin number row call outer) = or_outer_numbered call (enclosing_activation outer)
 
 -- what was found, or else what is found further out
 abbrev pub or_else : {A : Type 0} → Option A → Option A → Option A
@@ -94,8 +94,8 @@ abbrev pub empty_row : ℕ → Row
 empty_row outer = record { variables = []; functions = []; modules = []; outer = outer; call = None }
 
 -- the scope of a call, by the block of its children and the scope of its caller
-abbrev pub called_row : ℕ → ℕ → Row → Row
-called_row children caller row = record row { call = Some (children, caller) }
+abbrev pub activation_row : ℕ → ℕ → Row → Row
+activation_row children caller row = record row { call = Some (children, caller) }
 
 -- a scope with one more variable
 abbrev pub with_variable : List ℕ → Val → Row → Row
@@ -112,7 +112,7 @@ abbrev pub with_pair : List ℕ → Val → NumberedEnv → NumberedEnv
 with_pair name value NumberedOutermost = NumberedOutermost
 with_pair name value (NumberedWithin number row call outer) = NumberedWithin number (with_variable name value row) call outer
 
--- The chain of special variables (OpenSCAD User Manual, "Special variables"): pairs of a name, without its `$`, and
+-- The dynamic bindings of special variables (OpenSCAD User Manual, "Special variables"): pairs of a name, without its `$`, and
 -- its value, the newest first. It begins with these.
-abbrev pub first_chain : Pairs Val
-first_chain = (codes "fs", NumberVal (pos 2)) ∷ (codes "fa", NumberVal (pos 12)) ∷ (codes "fn", NumberVal (pos 0)) ∷ []
+abbrev pub first_bindings : Pairs Val
+first_bindings = (codes "fs", NumberVal (pos 2)) ∷ (codes "fa", NumberVal (pos 12)) ∷ (codes "fn", NumberVal (pos 0)) ∷ []

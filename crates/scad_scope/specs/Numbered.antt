@@ -1,7 +1,7 @@
 -- Tables in which each definition's number is one of so many.
 use Rattle.std.specs.Prelude.{ℕ, List, [], ◌∷◌, Bool, true, ◌&&◌}
 use Rattle.std.specs.Bool.{IsTrue}
-use Rattle.scad_blocks.specs.Numbered.{numbers_below}
+use Rattle.scad_definitions.specs.Numbered.{numbers_below}
 use Rattle.scad_scope.specs.Names.{Row}
 
 -- each scope of a table passes a test

@@ -1,18 +1,18 @@
 -- The scopes that blocks of a program give.
 use Rattle.std.specs.Prelude.{ℕ, [], reverse, slice_index_or, None}
-use Rattle.scad_blocks.specs.Blocks.{OwnDefinitions, NumberedText, nothing_there}
+use Rattle.scad_definitions.specs.Blocks.{LocalTerms, BlockTable, nothing_there}
 use Rattle.scad_scope.specs.Names.{Row}
 
--- a new scope with a block's own definitions, inside another one
-abbrev pub own_row : ℕ → OwnDefinitions → Row
-own_row outer own = record {
+-- a new scope with a block's local definitions, inside another one
+abbrev pub local_row : ℕ → LocalTerms → Row
+local_row outer local = record {
   variables = [];
-  functions = reverse own.functions;
-  modules = reverse own.modules;
+  functions = reverse local.functions;
+  modules = reverse local.modules;
   outer = outer;
   call = None;
 }
 
 -- a new scope of the block of a number, inside another one; a block that isn't there has no definitions
-abbrev pub row_of_block : ℕ → NumberedText → ℕ → Row
-row_of_block outer text number = own_row outer (slice_index_or text.entries number nothing_there).own
+abbrev pub row_of_block : ℕ → BlockTable → ℕ → Row
+row_of_block outer text number = local_row outer (slice_index_or text.entries number nothing_there).local

@@ -8,17 +8,17 @@ use Rattle.scad_value.specs.Values.{Val, is_bounded}
 use Rattle.scad_value.specs.View.{val_of}
 use Rattle.scad_scope.specs.declared.scopes.Scopes.{Scopes}
 use Rattle.scad_scope.specs.declared.table.Found.{Found}
-use Rattle.scad_scope.specs.declared.table.ModuleCall.{ModuleCall}
-use Rattle.scad_scope.specs.Names.{Pairs, Row, NumberedEnv, NumberedCall, no_numbered_call, numbered_call, env_of}
+use Rattle.scad_scope.specs.declared.table.ModuleActivation.{ModuleActivation}
+use Rattle.scad_scope.specs.Names.{Pairs, Row, NumberedEnv, NumberedActivation, no_numbered_activation, numbered_activation, env_of}
 use Rattle.scad_scope.specs.View.{variables_of, rows_in}
 
 -- the scopes by number
 abbrev pub rows_of : Scopes → List Row
 rows_of scopes = rows_in scopes.scopes.items
 
--- the chain of special variables, the newest first
-abbrev pub chain_of : Scopes → Pairs Val
-chain_of scopes = variables_of scopes.chain
+-- the dynamic bindings of special variables, the newest first
+abbrev pub bindings_of : Scopes → Pairs Val
+bindings_of scopes = variables_of scopes.bindings
 
 -- the number of a scope that is there, and of a definition that stands in it
 pub record IsFound (rows : List Row) (wanted : Option (NumberedEnv × ℕ)) (found : Found) : Type 0 where
@@ -38,11 +38,11 @@ pub record IsVariable (wanted : Option Val) (value : Value) : Type 0 where
   pub bounded : IsTrue (is_bounded (val_of value))
 
 -- the call that is answered by numbers, with the scope of its caller
-abbrev pub numbered_call_of : (ℕ → NumberedEnv) → Option ModuleCall → NumberedCall
-numbered_call_of scope None = no_numbered_call
-numbered_call_of scope (Some call) = numbered_call call.children (scope call.caller)
+abbrev pub numbered_activation_of : (ℕ → NumberedEnv) → Option ModuleActivation → NumberedActivation
+numbered_activation_of scope None = no_numbered_activation
+numbered_activation_of scope (Some call) = numbered_activation call.children (scope call.caller)
 
--- each scope that was there, and the chain, is as before
+-- each scope that was there, and each dynamic binding, is as before
 pub record KeepsScopes (before after : Scopes) : Type 0 where
   pub scopes : (number : ℕ) → number < length (rows_of before) → env_of (rows_of after) number ≡ env_of (rows_of before) number
-  pub chain : chain_of after ≡ chain_of before
+  pub bindings : bindings_of after ≡ bindings_of before

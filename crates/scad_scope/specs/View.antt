@@ -4,26 +4,26 @@ use Rattle.std.specs.Borrow.{Bor}
 use Rattle.scad_value.specs.declared.bounded_value.BoundedValue.{BoundedValue}
 use Rattle.scad_value.specs.Values.{Val}
 use Rattle.scad_value.specs.View.{val_of}
-use Rattle.newest_names.specs.declared.list.NameList.{NameList}
-use Rattle.newest_names.specs.Names.{newest_first}
-use Rattle.scad_scope.specs.declared.table.ModuleCall.{ModuleCall}
+use Rattle.scad_definitions.specs.declared.list.NameList.{NameList}
+use Rattle.scad_definitions.specs.Names.{newest_first}
+use Rattle.scad_scope.specs.declared.table.ModuleActivation.{ModuleActivation}
 use Rattle.scad_scope.specs.declared.table.Scope.{Scope}
-use Rattle.scad_scope.specs.declared.table.Family.{Family}
-use Rattle.scad_scope.specs.declared.table.Family.TheVariants.{Functions, Modules}
+use Rattle.scad_scope.specs.declared.table.NameSpace.{NameSpace}
+use Rattle.scad_scope.specs.declared.table.NameSpace.TheVariants.{Functions, Modules}
 use Rattle.scad_scope.specs.Names.{Pairs, Row, NumberedEnv, function_in, module_in}
 
 -- variables by what their values are
 abbrev pub variable_seen : List ℕ × BoundedValue → List ℕ × Val
 variable_seen variable = (variable.0, val_of variable.1.value)
 
--- the variables of a scope or of the chain, the newest first
+-- the variables of a scope or of the dynamic bindings, the newest first
 abbrev pub variables_of : NameList BoundedValue → Pairs Val
 variables_of names = map variable_seen (newest_first names)
 
 -- the number of the block of a call's children, and that of its caller's scope
-abbrev pub call_seen : Option ModuleCall → Option (ℕ × ℕ)
-call_seen None = None
-call_seen (Some call) = Some (call.children, call.caller)
+abbrev pub activation_seen : Option ModuleActivation → Option (ℕ × ℕ)
+activation_seen None = None
+activation_seen (Some call) = Some (call.children, call.caller)
 
 -- a scope as its pairs and numbers
 abbrev pub row_of_scope : Scope → Row
@@ -32,7 +32,7 @@ row_of_scope scope = record {
   functions = newest_first scope.functions;
   modules = newest_first scope.modules;
   outer = scope.outer;
-  call = call_seen scope.call;
+  call = activation_seen scope.call;
 }
 
 -- the scopes of a table in order
@@ -40,12 +40,12 @@ abbrev pub rows_in : List Scope → List Row
 rows_in scopes = map row_of_scope scopes
 
 -- the functions or the modules of a scope
-abbrev pub pairs_of : Family → Row → Pairs ℕ
+abbrev pub pairs_of : NameSpace → Row → Pairs ℕ
 pairs_of Functions row = row.functions
 pairs_of Modules row = row.modules
 
 -- a function or a module with the scope that it stands in, from the inner scope outward
-abbrev pub definition_in : Family → NumberedEnv → List ℕ → Option (NumberedEnv × ℕ)
+abbrev pub definition_in : NameSpace → NumberedEnv → List ℕ → Option (NumberedEnv × ℕ)
 definition_in Functions env name = function_in env name
 definition_in Modules env name = module_in env name
 

@@ -1,15 +1,14 @@
-//! Scopes: which variable, function or module a name stands for.
+//! Scopes: which variable, function or module a name stands for, and the dynamic bindings of special names.
 #![tactic(auto)]
 
 mod fault;
-mod own;
+mod local;
 mod scopes;
 mod table;
 
-pub use scad_arguments::{
-    ArgumentsSoFar, Destination, GivenArguments, Matching, Names, SpecialArgument, arguments,
-    name_of, positional_after,
+pub use scad_definitions::{
+    ArgumentsSoFar, Assignment, BlockText, Blocks, CallArguments, Function, Matching, Module,
+    Names, SpecialArgument, arguments, name_of, positional_after,
 };
-pub use scad_blocks::{Assignment, BlockText, Blocks, Function, Module};
 pub use scopes::Scopes;
-pub use table::{Found, ModuleCall};
+pub use table::{Found, ModuleActivation};

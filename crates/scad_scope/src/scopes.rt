@@ -1,23 +1,22 @@
 use crate::fault::fault;
-use crate::own::{empty, scope_of_block};
+use crate::local::{empty, scope_of_block};
 use crate::table::{
-    Family, Found, ModuleCall, Scope, begun_chain, call_before, definitions, find_definition,
-    find_variable,
+    Found, ModuleActivation, NameSpace, Scope, activation_before, definitions, find_definition,
+    find_variable, new_bindings,
 };
-use newest_names::NameList;
-use scad_blocks::Blocks;
+use scad_definitions::{Blocks, NameList};
 use scad_value::{BoundedValue, Value};
 use std::alloc::Global;
 use text_place::{Bytes, Fault, FaultKind, NoMemory, Place};
 
 /// Scopes by number. The first one, 0, is outside all others; each other one is entered inside one
-/// that is there. Beside them stands the chain of special variables, which belong to no scope: a name
+/// that is there. Beside them stands the dynamic bindings of special variables, which belong to no scope: a name
 /// stands for its newest value. Each value in them is bounded, which its own type keeps.
 #[derive(Drop)]
 pub struct Scopes {
     pub(crate) scopes: Vec<Scope>,
-    /// The chain, the newest last.
-    pub(crate) chain: NameList<BoundedValue>,
+    /// The dynamic bindings, the newest last.
+    pub(crate) bindings: NameList<BoundedValue>,
 }
 
 impl Scopes {
@@ -25,17 +24,17 @@ impl Scopes {
     ghost use Rattle.text_place.specs.declared.fault.FaultKind.TheVariants.{UnknownName, UnknownFunction, UnknownModule};
     ghost use Rattle.scad_value.specs.Values.{Val, is_bounded};
     ghost use Rattle.scad_value.specs.View.{val_of};
-    ghost use Rattle.scad_scope.specs.Names.{Pairs, find_in, env_of, variable_in, function_in, module_in, first_row, empty_row, bound_in, with_pair, NumberedWithin, no_numbered_call, numbered_call, enclosing_call, called_row, first_chain, oldest, Row};
+    ghost use Rattle.scad_scope.specs.Names.{Pairs, find_in, env_of, variable_in, function_in, module_in, first_row, empty_row, bound_in, with_pair, NumberedWithin, no_numbered_activation, numbered_activation, enclosing_activation, activation_row, first_bindings, oldest, Row};
     ghost use Rattle.scad_scope.specs.Rows.{row_of_block};
-    ghost use Rattle.scad_blocks.specs.Tables.{text_held, functions_held, modules_held};
+    ghost use Rattle.scad_definitions.specs.Tables.{table_held, functions_held, modules_held};
     ghost use Rattle.scad_scope.specs.Numbered.{functions_below, modules_below, StaysBelow, StaysNumbered};
     ghost use Rattle.scad_scope.specs.View.{definition_in, row_of_scope};
-    ghost use Rattle.scad_scope.specs.Table.{rows_of, chain_of, numbered_call_of, IsFound, IsMissing, IsVariable, KeepsScopes};
+    ghost use Rattle.scad_scope.specs.Table.{rows_of, bindings_of, numbered_activation_of, IsFound, IsMissing, IsVariable, KeepsScopes};
 
-    /// One empty scope, number 0, outside all others, and the chain with `$fn` 0, `$fa` 12 and `$fs` 2.
+    /// One empty scope, number 0, outside all others, and the dynamic bindings with `$fn` 0, `$fa` 12 and `$fs` 2.
     pub fn new(alloc: Global) -> Result<Scopes, NoMemory>
         ensures rows { IfOk result (λ s. rows_of s ≡ first_row ∷ []) }
-        ensures chain { IfOk result (λ s. chain_of s ≡ first_chain) }
+        ensures bindings { IfOk result (λ s. bindings_of s ≡ first_bindings) }
         ensures functions { IfOk result (λ s. (n : ℕ) → IsTrue (functions_below n (rows_of s))) }
         ensures modules { IfOk result (λ s. (n : ℕ) → IsTrue (modules_below n (rows_of s))) }
     {
@@ -47,8 +46,8 @@ impl Scopes {
             outer: u32::MAX,
             call: None,
         })?;
-        let chain = begun_chain(alloc)?;
-        Ok(Scopes { scopes, chain })
+        let bindings = new_bindings(alloc)?;
+        Ok(Scopes { scopes, bindings })
     }
 
     /// A new scope of a block of a program, inside another scope, and its number. Its time is that of
@@ -67,10 +66,10 @@ impl Scopes {
         requires { outer < length (rows_of self.old) }
         ensures number { IfOk result (λ n. n ≡ length (rows_of self.old)) }
         ensures entered { OnOk result (rows_of self.new ≡
-            rows_of self.old ++ row_of_block outer (text_held blocks.now) block ∷ []) }
+            rows_of self.old ++ row_of_block outer (table_held blocks.now) block ∷ []) }
         ensures unchanged { OnErr result (rows_of self.new ≡ rows_of self.old) }
         ensures inside { IfOk result (λ n. env_of (rows_of self.new) n ≡
-            NumberedWithin n (row_of_block outer (text_held blocks.now) block) no_numbered_call (env_of (rows_of self.old) outer)) }
+            NumberedWithin n (row_of_block outer (table_held blocks.now) block) no_numbered_activation (env_of (rows_of self.old) outer)) }
         ensures kept { KeepsScopes self.old self.new }
         ensures numbered { StaysBelow (length (functions_held blocks.now)) (length (modules_held blocks.now)) (rows_of self.old) (rows_of self.new) }
     {
@@ -80,28 +79,28 @@ impl Scopes {
 
     /// A new scope of a block of a program, as `enter` makes it, which is that of a call of a module
     /// of the source: the call encloses what is evaluated in this scope or in a scope inside.
-    pub fn enter_call(
+    pub fn enter_activation(
         &mut self,
         alloc: Global,
         outer: u32,
         blocks: &Blocks<'_>,
         block: u32,
-        call: ModuleCall,
+        call: ModuleActivation,
     ) -> Result<u32, NoMemory>
         requires outer { outer < length (rows_of self.old) }
         requires caller { call.caller < length (rows_of self.old) }
         ensures number { IfOk result (λ n. n ≡ length (rows_of self.old)) }
         ensures entered { OnOk result (rows_of self.new ≡ rows_of self.old ++
-            called_row call.children call.caller (row_of_block outer (text_held blocks.now) block) ∷ []) }
+            activation_row call.children call.caller (row_of_block outer (table_held blocks.now) block) ∷ []) }
         ensures unchanged { OnErr result (rows_of self.new ≡ rows_of self.old) }
         ensures inside { IfOk result (λ n. env_of (rows_of self.new) n ≡ NumberedWithin n
-            (called_row call.children call.caller (row_of_block outer (text_held blocks.now) block))
-            (numbered_call call.children (env_of (rows_of self.old) call.caller)) (env_of (rows_of self.old) outer)) }
+            (activation_row call.children call.caller (row_of_block outer (table_held blocks.now) block))
+            (numbered_activation call.children (env_of (rows_of self.old) call.caller)) (env_of (rows_of self.old) outer)) }
         ensures kept { KeepsScopes self.old self.new }
         ensures numbered { StaysBelow (length (functions_held blocks.now)) (length (modules_held blocks.now)) (rows_of self.old) (rows_of self.new) }
     {
         let entered = scope_of_block(alloc, outer, blocks, block)?;
-        self.add(entered.of_call(call))
+        self.add(entered.of_activation(call))
     }
 
     /// A new scope without definitions, inside another scope, and its number: what the expression of
@@ -113,7 +112,7 @@ impl Scopes {
         ensures entered { OnOk result (rows_of self.new ≡ rows_of self.old ++ empty_row outer ∷ []) }
         ensures unchanged { OnErr result (rows_of self.new ≡ rows_of self.old) }
         ensures inside { IfOk result (λ n. env_of (rows_of self.new) n ≡
-            NumberedWithin n (empty_row outer) no_numbered_call (env_of (rows_of self.old) outer)) }
+            NumberedWithin n (empty_row outer) no_numbered_activation (env_of (rows_of self.old) outer)) }
         ensures kept { KeepsScopes self.old self.new }
         ensures numbered { StaysNumbered (rows_of self.old) (rows_of self.new) }
     {
@@ -125,7 +124,7 @@ impl Scopes {
         ensures number { IfOk result (λ n. n ≡ length (rows_of self.old)) }
         ensures added { OnOk result (rows_of self.new ≡ rows_of self.old ++ row_of_scope scope ∷ []) }
         ensures unchanged { OnErr result (rows_of self.new ≡ rows_of self.old) }
-        ensures chain { chain_of self.new ≡ chain_of self.old }
+        ensures bindings { bindings_of self.new ≡ bindings_of self.old }
     {
         let number = self.scopes.len();
         if number > u32::MAX as usize {
@@ -142,7 +141,7 @@ impl Scopes {
         ensures rows { rows_of self.new ≡ take to (rows_of self.old) }
         ensures back { (front behind : List Row) → rows_of self.old ≡ front ++ behind → length front ≡ to → rows_of self.new ≡ front }
         ensures kept { (k : ℕ) → k < to → env_of (rows_of self.new) k ≡ env_of (rows_of self.old) k }
-        ensures chain { chain_of self.new ≡ chain_of self.old }
+        ensures bindings { bindings_of self.new ≡ bindings_of self.old }
         ensures numbered { StaysNumbered (rows_of self.old) (rows_of self.new) }
     {
         self.scopes.truncate(to as usize);
@@ -157,15 +156,15 @@ impl Scopes {
 
     /// The innermost call, from a scope outward, whose scope is one of them: the call that encloses
     /// what is evaluated in the scope. None where there is no such call.
-    pub fn call_of(&self, scope: u32) -> Option<ModuleCall>
+    pub fn activation_of(&self, scope: u32) -> Option<ModuleActivation>
         requires { scope < length (rows_of self.now) }
-        ensures value { enclosing_call (env_of (rows_of self.now) scope) ≡ numbered_call_of (env_of (rows_of self.now)) result }
+        ensures value { enclosing_activation (env_of (rows_of self.now) scope) ≡ numbered_activation_of (env_of (rows_of self.now)) result }
         ensures there { IfSome result (λ c. c.caller < length (rows_of self.now)) }
     {
         let mut at = scope;
         'outward: loop {
             let here = &self.scopes[at as usize];
-            if let Some(call) = call_before(here, at) {
+            if let Some(call) = activation_before(here, at) {
                 return Some(call);
             }
             if here.outer >= at {
@@ -191,7 +190,7 @@ impl Scopes {
         ensures here { OnOk result (env_of (rows_of self.new) scope ≡
             with_pair name.now (val_of value) (env_of (rows_of self.old) scope)) }
         ensures kept { (k : ℕ) → k < scope → env_of (rows_of self.new) k ≡ env_of (rows_of self.old) k }
-        ensures chain { chain_of self.new ≡ chain_of self.old }
+        ensures bindings { bindings_of self.new ≡ bindings_of self.old }
         ensures numbered { StaysNumbered (rows_of self.old) (rows_of self.new) }
     {
         self.add_variable(alloc, scope, name, BoundedValue { value })
@@ -208,7 +207,7 @@ impl Scopes {
         requires { scope < length (rows_of self.old) }
         ensures bound { OnOk result (rows_of self.new ≡ bound_in (rows_of self.old) scope name.now (val_of value.value)) }
         ensures unchanged { OnErr result (rows_of self.new ≡ rows_of self.old) }
-        ensures chain { chain_of self.new ≡ chain_of self.old }
+        ensures bindings { bindings_of self.new ≡ bindings_of self.old }
     {
         let name = Bytes::copy_of(alloc, name)?;
         self.scopes[scope as usize].bind(alloc, name, value)
@@ -234,8 +233,8 @@ impl Scopes {
         }
     }
 
-    /// Gives a special name, without its `$`, a value, as the newest of the chain, and answers how long
-    /// the chain was before. `NoMemory` leaves the chain as it was; it also comes where the chain is
+    /// Gives a special name, without its `$`, a value, as the newest of the dynamic bindings, and answers how long
+    /// the dynamic bindings was before. `NoMemory` leaves them as they were; it also comes where there are
     /// 2^32 pairs long.
     pub fn bind_special(
         &mut self,
@@ -244,47 +243,47 @@ impl Scopes {
         value: Value,
     ) -> Result<u32, NoMemory>
         requires { IsTrue (is_bounded (val_of value)) }
-        ensures length { IfOk result (λ n. n ≡ length (chain_of self.old)) }
-        ensures bound { OnOk result (chain_of self.new ≡ (name.now, val_of value) ∷ chain_of self.old) }
-        ensures unchanged { OnErr result (chain_of self.new ≡ chain_of self.old) }
+        ensures length { IfOk result (λ n. n ≡ length (bindings_of self.old)) }
+        ensures bound { OnOk result (bindings_of self.new ≡ (name.now, val_of value) ∷ bindings_of self.old) }
+        ensures unchanged { OnErr result (bindings_of self.new ≡ bindings_of self.old) }
         ensures rows { rows_of self.new ≡ rows_of self.old }
     {
-        let before = self.chain.len();
+        let before = self.bindings.len();
         if before > u32::MAX as usize {
             return Err(NoMemory);
         }
         let name = Bytes::copy_of(alloc, name)?;
-        self.chain.push(alloc, name, BoundedValue { value })?;
+        self.bindings.push(alloc, name, BoundedValue { value })?;
         Ok(before as u32)
     }
 
     /// The newest value of a special name, given without its `$`; it is bounded. UnknownName at the
-    /// place exactly where the chain has no such name.
+    /// place exactly where no dynamic binding has the name.
     pub fn special(&self, name: &[u8], place: Place) -> Result<&Value, Fault>
-        ensures { MatchResult result (λ v. IsVariable (find_in (chain_of self.now) name.now) v.now)
-            (IsMissing UnknownName place (find_in (chain_of self.now) name.now)) }
+        ensures { MatchResult result (λ v. IsVariable (find_in (bindings_of self.now) name.now) v.now)
+            (IsMissing UnknownName place (find_in (bindings_of self.now) name.now)) }
     {
-        match find_variable(&self.chain, name) {
+        match find_variable(&self.bindings, name) {
             Some(found) => Ok(&found.value),
             None => Err(fault(FaultKind::UnknownName, place)),
         }
     }
 
-    /// How many pairs the chain has.
-    pub fn chain_length(&self) -> usize
-        ensures { result ≡ length (chain_of self.now) }
+    /// How many dynamic bindings there are.
+    pub fn count_bindings(&self) -> usize
+        ensures { result ≡ length (bindings_of self.now) }
     {
-        self.chain.len()
+        self.bindings.len()
     }
 
-    /// Cuts the chain to its oldest pairs, so many of them.
+    /// Cuts the dynamic bindings to the oldest ones, so many of them.
     pub fn unwind(&mut self, to: u32)
-        requires { to ≤ length (chain_of self.old) }
-        ensures chain { chain_of self.new ≡ oldest to (chain_of self.old) }
-        ensures back { (newer older : Pairs Val) → chain_of self.old ≡ newer ++ older → length older ≡ to → chain_of self.new ≡ older }
+        requires { to ≤ length (bindings_of self.old) }
+        ensures bindings { bindings_of self.new ≡ oldest to (bindings_of self.old) }
+        ensures back { (newer older : Pairs Val) → bindings_of self.old ≡ newer ++ older → length older ≡ to → bindings_of self.new ≡ older }
         ensures rows { rows_of self.new ≡ rows_of self.old }
     {
-        self.chain.truncate(to as usize);
+        self.bindings.truncate(to as usize);
     }
 
     /// The function of a name, from a scope outward. UnknownFunction exactly where no scope outward
@@ -294,7 +293,7 @@ impl Scopes {
         ensures { MatchResult result (IsFound (rows_of self.now) (function_in (env_of (rows_of self.now) scope) name.now))
             (IsMissing UnknownFunction place (function_in (env_of (rows_of self.now) scope) name.now)) }
     {
-        match self.definition(Family::Functions, scope, name) {
+        match self.definition(NameSpace::Functions, scope, name) {
             Some(found) => Ok(found),
             None => Err(fault(FaultKind::UnknownFunction, place)),
         }
@@ -307,22 +306,22 @@ impl Scopes {
         ensures { MatchResult result (IsFound (rows_of self.now) (module_in (env_of (rows_of self.now) scope) name.now))
             (IsMissing UnknownModule place (module_in (env_of (rows_of self.now) scope) name.now)) }
     {
-        match self.definition(Family::Modules, scope, name) {
+        match self.definition(NameSpace::Modules, scope, name) {
             Some(found) => Ok(found),
             None => Err(fault(FaultKind::UnknownModule, place)),
         }
     }
 
     // The function or the module of a name, from a scope outward, or none.
-    fn definition(&self, family: Family, scope: u32, name: &[u8]) -> Option<Found>
+    fn definition(&self, name_space: NameSpace, scope: u32, name: &[u8]) -> Option<Found>
         requires { scope < length (rows_of self.now) }
-        ensures { MatchOption result (definition_in family (env_of (rows_of self.now) scope) name.now ≡ None)
-            (IsFound (rows_of self.now) (definition_in family (env_of (rows_of self.now) scope) name.now)) }
+        ensures { MatchOption result (definition_in name_space (env_of (rows_of self.now) scope) name.now ≡ None)
+            (IsFound (rows_of self.now) (definition_in name_space (env_of (rows_of self.now) scope) name.now)) }
     {
         let mut at = scope;
         'outward: loop {
             let here = &self.scopes[at as usize];
-            if let Some(definition) = find_definition(definitions(family, here), name) {
+            if let Some(definition) = find_definition(definitions(name_space, here), name) {
                 return Some(Found {
                     scope: at,
                     definition,

@@ -1,19 +1,19 @@
 ghost use Rattle.std.specs.Prelude.{◌≡◌, ◌<◌, ◌∷◌, ℕ, IsTrue, OnOk, OnErr, IfOk, IfSome};
-ghost use Rattle.newest_names.specs.Names.{newest_first};
+ghost use Rattle.scad_definitions.specs.Names.{newest_first};
 ghost use Rattle.scad_value.specs.Values.{NumberVal, is_bounded};
 ghost use Rattle.scad_value.specs.View.{val_of};
-ghost use Rattle.scad_scope.specs.Names.{find_in, with_variable, NumberedEnv, call_behind, called_row, first_chain};
-ghost use Rattle.scad_scope.specs.Table.{numbered_call_of};
+ghost use Rattle.scad_scope.specs.Names.{find_in, with_variable, NumberedEnv, activation_from, activation_row, first_bindings};
+ghost use Rattle.scad_scope.specs.Table.{numbered_activation_of};
 ghost use Rattle.scad_scope.specs.View.{variables_of, IsValueFound, pairs_of, row_of_scope};
 
-use newest_names::NameList;
+use scad_definitions::NameList;
 use scad_value::{BoundedValue, Value};
 use std::alloc::Global;
 use text_place::{Bytes, NoMemory};
 
 /// A call of a module of the source.
 #[derive(Clone, Copy, PartialEq, Eq)]
-pub struct ModuleCall {
+pub struct ModuleActivation {
     /// The number of the block of its children.
     pub children: u32,
     /// The number of the scope of its caller.
@@ -28,7 +28,7 @@ pub(crate) struct Scope {
     pub(crate) functions: NameList<u32>,
     pub(crate) modules: NameList<u32>,
     pub(crate) outer: u32,
-    pub(crate) call: Option<ModuleCall>,
+    pub(crate) call: Option<ModuleActivation>,
 }
 
 impl Scope {
@@ -46,8 +46,8 @@ impl Scope {
     }
 
     /// The same as the scope of a call.
-    pub(crate) fn of_call(self, call: ModuleCall) -> Scope
-        ensures { row_of_scope result ≡ called_row call.children call.caller (row_of_scope self) }
+    pub(crate) fn of_activation(self, call: ModuleActivation) -> Scope
+        ensures { row_of_scope result ≡ activation_row call.children call.caller (row_of_scope self) }
     {
         Scope {
             variables: self.variables,
@@ -59,9 +59,9 @@ impl Scope {
     }
 }
 
-/// The two kinds of definitions.
+/// The two name spaces of definitions.
 #[derive(Clone, Copy, Debug, PartialEq, Eq)]
-pub(crate) enum Family {
+pub(crate) enum NameSpace {
     Functions,
     Modules,
 }
@@ -94,18 +94,18 @@ pub(crate) fn find_definition(definitions: &NameList<u32>, name: &[u8]) -> Optio
 }
 
 /// The definitions of one kind in a scope.
-pub(crate) fn definitions(family: Family, scope: &Scope) -> &NameList<u32>
-    ensures { newest_first result.now ≡ pairs_of family (row_of_scope scope.now) }
+pub(crate) fn definitions(name_space: NameSpace, scope: &Scope) -> &NameList<u32>
+    ensures { newest_first result.now ≡ pairs_of name_space (row_of_scope scope.now) }
 {
-    match family {
-        Family::Functions => &scope.functions,
-        Family::Modules => &scope.modules,
+    match name_space {
+        NameSpace::Functions => &scope.functions,
+        NameSpace::Modules => &scope.modules,
     }
 }
 
-/// The chain as it begins.
-pub(crate) fn begun_chain(alloc: Global) -> Result<NameList<BoundedValue>, NoMemory>
-    ensures { IfOk result (λ chain. variables_of chain ≡ first_chain) }
+/// The first dynamic bindings.
+pub(crate) fn new_bindings(alloc: Global) -> Result<NameList<BoundedValue>, NoMemory>
+    ensures { IfOk result (λ bindings. variables_of bindings ≡ first_bindings) }
 {
     let none = NameList::new(alloc);
     let one = with_number(alloc, none, b"fn", 0)?;
@@ -113,26 +113,26 @@ pub(crate) fn begun_chain(alloc: Global) -> Result<NameList<BoundedValue>, NoMem
     with_number(alloc, two, b"fs", 2)
 }
 
-// A chain with one name more, whose value is a number.
+// Dynamic bindings with one name more, whose value is a number.
 fn with_number(
     alloc: Global,
-    chain: NameList<BoundedValue>,
+    bindings: NameList<BoundedValue>,
     name: &[u8],
     number: i64,
 ) -> Result<NameList<BoundedValue>, NoMemory>
     requires { IsTrue (is_bounded (NumberVal number)) }
-    ensures { IfOk result (λ after. variables_of after ≡ (name.now, NumberVal number) ∷ variables_of chain) }
+    ensures { IfOk result (λ after. variables_of after ≡ (name.now, NumberVal number) ∷ variables_of bindings) }
 {
     let name = Bytes::copy_of(alloc, name)?;
-    let mut longer = chain;
+    let mut longer = bindings;
     let value = Value::Number(number);
     longer.push(alloc, name, BoundedValue { value })?;
     Ok(longer)
 }
 
 /// The call of a scope of this number, where the caller's scope comes before it.
-pub(crate) fn call_before(scope: &Scope, number: u32) -> Option<ModuleCall>
-    ensures told { (look : ℕ → NumberedEnv) → call_behind look number (row_of_scope scope.now).call ≡ numbered_call_of look result }
+pub(crate) fn activation_before(scope: &Scope, number: u32) -> Option<ModuleActivation>
+    ensures told { (look : ℕ → NumberedEnv) → activation_from look number (row_of_scope scope.now).call ≡ numbered_activation_of look result }
     ensures before { IfSome result (λ c. c.caller < number) }
 {
     match scope.call {

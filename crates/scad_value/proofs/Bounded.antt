@@ -11,7 +11,7 @@ use Rattle.scad_ast.specs.declared.operator.UnaryOp.TheVariants.{Negate, Keep, N
 use Rattle.scad_value.specs.declared.value.Value.{Value}
 use Rattle.scad_value.specs.declared.stop.ValueStop.{ValueStop}
 use Rattle.scad_value.specs.Values.{Val, NumberVal, TextVal, ListVal, Vals, no_vals, and_val, vals_from, count_of, parts_of, parts_in, is_long, is_small, has_small_numbers, have_small_numbers, is_bounded}
-use Rattle.scad_value.specs.Operators.{Answer, and_then, sized, number, made, listed, values_in_front, if_equal, by_parts, pairs_by_parts, each_part, each_of_parts, sum_row, difference_row, product_row, unless_zero, exact, quotient_row, remainder_row, dot_of, dot_row, product_of, quotient_of, remainder_of, order_of, tested, binary_of, unary_of, item_at, byte_at, index_of}
+use Rattle.scad_value.specs.Operators.{Answer, and_then, number_or_too_large, number, value_or_long_list, list_or_fault, values_in_front, if_equal, by_parts, pairs_by_parts, each_part, each_of_parts, sum_row, difference_row, product_row, unless_zero, exact, quotient_row, remainder_row, dot_of, dot_row, product_of, quotient_of, remainder_of, order_of, truth_by_order, binary_of, unary_of, item_at, byte_at, index_of}
 use Rattle.scad_value.specs.View.{MeetsAnswer, GivesBounded}
 
 abbrev pub IsBoundedAnswer : Answer Val → Type 0
@@ -43,7 +43,7 @@ or_first false y h = refl
 few_parts : (v : Val) → is_long v ≡ false → ltb (parts_of v) (2 ^ 20) ≡ true
 few_parts v h = lt-ltb (parts_of v) (2 ^ 20) (omega (arith, ltb-false 4096 (parts_of v) (or_first _ _ h)))
 
-made_bounded : (answer : Answer Val) → HasSmall answer → IsBoundedAnswer (made answer)
+made_bounded : (answer : Answer Val) → HasSmall answer → IsBoundedAnswer (value_or_long_list answer)
 made_bounded (Err kind) s = tt
 made_bounded (Ok v) s = by_length (is_long v) refl
   where
@@ -59,7 +59,7 @@ number_bounded : (answer : Answer ℤ) → IsSmallAnswer answer → IsBoundedAns
 number_bounded (Ok n) s = and_from _ _ s refl
 number_bounded (Err kind) s = tt
 
-sized_small : (n : ℤ) → IsSmallAnswer (sized n)
+sized_small : (n : ℤ) → IsSmallAnswer (number_or_too_large n)
 sized_small n = by_size (is_small n) refl
   where
     by_size : (b : Bool) → is_small n ≡ b → IsSmallAnswer (cond b (Ok n) (Err TooLarge))
@@ -82,9 +82,9 @@ quotient_small a b = unless_zero_small b (exact (int_rem a b) (int_div a b)) (ex
     (int_div a b))
 
 remainder_small : (a b : ℤ) → IsSmallAnswer (remainder_row a b)
-remainder_small a b = unless_zero_small b (sized (int_rem a b)) (sized_small (int_rem a b))
+remainder_small a b = unless_zero_small b (number_or_too_large (int_rem a b)) (sized_small (int_rem a b))
 
-listed_small : (answer : Answer (List Val)) → AllSmall answer → HasSmall (listed answer)
+listed_small : (answer : Answer (List Val)) → AllSmall answer → HasSmall (list_or_fault answer)
 listed_small (Ok vs) s = s
 listed_small (Err kind) s = tt
 
@@ -128,15 +128,15 @@ module _ (row : ℤ → Answer ℤ) (small : (a : ℤ) → IsSmallAnswer (row a)
     each_of_small (and_val v vs) =
         front_small (each_part row v) (each_of_parts row vs) (each_part_small v) (each_of_small vs)
 
-dot_small : (answer : Answer ℤ) → HasSmall (number (and_then answer sized))
-dot_small (Ok n) = number_small (sized n) (sized_small n)
+dot_small : (answer : Answer ℤ) → HasSmall (number (and_then answer number_or_too_large))
+dot_small (Ok n) = number_small (number_or_too_large n) (sized_small n)
 dot_small (Err kind) = tt
 
 dot_row_small : (vs ws : Vals) → HasSmall (dot_row vs ws)
 dot_row_small no_vals ws = tt
 dot_row_small (and_val v vs) ws = by_test (eqb (count_of (and_val v vs)) (count_of ws))
   where
-    by_test : (b : Bool) → HasSmall (cond b (number (and_then (dot_of (and_val v vs) ws) sized))
+    by_test : (b : Bool) → HasSmall (cond b (number (and_then (dot_of (and_val v vs) ws) number_or_too_large))
         (Err TypeMismatch))
     by_test true = dot_small (dot_of (and_val v vs) ws)
     by_test false = tt
@@ -158,7 +158,7 @@ remainder_bounded : (v w : Val) → IsBoundedAnswer (remainder_of v w)
 remainder_bounded (NumberVal a) (NumberVal b) = number_bounded (remainder_row a b) (remainder_small a b)
 remainder_bounded v w = tt
 
-tested_bounded : (test : Ordering → Bool) (answer : Answer Ordering) → IsBoundedAnswer (tested test answer)
+tested_bounded : (test : Ordering → Bool) (answer : Answer Ordering) → IsBoundedAnswer (truth_by_order test answer)
 tested_bounded test (Ok order) = refl
 tested_bounded test (Err kind) = tt
 
@@ -181,9 +181,9 @@ binary_bounded Divide v w = made_bounded (quotient_of v w) (quotient_of_small v 
 binary_bounded Remainder v w = remainder_bounded v w
 
 pub unary_bounded : (op : UnaryOp) (v : Val) → IsBoundedAnswer (unary_of op v)
-unary_bounded Negate v = made_bounded (each_part (λ n. sized (neg_ℤ n)) v) (each_part_small (λ n. sized
+unary_bounded Negate v = made_bounded (each_part (λ n. number_or_too_large (neg_ℤ n)) v) (each_part_small (λ n. number_or_too_large
     (neg_ℤ n)) (λ a. sized_small (neg_ℤ a)) v)
-unary_bounded Keep v = made_bounded (each_part sized v) (each_part_small sized (λ a. sized_small a) v)
+unary_bounded Keep v = made_bounded (each_part number_or_too_large v) (each_part_small number_or_too_large (λ a. sized_small a) v)
 unary_bounded Not v = refl
 
 item_small : (vs : Vals) (n : ℕ) → IsTrue (have_small_numbers vs)

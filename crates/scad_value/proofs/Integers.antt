@@ -9,7 +9,7 @@ use mir.Val.{SFits}
 use lib.Signed.{mag_rem}
 use Rattle.text_place.specs.declared.fault.FaultKind.TheVariants.{NotWhole, ZeroDivisor}
 use Rattle.scad_value.specs.Values.{is_small}
-use Rattle.scad_value.specs.Operators.{Answer, sized, unless_zero, exact, quotient_row, remainder_row, plus}
+use Rattle.scad_value.specs.Operators.{Answer, number_or_too_large, unless_zero, exact, quotient_row, remainder_row, plus}
 
 abs_neg : (n : ℕ) → unsigned_abs (neg_ℤ (pos n)) ≡ n
 abs_neg zero = refl
@@ -83,12 +83,12 @@ divides a d n f g = (
 pub exact_quotient : (a d : ℤ) → (of_z w64 d ≡ 0 → ⊥) → SFits w64 a → SFits w64 d
     → of_z w128 (int_rem (to_z w128 (of_z w128 (to_z w64 (of_z w64 a)))) (to_z w128 (of_z w128 (to_z w64
     (of_z w64 d))))) ≡ 0
-    → sized (to_z w128 (of_z w128 (int_div (to_z w128 (of_z w128 (to_z w64 (of_z w64 a)))) (to_z w128
+    → number_or_too_large (to_z w128 (of_z w128 (int_div (to_z w128 (of_z w128 (to_z w64 (of_z w64 a)))) (to_z w128
     (of_z w128 (to_z w64 (of_z w64 d))))))) ≡ quotient_row a d
 exact_quotient a d n f g r =
     let whole : int_rem a d ≡ pos 0 = sym (remainder_is a d _ _ (widened a f) (widened d g) f)
     ∙ ap (to_z w128) r in
-    ap sized (quotient_is a d _ _ (widened a f) (widened d g) f)
+    ap number_or_too_large (quotient_is a d _ _ (widened a f) (widened d g) f)
     ∙ ap (λ x. exact x (int_div a d)) (sym whole)
     ∙ sym (nonzero d (exact (int_rem a d) (int_div a d)) n)
 
@@ -111,10 +111,10 @@ inexact_quotient a d n f g r =
     ∙ inexact (int_rem a d) (int_div a d) (λ z. r (ap (of_z w128) e ∙ z)))
 
 pub remainder_told : (a d : ℤ) → (of_z w64 d ≡ 0 → ⊥) → SFits w64 a → SFits w64 d
-    → sized (to_z w128 (of_z w128 (int_rem (to_z w128 (of_z w128 (to_z w64 (of_z w64 a)))) (to_z w128
+    → number_or_too_large (to_z w128 (of_z w128 (int_rem (to_z w128 (of_z w128 (to_z w64 (of_z w64 a)))) (to_z w128
     (of_z w128 (to_z w64 (of_z w64 d))))))) ≡ remainder_row a d
-remainder_told a d n f g = ap sized (remainder_is a d _ _ (widened a f) (widened d g) f)
-    ∙ sym (nonzero d (sized (int_rem a d)) n)
+remainder_told a d n f g = ap number_or_too_large (remainder_is a d _ _ (widened a f) (widened d g) f)
+    ∙ sym (nonzero d (number_or_too_large (int_rem a d)) n)
 
 -- numbers added to an answer one after another
 pub plus_plus : (a b : ℤ) (answer : Answer ℤ) → plus a (plus b answer) ≡ plus (a +ℤ b) answer

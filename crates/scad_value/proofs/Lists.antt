@@ -11,7 +11,7 @@ use Rattle.scad_value.specs.declared.value.Values.{Values}
 use Rattle.scad_value.specs.declared.value.Value.TheFolds.{fold_out-Values}
 use Rattle.scad_value.specs.Values.{Val, NumberVal, TruthVal, TextVal, ListVal, RangeVal, UndefVal, Vals, no_vals, and_val, vals_from, count_of, parts_in, parts_of, truth_of, are_same, all_same, has_small_numbers, have_small_numbers}
 use Rattle.text_place.specs.declared.fault.FaultKind.TheVariants.{TypeMismatch}
-use Rattle.scad_value.specs.Operators.{Answer, values_in_front, if_equal, by_parts, pairs_by_parts, each_part, each_of_parts, and_then, dot_of, product_at, plus, dot_row, number, sized, item_at, byte_at}
+use Rattle.scad_value.specs.Operators.{Answer, values_in_front, if_equal, by_parts, pairs_by_parts, each_part, each_of_parts, and_then, dot_of, product_at, plus, dot_row, number, number_or_too_large, item_at, byte_at}
 use Rattle.scad_value.specs.View.{val_of, vals_of, vals_in, value_step, values_step, MeetsAnswer, MeetsAnswers}
 
 -- what a list in memory stands for
@@ -202,13 +202,13 @@ small_here vs i v h e small =
 pub dot_row_is : (vs ws : Values) → (length vs.items.items ≡ 0 → ⊥) → length vs.items.items
     ≡ length ws.items.items
     → dot_row (vals_from (vals_of vs)) (vals_from (vals_of ws))
-    ≡ number (and_then (dot_of (vals_from (vals_of vs)) (vals_from (vals_of ws))) sized)
+    ≡ number (and_then (dot_of (vals_from (vals_of vs)) (vals_from (vals_of ws))) number_or_too_large)
 dot_row_is vs ws n e = filled (vals_from (vals_of vs)) (λ z. n (sym (count_out vs) ∙ z))
     ∙ equal_counts vs ws _ e
   where
     filled : (l : Vals) → (count_of l ≡ 0 → ⊥) → dot_row l (vals_from (vals_of ws))
         ≡ if_equal (count_of l) (count_of (vals_from (vals_of ws))) (number (and_then (dot_of l (vals_from
-        (vals_of ws))) sized))
+        (vals_of ws))) number_or_too_large))
     filled no_vals h = absurd (h refl)
     filled (and_val v l) h = refl
 
@@ -220,7 +220,7 @@ dot_row_apart vs ws n = by_count (vals_from (vals_of vs)) (λ e. n (sym (count_o
         → dot_row l (vals_from (vals_of ws)) ≡ Err TypeMismatch
     by_count no_vals h = refl
     by_count (and_val v l) h =
-        ap (λ b. cond b (number (and_then (dot_of (and_val v l) (vals_from (vals_of ws))) sized))
+        ap (λ b. cond b (number (and_then (dot_of (and_val v l) (vals_from (vals_of ws))) number_or_too_large))
         (Err TypeMismatch)) (ne_eqb _ _ h)
 
 -- the item at a place

@@ -3,3 +3,5 @@ pub mod Operators
 pub mod View
 pub mod Rows
 pub mod BoundedView
+pub mod Answers
+pub mod AnswerView

@@ -20,8 +20,8 @@ and_then (Ok x) go = go x
 and_then (Err kind) go = Err kind
 
 -- a number that is too large is a fault
-abbrev pub sized : ℤ → Answer ℤ
-sized n = if is_small n then Ok n else Err TooLarge
+abbrev pub number_or_too_large : ℤ → Answer ℤ
+number_or_too_large n = if is_small n then Ok n else Err TooLarge
 
 -- the value of a number, or its fault
 abbrev pub number : Answer ℤ → Answer Val
@@ -29,14 +29,14 @@ number (Ok n) = Ok (NumberVal n)
 number (Err kind) = Err kind
 
 -- a list that is too long is a fault, after all others
-abbrev pub made : Answer Val → Answer Val
-made (Ok v) = if is_long v then Err LongList else Ok v
-made (Err kind) = Err kind
+abbrev pub value_or_long_list : Answer Val → Answer Val
+value_or_long_list (Ok v) = if is_long v then Err LongList else Ok v
+value_or_long_list (Err kind) = Err kind
 
 -- the list of values, or the first fault of one
-abbrev pub listed : Answer (List Val) → Answer Val
-listed (Ok vs) = Ok (ListVal (vals_from vs))
-listed (Err kind) = Err kind
+abbrev pub list_or_fault : Answer (List Val) → Answer Val
+list_or_fault (Ok vs) = Ok (ListVal (vals_from vs))
+list_or_fault (Err kind) = Err kind
 
 -- values that come before those of an answer
 abbrev pub values_in_front : List Val → Answer (List Val) → Answer (List Val)
@@ -52,7 +52,7 @@ abbrev mutual
   pub by_parts : (ℤ → ℤ → Answer ℤ) → Val → Val → Answer Val
   by_parts row (NumberVal a) (NumberVal b) = number (row a b)
   by_parts row (ListVal vs) (ListVal ws) =
-      listed (if_equal (count_of vs) (count_of ws) (pairs_by_parts row vs ws))
+      list_or_fault (if_equal (count_of vs) (count_of ws) (pairs_by_parts row vs ws))
   by_parts row v w = Err TypeMismatch
 
   -- the values of two lists of one length, pair by pair
@@ -65,7 +65,7 @@ abbrev mutual
 abbrev mutual
   pub each_part : (ℤ → Answer ℤ) → Val → Answer Val
   each_part row (NumberVal a) = number (row a)
-  each_part row (ListVal vs) = listed (each_of_parts row vs)
+  each_part row (ListVal vs) = list_or_fault (each_of_parts row vs)
   each_part row v = Err TypeMismatch
 
   -- the values of all items, in order
@@ -76,15 +76,15 @@ abbrev mutual
 
 -- two numbers
 abbrev pub sum_row : ℤ → ℤ → Answer ℤ
-sum_row a b = sized (a +ℤ b)
+sum_row a b = number_or_too_large (a +ℤ b)
 
 -- the first less the second
 abbrev pub difference_row : ℤ → ℤ → Answer ℤ
-difference_row a b = sized (a -ℤ b)
+difference_row a b = number_or_too_large (a -ℤ b)
 
 -- the product, within the profile
 abbrev pub product_row : ℤ → ℤ → Answer ℤ
-product_row a b = sized (a *ℤ b)
+product_row a b = number_or_too_large (a *ℤ b)
 
 -- a divisor, and what is done where it isn't 0
 abbrev pub unless_zero : ℤ → Answer ℤ → Answer ℤ
@@ -94,7 +94,7 @@ unless_zero (negsuc n) answer = answer
 
 -- the exact quotient
 abbrev pub exact : ℤ → ℤ → Answer ℤ
-exact (pos zero) quotient = sized quotient
+exact (pos zero) quotient = number_or_too_large quotient
 exact (pos (suc n)) quotient = Err NotWhole
 exact (negsuc n) quotient = Err NotWhole
 
@@ -104,7 +104,7 @@ quotient_row a b = unless_zero b (exact (int_rem a b) (int_div a b))
 
 -- the remainder, with the sign of the dividend
 abbrev pub remainder_row : ℤ → ℤ → Answer ℤ
-remainder_row a b = unless_zero b (sized (int_rem a b))
+remainder_row a b = unless_zero b (number_or_too_large (int_rem a b))
 
 -- a number added to an answer
 abbrev pub plus : ℤ → Answer ℤ → Answer ℤ
@@ -125,7 +125,7 @@ dot_of vs ws = Ok (pos 0)
 abbrev pub dot_row : Vals → Vals → Answer Val
 dot_row no_vals ws = Err TypeMismatch
 dot_row (and_val v vs) ws =
-    if_equal (count_of (and_val v vs)) (count_of ws) (number (and_then (dot_of (and_val v vs) ws) sized))
+    if_equal (count_of (and_val v vs)) (count_of ws) (number (and_then (dot_of (and_val v vs) ws) number_or_too_large))
 
 -- two numbers; a number and a list in either order, each part; two lists of numbers
 abbrev pub product_of : Val → Val → Answer Val
@@ -151,9 +151,9 @@ order_of (NumberVal a) (NumberVal b) = Ok (int_cmp a b)
 order_of v w = Err TypeMismatch
 
 -- whether the order of two numbers passes a test
-abbrev pub tested : (Ordering → Bool) → Answer Ordering → Answer Val
-tested test (Ok order) = Ok (TruthVal (test order))
-tested test (Err kind) = Err kind
+abbrev pub truth_by_order : (Ordering → Bool) → Answer Ordering → Answer Val
+truth_by_order test (Ok order) = Ok (TruthVal (test order))
+truth_by_order test (Err kind) = Err kind
 
 -- the table
 abbrev pub binary_of : BinaryOp → Val → Val → Answer Val
@@ -161,20 +161,20 @@ binary_of Or v w = Ok (TruthVal (truth_of v || truth_of w))
 binary_of And v w = Ok (TruthVal (truth_of v && truth_of w))
 binary_of Equal v w = Ok (TruthVal (are_same v w))
 binary_of NotEqual v w = Ok (TruthVal (not (are_same v w)))
-binary_of Less v w = tested is_lt (order_of v w)
-binary_of LessEqual v w = tested is_le (order_of v w)
-binary_of Greater v w = tested is_gt (order_of v w)
-binary_of GreaterEqual v w = tested is_ge (order_of v w)
-binary_of Add v w = made (by_parts sum_row v w)
-binary_of Subtract v w = made (by_parts difference_row v w)
-binary_of Multiply v w = made (product_of v w)
-binary_of Divide v w = made (quotient_of v w)
+binary_of Less v w = truth_by_order is_lt (order_of v w)
+binary_of LessEqual v w = truth_by_order is_le (order_of v w)
+binary_of Greater v w = truth_by_order is_gt (order_of v w)
+binary_of GreaterEqual v w = truth_by_order is_ge (order_of v w)
+binary_of Add v w = value_or_long_list (by_parts sum_row v w)
+binary_of Subtract v w = value_or_long_list (by_parts difference_row v w)
+binary_of Multiply v w = value_or_long_list (product_of v w)
+binary_of Divide v w = value_or_long_list (quotient_of v w)
 binary_of Remainder v w = remainder_of v w
 
 -- the operators before an operand: of numbers, and of lists by parts; `!` takes any value
 abbrev pub unary_of : UnaryOp → Val → Answer Val
-unary_of Negate v = made (each_part (λ n. sized (neg_ℤ n)) v)
-unary_of Keep v = made (each_part sized v)
+unary_of Negate v = value_or_long_list (each_part (λ n. number_or_too_large (neg_ℤ n)) v)
+unary_of Keep v = value_or_long_list (each_part number_or_too_large v)
 unary_of Not v = Ok (TruthVal (not (truth_of v)))
 
 -- the item at a place from 0, or undef

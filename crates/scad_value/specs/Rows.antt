@@ -4,7 +4,7 @@ use Rattle.scad_value.specs.declared.arithmetic.PairRow.{PairRow}
 use Rattle.scad_value.specs.declared.arithmetic.PairRow.TheVariants.{Sum, Difference}
 use Rattle.scad_value.specs.declared.arithmetic.PartRow.{PartRow}
 use Rattle.scad_value.specs.declared.arithmetic.PartRow.TheVariants.{Times, Over, Negate, Keep}
-use Rattle.scad_value.specs.Operators.{Answer, sized, sum_row, difference_row, product_row, quotient_row}
+use Rattle.scad_value.specs.Operators.{Answer, number_or_too_large, sum_row, difference_row, product_row, quotient_row}
 
 -- the sum or the difference of two numbers
 abbrev pub pair_row : PairRow → ℤ → ℤ → Answer ℤ
@@ -15,5 +15,5 @@ pair_row Difference a b = difference_row a b
 abbrev pub part_row : PartRow → ℤ → Answer ℤ
 part_row (Times b) a = product_row a b
 part_row (Over b) a = quotient_row a b
-part_row Negate a = sized (neg_ℤ a)
-part_row Keep a = sized a
+part_row Negate a = number_or_too_large (neg_ℤ a)
+part_row Keep a = number_or_too_large a

@@ -1,6 +1,6 @@
 ghost use Rattle.std.specs.Prelude.{◌≡◌, ◌<◌, ◌≤◌, ◌^◌, ◌*ℤ◌, length, IsTrue, IfOk, unsigned_abs};
 ghost use Rattle.scad_value.specs.Values.{count_of, parts_in, vals_from, is_small, has_small_numbers, have_small_numbers};
-ghost use Rattle.scad_value.specs.Operators.{sized, by_parts, pairs_by_parts, if_equal, each_part, each_of_parts, dot_of, product_at, product_row, remainder_row, quotient_row};
+ghost use Rattle.scad_value.specs.Operators.{number_or_too_large, by_parts, pairs_by_parts, if_equal, each_part, each_of_parts, dot_of, product_at, product_row, remainder_row, quotient_row};
 ghost use Rattle.scad_value.specs.View.{val_of, vals_of, MeetsAnswer, MeetsAnswers};
 ghost use Rattle.scad_value.specs.Rows.{pair_row, part_row};
 
@@ -27,8 +27,8 @@ pub(crate) enum PartRow {
 }
 
 /// The number, unless it is TooLarge: past 2^53 - 1 in size.
-pub fn sized(n: i128) -> Result<i64, FaultKind>
-    ensures { result ≡ sized n }
+pub fn number_or_too_large(n: i128) -> Result<i64, FaultKind>
+    ensures { result ≡ number_or_too_large n }
 {
     if n.unsigned_abs() < u128::from(TOO_LARGE) {
         Ok(n as i64)
@@ -42,8 +42,8 @@ fn pair(row: PairRow, left: i64, right: i64) -> Result<i64, FaultKind>
     ensures { result ≡ pair_row row left right }
 {
     match row {
-        PairRow::Sum => sized(left as i128 + right as i128),
-        PairRow::Difference => sized(left as i128 - right as i128),
+        PairRow::Sum => number_or_too_large(left as i128 + right as i128),
+        PairRow::Difference => number_or_too_large(left as i128 - right as i128),
     }
 }
 
@@ -51,7 +51,7 @@ fn pair(row: PairRow, left: i64, right: i64) -> Result<i64, FaultKind>
 pub fn product_of_two(left: i64, right: i64) -> Result<i64, FaultKind>
     ensures { result ≡ product_row left right }
 {
-    sized(left as i128 * right as i128)
+    number_or_too_large(left as i128 * right as i128)
 }
 
 // What is done with one number, or its fault.
@@ -61,8 +61,8 @@ fn part(row: PartRow, n: i64) -> Result<i64, FaultKind>
     match row {
         PartRow::Times(by) => product_of_two(n, by),
         PartRow::Over(by) => quotient(n, by),
-        PartRow::Negate => sized(-(n as i128)),
-        PartRow::Keep => sized(n as i128),
+        PartRow::Negate => number_or_too_large(-(n as i128)),
+        PartRow::Keep => number_or_too_large(n as i128),
     }
 }
 
@@ -76,7 +76,7 @@ fn quotient(left: i64, right: i64) -> Result<i64, FaultKind>
     if left as i128 % right as i128 != 0 {
         return Err(FaultKind::NotWhole);
     }
-    sized(left as i128 / right as i128)
+    number_or_too_large(left as i128 / right as i128)
 }
 
 /// The remainder, with the sign of the dividend.
@@ -86,7 +86,7 @@ pub(crate) fn remainder(left: i64, right: i64) -> Result<i64, FaultKind>
     if right == 0 {
         return Err(FaultKind::ZeroDivisor);
     }
-    sized(left as i128 % right as i128)
+    number_or_too_large(left as i128 % right as i128)
 }
 
 /// Two numbers, or two lists of one length by parts.

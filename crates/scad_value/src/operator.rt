@@ -1,10 +1,10 @@
 ghost use Rattle.std.specs.Prelude.{◌≡◌, ◌<◌, ◌^◌, IsTrue, IfOk, Ok, length};
 ghost use Rattle.scad_value.specs.Values.{Val, is_bounded, vals_from, has_small_numbers, have_small_numbers, parts_in, NumberVal, TextVal, ListVal, UndefVal};
-ghost use Rattle.scad_value.specs.Operators.{Answer, binary_of, unary_of, index_of, made, product_of, quotient_of, remainder_of, dot_row, dot_of, and_then, sized, number, order_of, item_at, byte_at};
+ghost use Rattle.scad_value.specs.Operators.{Answer, binary_of, unary_of, index_of, value_or_long_list, product_of, quotient_of, remainder_of, dot_row, dot_of, and_then, number_or_too_large, number, order_of, item_at, byte_at};
 ghost use Rattle.scad_value.specs.View.{val_of, vals_of, Answers, MeetsAnswer, GivesBounded};
 
 use crate::arithmetic::{
-    PairRow, PartRow, by_parts, dot, each_part, product_of_two, remainder, sized,
+    PairRow, PartRow, by_parts, dot, each_part, number_or_too_large, product_of_two, remainder,
 };
 use crate::compare::same;
 use crate::limits::{MOST_NESTING, MOST_PARTS};
@@ -148,8 +148,8 @@ fn text(bytes: Vec<u8>) -> Value
 
 /// A value that an operator, a function or a bracket makes, unless it is LongList: it has more than
 /// 4,096 parts, or lists that are more than 64 deep in one another.
-pub fn made(value: Value) -> Result<Value, FaultKind>
-    ensures value { Answers result (made (Ok (val_of value))) }
+pub fn value_or_long_list(value: Value) -> Result<Value, FaultKind>
+    ensures value { Answers result (value_or_long_list (Ok (val_of value))) }
     ensures bounded { IsTrue (has_small_numbers (val_of value)) → IfOk result (λ v. IsTrue (is_bounded (val_of v))) }
 {
     if value.parts() > MOST_PARTS || value.nesting() > MOST_NESTING {
@@ -160,9 +160,9 @@ pub fn made(value: Value) -> Result<Value, FaultKind>
 
 // The value that was given, unless it is LongList, or why none was.
 fn made_of(given: Result<Value, ValueStop>) -> Result<Value, ValueStop>
-    ensures { (answer : Answer Val) → MeetsAnswer given answer → MeetsAnswer result (made answer) }
+    ensures { (answer : Answer Val) → MeetsAnswer given answer → MeetsAnswer result (value_or_long_list answer) }
 {
-    Ok(made(given?)?)
+    Ok(value_or_long_list(given?)?)
 }
 
 // The order of two numbers; other values have none and are TypeMismatch.
@@ -212,9 +212,9 @@ fn sized_dot(left: &Values, right: &Values) -> Result<i64, FaultKind>
     requires right { IsTrue (have_small_numbers (vals_from (vals_of right.now))) }
     requires few { parts_in (vals_from (vals_of left.now)) < 2 ^ 20 }
     requires equal { length left.now.items.items ≡ length right.now.items.items }
-    ensures { result ≡ and_then (dot_of (vals_from (vals_of left.now)) (vals_from (vals_of right.now))) sized }
+    ensures { result ≡ and_then (dot_of (vals_from (vals_of left.now)) (vals_from (vals_of right.now))) number_or_too_large }
 {
-    sized(dot(left, right)?)
+    number_or_too_large(dot(left, right)?)
 }
 
 // The value of a number, or its fault.

@@ -5,6 +5,7 @@ use Rattle.script_reader.specs.declared.script.ScriptFault.{ScriptFault}
 use Rattle.script_reader.specs.declared.script.ScriptFault.TheVariants.{TooLarge, TooLong, NoName, TooManyClients, TooManyCommands, NoMemory}
 use Rattle.script_reader.specs.Lines.{space, newline}
 
+-- the word of a script's fault
 abbrev pub fault_word : ScriptFault → List ℕ
 fault_word TooLarge = codes "TooLarge"
 fault_word (TooLong line) = codes "TooLong"

@@ -1,9 +1,11 @@
 -- The lines of a script.
 use Rattle.std.specs.Prelude.{◌≡◌, ◌≢◌, ℕ, List, [], ◌∷◌, ◌++◌, All, ◌⊎◌}
 
+-- the byte of a space
 abbrev pub space : List ℕ
 space = 32 ∷ []
 
+-- the byte of a line's end
 abbrev pub newline : List ℕ
 newline = 10 ∷ []
 

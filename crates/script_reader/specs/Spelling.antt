@@ -10,6 +10,7 @@ use Rattle.script_reader.specs.Lines.{space}
 abbrev pub IsNameByte : ℕ → Type 0
 IsNameByte b = ((97 ≤ b) × (b ≤ 122)) ⊎ ((48 ≤ b) × (b ≤ 57))
 
+-- the name of a client: 1 to 16 of these bytes
 pub record IsName (name : List ℕ) : Type 0 where
   pub some : 1 ≤ length name
   pub short : length name ≤ 16

@@ -10,7 +10,7 @@ use Rattle.script_run.specs.Moves.{MovesAt, MovesAlong}
 -- a reply that fits in front of others that fit
 pub fits_on : (Exports : List ℕ → Reply → Type 0) (s t : State) (c : Command) (r : Reply) (cs : List Command) (rs : List Reply) → Steps Exports s c t r →
     Fits Exports t cs rs → Fits Exports s (c ∷ cs) (r ∷ rs)
-fits_on Exports s t c r cs rs (inl (e, same)) fit = inl (e, subst (λ u. Fits Exports u cs rs) same fit)
+fits_on Exports s t c r cs rs (inl (e, may, same)) fit = inl (e, may, subst (λ u. Fits Exports u cs rs) same fit)
 fits_on Exports s t c r cs rs (inr (answered, same)) fit = inr (answered, subst (λ u. Fits Exports u cs rs) same fit)
 
 -- a command in front of others moves the exporter first

@@ -7,11 +7,15 @@ use Rattle.std.proofs.lemmas.List.Sums.{sum_by-cons}
 use Rattle.std.proofs.Math.Seq.{take-append_seam}
 use Rattle.csg_tree.specs.Formulas.{Formula}
 use Rattle.bsp_tree.specs.Shapes.{SolidParts}
-use Rattle.memo_core.specs.Memo.{Entry, Mark, itself, owned}
-use Rattle.memo_core.specs.Views.{mark_in, marks}
+use Rattle.std.specs.List.{AllByRecursion}
+use Rattle.bsp_tree.specs.Shapes.{tree_of}
+use Rattle.bsp_tree.specs.Trees.{size}
+use Rattle.bsp_boolean.specs.Solids.{solid_of}
+use Rattle.memo_core.specs.Memo.{Entry, Item, Mark, Said, Probe_said, Fill_said, itself, owned}
+use Rattle.memo_core.specs.Views.{MaySay, mark_in, marks}
 use Rattle.subtree_memo.specs.Shares.{View, fresh, opened, parts_each, offered_of}
 use Rattle.flight_memo.specs.Shares.{FlightView, opened_flights}
-use Rattle.script_server.specs.Books.{weights_of}
+use Rattle.script_server.specs.Books.{weights_of, OffersSize, OfferSizes}
 
 -- what an owner's entries weigh, by their marks alone
 owned_marks : (owner : ℕ) (es : List (Entry Formula SolidParts)) → owned itself owner (marks es) ≡ owned mark_in owner es
@@ -96,3 +100,22 @@ All_push P xs x all here = All-append P xs (x ∷ []) all (All-cons P x [] here 
 -- what holds of an answer where it is given holds of the one that was
 pub of_given : {T E : Type 0} (P : T → Type 0) (r : Result T E) (x : T) → r ≡ Ok x → IfOk r P → P x
 of_given {T} {E} P r x is h = subst (λ (q : Result T E). IfOk q P) is h
+
+-- ---- what fills offered
+-- a fill that offers the weight of a solid of its tree offers the size of its solid
+size_offered : (tree : Formula) (said : Said) → MaySay (λ (t : Formula) (solid : SolidParts). tree_of solid ≡ solid_of t) (λ solid. size (tree_of solid)) tree said → OffersSize tree said
+size_offered tree (Probe_said hit) may = tt
+size_offered tree (Fill_said weight kept evicted) (solid, fits, weighs) = weighs ∙ ap size fits
+
+pub sizes_offered : (items : List (Item Formula)) → AllByRecursion (λ i. MaySay (λ (t : Formula) (solid : SolidParts). tree_of solid ≡ solid_of t) (λ solid. size (tree_of solid)) i.key i.said) items → OfferSizes items
+sizes_offered [] all = tt
+sizes_offered (i ∷ is) all = (size_offered i.key i.said all.0, sizes_offered is all.1)
+
+-- there are as many weights as callers
+pub weights_many : (n : ℕ) (ms : List (Mark Formula)) → length (weights_of n ms) ≡ n
+weights_many zero ms = refl
+weights_many (suc n) ms = omega (arith, weights_many n ms, length-append (weights_of n ms) (owned itself n ms ∷ []))
+
+-- what holds of the answer that was given holds of an answer where it is given
+pub given_of : {T E : Type 0} (P : T → Type 0) (r : Result T E) (x : T) → r ≡ Ok x → P x → IfOk r P
+given_of {T} {E} P r x is h = subst (λ (q : Result T E). IfOk q P) (sym is) h

@@ -13,7 +13,7 @@ use Rattle.scad_parser.specs.Parsing.{kind_of, place_at, HasSyntaxFault}
 use Rattle.plane_predicate.specs.declared.unit.Unit.{Unit as LengthUnit}
 use Rattle.csg_tree.specs.Formulas.{Formula}
 use Rattle.scad_meaning.specs.Sources.{Meaning, a_tree, a_fault, IsMeaning}
-use Rattle.scad_source.specs.Sources.{Writes, HasTextFault}
+use Rattle.scad_parser.specs.Sources.{Writes, HasTextFault}
 use Rattle.script_server.specs.Meaning.Sources.{Means, HasFault}
 
 -- what the layers below say of texts: bytes have one outcome, and tokens one program or one first fault

@@ -19,7 +19,7 @@ use Rattle.reply_text.specs.declared.reply.Reply.TheVariants as reply
 use Rattle.tree_export.specs.declared.export.Exported.{Exported}
 use Rattle.tree_export.specs.declared.export.Exported.TheVariants as exported
 use Rattle.tree_export.specs.Exports.{IsExported, Bounds}
-use Rattle.scad_source.specs.Sources.{Writes}
+use Rattle.scad_parser.specs.Sources.{Writes}
 use Rattle.script_server.specs.Meaning.Sources.{Means, HasFault}
 use Rattle.script_server.specs.Meaning.Exports.{reply_of, IsBounded, AnswersExport}
 

@@ -1,5 +1,5 @@
 -- What a status tells, from what came of the words, the input and the output.
-use Rattle.std.proofs.Common.{◌≡◌, ◌≢◌, ◌⊎◌, ⊎_elim, inl, inr, ℕ, ◌<◌, List, [], ◌∷◌, ◌++◌, length, refl, sym, ap, ◌∙◌, subst, arith, append-nil, length-append}
+use Rattle.std.proofs.Common.{◌≡◌, ◌≢◌, ◌⊎◌, ⊎_elim, inl, inr, ℕ, ◌<◌, ◌≤◌, List, [], ◌∷◌, ◌++◌, length, refl, sym, ap, ◌∙◌, subst, arith, append-nil, length-append}
 use Rattle.std.specs.Prelude.{Option, Some, None, IfSome}
 use Rattle.std.specs.Io.KnownBytes.{Appends, Consumes, IsAtEnd}
 use Rattle.outside_io.specs.Counts.{Rose}
@@ -26,12 +26,16 @@ use Rattle.script_service.specs.declared.input.InputEnd.{InputEnd}
 use Rattle.script_service.specs.declared.input.InputEnd.TheVariants as input_end
 use Rattle.script_service.specs.declared.status.Status.{Status}
 use Rattle.script_service.specs.declared.status.Status.TheVariants.{Done, BadWords, BadScript, ReadFault, WriteFault, NoMemory}
+use Rattle.script_service.specs.Statuses.{status_number}
 use Rattle.script_service.specs.Streams.{Stream, Streams}
 use Rattle.script_service.specs.Units.{unit_of, memo_of, share_of}
 use Rattle.script_service.specs.Serving.{usage_line, IsRun, IsInput, IsWholeInput, Gives, Lacks, printed}
-use Rattle.script_service.specs.Outcomes.{AppendsPart, Ends, Prints, RefusesWords, RefusesInput}
+use Rattle.script_service.specs.Outcomes.{AppendsPart, Ends, Prints, HasStatusCause, RefusesWords, RefusesInput}
+use Rattle.std.specs.Prelude.{IsErrOf, Result, Ok, Err, IfOk, IfErr}
+use Rattle.flight_memo.specs.Claims.{View as ClaimsView}
+use Rattle.script_server.proofs.Books.{sizes_offered, weights_many}
 use Rattle.script_server.specs.Books.{IsRunOf, AreBooks, weights_of}
-use Rattle.script_server.specs.Serving.{IsOutputFor, WritesOutput, IsOutput, ChoosesAlone, StatusTells, AskForRun, AskForNoInput, IsScriptOf, IsNoScript}
+use Rattle.script_server.specs.Serving.{IsOutputFor, WritesOutput, IsOutput, ChoosesAlone, StatusTells, AreCaused, ExitTells, ExitRefuses, AskForRun, AskForNoInput, IsScriptOf, IsNoScript}
 
 -- a status tells what an equal one tells
 as_told : (words : List (List ℕ)) (s : Streams) (status other : Status) → status ≡ other → StatusTells words s other → StatusTells words s status
@@ -40,8 +44,7 @@ as_told words s status other e h = subst (λ (t : Status). StatusTells words s t
 -- ---- the words choose nothing
 pub words_refused : (words : List (List ℕ)) (s : Streams) (fault : WordsFault) (status : Status) → (fault ≡ words_fault.BadWords → AreOutside words) → RefusesWords fault s.sink status → StatusTells words s status
 words_refused words s words_fault.BadWords status outside (inl (e, whole)) = as_told words s status BadWords e (outside refl, whole)
-words_refused words s words_fault.BadWords status outside (inr (inl (e, rose, cut))) = as_told words s status WriteFault e (rose, inl (outside refl, cut))
-words_refused words s words_fault.BadWords status outside (inr (inr (e, same))) = as_told words s status NoMemory e (inl same)
+words_refused words s words_fault.BadWords status outside (inr (e, rose, cut)) = as_told words s status WriteFault e (rose, inl (outside refl, cut))
 words_refused words s words_fault.NoMemory status outside (e, same) = as_told words s status NoMemory e (inl same)
 
 -- ---- there is no script
@@ -71,10 +74,10 @@ script_served words settings s script status alone (bytes, input, is) (inl (out,
 script_served words settings s script status alone gives (inr (e, same)) = as_told words s status NoMemory e (inl same)
 
 -- ---- what is written for a run
-pub output_of_run : (settings : Settings) (clients : List ClientScript) (replies : List (List Reply)) (tally : Tally) (core : Core Formula Solid) (owned : List ℕ) (callers : ℕ) →
-    IsRunOf (unit_of settings) clients (memo_of settings) (share_of settings) name_of replies tally core → owned ≡ weights_of callers (marks core.entries) → length owned ≡ callers → callers ≡ length clients →
+pub output_of_run : (settings : Settings) (clients : List ClientScript) (replies : List (List Reply)) (tally : Tally) (core : Core Formula Solid) (closed : ClaimsView Formula) (owned : List ℕ) (callers : ℕ) →
+    IsRunOf (unit_of settings) clients (memo_of settings) (share_of settings) name_of replies tally core closed → owned ≡ weights_of callers (marks core.entries) → length owned ≡ callers → callers ≡ length clients →
     IsOutputFor settings clients (printed settings clients replies tally owned)
-output_of_run settings clients replies tally core owned callers ran weights many same =
+output_of_run settings clients replies tally core closed owned callers ran weights many same =
     let limits = ran.limits in
     let sound = ran.sound in
     let legal = subst (λ b. IsLegal is_same_tree name_of b (share_of settings) [] core.journal) limits.0 (subst (λ sh. IsLegal is_same_tree name_of core.budget sh [] core.journal) limits.1 sound.legal) in
@@ -91,10 +94,29 @@ output_of_run settings clients replies tally core owned callers ran weights many
         ran.sums,
         ran.callers,
         ran.offered,
+        sizes_offered core.journal sound.offers,
       ),
       many ∙ same,
       refl,
     )
+
+-- what is written for a run whose weights are printed where they are asked for
+pub run_written : (settings : Settings) (clients : List ClientScript) (replies : List (List Reply)) (tally : Tally) (core : Core Formula Solid) (closed : ClaimsView Formula) (callers : ℕ) (sink : Stream) (status : Status) →
+    IsRunOf (unit_of settings) clients (memo_of settings) (share_of settings) name_of replies tally core closed → callers ≡ length clients →
+    Prints settings sink (printed settings clients replies tally (weights_of callers (marks core.entries))) status → WritesOutput settings clients sink status
+run_written settings clients replies tally core closed callers sink status ran same prints =
+    let weights = weights_of callers (marks core.entries) in
+    inl (printed settings clients replies tally weights, output_of_run settings clients replies tally core closed weights callers ran refl (weights_many callers (marks core.entries)) same, prints)
+
+-- ---- what counts of faults say
+-- why there is no script is told as what it is
+pub input_caused : {T : Type 0} (before now : ℕ) (end : InputEnd) (sink : Stream) (status : Status) → IsErrOf {T = T} (Err end) input_end.Failed ⊎ (now ≡ before) → RefusesInput end sink status →
+    (status ≡ ReadFault) ⊎ (now ≡ before)
+input_caused before now (input_end.BadScript fault) sink status (inl e) refuses = absurd (cc e)
+input_caused before now (input_end.BadScript fault) sink status (inr same) refuses = inr same
+input_caused before now input_end.Failed sink status quiet (e, same) = inl e
+input_caused before now input_end.NoMemory sink status (inl e) refuses = absurd (cc e)
+input_caused before now input_end.NoMemory sink status (inr same) refuses = inr same
 
 -- ---- what a status says of words that choose settings
 pub in_range : (words : List (List ℕ)) (settings : Settings) → Chooses words settings → AreInRange settings
@@ -169,3 +191,31 @@ script_kept never words s status told =
 pub fault_told : NeverBoth → (words : List (List ℕ)) (s : Streams) (status : Status) → StatusTells words s status → AskForRun words → IfSome s.source.old (λ bytes. IsNoScript bytes → status ≢ Done)
 fault_told never words s status told run =
     unless s.source.old IsNoScript (status ≡ Done) (λ e. serves_a_script never words s run (subst (λ (t : Status). StatusTells words s t) e told))
+
+-- ---- a failed source and a failed sink
+-- what counts of faults say where nothing was read
+pub caused_unread : (s : Streams) (status : Status) → s.source.now ≡ s.source.before → HasStatusCause WriteFault s.sink.before s.sink.now status → AreCaused s status
+caused_unread s status same written = record { read = record { later = omega (arith, same); quiet = inr same }; written = written }
+
+-- where nothing was written
+pub caused_unwritten : (s : Streams) (status : Status) → HasStatusCause ReadFault s.source.before s.source.now status → s.sink.now ≡ s.sink.before → AreCaused s status
+caused_unwritten s status read same = record { read = read; written = record { later = omega (arith, same); quiet = inr same } }
+
+pub caused : (s : Streams) (status : Status) → HasStatusCause ReadFault s.source.before s.source.now status → HasStatusCause WriteFault s.sink.before s.sink.now status → AreCaused s status
+caused s status read written = record { read = read; written = written }
+
+-- an input that was read
+pub read_caused : {T : Type 0} (before now : ℕ) (script : T) (status : Status) → before ≤ now → IsErrOf (Ok script) input_end.Failed ⊎ (now ≡ before) → HasStatusCause ReadFault before now status
+read_caused before now script status later (inl never) = absurd (cc never)
+read_caused before now script status later (inr same) = record { later = later; quiet = inr same }
+
+-- ---- the number with which the program ends
+pub exit_told : {A E : Type 0} (r : Result A E) (words : A → List (List ℕ)) (s : Streams) (status : Status) (code : ℕ) → code ≡ status_number status →
+    IfOk r (λ w. StatusTells (words w) s status) → IfOk r (λ w. AreCaused s status) → IfOk r (λ w. ExitTells (words w) s code)
+exit_told (Ok w) words s status code e told causes = (status, e, told, causes)
+exit_told (Err fault) words s status code e told causes = tt
+
+pub exit_refused : {A : Type 0} (r : Result A WordsFault) (sink : Stream) (status : Status) (code : ℕ) → code ≡ status_number status →
+    IfErr r (λ fault. RefusesWords fault sink status) → IfErr r (λ fault. ExitRefuses fault sink code)
+exit_refused (Ok w) sink status code e told = tt
+exit_refused (Err fault) sink status code e told = (status, e, told)

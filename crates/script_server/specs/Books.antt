@@ -1,5 +1,6 @@
 -- What is told of a memo at the end of a run.
 use Rattle.std.specs.Prelude.{◌≡◌, ℕ, ◌≤◌, ◌<◌, max, zero, suc, List, [], ◌∷◌, ◌++◌, ◌⊎◌, length, All}
+use Rattle.std.specs.List.{AllByRecursion}
 use Rattle.text_place.specs.declared.fault.Fault.{Fault}
 use Rattle.plane_predicate.specs.declared.unit.Unit.{Unit as LengthUnit}
 use Rattle.csg_tree.specs.Formulas.{Formula}
@@ -10,8 +11,9 @@ use Rattle.bsp_tree.specs.Trees.{size}
 use Rattle.bsp_tree.specs.Shapes.{tree_of}
 use Rattle.bsp_boolean.specs.Solids.{solid_of}
 use Rattle.bsp_boolean.specs.TreeSolids.{joins}
-use Rattle.memo_core.specs.Memo.{Item, Mark, itself, owned, replay, IsLegal}
+use Rattle.memo_core.specs.Memo.{Item, Mark, Said, Probe_said, Fill_said, itself, owned, replay, IsLegal}
 use Rattle.memo_core.specs.Views.{Core, IsSound}
+use Rattle.flight_memo.specs.Claims.{View as ClaimsView, IsClosed}
 use Rattle.subtree_memo.specs.declared.tally.Tally.{Tally}
 use Rattle.subtree_memo.specs.Tallies.{tally_of}
 use Rattle.script_reader.specs.declared.script.ClientScript.{ClientScript}
@@ -25,6 +27,15 @@ use Rattle.script_server.specs.Meaning.Exports.{AnswersExport}
 -- the sequential memo keeps, and replays to the entries.
 abbrev pub IsSolidMemo : (Formula → List ℕ) → Core Formula SolidParts → Type 0
 IsSolidMemo names core = IsSound is_same_tree names (λ tree solid. tree_of solid ≡ solid_of tree) (λ solid. size (tree_of solid)) core
+
+-- what a call says of a tree: a fill offers the size of its solid, whether it is kept or not
+abbrev pub OffersSize : Formula → Said → Type 0
+OffersSize tree (Probe_said hit) = Unit {0}
+OffersSize tree (Fill_said weight kept evicted) = weight ≡ size (solid_of tree)
+
+-- each fill of a journal offers the size of the solid of its tree
+abbrev pub OfferSizes : List (Item Formula) → Type 0
+OfferSizes items = AllByRecursion (λ i. OffersSize i.key i.said) items
 
 -- what the entries of the first so many callers weigh
 abbrev pub weights_of : ℕ → List (Mark Formula) → List ℕ
@@ -48,18 +59,19 @@ abbrev pub IsOfClients : List ClientScript → List (Item Formula) → Type 0
 IsOfClients clients items = All (λ item. item.caller < max (length clients) 1) items
 
 -- A tally and the weights of the callers' entries are those of some journal of the clients that the sequential memo of this budget
--- and share keeps, with trees as its keys and the digests of their bytes as names; the tally adds up, and no more fills were
--- offered than there were misses.
+-- and share keeps, with trees as its keys, the digests of their bytes as names and the sizes of their solids as weights; the tally
+-- adds up, and no more fills were offered than there were misses.
 abbrev pub AreBooks : LengthUnit → List ClientScript → List (List Reply) → ℕ → ℕ → Tally → List ℕ → Type 0
 AreBooks unit clients replies budget share tally weights =
     (items : List (Item Formula)) × IsLegal is_same_tree name_of budget share [] items
     × (tally ≡ tally_of items tally.dropped)
     × (weights ≡ weights_of (length weights) (replay is_same_tree name_of budget share [] items))
     × AddsUp unit clients replies tally
-    × IsOfClients clients items × (tally.offered ≤ tally.misses)
+    × IsOfClients clients items × (tally.offered ≤ tally.misses) × OfferSizes items
 
--- What came of a run of clients over a memo of this budget and share, whose names are these.
-pub record IsRunOf (unit : LengthUnit) (clients : List ClientScript) (budget share : ℕ) (names : Formula → List ℕ) (replies : List (List Reply)) (tally : Tally) (core : Core Formula SolidParts) : Type 0 where
+-- What came of a run of clients over a memo of this budget and share, whose names are these: the replies, the tally, the memo and
+-- its claims at the end.
+pub record IsRunOf (unit : LengthUnit) (clients : List ClientScript) (budget share : ℕ) (names : Formula → List ℕ) (replies : List (List Reply)) (tally : Tally) (core : Core Formula SolidParts) (closed : ClaimsView Formula) : Type 0 where
   -- each client's replies are those that its own commands define, whatever the others do at the same time
   pub fits : AllFit (AnswersExport unit) clients replies
   pub few : All (λ rs. length rs ≤ 8192) replies
@@ -71,4 +83,6 @@ pub record IsRunOf (unit : LengthUnit) (clients : List ClientScript) (budget sha
   pub offered : tally.offered ≤ tally.misses
   pub sound : IsSolidMemo names core
   pub callers : IsOfClients clients core.journal
+  -- no key ever had two live claims; as many began as there were misses, and all of them ended
+  pub claims : IsClosed tally.misses closed
   pub limits : (core.budget ≡ budget) × (core.share ≡ share)

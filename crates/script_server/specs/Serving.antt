@@ -5,6 +5,7 @@ use Rattle.outside_io.specs.Counts.{Rose}
 use Rattle.outside_io.specs.Moves.{AppendsProperPrefix}
 use Rattle.run_words.specs.declared.settings.Settings.{Settings}
 use Rattle.run_words.specs.declared.settings.Settings.TheVariants.{Run, Demo}
+use Rattle.run_words.specs.declared.settings.WordsFault.{WordsFault}
 use Rattle.run_words.specs.Words.{Chooses, AreOutside}
 use Rattle.subtree_memo.specs.declared.tally.Tally.{Tally}
 use Rattle.script_reader.specs.declared.script.ClientScript.{ClientScript}
@@ -19,7 +20,8 @@ use Rattle.script_service.specs.declared.status.Status.TheVariants.{Done, BadWor
 use Rattle.script_service.specs.Streams.{Stream, Streams}
 use Rattle.script_service.specs.Units.{unit_of, memo_of, share_of}
 use Rattle.script_service.specs.Serving.{usage_line, IsRun, IsInput, IsWholeInput, printed}
-use Rattle.script_service.specs.Outcomes.{AppendsPart, Prints}
+use Rattle.script_service.specs.Statuses.{status_number}
+use Rattle.script_service.specs.Outcomes.{AppendsPart, Prints, HasStatusCause, RefusesWords}
 use Rattle.script_server.specs.Meaning.Exports.{AnswersExport}
 use Rattle.script_server.specs.Books.{AreBooks}
 
@@ -99,6 +101,20 @@ StatusTells words s WriteFault =
 -- Nothing was written, or something of the output of a script, and not the whole.
 StatusTells words s NoMemory =
     s.sink.same ⊎ ((settings : Settings) × ChoosesAlone words settings × IsRun settings × Begins settings s)
+
+-- A source that failed ends a call as a read fault, and a sink that failed as a write fault: at another status no count of faults
+-- rose. So want of memory is never told for either.
+pub record AreCaused (s : Streams) (status : Status) : Type 0 where
+  pub read : HasStatusCause ReadFault s.source.before s.source.now status
+  pub written : HasStatusCause WriteFault s.sink.before s.sink.now status
+
+-- What the number tells with which the program ends: it is that of one status, which tells what it does.
+abbrev pub ExitTells : List (List ℕ) → Streams → ℕ → Type 0
+ExitTells words s code = (status : Status) × (code ≡ status_number status) × StatusTells words s status × AreCaused s status
+
+-- the same where there were no words to be read
+abbrev pub ExitRefuses : WordsFault → Stream → ℕ → Type 0
+ExitRefuses fault sink code = (status : Status) × (code ≡ status_number status) × RefusesWords fault sink status
 
 -- the words choose to serve a script
 abbrev pub AskForRun : List (List ℕ) → Type 0

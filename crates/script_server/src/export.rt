@@ -12,7 +12,7 @@ use plane_predicate::Unit;
 use reply_text::Reply;
 use scad_ast::Program;
 use scad_eval::evaluate;
-use scad_source::with_program;
+use scad_parser::with_program;
 use std::alloc::Global;
 use text_place::Stop;
 use tree_export::Exported;

@@ -1,4 +1,4 @@
-//! The server: one script in, the replies of its clients out, with what an export is answered.
+//! The server: one script in, the replies of its clients out, and what an export is answered.
 #![tactic(auto)]
 
 mod export;
@@ -13,8 +13,8 @@ mod under_way;
 pub use meaning::{
     one_meaning, one_output, one_reply, own_replies, solids_pass_no_limit, some_meaning, some_reply,
 };
-pub use program::run_program;
+pub use program::{run_program, serve_to_exit};
 pub use run_words::{Settings, WordsFault, read_words};
-pub use running::{Ran, run_gated, run_named, run_script};
+pub use running::{Ran, printed_weights, run_gated, run_named, run_script};
 pub use script_service::Status;
 pub use server::serve;

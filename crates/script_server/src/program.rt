@@ -1,8 +1,16 @@
 //! The program: its words, standard input and standard output, handed to the server.
 
+ghost use Rattle.std.specs.Prelude.{◌≡◌, map, string_bytes, IfOk, IfErr};
+ghost use Rattle.std.specs.Process.{exit_status};
+ghost use Rattle.script_service.specs.Streams.{stream, streams};
+ghost use Rattle.script_service.specs.Outcomes.{RefusesWords};
+ghost use Rattle.script_server.specs.Serving.{StatusTells, AreCaused, ExitTells, ExitRefuses};
+
 use crate::server::serve;
-use outside_io::{ReadSource, WriteSink};
-use script_service::Status;
+use outside_io::{ReadSource, Sink, Source, WriteSink};
+use run_words::WordsFault;
+use script_service::{Status, refuse_words};
+use std::alloc::Global;
 use std::io::ErrorKind;
 use std::process::ExitCode;
 use std::sync::Wait;
@@ -17,16 +25,58 @@ fn words(rt: &HostRuntime) -> io::Result<Vec<String>> {
         .map_err(io::Error::from)
 }
 
-/// Serves the words, standard input and standard output of the program, and gives the status with which it ends.
+// The same, or why there are none to be read: words that are no UTF-8 are outside the grammar.
+fn words_or_fault(rt: &HostRuntime) -> Result<Vec<String>, WordsFault> {
+    match words(rt) {
+        Ok(words) => Ok(words),
+        Err(fault) if fault.kind() == ErrorKind::InvalidData => Err(WordsFault::BadWords),
+        Err(_) => Err(WordsFault::NoMemory),
+    }
+}
+
+// Serves words, or tells why there are none.
+fn serve_words<S: Source, K: Sink, R: Threads + Wait + Sync>(
+    rt: &R,
+    alloc: Global,
+    words: Result<Vec<String>, WordsFault>,
+    source: &mut S,
+    sink: &mut K,
+) -> Status
+    ensures told { IfOk words (λ words. StatusTells (map string_bytes words.items)
+        (streams S.left S.faults K.held K.faults source.old source.new sink.old sink.new) result) }
+    ensures causes { IfOk words (λ words. AreCaused
+        (streams S.left S.faults K.held K.faults source.old source.new sink.old sink.new) result) }
+    ensures refused { IfErr words (λ fault. RefusesWords fault (stream K.held K.faults sink.old sink.new) result) }
+    ensures unread { IfErr words (λ fault. source.new ≡ source.old) }
+{
+    match words {
+        Ok(words) => serve(rt, alloc, words.as_slice(), source, sink),
+        Err(fault) => refuse_words(fault, sink),
+    }
+}
+
+/// All that the program does with its words, its source and its sink: it serves the words, or tells why there are none, and ends
+/// with the number of what came of that.
+pub fn serve_to_exit<S: Source, K: Sink, R: Threads + Wait + Sync>(
+    rt: &R,
+    alloc: Global,
+    words: Result<Vec<String>, WordsFault>,
+    source: &mut S,
+    sink: &mut K,
+) -> ExitCode
+    ensures told { IfOk words (λ words. ExitTells (map string_bytes words.items)
+        (streams S.left S.faults K.held K.faults source.old source.new sink.old sink.new) (exit_status result)) }
+    ensures refused { IfErr words (λ fault. ExitRefuses fault (stream K.held K.faults sink.old sink.new) (exit_status result)) }
+    ensures unread { IfErr words (λ fault. source.new ≡ source.old) }
+{
+    let status = serve_words(rt, alloc, words, source, sink);
+    ExitCode::from(status.number())
+}
+
+/// Hands the program's words, standard input and standard output to `serve_to_exit`, and nothing else.
 pub fn run_program<R: Threads + Wait + Sync>(threads: &R, rt: &HostRuntime) -> ExitCode {
-    let words = match words(rt) {
-        Ok(words) => words,
-        // Words that are no UTF-8 are outside the grammar, as no words are.
-        Err(fault) if fault.kind() == ErrorKind::InvalidData => Vec::new(rt.alloc()),
-        Err(_) => return ExitCode::from(Status::NoMemory.number()),
-    };
+    let words = words_or_fault(rt);
     let mut source = ReadSource::new(rt.stdin());
     let mut sink = WriteSink::new(rt.stdout());
-    let status = serve(threads, rt.alloc(), &words, &mut source, &mut sink);
-    ExitCode::from(status.number())
+    serve_to_exit(threads, rt.alloc(), words, &mut source, &mut sink)
 }

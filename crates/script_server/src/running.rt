@@ -1,21 +1,23 @@
 //! The clients of a script at the same time, over one memo that they share, whose missing keys they claim.
 
-ghost use Rattle.std.specs.Prelude.{◌≡◌, ◌<◌, ◌≤◌, max, [], All, length, map, vec_capacity, IfOk};
+ghost use Rattle.std.specs.Prelude.{◌≡◌, ◌<◌, ◌≤◌, max, [], All, length, map, vec_capacity, IfOk, IsOk};
 ghost use Rattle.csg_tree.specs.TreeKeys.{name_of};
 ghost use Rattle.memo_core.specs.Views.{marks};
 ghost use Rattle.subtree_memo.specs.Shares.{IsOf, opened, offered_of, parts_each};
 ghost use Rattle.script_reader.specs.Limits.{AreWithin};
+ghost use Rattle.script_service.specs.Serving.{PrintsWeights};
 ghost use Rattle.script_server.specs.Books.{IsRunOf, weights_of};
 ghost use Rattle.script_server.specs.Clients.{ExportsFor};
 
 use crate::exporter::{Client, ClientExporter, export_source};
 use crate::under_way::{UnderWay, Workers};
 use csg_tree::TreeKey;
-use flight_memo::{Flight, FlightBlanks, FlightBooks, FlightLedgers, FlightShare};
-use join_solids::{Builds, Gate, OpenGate, ShaNamer, SolidFit};
+use flight_memo::{Claims, Flight, FlightBlanks, FlightBooks, FlightLedgers, FlightShare};
 use memo_core::{MemoCore, Namer};
+use parallel_eval::{Builds, Gate, OpenGate, ShaNamer, SolidFit};
 use plane_predicate::Unit;
 use reply_text::{Replies, Reply};
+use run_words::Settings;
 use script_reader::Script;
 use std::alloc::Global;
 use std::marker::Brand;
@@ -26,16 +28,17 @@ use subtree_memo::{Blanks, Memo, MemoLedger, Tally};
 use text_place::NoMemory;
 
 /// What came of a script: the replies to the commands of each client, in the clients' order, and the memo at the end with
-/// its tally.
+/// its tally and its claims.
 #[derive(Drop)]
 pub struct Ran<N: Namer<TreeKey>> {
     pub replies: Vec<Replies>,
     pub tally: Tally,
     pub core: MemoCore<SolidFit, N>,
+    pub claims: Claims<SolidFit>,
 }
 
-/// What the entries of each of the first so many callers of a memo weigh.
-pub fn weights(
+// What the entries of each of the first so many callers of a memo weigh.
+fn weights(
     alloc: Global,
     core: &MemoCore<SolidFit, ShaNamer>,
     callers: u32,
@@ -48,6 +51,26 @@ pub fn weights(
         weights.push(core.weight_of(caller))?;
     }
     Ok(weights)
+}
+
+/// What the entries of each of the first so many callers of a memo weigh, where the settings have it printed. Where they don't,
+/// no memory is asked for.
+pub fn printed_weights(
+    alloc: Global,
+    settings: Settings,
+    core: &MemoCore<SolidFit, ShaNamer>,
+    callers: u32,
+) -> Result<Vec<u64>, NoMemory>
+    ensures weights { IfOk result (λ v. PrintsWeights settings → v.items ≡ weights_of callers (marks core.now.entries)) }
+    ensures spares { (PrintsWeights settings → ⊥) → IsOk result }
+{
+    let Settings::Run { tally, share, .. } = settings else {
+        return Ok(Vec::new(alloc));
+    };
+    if tally && share > 0 {
+        return weights(alloc, core, callers);
+    }
+    Ok(Vec::new(alloc))
 }
 
 // The exporters of callers with these fresh shares, in the order of their numbers, in room that is given for them. All
@@ -124,7 +147,7 @@ fn run_over<
         × IsOf K.name K.parts blanks.kept × IsOf E.name E.parts blanks.heavy }
     requires claims { IsOf S.name S.parts claims.begun × IsOf T.name T.parts claims.ended }
     ensures { IfOk result (λ ran. IsRunOf unit script.now.clients core.budget core.share N.name_of
-        ran.replies.items ran.tally ran.core) }
+        ran.replies.items ran.tally ran.core ran.claims) }
 {
     // All room is taken before the memo opens, and nothing can fail between the claims' opening and their closing: so no way
     // out of this function drops an open memo, whose many types it would prove the drop of.
@@ -152,17 +175,18 @@ fn run_over<
     let mut exporters = exporters_of(workers, shares, export, waiting);
     let served = script_run::run_script(rt, alloc, &mut exporters, unit, script);
     let shares = shares_of(exporters, room);
-    let (tally, core, _claims) = flight.close(shares);
+    let (tally, core, claims) = flight.close(shares);
     let replies = served?;
     Ok(Ran {
         replies,
         tally,
         core,
+        claims,
     })
 }
 
-/// Runs the clients of a script at the same time, each with so many builders, over one memo of this budget and share with
-/// these names. Each build of each client enters the gate first, with the client's number from 0; where it is refused, the
+/// Runs the clients of a script at the same time, over one memo of this budget and share with these names. An export has so many
+/// builders at most: those that are under way at the same time share them, and each has one at least. Each build of each client enters the gate first, with the client's number from 0; where it is refused, the
 /// export is answered as for want of memory. Where the whole has no memory to begin with, nothing is answered.
 pub fn run_named<N: Namer<TreeKey> + Send + Sync, G: Gate + Sync, R: Threads + Wait + Sync>(
     rt: &R,
@@ -178,7 +202,7 @@ pub fn run_named<N: Namer<TreeKey> + Send + Sync, G: Gate + Sync, R: Threads + W
     requires within { AreWithin script.now.clients }
     requires workers { (1 ≤ workers) × (workers ≤ 64) }
     ensures { IfOk result (λ ran. IsRunOf unit script.now.clients memo share N.name_of
-        ran.replies.items ran.tally ran.core) }
+        ran.replies.items ran.tally ran.core ran.claims) }
 {
     // A memo has at least one caller.
     let callers = script.clients.items().len().max(1) as u32;
@@ -205,7 +229,7 @@ pub fn run_gated<G: Gate + Sync, R: Threads + Wait + Sync>(
     requires within { AreWithin script.now.clients }
     requires workers { (1 ≤ workers) × (workers ≤ 64) }
     ensures { IfOk result (λ ran. IsRunOf unit script.now.clients memo share name_of
-        ran.replies.items ran.tally ran.core) }
+        ran.replies.items ran.tally ran.core ran.claims) }
 {
     run_named(
         rt, alloc, script, workers, memo, share, unit, gate, ShaNamer,
@@ -225,7 +249,7 @@ pub fn run_script<R: Threads + Wait + Sync>(
     requires within { AreWithin script.now.clients }
     requires workers { (1 ≤ workers) × (workers ≤ 64) }
     ensures { IfOk result (λ ran. IsRunOf unit script.now.clients memo share name_of
-        ran.replies.items ran.tally ran.core) }
+        ran.replies.items ran.tally ran.core ran.claims) }
 {
     run_gated(rt, alloc, script, workers, memo, share, unit, &OpenGate)
 }

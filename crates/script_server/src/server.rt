@@ -10,11 +10,12 @@ ghost use Rattle.script_service.specs.declared.status.Status.TheVariants as Stat
 ghost use Rattle.script_service.specs.Streams.{stream, streams};
 ghost use Rattle.script_service.specs.Units.{unit_of, memo_of, share_of};
 ghost use Rattle.script_server.specs.Books.{IsRunOf};
-ghost use Rattle.script_server.specs.Serving.{StatusTells, WritesOutput, AskForRun, AskForNoInput, IsScriptOf, IsNoScript};
+ghost use Rattle.script_service.specs.Outcomes.{HasStatusCause};
+ghost use Rattle.script_server.specs.Serving.{StatusTells, AreCaused, WritesOutput, AskForRun, AskForNoInput, IsScriptOf, IsNoScript};
 
-use crate::running::{Ran, run_script, weights};
-use join_solids::ShaNamer;
+use crate::running::{Ran, printed_weights, run_script};
 use outside_io::{Sink, Source};
+use parallel_eval::ShaNamer;
 use plane_predicate::Unit;
 use run_words::{Settings, read_words};
 use script_reader::{ClientScript, Script, bytes_are_one_script};
@@ -34,7 +35,7 @@ fn run_clients<R: Threads + Wait + Sync>(
     requires within { AreWithin script.now.clients }
     requires range { AreInRange settings }
     ensures { IfOk result (λ ran. IsRunOf (unit_of settings) script.now.clients (memo_of settings) (share_of settings) name_of
-        ran.replies.items ran.tally ran.core) }
+        ran.replies.items ran.tally ran.core ran.claims) }
 {
     match settings {
         Settings::Run {
@@ -51,7 +52,7 @@ fn run_clients<R: Threads + Wait + Sync>(
     }
 }
 
-// Writes what came of a run, with what the memo holds of each client.
+// Writes what came of a run, and where it is asked for what the memo holds of each client.
 fn write_ran<K: Sink>(
     alloc: Global,
     settings: Settings,
@@ -59,12 +60,13 @@ fn write_ran<K: Sink>(
     ran: &Ran<ShaNamer>,
     sink: &mut K,
 ) -> Status
-    requires ran { IsRunOf (unit_of settings) clients.now (memo_of settings) (share_of settings) name_of ran.now.replies.items ran.now.tally ran.now.core }
+    requires ran { IsRunOf (unit_of settings) clients.now (memo_of settings) (share_of settings) name_of
+        ran.now.replies.items ran.now.tally ran.now.core ran.now.claims }
     requires few { length clients.now ≤ 16 }
     ensures told { WritesOutput settings clients.now (stream K.held K.faults sink.old sink.new) result }
-    ensures later { K.faults sink.old ≤ K.faults sink.new }
+    ensures cause { HasStatusCause Status.WriteFault (K.faults sink.old) (K.faults sink.new) result }
 {
-    match weights(alloc, &ran.core, clients.len() as u32) {
+    match printed_weights(alloc, settings, &ran.core, clients.len() as u32) {
         Ok(owned) => write_outcome(
             alloc,
             settings,
@@ -92,7 +94,8 @@ pub fn serve<S: Source, K: Sink, R: Threads + Wait + Sync>(
     ensures told { StatusTells (map string_bytes words.now) (streams S.left S.faults K.held K.faults source.old source.new sink.old sink.new) result }
     // At words outside the grammar, and for the demonstration, nothing is read.
     ensures unread { AskForNoInput (map string_bytes words.now) → source.new ≡ source.old }
-    ensures counts { (S.faults source.old ≤ S.faults source.new) × (K.faults sink.old ≤ K.faults sink.new) }
+    // A source that failed is told as that, and so is a sink, and nothing else is told as either.
+    ensures causes { AreCaused (streams S.left S.faults K.held K.faults source.old source.new sink.old sink.new) result }
 
     // Where no count of faults rose, a script is served and other bytes are refused, unless memory ran out.
     ensures complete { (settings : Settings) → Chooses (map string_bytes words.now) settings

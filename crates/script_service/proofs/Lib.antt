@@ -1,2 +1,4 @@
 pub mod Lines
 mod OneEnding
+pub mod Sent
+pub mod Printed

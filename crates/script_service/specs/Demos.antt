@@ -8,19 +8,22 @@ use Rattle.reply_text.specs.declared.reply.Reply.{Reply}
 use Rattle.reply_text.specs.declared.reply.Reply.TheVariants as reply
 use Rattle.reply_text.specs.Parts.{first_words}
 
--- the bytes before the first one that is this, and those behind it
+-- the bytes before the first one that is this
 abbrev pub before : ℕ → List ℕ → List ℕ
 before at [] = []
 before at (b ∷ bs) = if b == at then [] else b ∷ before at bs
 
+-- the bytes behind the first one that is this
 abbrev pub behind : ℕ → List ℕ → List ℕ
 behind at [] = []
 behind at (b ∷ bs) = if b == at then bs else behind at bs
 
--- the counts of a 4OFF text: its second line has the number of vertices, a space, the number of faces and a space
+-- how many vertices a 4OFF text says that it has: its second line begins with that number, a space, the number of faces and a
+-- space
 abbrev pub vertex_count : List ℕ → List ℕ
 vertex_count text = before 32 (behind 10 text)
 
+-- how many faces it says that it has
 abbrev pub face_count : List ℕ → List ℕ
 face_count text = before 32 (behind 32 (behind 10 text))
 
@@ -46,9 +49,11 @@ last_words [] = []
 last_words (r ∷ []) = export_words r
 last_words (r ∷ (q ∷ rs)) = last_words (q ∷ rs)
 
+-- the line of a client of the demonstration
 abbrev pub demo_line : List ℕ → List Reply → List ℕ
 demo_line name replies = name ++ (if wants_memory replies then codes " nomem" else last_words replies) ++ newline
 
+-- the lines of all its clients
 abbrev pub demo_text : List ClientScript → List (List Reply) → List ℕ
 demo_text (client ∷ clients) (replies ∷ more) = demo_line client.name replies ++ demo_text clients more
 demo_text _ _ = []

@@ -6,3 +6,4 @@ pub mod Demos
 pub mod Streams
 pub mod Serving
 pub mod Outcomes
+pub mod Sending

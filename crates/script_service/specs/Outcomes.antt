@@ -1,5 +1,5 @@
 -- How a text was written, and with which status that ended.
-use Rattle.std.specs.Prelude.{◌≡◌, ℕ, ◌<◌, List, ◌++◌, length, ◌⊎◌, Option}
+use Rattle.std.specs.Prelude.{◌≡◌, ℕ, ◌<◌, ◌≤◌, List, ◌++◌, length, ◌⊎◌, Option}
 use Rattle.std.specs.Io.KnownBytes.{Appends}
 use Rattle.outside_io.specs.Counts.{Rose}
 use Rattle.outside_io.specs.Moves.{AppendsProperPrefix}
@@ -20,7 +20,13 @@ AppendsPart old new text =
     (front : List ℕ) × (rest : List ℕ) × (front ++ rest ≡ text)
     × (0 < length front) × (0 < length rest) × Appends old new front
 
--- the whole text was written, or the sink failed on the way, or memory ran out before anything was written
+-- the whole text was written, or the sink failed on the way
+abbrev pub Writes : Status → Stream → List ℕ → Status → Type 0
+Writes good sink text status =
+    ((status ≡ good) × Appends sink.old sink.new text)
+    ⊎ ((status ≡ WriteFault) × Rose sink.before sink.now × AppendsProperPrefix sink.old sink.new text)
+
+-- the same, or memory ran out before anything was written
 abbrev pub Ends : Status → Stream → List ℕ → Status → Type 0
 Ends good sink text status =
     ((status ≡ good) × Appends sink.old sink.new text)
@@ -33,9 +39,15 @@ abbrev pub Prints : Settings → Stream → List ℕ → Status → Type 0
 Prints settings sink text status =
     Ends Done sink text status ⊎ (IsRun settings × (status ≡ NoMemory) × AppendsPart sink.old sink.new text)
 
--- what is told of words that choose nothing
+-- The count of faults did not fall, and it is as before where the status is not that of a fault: so a source or a sink that
+-- failed ends a call as what it is, and never as want of memory.
+pub record HasStatusCause (fault : Status) (before now : ℕ) (status : Status) : Type 0 where
+  pub later : before ≤ now
+  pub quiet : (status ≡ fault) ⊎ (now ≡ before)
+
+-- what is told of words that choose nothing: words outside the grammar are told without memory
 abbrev pub RefusesWords : WordsFault → Stream → Status → Type 0
-RefusesWords words.BadWords sink status = Ends BadWords sink usage_line status
+RefusesWords words.BadWords sink status = Writes BadWords sink usage_line status
 RefusesWords words.NoMemory sink status = (status ≡ NoMemory) × sink.same
 
 -- what is told of an input that is no script

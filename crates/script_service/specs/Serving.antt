@@ -1,6 +1,6 @@
 -- What is read of a source, and what is written for it. Of a source that doesn't tell its bytes, and of a sink that doesn't,
 -- `Consumes`, `IsAtEnd` and `Appends` say nothing.
-use Rattle.std.specs.Prelude.{◌≡◌, ℕ, ◌<◌, List, ◌++◌, length, codes, ◌⊎◌}
+use Rattle.std.specs.Prelude.{◌≡◌, ℕ, ◌<◌, ◌≤◌, true, List, ◌++◌, length, codes, ◌⊎◌, Result, IsErrOf}
 use Rattle.std.specs.Io.KnownBytes.{Appends, Consumes, IsAtEnd}
 use Rattle.outside_io.specs.Counts.{Rose}
 use Rattle.run_words.specs.declared.settings.Settings.{Settings}
@@ -58,6 +58,16 @@ Lacks settings source (end.BadScript fault) =
     IsRun settings × (bytes : List ℕ) × IsInput settings source bytes × IsScriptFault bytes fault
 Lacks settings source end.Failed = IsRun settings × Rose source.before source.now
 Lacks settings source end.NoMemory = Unit {0}
+
+-- the count of a source's faults did not fall, and it is as before where the source is not told to have failed
+pub record HasInputCause {T : Type 0} (before now : ℕ) (result : Result T InputEnd) : Type 0 where
+  pub later : before ≤ now
+  pub quiet : IsErrOf result end.Failed ⊎ (now ≡ before)
+
+-- what each client's entries weigh is printed: with the tally, and a share above 0
+abbrev pub PrintsWeights : Settings → Type 0
+PrintsWeights (Run workers memo share half tally) = (tally ≡ true) × (0 < share)
+PrintsWeights (Demo n) = ⊥
 
 -- what is written for a script whose clients are given these replies, over a memo with this tally and these weights of
 -- the clients' entries

@@ -3,6 +3,7 @@ use Rattle.std.specs.Prelude.{ℕ}
 use Rattle.script_service.specs.declared.status.Status.{Status}
 use Rattle.script_service.specs.declared.status.Status.TheVariants.{Done, BadWords, BadScript, ReadFault, WriteFault, NoMemory}
 
+-- the number with which the program ends
 abbrev pub status_number : Status → ℕ
 status_number Done = 0
 status_number BadWords = 2

@@ -6,7 +6,7 @@ ghost use Rattle.big_input.specs.DemoScript.{demo_script};
 ghost use Rattle.script_reader.specs.Limits.{AreWithin};
 ghost use Rattle.script_reader.specs.Scripts.{IsScript};
 ghost use Rattle.script_service.specs.Streams.{stream};
-ghost use Rattle.script_service.specs.Serving.{IsRun, AreNoScript, Gives, Lacks};
+ghost use Rattle.script_service.specs.Serving.{IsRun, AreNoScript, Gives, Lacks, HasInputCause};
 
 use big_input::{demo_scripts_have_no_fault, make_script};
 use outside_io::{ReadEnd, Source, read_to_end};
@@ -62,7 +62,7 @@ fn read_run<S: Source>(
     ensures script { IfOk result (Gives settings (stream S.left S.faults source.old source.new)) }
     ensures within { IfOk result (λ script. AreWithin script.clients) }
     ensures lacks { IfErr result (Lacks settings (stream S.left S.faults source.old source.new)) }
-    ensures later { S.faults source.old ≤ S.faults source.new }
+    ensures cause { HasInputCause (S.faults source.old) (S.faults source.new) result }
 {
     match read_to_end(alloc, source, SCRIPT_BYTES) {
         Ok(bytes) => parse(alloc, bytes.as_slice()),
@@ -101,7 +101,7 @@ pub fn read_input<S: Source>(
     ensures script { IfOk result (Gives settings (stream S.left S.faults source.old source.new)) }
     ensures within { IfOk result (λ script. AreWithin script.clients) }
     ensures lacks { IfErr result (Lacks settings (stream S.left S.faults source.old source.new)) }
-    ensures later { S.faults source.old ≤ S.faults source.new }
+    ensures cause { HasInputCause (S.faults source.old) (S.faults source.new) result }
     ensures unread { (IsRun settings → ⊥) → source.new ≡ source.old }
 {
     match settings {

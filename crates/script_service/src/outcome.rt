@@ -1,22 +1,22 @@
 //! Writes what came of a call: the usage line, why there is no script, or the replies to its clients.
 
-ghost use Rattle.std.specs.Prelude.{◌≡◌, ◌≤◌, ◌⊎◌, ◌++◌, length, All};
+ghost use Rattle.std.specs.Prelude.{◌≡◌, ◌≤◌, ◌⊎◌, ◌++◌, ℕ, List, length, All};
 ghost use Rattle.script_reader.specs.FaultLines.{fault_line};
 ghost use Rattle.reply_text.specs.Texts.{output};
 ghost use Rattle.script_service.specs.Endings.{ending};
 ghost use Rattle.script_service.specs.Demos.{demo_text};
 ghost use Rattle.script_service.specs.Streams.{stream};
-ghost use Rattle.script_service.specs.Serving.{printed};
-ghost use Rattle.script_service.specs.Outcomes.{Ends, AppendsPart, Prints, RefusesWords, RefusesInput};
+ghost use Rattle.script_service.specs.Serving.{PrintsWeights, printed};
+ghost use Rattle.script_service.specs.Outcomes.{Writes, Ends, AppendsPart, Prints, HasStatusCause, RefusesWords, RefusesInput};
 
 use crate::demo::demo_lines;
 use crate::ending::ending_lines;
 use crate::input::InputEnd;
 use crate::status::Status;
+use crate::{OutputEnd, write_output};
 use outside_io::{Sink, write_all};
 use reply_text::Replies;
 use run_words::{Settings, WordsFault};
-use script_output::{OutputEnd, write_output};
 use script_reader::{ClientScript, ScriptFault, write_fault};
 use std::alloc::Global;
 use subtree_memo::Tally;
@@ -27,8 +27,8 @@ const USAGE: &[u8] =
 
 // Writes all of a text, and ends with the status unless the sink fails.
 fn finish<K: Sink>(sink: &mut K, text: &[u8], status: Status) -> Status
-    ensures ends { Ends status (stream K.held K.faults sink.old sink.new) text.now result }
-    ensures later { K.faults sink.old ≤ K.faults sink.new }
+    ensures writes { Writes status (stream K.held K.faults sink.old sink.new) text.now result }
+    ensures cause { HasStatusCause Status.WriteFault (K.faults sink.old) (K.faults sink.new) result }
 {
     match write_all(sink, text) {
         Ok(()) => status,
@@ -39,7 +39,7 @@ fn finish<K: Sink>(sink: &mut K, text: &[u8], status: Status) -> Status
 // Writes the line of a script's fault.
 fn write_script_fault<K: Sink>(alloc: Global, fault: ScriptFault, sink: &mut K) -> Status
     ensures ends { Ends Status.BadScript (stream K.held K.faults sink.old sink.new) (fault_line fault) result }
-    ensures later { K.faults sink.old ≤ K.faults sink.new }
+    ensures cause { HasStatusCause Status.WriteFault (K.faults sink.old) (K.faults sink.new) result }
 {
     match write_fault(alloc, fault) {
         Ok(line) => finish(sink, line.as_slice(), Status::BadScript),
@@ -47,10 +47,10 @@ fn write_script_fault<K: Sink>(alloc: Global, fault: ScriptFault, sink: &mut K) 
     }
 }
 
-/// Tells why words choose no settings: the usage line, unless memory ran out.
+/// Tells why words choose no settings: the usage line, which takes no memory, and nothing where memory ran out at the words.
 pub fn refuse_words<K: Sink>(fault: WordsFault, sink: &mut K) -> Status
     ensures told { RefusesWords fault (stream K.held K.faults sink.old sink.new) result }
-    ensures later { K.faults sink.old ≤ K.faults sink.new }
+    ensures cause { HasStatusCause Status.WriteFault (K.faults sink.old) (K.faults sink.new) result }
 {
     match fault {
         WordsFault::BadWords => finish(sink, USAGE, Status::BadWords),
@@ -61,7 +61,7 @@ pub fn refuse_words<K: Sink>(fault: WordsFault, sink: &mut K) -> Status
 /// Tells why there is no script to serve: the line of its fault, and nothing where the source failed or memory ran out.
 pub fn refuse_input<K: Sink>(alloc: Global, end: InputEnd, sink: &mut K) -> Status
     ensures told { RefusesInput end (stream K.held K.faults sink.old sink.new) result }
-    ensures later { K.faults sink.old ≤ K.faults sink.new }
+    ensures cause { HasStatusCause Status.WriteFault (K.faults sink.old) (K.faults sink.new) result }
 {
     match end {
         InputEnd::BadScript(fault) => write_script_fault(alloc, fault, sink),
@@ -81,7 +81,7 @@ fn write_replies<K: Sink>(
     requires { All (λ rs. length rs ≤ 8192) replies.now }
     ensures told { Ends Status.Done (stream K.held K.faults sink.old sink.new) (output clients.now replies.now ++ ending.now) result
         ⊎ ((result ≡ Status.NoMemory) × AppendsPart (K.held sink.old) (K.held sink.new) (output clients.now replies.now ++ ending.now)) }
-    ensures later { K.faults sink.old ≤ K.faults sink.new }
+    ensures cause { HasStatusCause Status.WriteFault (K.faults sink.old) (K.faults sink.new) result }
 {
     match write_output(alloc, sink, clients, replies, ending) {
         Ok(()) => Status::Done,
@@ -90,9 +90,8 @@ fn write_replies<K: Sink>(
     }
 }
 
-/// Writes what is to be written for the clients of a script that are given these replies, over a memo with this tally and
-/// these weights of each client's entries: their replies and the ending, or the lines of the demonstration.
-pub fn write_outcome<K: Sink>(
+// Writes what is printed for replies, a tally and weights.
+fn write_printed<K: Sink>(
     alloc: Global,
     settings: Settings,
     clients: &[ClientScript],
@@ -103,7 +102,7 @@ pub fn write_outcome<K: Sink>(
 ) -> Status
     requires { All (λ rs. length rs ≤ 8192) replies.now }
     ensures told { Prints settings (stream K.held K.faults sink.old sink.new) (printed settings clients.now replies.now counts owned.now) result }
-    ensures later { K.faults sink.old ≤ K.faults sink.new }
+    ensures cause { HasStatusCause Status.WriteFault (K.faults sink.old) (K.faults sink.new) result }
 {
     match settings {
         Settings::Run { tally, share, .. } => {
@@ -119,4 +118,24 @@ pub fn write_outcome<K: Sink>(
             finish(sink, lines.as_slice(), Status::Done)
         }
     }
+}
+
+/// Writes what is to be written for the clients of a script that are given these replies, over a memo with this tally and
+/// these weights of each client's entries: their replies and the ending, or the lines of the demonstration. The weights are
+/// asked for only where they are printed.
+pub fn write_outcome<K: Sink>(
+    alloc: Global,
+    settings: Settings,
+    clients: &[ClientScript],
+    replies: &[Replies],
+    counts: Tally,
+    owned: &[u64],
+    sink: &mut K,
+) -> Status
+    requires { All (λ rs. length rs ≤ 8192) replies.now }
+    ensures told { (weights : List ℕ) → (PrintsWeights settings → owned.now ≡ weights) →
+        Prints settings (stream K.held K.faults sink.old sink.new) (printed settings clients.now replies.now counts weights) result }
+    ensures cause { HasStatusCause Status.WriteFault (K.faults sink.old) (K.faults sink.new) result }
+{
+    write_printed(alloc, settings, clients, replies, counts, owned, sink)
 }

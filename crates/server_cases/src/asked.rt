@@ -34,6 +34,11 @@ const QUESTIONS: [(&[u8], Question); 8] = [
     (b"writes", Question::Writes),
 ];
 
+/// Whether a word asks to serve a script.
+pub fn asks_to_serve(word: &[u8]) -> bool {
+    found(&QUESTIONS, word).is_some()
+}
+
 // How many numbers stand between a question and the words.
 fn count_of(question: Question) -> usize {
     match question {

@@ -1,5 +1,6 @@
-//! Answers cases of whole scripts, in the form of `case_lines`, where a stroke `|` stands for a newline in a script and in
-//! an output. Another byte that cannot be seen, and a stroke, is told by its number between backticks. What is answered is how the call ended, and the output.
+//! Answers cases of whole scripts, of the program's words, and of clients that share one memo.
+//!
+//! The form is that of `case_lines`. A stroke `|` stands for a newline in a script and in an output. Another byte that cannot be seen, and a stroke, is told by its number between backticks. What is answered is how the call ended, and the output.
 //!
 //! - `serve WORDS / SCRIPT` serves a script by the words of a command line. `head N WORDS / SCRIPT` and
 //!   `tail N WORDS / SCRIPT` tell the first N bytes of the output, and the last N.
@@ -14,21 +15,45 @@
 //!   them once more: the numbers of workers, memo and share, and what has no value, once where it is the same in whichever
 //!   way the options are written.
 //! - `demonstration N` asks for the script of a demonstration with N parts.
+//!
+//! Any other case is of clients that are served at the same time and share one memo: a list of phrases, a comma and a space between
+//! two of them, and behind it one source or more, a stroke and a space before each. Each client puts a source on its first line, the
+//! first client the first one, and so on in turn, and then exports.
+//!
+//! - `clients N`, `exports N` (of each client), `workers N` (of each client), `memo N` and `share N` set numbers. Without them there
+//!   is one client with one export and one builder, and a memo of 500,000 that has no shares.
+//! - `alike` names all trees alike.
+//! - `pass N` lets N builds through and refuses each later one, `refuse N` refuses the first N builds, which are held for some
+//!   turns, and `only CLIENT NODE` refuses all but those of one node of one client. `meet N` holds each of the first N builds
+//!   until N were entered, and writes whether they were.
+//! - `times N` runs all that so often, each time with the same answer.
+//!
+//! The answer has for each client its letter and the first words of each reply to an export, or with `counted` how many replies are
+//! solids, lack memory, and are others; with `sized` the numbers of vertices and faces and the 0 behind them of each solid whose text
+//! is not that of the solid before; whether each reply but those that lack memory is that of the same clients by one builder each and
+//! without a memo; and how often the memo was probed, and whether all that was missed was offered. `tally` writes all numbers of the
+//! tally in place of that, what the entries of all clients weigh, and how many claims began and ended.
 #![tactic(auto)]
 
 mod asked;
 mod commands;
 mod demonstration;
+mod gating;
 mod options;
 mod outside;
+mod running;
 mod serving;
+mod setting;
+mod told;
 mod words;
 
-use crate::asked::put_served;
+use crate::asked::{asks_to_serve, put_served};
 use crate::commands::put_commands;
 use crate::demonstration::put_demonstration;
 use crate::options::{put_option, put_options};
-use case_lines::{CaseStop, answer_cases, cut, unfolded};
+use crate::running::put_clients;
+use crate::setting::setting_of;
+use case_lines::{CaseStop, answer_cases, cut, parts_of, unfolded};
 use std::alloc::Global;
 use std::process::ExitCode;
 use std::sync::Wait;
@@ -42,6 +67,21 @@ fn script_of(alloc: Global, case: &[u8]) -> Result<Vec<u8>, NoMemory> {
         script.push(if *byte == b'|' { b'\n' } else { *byte })?;
     }
     Ok(script)
+}
+
+// The answer of a case of clients that share one memo.
+fn put_shared<R: Threads + Wait + Sync>(
+    rt: &R,
+    alloc: Global,
+    out: &mut Vec<u8>,
+    case: &[u8],
+) -> Result<(), CaseStop> {
+    let text = unfolded(alloc, case)?;
+    let parts = parts_of(alloc, &text)?;
+    let [phrases, sources @ ..] = parts.as_slice() else {
+        return Err(CaseStop::Unread);
+    };
+    put_clients(rt, alloc, out, setting_of(alloc, phrases)?, sources)
 }
 
 // The answer of a case.
@@ -61,8 +101,10 @@ fn put_answer<R: Threads + Wait + Sync>(
         put_options(alloc, out, rest)
     } else if asked == b"demonstration".as_slice() {
         put_demonstration(alloc, out, rest)
-    } else {
+    } else if asks_to_serve(asked) {
         put_served(rt, alloc, out, &text)
+    } else {
+        put_shared(rt, alloc, out, case)
     }
 }
 

@@ -3,11 +3,12 @@
 use crate::safe::safe;
 use case_lines::{CaseStop, found};
 use plane_predicate::Unit;
-use polyhedra::polyhedron_shape;
-use primitives::{Flat, cube_shape, extrude, polygon_flat, square_flat};
+use primitives::{
+    Corners, Flat, Shape, ShapeStop, cube_shape, extrude, polygon_flat, polyhedron_shape,
+    square_flat,
+};
 use round_four::{circle_flat, cylinder_shape};
 use scad_hull::hull_shape;
-use shape_planes::{Corners, Shape, ShapeStop};
 use std::alloc::Global;
 use text_place::FaultKind;
 

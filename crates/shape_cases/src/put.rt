@@ -1,7 +1,7 @@
 //! Points and faces in words.
 
 use case_lines::{put, put_number, put_tuple};
-use shape_planes::{Corners, Shape};
+use primitives::{Corners, Shape};
 use std::alloc::Global;
 use text_place::NoMemory;
 

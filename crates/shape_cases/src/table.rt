@@ -9,7 +9,7 @@ use case_lines::{CaseStop, Interpreter, Phrase, found, put};
 use case_planes::put_planes;
 use int_transform::Step;
 use plane_predicate::Unit;
-use shape_planes::{Shape, place};
+use primitives::{Shape, place};
 use std::alloc::Global;
 use text_place::{FaultKind, word};
 

@@ -1,5 +1,6 @@
-//! The pure machine of clients that share one memo: every interleaving of their events, with no
-//! thread. Each client's replies are those that its own commands define.
+//! The pure machine of clients that share one memo: every interleaving of their events, with no thread.
+//!
+//! Each client's replies are those that its own commands define.
 #![tactic(auto)]
 
 mod acts;

@@ -4,6 +4,7 @@ ghost use Rattle.subtree_memo.specs.Shares.{fresh, joined, opened, parts_each, d
 use crate::ledgers::{Books, PARTS_EACH};
 use std::alloc::Global;
 use std::marker::Model;
+use std::mem;
 use std::sync::ledger::{Ledger, Share as Part};
 use text_place::NoMemory;
 
@@ -73,6 +74,22 @@ impl<B: Books> Share<B> {
             kept: self.kept.split_off(1, 0),
             heavy: self.heavy.split_off(1, 0),
         }
+    }
+
+    /// The whole of the share. What is left is the same caller's without a part, and nothing is booked on it.
+    pub fn take(&mut self) -> Share<B>
+        ensures whole { result ≡ self.old }
+        ensures rest { self.new ≡ fresh self.old.caller 0 }
+    {
+        let rest = Share {
+            caller: self.caller,
+            dropped: 0,
+            hits: self.hits.empty(),
+            misses: self.misses.empty(),
+            kept: self.kept.empty(),
+            heavy: self.heavy.empty(),
+        };
+        mem::replace(self, rest)
     }
 
     /// Adds the parts and numbers of a share of the same caller.

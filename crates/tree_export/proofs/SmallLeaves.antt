@@ -6,7 +6,7 @@ use Rattle.plane_predicate.specs.Space.{Coefficients}
 use Rattle.csg_tree.specs.Formulas.{Formula, leaf}
 use Rattle.csg_tree.specs.Numberings.{nodes_of}
 use Rattle.bsp_tree.specs.Trees.{size}
-use Rattle.leaf_solids.specs.Solids.{convex}
+use Rattle.bsp_boolean.specs.LeafSolids.{solid_of_leaf}
 use Rattle.bsp_boolean.specs.TreeSolids.{most_of_one, solid_size, AreWithin}
 use Rattle.facet_cut.specs.Facets.{facets_of}
 use Rattle.off_text.specs.Texts.{corner_count, most_vertices, HasVertices}
@@ -29,14 +29,14 @@ eight (suc (suc (suc (suc (suc (suc (suc zero))))))) h = (omega arith, omega ari
 eight (suc (suc (suc (suc (suc (suc (suc (suc zero)))))))) h = (omega arith, omega arith)
 eight (suc (suc (suc (suc (suc (suc (suc (suc (suc n))))))))) h = absurd (omega (arith, h))
 
-one_node : (planes : List Coefficients) → size (convex planes) ≤ 32776 → AreWithin (nodes_of (leaf planes))
+one_node : (planes : List Coefficients) → size (solid_of_leaf planes) ≤ 32776 → AreWithin (nodes_of (leaf planes))
 one_node planes small =
     let P = λ (tree : Formula). solid_size tree ≤ most_of_one in
     record { each = All-cons P (leaf planes) [] (omega (arith, small)) (All-nil P); together = omega (arith, small) }
 
-few_enough : (unit : LengthUnit) (planes : List Coefficients) → corner_count (facets_of (convex planes)) ≤ 32768 →
-    HasVertices unit (λ n. most_vertices < n) (facets_of (convex planes)) → ⊥
-few_enough unit planes short h = omega (arith, h.count, few_vertices unit (facets_of (convex planes)) h.faces h.corners, short)
+few_enough : (unit : LengthUnit) (planes : List Coefficients) → corner_count (facets_of (solid_of_leaf planes)) ≤ 32768 →
+    HasVertices unit (λ n. most_vertices < n) (facets_of (solid_of_leaf planes)) → ⊥
+few_enough unit planes short h = omega (arith, h.count, few_vertices unit (facets_of (solid_of_leaf planes)) h.faces h.corners, short)
 
 pub small_leaf : (unit : LengthUnit) (planes : List Coefficients) (out : Exported) → length planes ≤ 8 → IsExported unit (leaf planes) out → IsText out
 small_leaf unit planes out few (inl a) =

@@ -69,6 +69,7 @@ pub record PassesNoLimit (unit : LengthUnit) (tree : Formula) : Type 0 where
   pub corners : corner_count (facets_of (solid_of tree)) ≤ most_corners
   pub vertices : HasVertices unit (λ n. n ≤ most_vertices) (facets_of (solid_of tree))
 
+-- the export is a text
 abbrev pub IsText : Exported → Type 0
 IsText out = (bytes : List ℕ) × (out ≡ exported.Text bytes)
 

@@ -8,8 +8,8 @@ use Rattle.plane_polygon.specs.declared.classes.Class.{Class}
 use Rattle.plane_polygon.specs.declared.classes.Class.TheVariants.{Behind, Ahead, Across}
 use Rattle.bsp_tree.specs.Trees.{Tree, inside, outside, node, make, half_space}
 use Rattle.bsp_tree.specs.Partitions.{divide, rows}
-use Rattle.leaf_solids.specs.Combined.{combined}
-use Rattle.leaf_solids.specs.Solids.{convex}
+use Rattle.bsp_boolean.specs.Combined.{combination}
+use Rattle.bsp_boolean.specs.LeafSolids.{solid_of_leaf}
 use Rattle.off_text.proofs.Bounds.Edges.{part_edges, box_edges}
 use Rattle.off_text.proofs.Bounds.Doubling.{doubled, doubled_more, doubled_least, doubled_later, doubled_twice}
 
@@ -115,7 +115,7 @@ pub record IsOfPlanes (n : ℕ) (t : Tree) : Type 0 where
   pub few : nodes t ≤ n
 
 one_more : (m : Coefficients) (n : ℕ) (t : Tree) → IsOfPlanes n t →
-    IsOfPlanes (suc n) (combined false (half_space m) t)
+    IsOfPlanes (suc n) (combination false (half_space m) t)
 one_more m n inside h = record {
   chain = (omega (arith, box_edges m, doubled_least (suc n) 16), tt);
   few = omega arith;
@@ -133,7 +133,7 @@ one_more m n (node t b a) h =
       few = omega (arith, made_nodes s parts.0, part.few, h.few);
     }
 
-pub of_planes : (planes : List Coefficients) → IsOfPlanes (length planes) (convex planes)
+pub of_planes : (planes : List Coefficients) → IsOfPlanes (length planes) (solid_of_leaf planes)
 of_planes [] = record { chain = tt; few = omega arith }
 of_planes (m ∷ []) = one_more m 0 inside (record { chain = tt; few = omega arith })
-of_planes (m ∷ n ∷ planes) = one_more m (suc (length planes)) (convex (n ∷ planes)) (of_planes (n ∷ planes))
+of_planes (m ∷ n ∷ planes) = one_more m (suc (length planes)) (solid_of_leaf (n ∷ planes)) (of_planes (n ∷ planes))

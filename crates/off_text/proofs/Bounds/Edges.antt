@@ -3,14 +3,14 @@ use Rattle.std.proofs.Common.{◌≡◌, ℕ, zero, suc, ◌*◌, ◌≤◌, Boo
 use Rattle.std.specs.Ordering.{int_eq}
 use Rattle.plane_predicate.specs.Space.{Coefficients}
 use Rattle.plane_polygon.specs.Polygons.{Outline, edge, sides, corner}
-use Rattle.plane_polygon.specs.Parts.{up_to, is_behind, before, kept_by, kept, part_behind, class_of}
-use Rattle.plane_polygon.specs.Boxes.{trimmed, trimmed_to, turned, box_over_x, box_over_y, box_over_z, box_outline, high_x, low_x, high_y, low_y, high_z, low_z}
+use Rattle.plane_polygon.specs.Parts.{up_to, is_behind, before, edges_kept_by, edges_kept_at, part_behind, class_of}
+use Rattle.plane_polygon.specs.Boxes.{trimmed_outline, outline_trimmed_to, turned, box_over_x, box_over_y, box_over_z, box_outline, high_x, low_x, high_y, low_y, high_z, low_z}
 use Rattle.plane_polygon.specs.declared.classes.Class.{Class}
 use Rattle.plane_polygon.specs.declared.classes.Class.TheVariants.{Behind, Ahead, On, Across}
 use Rattle.plane_polygon.proofs.PartLists.{flat_up_to}
 
 -- an edge gives one or two edges, or none
-kept_edges : (x y : Bool) (e m : Coefficients) → length (kept_by x y e m) ≤ 2
+kept_edges : (x y : Bool) (e m : Coefficients) → length (edges_kept_by x y e m) ≤ 2
 kept_edges true true e m = omega arith
 kept_edges true false e m = omega arith
 kept_edges false true e m = omega arith
@@ -26,15 +26,15 @@ all_edges f h (suc n) =
 pub part_edges : (s : Outline) (m : Coefficients) → sides (part_behind s m) ≤ 2 * sides s
 part_edges s m =
     let from = λ (i : ℕ). is_behind m (corner s (before (sides s) i)) in
-    all_edges (kept s m) (λ i. kept_edges (from i) (is_behind m (corner s i)) (edge s i) m) (sides s)
+    all_edges (edges_kept_at s m) (λ i. kept_edges (from i) (is_behind m (corner s i)) (edge s i) m) (sides s)
 
-trimmed_to_edges : (c : Class) (s : Outline) (m : Coefficients) → sides (trimmed_to c s m) ≤ 2 * sides s
+trimmed_to_edges : (c : Class) (s : Outline) (m : Coefficients) → sides (outline_trimmed_to c s m) ≤ 2 * sides s
 trimmed_to_edges Across s m = part_edges s m
 trimmed_to_edges Behind s m = omega arith
 trimmed_to_edges Ahead s m = omega arith
 trimmed_to_edges On s m = omega arith
 
-trimmed_edges : (s : Outline) (m : Coefficients) → sides (trimmed s m) ≤ 2 * sides s
+trimmed_edges : (s : Outline) (m : Coefficients) → sides (trimmed_outline s m) ≤ 2 * sides s
 trimmed_edges s m = trimmed_to_edges (class_of s m) s m
 
 four_edges : (z : ℤ) (p q r s : Coefficients) → length (turned z p q r s) ≡ 4
@@ -42,8 +42,8 @@ four_edges (pos n) p q r s = refl
 four_edges (negsuc n) p q r s = refl
 
 -- four edges, trimmed twice
-trimmed_twice : (s : Outline) (m n : Coefficients) → sides s ≡ 4 → sides (trimmed (trimmed s m) n) ≤ 16
-trimmed_twice s m n four = omega (arith, trimmed_edges (trimmed s m) n, trimmed_edges s m)
+trimmed_twice : (s : Outline) (m n : Coefficients) → sides s ≡ 4 → sides (trimmed_outline (trimmed_outline s m) n) ≤ 16
+trimmed_twice s m n four = omega (arith, trimmed_edges (trimmed_outline s m) n, trimmed_edges s m)
 
 chosen_edges : (x y : Bool) (r s t : Outline) → sides r ≤ 16 → sides s ≤ 16 → sides t ≤ 16 →
     sides (if x then r else if y then s else t) ≤ 16

@@ -7,7 +7,7 @@ use Rattle.plane_polygon.specs.Parts.{class_of, part_behind, part_ahead}
 use Rattle.plane_polygon.specs.declared.classes.Class.{Class}
 use Rattle.plane_polygon.specs.declared.classes.Class.TheVariants.{Behind, Ahead, On, Across}
 use Rattle.bsp_tree.specs.Trees.{Tree, inside, outside, node, size}
-use Rattle.leaf_solids.specs.Solids.{convex}
+use Rattle.bsp_boolean.specs.LeafSolids.{solid_of_leaf}
 use Rattle.facet_cut.specs.Facets.{Piece, on_sides, pieces, facets_ahead, facets_between, facets_of}
 use Rattle.off_text.specs.Texts.{corner_count}
 use Rattle.off_text.proofs.Bounds.Edges.{part_edges}
@@ -101,30 +101,30 @@ room_is : (planes : List Coefficients) → doubled 16 (length planes) ≡ 16 * 2
 room_is planes = doubled_is (length planes) 16
 
 pub leaf_size : (planes : List Coefficients) →
-    size (convex planes) ≤ length planes * (1 + 16 * 2 ^ length planes)
+    size (solid_of_leaf planes) ≤ length planes * (1 + 16 * 2 ^ length planes)
 leaf_size planes =
     let n = length planes in
     let h = of_planes planes in
-    subst (λ (k : ℕ). size (convex planes) ≤ n * (1 + k)) (room_is planes)
+    subst (λ (k : ℕ). size (solid_of_leaf planes) ≤ n * (1 + k)) (room_is planes)
     (omega (
       arith,
-      chain_size (convex planes) (doubled 16 n) h.chain,
-      mul-le (nodes (convex planes)) (1 + doubled 16 n) n (1 + doubled 16 n) h.few (omega arith),
+      chain_size (solid_of_leaf planes) (doubled 16 n) h.chain,
+      mul-le (nodes (solid_of_leaf planes)) (1 + doubled 16 n) n (1 + doubled 16 n) h.few (omega arith),
     ))
 
-pub leaf_facets : (planes : List Coefficients) → length (facets_of (convex planes)) ≤ length planes
+pub leaf_facets : (planes : List Coefficients) → length (facets_of (solid_of_leaf planes)) ≤ length planes
 leaf_facets planes =
     let h = of_planes planes in
-    omega (arith, (chain_facets (convex planes) (doubled 16 (length planes)) h.chain).few, h.few)
+    omega (arith, (chain_facets (solid_of_leaf planes) (doubled 16 (length planes)) h.chain).few, h.few)
 
 pub leaf_corners : (planes : List Coefficients) →
-    corner_count (facets_of (convex planes)) ≤ length planes * (16 * 2 ^ length planes)
+    corner_count (facets_of (solid_of_leaf planes)) ≤ length planes * (16 * 2 ^ length planes)
 leaf_corners planes =
     let n = length planes in
     let h = of_planes planes in
-    subst (λ (k : ℕ). corner_count (facets_of (convex planes)) ≤ n * k) (room_is planes)
+    subst (λ (k : ℕ). corner_count (facets_of (solid_of_leaf planes)) ≤ n * k) (room_is planes)
     (omega (
       arith,
-      (chain_facets (convex planes) (doubled 16 n) h.chain).corners,
-      mul-le (nodes (convex planes)) (doubled 16 n) n (doubled 16 n) h.few (omega arith),
+      (chain_facets (solid_of_leaf planes) (doubled 16 n) h.chain).corners,
+      mul-le (nodes (solid_of_leaf planes)) (doubled 16 n) n (doubled 16 n) h.few (omega arith),
     ))

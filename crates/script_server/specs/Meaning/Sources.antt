@@ -9,7 +9,7 @@ use Rattle.csg_tree.specs.Formulas.{Formula}
 use Rattle.csg_tree.specs.ProperTrees.{IsProper}
 use Rattle.csg_tree.specs.Trees.{formula_of}
 use Rattle.scad_ast.specs.Terms.{StatementTerm}
-use Rattle.scad_source.specs.Sources.{Writes, HasTextFault}
+use Rattle.scad_parser.specs.Sources.{Writes, HasTextFault}
 use Rattle.scad_meaning.specs.Sources.{a_tree, a_fault, IsMeaning, IsMeaningStop}
 
 -- the source means this tree, with its lengths in a unit

@@ -4,7 +4,7 @@ use Rattle.plane_predicate.specs.Space.{Coefficients}
 use Rattle.plane_polygon.specs.Polygons.{Outline}
 use Rattle.plane_polygon.specs.Parts.{part_ahead, part_behind}
 use Rattle.plane_polygon.specs.declared.classes.Class.{Class}
-use Rattle.plane_table.specs.Tables.{named}
+use Rattle.plane_table.specs.Tables.{plane_named}
 use Rattle.plane_table.specs.Faces.{outline_of}
 use Rattle.plane_table.specs.Cuts.{part_in}
 use Rattle.bsp_tree.specs.Trees.{Tree}
@@ -27,7 +27,7 @@ half_parts-returns-in_ok-part-in-To t c =
     let outline = rw c.table.ensures at c.in_ok-part-in-To.ensures.outline in
     IfOk-weaker c.add_parts.result
     (λ r. HasParts old c.add_parts.new.nodes r (divide (tree_on old c.args.at) (outline_of old.planes c.in_ok-part-in-To.part)))
-    (λ r. HasParts old c.add_parts.new.nodes r (divide (tree_on old c.args.at) (part_in c.args.half (outline_of old.planes c.args.by.face.now) (named old.planes c.args.by.number))))
+    (λ r. HasParts old c.add_parts.new.nodes r (divide (tree_on old c.args.at) (part_in c.args.half (outline_of old.planes c.args.by.face.now) (plane_named old.planes c.args.by.number))))
     (λ r. subst (λ (s : Outline). HasParts old c.add_parts.new.nodes r (divide (tree_on old c.args.at) s)) outline)
     c.add_parts.ensures
 
@@ -38,10 +38,10 @@ side_parts-returns t c =
     let new = c.half_parts-2.new.nodes in
     let longer = c.in_ok-low.ensures.longer in
     let node = c.args.node.now in
-    let second = subst (λ (u : Tree). HasParts middle new c.in_ok-high.high (divide u (part_ahead (outline_of middle.planes c.args.by.now) (named middle.planes node.face.plane))))
+    let second = subst (λ (u : Tree). HasParts middle new c.in_ok-high.high (divide u (part_ahead (outline_of middle.planes c.args.by.now) (plane_named middle.planes node.face.plane))))
     (stood_on old middle node.ahead longer c.requires.node.ahead) c.in_ok-high.ensures in
     sides_parted old middle new node.behind node.ahead c.in_ok-low.low c.in_ok-high.high _ _ c.in_ok-low.ensures
-    (subst (λ (ps : List Coefficients). HasParts middle new c.in_ok-high.high (divide (tree_on old node.ahead) (part_ahead (outline_of ps c.args.by.now) (named ps node.face.plane)))) longer.planes second)
+    (subst (λ (ps : List Coefficients). HasParts middle new c.in_ok-high.high (divide (tree_on old node.ahead) (part_ahead (outline_of ps c.args.by.now) (plane_named ps node.face.plane)))) longer.planes second)
 
 pub other_parts-returns-in_ok-parts-in-Across-Across : goal.other_parts-returns-in_ok-parts-in-Across-Across
 other_parts-returns-in_ok-parts-in-Across-Across t c =

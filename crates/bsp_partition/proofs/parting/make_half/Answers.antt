@@ -1,7 +1,7 @@
 use Rattle.std.proofs.Common.{◌∙◌, sym, subst}
 use Rattle.std.proofs.lemmas.Result.{IfOk-weaker}
 use Rattle.plane_polygon.specs.Polygons.{Outline}
-use Rattle.plane_table.specs.Tables.{named}
+use Rattle.plane_table.specs.Tables.{plane_named}
 use Rattle.plane_table.specs.Faces.{outline_of}
 use Rattle.plane_table.specs.Cuts.{part_in}
 use Rattle.bsp_tree.specs.Trees.{make}
@@ -19,6 +19,6 @@ returns c =
     let outline = rw c.table.ensures at c.in_ok-part.ensures.outline in
     IfOk-weaker c.make_node.result
     (λ l. HasMade old c.make_node.new.nodes l (make (outline_of old.planes c.in_ok-part.part) (tree_on old c.args.behind) (tree_on old c.args.ahead)))
-    (λ l. HasMade old c.make_node.new.nodes l (make (part_in c.args.half (outline_of old.planes c.args.own.face.now) (named old.planes c.args.own.number)) (tree_on old c.args.behind) (tree_on old c.args.ahead)))
+    (λ l. HasMade old c.make_node.new.nodes l (make (part_in c.args.half (outline_of old.planes c.args.own.face.now) (plane_named old.planes c.args.own.number)) (tree_on old c.args.behind) (tree_on old c.args.ahead)))
     (λ l. subst (λ (s : Outline). HasMade old c.make_node.new.nodes l (make s (tree_on old c.args.behind) (tree_on old c.args.ahead))) outline)
     c.make_node.ensures

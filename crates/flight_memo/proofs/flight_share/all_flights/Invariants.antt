@@ -11,7 +11,6 @@ invariant-loop-flight g l = record {
   kept : l.all.share.kept + sum_by (λ s. s.share.kept) l.flights.items ≡ sum_by (λ s. s.share.kept) l.fn.flights.items;
   heavy : l.all.share.heavy + sum_by (λ s. s.share.heavy) l.flights.items ≡ sum_by (λ s. s.share.heavy) l.fn.flights.items;
   dropped : min (l.all.share.dropped + sum_by (λ s. s.share.dropped) l.flights.items) dropped_max ≡ min (sum_by (λ s. s.share.dropped) l.fn.flights.items) dropped_max;
-  ended : l.all.ended + sum_by (λ s. s.ended) l.flights.items ≡ sum_by (λ s. s.ended) l.fn.flights.items;
 }
 
 abbrev pub decreases-loop-flight : goal.decreases-loop-flight

@@ -9,7 +9,7 @@ pub invariant_of-push_reserved : goal.invariant_of-push_reserved
 invariant_of-push_reserved g c =
     let left : c.loop-share.share-iterator.rest.items ≡ c.in-Some.share ∷ c.next.new.self.rest.items = c.in-Some.ensures.steps.0 in
     let fresh : IsFreshShare c.in-Some.share = All-head IsFreshShare c.in-Some.share c.next.new.self.rest.items (All-same IsFreshShare (c.in-Some.share ∷ c.next.new.self.rest.items) c.loop-share.share-iterator.rest.items (sym left) c.loop-share.invariant.fresh) in
-    (omega (arith, fresh), omega (arith, fresh), omega (arith, fresh))
+    (omega (arith, fresh), omega (arith, fresh), omega (arith, fresh), omega (arith, fresh))
 
 pub loop-share-init : goal.loop-share-init
 loop-share-init g c = record {

@@ -1,6 +1,6 @@
 use Rattle.std.proofs.Common.{◌∙◌, ap, List, ◌++◌}
 use Rattle.plane_predicate.specs.Space.{Coordinates}
-use Rattle.off_text.specs.Numbering.{grown}
+use Rattle.off_text.specs.Numbering.{with_points}
 use Rattle.off_text.specs.FaceNumbers.{numbers_among}
 use Rattle.off_text.proofs.Numbers.{face_grows, face_numbers, round_parts}
 use Rattle.off_text.proofs.numbering.push_face.Goals as goal
@@ -9,7 +9,7 @@ pub returns-clause-vertices : goal.returns-clause-vertices
 returns-clause-vertices c =
     face_grows c.args.vertices.now.keys c.push_numbers.new.vertices.keys c.push_numbers-2.new.vertices.keys c.split_at.result.1.now c.split_at.result.0.now
     c.in_ok-push_numbers.ensures.vertices c.in_ok-push_numbers-2.ensures.vertices
-    ∙ ap (grown c.args.vertices.now.keys) (round_parts c.args.corners.now c.args.start c.split_at.result.0.now c.split_at.result.1.now c.split_at.ensures.front c.split_at.ensures.back)
+    ∙ ap (with_points c.args.vertices.now.keys) (round_parts c.args.corners.now c.args.start c.split_at.result.0.now c.split_at.result.1.now c.split_at.ensures.front c.split_at.ensures.back)
 
 pub returns-clause-numbers : goal.returns-clause-numbers
 returns-clause-numbers c =

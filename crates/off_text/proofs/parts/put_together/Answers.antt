@@ -1,5 +1,5 @@
 use Rattle.std.proofs.Common.{◌≡◌, ◌∷◌, refl, ap, ◌∙◌}
-use Rattle.off_text.specs.Numbering.{grown}
+use Rattle.off_text.specs.Numbering.{with_points}
 use Rattle.off_text.proofs.Together.{part_grows, part_named, put_down}
 use Rattle.off_text.proofs.parts.put_together.Goals as goal
 
@@ -12,7 +12,7 @@ loop-part-preserved c =
     let e : left ≡ part ∷ rest = c.in-Some.ensures.steps.0 in
     let vertices = c.loop-part.merged.vertices.keys in
     let new = c.push_numbers.new.vertices.keys in
-    let grows : new ≡ grown vertices part.vertices.keys = c.in_ok-push_numbers.ensures.vertices ∙ ap (grown vertices) c.as_slice.ensures.keys in
+    let grows : new ≡ with_points vertices part.vertices.keys = c.in_ok-push_numbers.ensures.vertices ∙ ap (with_points vertices) c.as_slice.ensures.keys in
     record {
       vertices = part_grows whole left rest part e vertices new grows c.loop-part.invariant.vertices;
       parts = part_named whole left rest part e vertices new grows c.loop-part.merged.parts.items c.push.new.self.items _ c.in_ok-push.ensures.items c.loop-part.invariant.vertices

@@ -1,5 +1,5 @@
 use Rattle.std.proofs.Common.{◌-◌, length, sum_by}
-use Rattle.join_solids.specs.Joins.{AreAsked}
+use Rattle.parallel_eval.specs.Joins.{AreAsked}
 use Rattle.parallel_eval.specs.Runs.{joins_to, AreReady, IsGrowing}
 use Rattle.parallel_eval.proofs.store_solids.solids_of.Given as goal
 

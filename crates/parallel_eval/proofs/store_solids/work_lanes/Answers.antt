@@ -1,6 +1,6 @@
 use Rattle.std.proofs.Common.{◌≡◌, ◌+◌, ◌^◌, ◌≤◌, ◌++◌, length, sum_by, ap, sym, subst, ◌∙◌, arith}
 use Rattle.flight_memo.specs.Shares.{FlightView}
-use Rattle.join_solids.specs.Joins.{AreAsked}
+use Rattle.parallel_eval.specs.Joins.{AreAsked}
 use Rattle.parallel_eval.specs.Runs.{joins_to, AreAtMost, IsRunWork, AreFreshLanes, AreLanes, AreComplete, AreOfCaller, with_lanes}
 use Rattle.parallel_eval.proofs.Dealt.{each_ready}
 use Rattle.parallel_eval.proofs.Steps.{with_caller}

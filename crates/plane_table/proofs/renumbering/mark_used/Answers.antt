@@ -19,12 +19,12 @@ loop-edge-init c =
 
 pub bounds-used-edge : goal.bounds-used-edge
 bounds-used-edge c =
-    let n = ap length c.numbers-edge-items.ensures in
+    let n = ap length c.items-edge-items.ensures in
     let t = c.loop-edge-test.true in
     let count = c.loop-edge.invariant.count in
     let h : c.loop-edge.edge-index < length c.args.face.now.edges = omega arith in
     let b = c.requires.edges c.loop-edge.edge-index 0 h in
-    rw c.numbers-edge-items.ensures (omega arith)
+    rw c.items-edge-items.ensures (omega arith)
 
 pub loop-edge-preserved : goal.loop-edge-preserved
 loop-edge-preserved c =
@@ -32,13 +32,13 @@ loop-edge-preserved c =
     let edges = c.args.face.now.edges in
     let i = c.loop-edge.edge-index in
     let j = get_or edges i 0 / 2 in
-    let n = ap length c.numbers-edge-items.ensures in
+    let n = ap length c.items-edge-items.ensures in
     let t = c.loop-edge-test.true in
     let count = c.loop-edge.invariant.count in
     let l : i < length edges = omega arith in
     let b = c.requires.edges i 0 l in
     let h : j < length used = omega arith in
-    rw c.numbers-edge-items.ensures (record {
+    rw c.items-edge-items.ensures (record {
       count = length-set used j true ∙ count;
       plane = mark_kept used j (c.args.face.now.plane / 2) h c.loop-edge.invariant.plane;
       marked = λ k x. elim (cases_lt k i) [
@@ -52,7 +52,7 @@ loop-edge-preserved c =
 pub returns : goal.returns
 returns c =
     let edges = c.args.face.now.edges in
-    let n = ap length c.numbers-edge-items.ensures in
+    let n = ap length c.items-edge-items.ensures in
     let t = c.loop-edge-test.false in
     record {
       marked = record {

@@ -1,7 +1,7 @@
 use Rattle.std.proofs.Common.{refl, ◌∙◌, subst, Option, IfSome}
 use Rattle.plane_predicate.specs.declared.sides.Side.{Side}
 use Rattle.plane_polygon.specs.Polygons.{corner}
-use Rattle.plane_table.specs.Tables.{named}
+use Rattle.plane_table.specs.Tables.{plane_named}
 use Rattle.plane_table.specs.Faces.{outline_of, IsSideAt}
 use Rattle.plane_table.proofs.Corners.{side_pair}
 use Rattle.plane_table.proofs.sorting.corner_side.Goals as goal
@@ -11,7 +11,7 @@ pub returns : goal.returns
 returns c =
     let table = c.args.table.now in
     let face = c.args.face.now in
-    let m = named table c.args.number in
+    let m = plane_named table c.args.number in
     let found : IsSideAt table face m c.args.i c.match-known.side = elim c.match-known.branch [
       | in-Some w ↦ w.side-is ∙ subst (λ (known : Option Side). IfSome known (IsSideAt table face m c.args.i)) w.in-Some.is c.requires.known
       | in-None w ↦ w.side-is ∙ w.meeting_side-side.ensures

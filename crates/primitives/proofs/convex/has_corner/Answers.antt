@@ -1,7 +1,7 @@
 use Rattle.std.proofs.Common.{◌≡◌, arith, List, [], ℤ, pos, All}
 use Rattle.std.proofs.lemmas.List.{get_or_default}
-use Rattle.shape_planes.proofs.Lists.{all_done, all_next}
-use Rattle.primitives.specs.Polygons.{point, turn}
+use Rattle.primitives.proofs.Lists.{all_done, all_next}
+use Rattle.primitives.specs.Polygons.{point, orientation}
 use Rattle.primitives.proofs.convex.has_corner.Goals as goal
 
 pub returns-then-bends-clause-yes : goal.returns-then-bends-clause-yes
@@ -12,7 +12,7 @@ returns-then-bends-clause-yes c =
 
 pub loop-second-preserved : goal.loop-second-preserved
 loop-second-preserved c =
-    all_next (λ (q : List ℤ). All (λ (r : List ℤ). turn (point c.args.points.now 0) q r ≡ pos 0) c.args.points.now) c.args.points.now c.loop-second.second-index [] (omega arith) c.loop-second.invariant c.if-bends.ensures.no
+    all_next (λ (q : List ℤ). All (λ (r : List ℤ). orientation (point c.args.points.now 0) q r ≡ pos 0) c.args.points.now) c.args.points.now c.loop-second.second-index [] (omega arith) c.loop-second.invariant c.if-bends.ensures.no
 
 pub returns-clause-no : goal.returns-clause-no
-returns-clause-no c = all_done (λ (q : List ℤ). All (λ (r : List ℤ). turn (point c.args.points.now 0) q r ≡ pos 0) c.args.points.now) c.args.points.now c.loop-second.second-index (omega arith) c.loop-second.invariant
+returns-clause-no c = all_done (λ (q : List ℤ). All (λ (r : List ℤ). orientation (point c.args.points.now 0) q r ≡ pos 0) c.args.points.now) c.args.points.now c.loop-second.second-index (omega arith) c.loop-second.invariant

@@ -1,5 +1,5 @@
 use Rattle.std.proofs.Common.{◌≡◌, ◌∙◌, sym, ap, ap₂, subst, refl, arith, List, ℤ, pos, [], ◌∷◌, to_z-of_z}
-use Rattle.shape_planes.specs.Shapes.{IsShape}
+use Rattle.primitives.specs.Shapes.{IsShape}
 use Rattle.primitives.specs.Sizes.{low_end, high_end, AreSizes}
 use Rattle.primitives.specs.Prisms.{extrusion_of, prism_faces, prism_points}
 use Rattle.primitives.proofs.EndFaces.{ends_of_side}

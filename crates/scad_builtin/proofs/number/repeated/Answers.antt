@@ -2,7 +2,7 @@ use Rattle.std.proofs.Common.{◌≡◌, ◌≤◌, ◌∙◌, sym, ap, subst, E
 use Rattle.std.specs.Prelude.{unsigned_abs}
 use Rattle.std.proofs.lemmas.Int.{to_z-of_z}
 use mir.Syntax.{w64}
-use Rattle.scad_value.specs.Operators.{sized}
+use Rattle.scad_value.specs.Operators.{number_or_too_large}
 use Rattle.scad_builtin.specs.Builtins.{power}
 use Rattle.scad_builtin.proofs.Powers.{stays_large}
 use Rattle.scad_builtin.proofs.number.repeated.Goals as goal
@@ -17,4 +17,4 @@ returns-in_err-product c =
     ∙ stays_large (to_z w64 c.loop.product-bits) factor c.loop.counter c.args.count
     c.in_err-product.field-0.0 c.loop.invariant.told c.loop-test.true size
     (sym c.in_err-product.was ∙ c.product_of_two.ensures)
-    ∙ ap (λ x. sized (power x c.args.count)) same
+    ∙ ap (λ x. number_or_too_large (power x c.args.count)) same

@@ -3,9 +3,9 @@ use Rattle.text_place.specs.declared.fault.FaultKind.{FaultKind}
 use Rattle.plane_predicate.specs.Space.{point_at, IsInReach}
 use Rattle.int_transform.specs.declared.affine.Affine.{Affine}
 use Rattle.int_transform.specs.Maps.{image, map_of, LeavesRange, StaysInRange}
-use Rattle.shape_planes.specs.Shapes.{Mesh}
-use Rattle.shape_planes.specs.Placing.{IsPlacingStop}
-use Rattle.shape_planes.specs.declared.stop.ShapeStop.TheVariants.{Kind}
+use Rattle.primitives.specs.Shapes.{Mesh}
+use Rattle.primitives.specs.Placing.{IsPlacingStop}
+use Rattle.primitives.specs.declared.stop.ShapeStop.TheVariants.{Kind}
 use Rattle.scad_design.proofs.PartFaults.{range_fault}
 use Rattle.scad_design.proofs.placing.planes_of.Goals as goal
 

@@ -16,9 +16,9 @@ use Rattle.scad_grammar.specs.Languages.{pair_of}
 use Rattle.scad_grammar.specs.Reading.{Read, after, both, maybe, with_front}
 use Rattle.scad_grammar.specs.Reads.{expr_read, operand_read, arg_in, args_read, suffix_read, rest_read, chain_read, choice_read, in_parentheses}
 use Rattle.scad_grammar.proofs.Readers.{loop_more, loop_end, loop_fault}
-use Rattle.scad_tokens.specs.declared.class.Level.TheVariants.{Or}
-use Rattle.scad_tokens.specs.TokenClasses.{operators_at, levels_below, suffix_signs}
-use Rattle.scad_tokens.specs.Views.{has_lone_atom, past_comma}
+use Rattle.scad_expressions.specs.declared.class.Level.TheVariants.{Or}
+use Rattle.scad_expressions.specs.TokenClasses.{operators_at, levels_below, suffix_signs}
+use Rattle.scad_expressions.specs.Views.{has_lone_atom, past_comma}
 use Rattle.scad_expressions.proofs.Climbs.{chain_climbs, chain_stops, climb_none, climb_step, climb_step_none, climb_stops, many_none}
 use Rattle.scad_expressions.specs.Climbing.{primary_in, unary_in}
 use Rattle.scad_expressions.proofs.Atoms.{literal_is_atom, literal_taken, literal_read, atom_is_operand, atom_is_side, atom_is_expression}

@@ -4,7 +4,7 @@ use Rattle.scad_grammar.specs.Classes.{comma_sign, close_bracket_sign, close_par
 use Rattle.scad_grammar.specs.Reading.{many, trailing, in_front}
 use Rattle.scad_grammar.specs.Reads.{expr_read, arg_in, suffix_read}
 use Rattle.scad_expressions.specs.Climbing.{unary_in, link_in, climb_read}
-use Rattle.scad_tokens.specs.TokenClasses.{levels_below, operators_at, suffix_signs, tighter_levels}
+use Rattle.scad_expressions.specs.TokenClasses.{levels_below, operators_at, suffix_signs, tighter_levels}
 use Rattle.scad_expressions.proofs.expression.+expression.Given as goal
 
 abbrev pub decreases-expr : goal.decreases-expr

@@ -11,39 +11,39 @@ use Rattle.scad_ast.specs.declared.expression.Arg.{Arg}
 use Rattle.scad_ast.specs.declared.expression.Suffix.{Suffix}
 use Rattle.scad_ast.specs.declared.statement.Param.{Param}
 use Rattle.scad_value.specs.Values.{Val, ListVal}
-use Rattle.scad_value.specs.Operators.{binary_of, unary_of, made}
+use Rattle.scad_value.specs.Operators.{binary_of, unary_of, value_or_long_list}
 use Rattle.scad_ast.specs.Terms.{terms_from, args_from, suffixes_from, links_from}
 use Rattle.scad_ast.specs.ExprView.{term_of, terms_of, args_of, arg_of, suffix_of, suffixes_of, link_of, links_of}
 use Rattle.scad_ast.specs.StatementView.{param_of}
 use Rattle.scad_value.specs.View.{vals_in}
 use Rattle.scad_value.specs.declared.bounded_value.BoundedValue.{BoundedValue}
 use Rattle.scad_value.specs.BoundedView.{bounded_val}
-use Rattle.scad_arguments.specs.Arguments.{name_of, names_of, nothing_given, taker_of, argument_place}
-use Rattle.scad_arguments.specs.ArgumentsView.{given_of, names_in, taker_seen, IsGiven, IsFaultAt}
+use Rattle.scad_definitions.specs.Arguments.{name_of, names_of, no_arguments_of, destination_of, argument_place}
+use Rattle.scad_definitions.specs.ArgumentsView.{call_arguments_of, names_in, destination_term, IsOneMoreGiven, IsFaultAt}
 use Rattle.scad_scope.specs.Names.{find_in, variable_in}
-use Rattle.scad_scope.specs.Table.{chain_of}
-use Rattle.scad_blocks.specs.TextView.{function_of}
-use Rattle.scad_evaluation.specs.Limits.{most_evaluations}
-use Rattle.scad_evaluation.specs.Meaning.{Outcome, Gives, Faults, value_at, with_calls, each_argument, each_parameter, parameter_value, function_value, operand, each_value, each_suffix, each_link, called, answered, or_fault, or_zero, Setting, Slots, Arguments, then_with}
-use Rattle.scad_answer.specs.Answers.{range_of}
-use Rattle.scad_answer.specs.View.{MeetsAnswerAt}
-use Rattle.scad_evaluation.specs.Steps.{all_values, suffixed, linked, with_parameters}
-use Rattle.scad_evaluation.specs.declared.values.BoundedValues.{BoundedValues}
-use Rattle.scad_evaluation.specs.View.{MeetsOutcome, IsNoMemory, IsOneMore, values_seen, specials_in, source_text, slots_in, slot_of, indexed_val, arguments_of}
-use Rattle.scad_arguments.specs.declared.parameters.GivenArguments.{GivenArguments}
-use Rattle.scad_arguments.specs.declared.parameters.Names.{Names}
-use Rattle.scad_arguments.specs.declared.so_far.ArgumentsSoFar.{ArgumentsSoFar}
-use Rattle.scad_arguments.specs.declared.parameters.Destination.{Destination}
-use Rattle.scad_evaluation.specs.Evaluations.{EvaluatesTo, OneCallDeeper, MoreSpecials, numbered_env_here, setting_here, work_left}
-use Rattle.scad_evaluation.specs.Transitions.{IsRefusedCall}
-use Rattle.scad_evaluation.specs.declared.source.Source.{Source}
-use Rattle.scad_evaluation.proofs.Outcomes.{meets_along, fault_goes, evaluated_deeper, evaluated_too_deep, value_counted, fault_counted, values_end, terms_here, terms_end, args_here, args_end, values_here, suffixes_here, suffix_step, links_here, step_more, step_fault, name_then, fault_at, link_wants}
-use Rattle.scad_evaluation.proofs.Counting.{call_goes, call_refused}
-use Rattle.scad_evaluation.proofs.Environments.{variable_same}
-use Rattle.scad_evaluation.proofs.Steps.{deep_enough, param_deep, params_here, params_end, slots_here, filled_end, argument_none}
-use Rattle.scad_evaluation.proofs.Forms.{name_form, special_form, count_form, postfix_form, chain_form, choice_form, link_form, member_form, args_form}
+use Rattle.scad_scope.specs.Table.{bindings_of}
+use Rattle.scad_definitions.specs.TextView.{function_of}
+use Rattle.scad_func.specs.Limits.{most_evaluations}
+use Rattle.scad_func.specs.Meaning.{Outcome, Gives, Faults, value_at, setting_with_calls, each_argument, each_parameter, parameter_value, function_value, operand, each_value, each_suffix, each_link, call_value, answer_at, or_fault, or_zero, Setting, BoundArguments, Arguments, then_with}
+use Rattle.scad_value.specs.Answers.{range_of}
+use Rattle.scad_value.specs.AnswerView.{MeetsAnswerAt}
+use Rattle.scad_func.specs.Steps.{all_values, suffix_value, link_value, with_parameters}
+use Rattle.scad_func.specs.declared.values.BoundedValues.{BoundedValues}
+use Rattle.scad_func.specs.View.{MeetsOutcome, IsNoMemory, IsOneMore, values_seen, bindings_in, table_in, bound_arguments_in, bound_argument_of, indexed_val, arguments_of}
+use Rattle.scad_definitions.specs.declared.parameters.CallArguments.{CallArguments}
+use Rattle.scad_definitions.specs.declared.parameters.Names.{Names}
+use Rattle.scad_definitions.specs.declared.so_far.ArgumentsSoFar.{ArgumentsSoFar}
+use Rattle.scad_definitions.specs.declared.parameters.Destination.{Destination}
+use Rattle.scad_func.specs.Evaluations.{EvaluatesTo, OneCallDeeper, MoreBindings, numbered_env_here, setting_here, work_left}
+use Rattle.scad_func.specs.Transitions.{IsRefusedCall}
+use Rattle.scad_func.specs.declared.source.Source.{Source}
+use Rattle.scad_func.proofs.Outcomes.{meets_along, fault_goes, evaluated_deeper, evaluated_too_deep, value_counted, fault_counted, values_end, terms_here, terms_end, args_here, args_end, values_here, suffixes_here, suffix_step, links_here, step_more, step_fault, name_then, fault_at, link_wants}
+use Rattle.scad_func.proofs.Counting.{call_goes, call_refused}
+use Rattle.scad_func.proofs.Environments.{variable_same}
+use Rattle.scad_func.proofs.Steps.{deep_enough, param_deep, params_here, params_end, slots_here, filled_end, argument_none}
+use Rattle.scad_func.proofs.Forms.{name_form, special_form, count_form, postfix_form, chain_form, choice_form, link_form, member_form, args_form}
 use Rattle.scad_func.proofs.Kept.{stops, goes, answers, keeps_from, keeps_same, keeps_trans, call_found, moved, work_falls, call_kept, call_setting, specials_kept, specials_setting}
-use Rattle.scad_evaluation.proofs.GivenSeen.{taker_given, nothing_seen, held_seen}
+use Rattle.scad_func.proofs.GivenSeen.{taker_given, nothing_seen, held_seen}
 use Rattle.scad_func.proofs.Holding.{argument_stops, item_told, item_stops, longer_length, argument_held, if_err_at, if_ok_at, on_ok_at, on_err_at, none_told}
 use Rattle.scad_func.proofs.evaluator.+value.Goals as goal
 
@@ -53,7 +53,7 @@ evaluate-returns-in_err-value t c =
     let here = setting_here c.args.evaluation.now in
     record {
       value = rw (p.1, p.2) (fault_counted c.in_err-value.field-0.0 (most_evaluations - c.args.evaluation.now.depth) _
-          c.deeper.new.evaluation.turns c.args.evaluation.now.turns here.calls here.env here.chain (term_of c.args.expr.now)
+          c.at_next_depth.new.evaluation.turns c.args.evaluation.now.turns here.calls_left here.env here.bindings (term_of c.args.expr.now)
           c.in_err-value.ensures.value);
       kept = c.in_err-value.ensures.kept;
     }
@@ -62,26 +62,26 @@ pub evaluate-returns : goal.evaluate-returns
 evaluate-returns t c =
     let here = setting_here c.args.evaluation.now in
     record {
-      value = value_counted c.counted.result (most_evaluations - c.args.evaluation.now.depth) c.counted.new.evaluation.turns
-          c.args.evaluation.now.turns c.deeper.new.evaluation.turns here.calls here.env here.chain (term_of c.args.expr.now)
+      value = value_counted c.count_elements.result (most_evaluations - c.args.evaluation.now.depth) c.count_elements.new.evaluation.turns
+          c.args.evaluation.now.turns c.at_next_depth.new.evaluation.turns here.calls_left here.env here.bindings (term_of c.args.expr.now)
           (bounded_val c.in_ok-value.value) c.place.result c.place.ensures c.in_ok-value.ensures.value
-          c.counted.ensures.value;
-      kept = keeps_trans c.in_ok-value.ensures.kept c.counted.ensures.kept;
+          c.count_elements.ensures.value;
+      kept = keeps_trans c.in_ok-value.ensures.kept c.count_elements.ensures.kept;
     }
 
-pub deeper-returns-then-evaluation-eq-EVALUATIONS : goal.deeper-returns-then-evaluation-eq-EVALUATIONS
-deeper-returns-then-evaluation-eq-EVALUATIONS t c = record {
+pub at_next_depth-returns-then-evaluation-eq-EVALUATIONS : goal.at_next_depth-returns-then-evaluation-eq-EVALUATIONS
+at_next_depth-returns-then-evaluation-eq-EVALUATIONS t c = record {
   value = rw (c.at.ensures) (evaluated_too_deep _ _ _ _ _ _ c.if-evaluation-eq-EVALUATIONS.true ∙ ap (λ p. Faults TooDeep p) (sym c.place.ensures));
   kept = keeps_same _;
 }
 
-pub deeper-returns : goal.deeper-returns
-deeper-returns t c =
+pub at_next_depth-returns : goal.at_next_depth-returns
+at_next_depth-returns t c =
     let k = c.operand-value.ensures.kept in
     record {
       value = meets_along c.operand-value.result _ _ _ (evaluated_deeper _ _ _ _ _ _ (omega arith))
           c.operand-value.ensures.value;
-      kept = keeps_from _ _ k.source k.lent k.stands k.rows k.chain k.calls (omega (arith, k.depth));
+      kept = keeps_from _ _ k.source k.lent k.stands k.rows k.bindings k.calls (omega (arith, k.depth));
     }
 
 pub operand-returns-in-ChildCount : goal.operand-returns-in-ChildCount
@@ -92,7 +92,7 @@ operand-returns-in-ChildCount t c =
           (ap (λ x. operand (setting_here e) x e.turns)
           (ap term_of c.in-ChildCount.is ∙ count_form c.in-ChildCount.place)
           ∙ ap (λ o. Gives e.turns (or_zero o))
-          (variable_same (source_text e.source.now) (numbered_env_here e) (codes "$children")))
+          (variable_same (table_in e.source.now) (numbered_env_here e) (codes "$children")))
           (c.child_count.ensures e.turns);
       kept = keeps_same _;
     }
@@ -105,7 +105,7 @@ operand-returns-in-Name t c =
           (ap (λ x. operand (setting_here e) x e.turns)
           (ap term_of c.in-Name.is ∙ name_form c.in-Name.place c.in-Name.name)
           ∙ ap (λ o. or_fault o UnknownName c.in-Name.place (λ x. Gives e.turns x))
-          (variable_same (source_text e.source.now) (numbered_env_here e) c.in-Name.name ∙ ap
+          (variable_same (table_in e.source.now) (numbered_env_here e) c.in-Name.name ∙ ap
           (λ n. variable_in (numbered_env_here e) n)
           (sym c.items.ensures)))
           (c.variable_of.ensures e.turns);
@@ -119,7 +119,7 @@ operand-returns-in-Special t c =
       value = meets_along c.special_of.result e.turns _ _
           (ap (λ x. operand (setting_here e) x e.turns)
           (ap term_of c.in-Special.is ∙ special_form c.in-Special.place c.in-Special.name)
-          ∙ ap (λ n. or_fault (find_in (chain_of e.scopes.now) n) UnknownName c.in-Special.place (λ x. Gives e.turns x))
+          ∙ ap (λ n. or_fault (find_in (bindings_of e.scopes.now) n) UnknownName c.in-Special.place (λ x. Gives e.turns x))
           (sym c.items-in-Special.ensures))
           (c.special_of.ensures e.turns);
       kept = keeps_same _;
@@ -138,11 +138,11 @@ operand-returns-in-Postfix t c =
 pub operand-returns-in-Chain : goal.operand-returns-in-Chain
 operand-returns-in-Chain t c =
     record {
-      value = meets_along c.chain.result c.chain.new.evaluation.turns _ _
+      value = meets_along c.operators.result c.operators.new.evaluation.turns _ _
           (ap (λ e. operand (setting_here c.args.evaluation.now) e c.args.evaluation.now.turns)
           (chain_form c.args.expr.now c.in-Chain.field-0 c.in-Chain.parts c.deref-in-Chain.result.now c.deref-in-Chain-2.result.now
-          c.in-Chain.is c.deref-in-Chain.ensures c.deref-in-Chain-2.ensures)) c.chain.ensures.value;
-      kept = c.chain.ensures.kept;
+          c.in-Chain.is c.deref-in-Chain.ensures c.deref-in-Chain-2.ensures)) c.operators.ensures.value;
+      kept = c.operators.ensures.kept;
     }
 
 pub operand-returns-in-Choice : goal.operand-returns-in-Choice
@@ -159,34 +159,34 @@ pub list-returns-in_err-values : goal.list-returns-in_err-values
 list-returns-in_err-values t c =
     let p = err_from_is_err_and c.from_residual.result c.from_residual.ensures.1 in
     rw (p.1, p.2) (stops values_seen bounded_val (λ here. each_value here (terms_from (terms_of c.args.items.now)))
-    (λ here turns vs. answered (made (Ok (ListVal vs))) c.args.place turns) _ _ c.in_err-values.field-0.0 c.in_err-values.ensures)
+    (λ here turns vs. answer_at (value_or_long_list (Ok (ListVal vs))) c.args.place turns) _ _ c.in_err-values.field-0.0 c.in_err-values.ensures)
 
 pub list-returns : goal.list-returns
 list-returns t c =
     goes values_seen bounded_val (λ here. each_value here (terms_from (terms_of c.args.items.now)))
-    (λ here turns vs. answered (made (Ok (ListVal vs))) c.args.place turns) _ _ _ c.in_ok-values.values c.listed.result c.in_ok-values.ensures
-    (answers _ c.listed.result (made (Ok (ListVal (values_seen c.in_ok-values.values)))) c.args.place c.listed.ensures)
+    (λ here turns vs. answer_at (value_or_long_list (Ok (ListVal vs))) c.args.place turns) _ _ _ c.in_ok-values.values c.list_value.result c.in_ok-values.ensures
+    (answers _ c.list_value.result (value_or_long_list (Ok (ListVal (values_seen c.in_ok-values.values)))) c.args.place c.list_value.ensures)
 
 pub unary-returns-in_err-value : goal.unary-returns-in_err-value
 unary-returns-in_err-value t c =
     let p = err_from_is_err_and c.from_residual.result c.from_residual.ensures.1 in
     rw (p.1, p.2) (stops bounded_val bounded_val (λ here. value_at here false (term_of c.args.of.now))
-    (λ here turns v. answered (unary_of c.args.op v) c.args.place turns) _ _ c.in_err-value.field-0.0 c.in_err-value.ensures)
+    (λ here turns v. answer_at (unary_of c.args.op v) c.args.place turns) _ _ c.in_err-value.field-0.0 c.in_err-value.ensures)
 
 pub unary-returns : goal.unary-returns
 unary-returns t c =
     goes bounded_val bounded_val (λ here. value_at here false (term_of c.args.of.now))
-    (λ here turns v. answered (unary_of c.args.op v) c.args.place turns) _ _ _ c.in_ok-value.value c.unary_value.result c.in_ok-value.ensures
+    (λ here turns v. answer_at (unary_of c.args.op v) c.args.place turns) _ _ _ c.in_ok-value.value c.unary_value.result c.in_ok-value.ensures
     (answers _ c.unary_value.result (unary_of c.args.op (bounded_val c.in_ok-value.value)) c.args.place c.unary_value.ensures)
 
-pub chain-returns-in_err-left : goal.chain-returns-in_err-left
-chain-returns-in_err-left t c =
+pub operators-returns-in_err-left : goal.operators-returns-in_err-left
+operators-returns-in_err-left t c =
     let p = err_from_is_err_and c.from_residual.result c.from_residual.ensures.1 in
     rw (p.1, p.2) (stops bounded_val bounded_val (λ here. operand here (term_of c.args.first.now))
     (λ here turns v. each_link here v (links_from (links_of c.args.rest.now)) turns) _ _ c.in_err-left.field-0.0 c.in_err-left.ensures)
 
-pub chain-returns : goal.chain-returns
-chain-returns t c =
+pub operators-returns : goal.operators-returns
+operators-returns t c =
     goes bounded_val bounded_val (λ here. operand here (term_of c.args.first.now))
     (λ here turns v. each_link here v (links_from (links_of c.args.rest.now)) turns) _ _ _ c.in_ok-left.left c.links.result
     c.in_ok-left.ensures c.links.ensures
@@ -195,7 +195,7 @@ pub range-returns-in_err-first : goal.range-returns-in_err-first
 range-returns-in_err-first t c =
     let p = err_from_is_err_and c.from_residual.result c.from_residual.ensures.1 in
     rw (p.1, p.2) (stops bounded_val bounded_val (λ here. value_at here true (term_of c.args.from.now))
-    (λ here turns a. then_with (value_at here true (term_of c.args.upto.now) turns) (λ turns b. answered (range_of a b) c.args.place turns))
+    (λ here turns a. then_with (value_at here true (term_of c.args.upto.now) turns) (λ turns b. answer_at (range_of a b) c.args.place turns))
     _ _ c.in_err-first.field-0.0 c.in_err-first.ensures)
 
 pub range-returns-in_err-a : goal.range-returns-in_err-a
@@ -204,9 +204,9 @@ range-returns-in_err-a t c =
     let a = c.in_ok-first.first in
     let last = λ (here : Setting). value_at here true (term_of c.args.upto.now) in
     rw (p.1, p.2) (goes bounded_val bounded_val (λ here. value_at here true (term_of c.args.from.now))
-    (λ here turns a. then_with (last here turns) (λ turns b. answered (range_of a b) c.args.place turns)) _ _ _ a (Err c.in_err-a.field-0.0)
+    (λ here turns a. then_with (last here turns) (λ turns b. answer_at (range_of a b) c.args.place turns)) _ _ _ a (Err c.in_err-a.field-0.0)
     c.in_ok-first.ensures
-    (stops bounded_val bounded_val last (λ here turns b. answered (range_of (bounded_val a) b) c.args.place turns) _ _ c.in_err-a.field-0.0
+    (stops bounded_val bounded_val last (λ here turns b. answer_at (range_of (bounded_val a) b) c.args.place turns) _ _ c.in_err-a.field-0.0
     (subst (λ (r : Result BoundedValue Stop). EvaluatesTo bounded_val c.evaluate.new.evaluation c.evaluate-next.new.evaluation r last)
     c.in_err-a.ensures.err c.evaluate-next.ensures)))
 
@@ -217,9 +217,9 @@ range-returns t c =
     let w = c.in_ok-a.ensures.ok in
     let last = λ (here : Setting). value_at here true (term_of c.args.upto.now) in
     goes bounded_val bounded_val (λ here. value_at here true (term_of c.args.from.now))
-    (λ here turns a. then_with (last here turns) (λ turns b. answered (range_of a b) c.args.place turns)) _ _ _ a c.range_value.result
+    (λ here turns a. then_with (last here turns) (λ turns b. answer_at (range_of a b) c.args.place turns)) _ _ _ a c.range_value.result
     c.in_ok-first.ensures
-    (goes bounded_val bounded_val last (λ here turns b. answered (range_of (bounded_val a) b) c.args.place turns) _ _ _ b c.range_value.result
+    (goes bounded_val bounded_val last (λ here turns b. answer_at (range_of (bounded_val a) b) c.args.place turns) _ _ _ b c.range_value.result
     (subst (λ (r : Result BoundedValue Stop). EvaluatesTo bounded_val c.evaluate.new.evaluation c.evaluate-next.new.evaluation r last) w.1 c.evaluate-next.ensures)
     (answers _ c.range_value.result (range_of (bounded_val a) (bounded_val b)) c.args.place
     (subst (λ (x : BoundedValue). MeetsAnswerAt c.range_value.result (range_of (bounded_val x) (bounded_val b)) c.args.place) w.0 c.range_value.ensures)))
@@ -339,7 +339,7 @@ postfix-returns-in_err-variable t c =
     let e = c.args.evaluation.now in
     let here = setting_here e in
     let missing = c.in_err-variable.ensures.missing in
-    let none = variable_same (source_text e.source.now) (numbered_env_here e) c.in-Name.name ∙ ap
+    let none = variable_same (table_in e.source.now) (numbered_env_here e) c.in-Name.name ∙ ap
     (λ n. variable_in (numbered_env_here e) n) (sym c.items.ensures)
     ∙ missing.0 in
     record {
@@ -354,7 +354,7 @@ pub postfix-returns-in-Name : goal.postfix-returns-in-Name
 postfix-returns-in-Name t c =
     let e = c.args.evaluation.now in
     let here = setting_here e in
-    let found = variable_same (source_text e.source.now) (numbered_env_here e) c.in-Name.name ∙ ap
+    let found = variable_same (table_in e.source.now) (numbered_env_here e) c.in-Name.name ∙ ap
     (λ n. variable_in (numbered_env_here e) n) (sym c.items.ensures)
     ∙ c.in_ok-variable.ensures.found in
     record {
@@ -379,14 +379,14 @@ suffixes-returns-in_err-so_far-2 t c =
     let v = bounded_val c.each.so_far in
     let here = setting_here c.args.evaluation.now in
     let rest = suffixes_from (map suffix_of (drop (i + 1) xs)) in
-    let step = suffixed here v (suffix_of x) c.each.evaluation.turns in
+    let step = suffix_value here v (suffix_of x) c.each.evaluation.turns in
     let apart = ap (λ ss. each_suffix here v ss c.each.evaluation.turns) next ∙ suffix_step here v (suffix_of x) rest
     c.each.evaluation.turns in
     record {
       value = rw (p.1, p.2) (step_fault _ (λ turns y. each_suffix here y rest turns) _ step inv.told apart
           c.in_err-so_far-2.field-0.0 c.suffix-in-each.new.evaluation.turns c.suffix-in-each.new.evaluation.turns
           (meets_along (Err c.in_err-so_far-2.field-0.0) c.suffix-in-each.new.evaluation.turns _ _
-          (moved (λ s. suffixed s v (suffix_of x) c.each.evaluation.turns) inv.kept)
+          (moved (λ s. suffix_value s v (suffix_of x) c.each.evaluation.turns) inv.kept)
           c.in_err-so_far-2.ensures.value));
       kept = keeps_trans inv.kept c.in_err-so_far-2.ensures.kept;
     }
@@ -404,14 +404,14 @@ suffixes-each-preserved t c =
     let v = bounded_val c.each.so_far in
     let here = setting_here c.args.evaluation.now in
     let rest = suffixes_from (map suffix_of (drop (i + 1) xs)) in
-    let step = suffixed here v (suffix_of x) c.each.evaluation.turns in
+    let step = suffix_value here v (suffix_of x) c.each.evaluation.turns in
     let apart = ap (λ ss. each_suffix here v ss c.each.evaluation.turns) next ∙ suffix_step here v (suffix_of x) rest
     c.each.evaluation.turns in
     let g = c.in_ok-so_far-2.ensures in
     record {
       told = step_more _ (λ turns y. each_suffix here y rest turns) _ step inv.told apart
           c.suffix-in-each.new.evaluation.turns (bounded_val c.in_ok-so_far-2.so_far)
-          (moved (λ s. suffixed s v (suffix_of x) c.each.evaluation.turns) inv.kept ∙ g.value);
+          (moved (λ s. suffix_value s v (suffix_of x) c.each.evaluation.turns) inv.kept ∙ g.value);
       kept = keeps_trans inv.kept g.kept;
     }
 
@@ -428,13 +428,13 @@ links-returns-in_err-so_far-2 t c =
     let v = bounded_val c.each.so_far in
     let here = setting_here c.args.evaluation.now in
     let rest = links_from (map link_of (drop (i + 1) xs)) in
-    let step = linked here v (link_of x) c.each.evaluation.turns in
+    let step = link_value here v (link_of x) c.each.evaluation.turns in
     record {
       value = rw (p.1, p.2) (step_fault _ (λ turns y. each_link here y rest turns) _ step inv.told
           (ap (λ ls. each_link here v ls c.each.evaluation.turns) next)
           c.in_err-so_far-2.field-0.0 c.link-in-each.new.evaluation.turns c.link-in-each.new.evaluation.turns
           (meets_along (Err c.in_err-so_far-2.field-0.0) c.link-in-each.new.evaluation.turns _ _
-          (moved (λ s. linked s v (link_of x) c.each.evaluation.turns) inv.kept)
+          (moved (λ s. link_value s v (link_of x) c.each.evaluation.turns) inv.kept)
           c.in_err-so_far-2.ensures.value));
       kept = keeps_trans inv.kept c.in_err-so_far-2.ensures.kept;
     }
@@ -453,10 +453,10 @@ links-each-preserved t c =
     let here = setting_here c.args.evaluation.now in
     let rest = links_from (map link_of (drop (i + 1) xs)) in
     record {
-      told = step_more _ (λ turns y. each_link here y rest turns) _ (linked here v (link_of x) c.each.evaluation.turns)
+      told = step_more _ (λ turns y. each_link here y rest turns) _ (link_value here v (link_of x) c.each.evaluation.turns)
           inv.told (ap (λ ls. each_link here v ls c.each.evaluation.turns) next)
           c.link-in-each.new.evaluation.turns (bounded_val c.in_ok-so_far-2.so_far)
-          (moved (λ s. linked s v (link_of x) c.each.evaluation.turns) inv.kept ∙ g.value);
+          (moved (λ s. link_value s v (link_of x) c.each.evaluation.turns) inv.kept ∙ g.value);
       kept = keeps_trans inv.kept g.kept;
     }
 
@@ -467,13 +467,13 @@ link-returns-in-Name t c =
     let part = c.args.part.now in
     record {
       value = meets_along c.binary_with_variable.result e.turns _ _
-          (ap (λ l. linked here (bounded_val c.args.left) l e.turns) (link_form part)
+          (ap (λ l. link_value here (bounded_val c.args.left) l e.turns) (link_form part)
           ∙ link_wants here (bounded_val c.args.left) (record { op = part.op; at = part.place; right = term_of part.right })
           e.turns (sym c.if-not-wants_right.ensures)
           ∙ name_then here (term_of part.right) c.in-Name.at c.in-Name.name e.turns _
-          (λ turns w. answered (binary_of part.op (bounded_val c.args.left) w) part.place turns)
+          (λ turns w. answer_at (binary_of part.op (bounded_val c.args.left) w) part.place turns)
           (ap term_of c.in-Name.is ∙ name_form c.in-Name.at c.in-Name.name)
-          (variable_same (source_text e.source.now) (numbered_env_here e) c.in-Name.name))
+          (variable_same (table_in e.source.now) (numbered_env_here e) c.in-Name.name))
           (c.binary_with_variable.ensures e.turns);
       kept = keeps_same _;
     }
@@ -484,11 +484,11 @@ call-returns-in_err-given-in-Some t c =
     let e = c.args.evaluation.now in
     let args = args_from (args_of c.args.args.now) in
     let told = subst (λ (l : List Param). MeetsOutcome arguments_of (Err c.in_err-given-in-Some.field-0.0) c.arguments.new.evaluation.turns
-    (each_argument (setting_here e) (names_of (map param_of l)) 0 args (nothing_given (length (names_of (map param_of l)))) e.turns))
+    (each_argument (setting_here e) (names_of (map param_of l)) 0 args (no_arguments_of (length (names_of (map param_of l)))) e.turns))
     c.deref.ensures.value c.in_err-given-in-Some.ensures.given.value in
     record {
       value = rw (p.1, p.2) (meets_along (Err c.in_err-given-in-Some.field-0.0) c.arguments.new.evaluation.turns _ _
-          (call_found e c.in-Some.home (function_of c.in-Some.function) c.args.place c.args.name.now
+          (call_found e c.in-Some.defining_scope (function_of c.in-Some.function) c.args.place c.args.name.now
           (args_from (args_of c.args.args.now)) e.turns c.in-Some.ensures.found)
           (fault_goes arguments_of bounded_val _ _ c.in_err-given-in-Some.field-0.0 c.arguments.new.evaluation.turns
           c.arguments.new.evaluation.turns told));
@@ -514,7 +514,7 @@ call-returns-in_err-function-in-None t c =
     let here = setting_here e in
     record {
       value = rw (p.1, p.2) (meets_along (Err c.in_err-function-in-None.field-0.0) e.turns _ _
-          (ap (λ o. called here c.args.place c.args.name.now (args_from (args_of c.args.args.now)) e.turns o)
+          (ap (λ o. call_value here c.args.place c.args.name.now (args_from (args_of c.args.args.now)) e.turns o)
           c.in-None.ensures.found)
           (c.in_err-function-in-None.ensures.refused here e.turns e.turns));
       kept = keeps_same _;
@@ -555,19 +555,19 @@ arguments-each-preserved t c =
     let after = c.in_ok-so_far-2.so_far in
     let d = c.in_ok-held.destination in
     let w = c.in_ok-held.ensures.ok in
-    let free = ap (λ (ns : Names). taker_of (names_in ns) c.each.positional (arguments_of before) a) (sym inv.names)
+    let free = ap (λ (ns : Names). destination_of (names_in ns) c.each.positional (arguments_of before) a) (sym inv.names)
     ∙ taker_given (names_in c.each.so_far.names) c.each.positional before a
-    ∙ if_ok_at (λ (d : Destination). taker_of (names_in c.each.so_far.names) c.each.positional (given_of before) a ≡ Some (taker_seen d))
+    ∙ if_ok_at (λ (d : Destination). destination_of (names_in c.each.so_far.names) c.each.positional (call_arguments_of before) a ≡ Some (destination_term d))
     c.destination_for-free.result d w.1 c.destination_for-free.ensures.free in
     let step = meets_along c.evaluate-next.result _ _ _ (ap (λ e. value_at here true e c.each.evaluation.turns)
     (sym c.argument_value.ensures.value) ∙ moved (λ s. value_at s true (term_of c.argument_value.result.now) c.each.evaluation.turns)
     inv.kept) g.value in
     let given = held_seen before d c.evaluate-next.result (Ok after.given)
-    (subst (λ (v : ArgumentsSoFar BoundedValue). IsGiven v.given d c.evaluate-next.result (Ok after.given)) w.0
+    (subst (λ (v : ArgumentsSoFar BoundedValue). IsOneMoreGiven v.given d c.evaluate-next.result (Ok after.given)) w.0
     c.in_ok-so_far-2.ensures.given) in
     record {
       told = argument_held here names c.each.positional _ (args_from (map arg_of (drop i xs))) (arguments_of before) c.each.evaluation.turns
-          inv.told a rest (taker_seen d) c.evaluate-next.new.evaluation.turns c.positional_after-positional.result c.evaluate-next.result
+          inv.told a rest (destination_term d) c.evaluate-next.new.evaluation.turns c.positional_after-positional.result c.evaluate-next.result
           after.given next free step given c.positional_after-positional.ensures.value;
       names = c.in_ok-so_far-2.ensures.names ∙ ap (λ (v : ArgumentsSoFar BoundedValue). v.names) w.0 ∙ inv.names;
       few = omega (arith, c.positional_after-positional.ensures.within, inv.few);
@@ -590,13 +590,13 @@ arguments-returns-in_err-held-clause-given t c =
     let names = names_in c.args.names in
     let before = c.each.so_far.given in
     let stop = c.in_err-held.field-0.0 in
-    let refused = if_err_at (λ (s : Stop). (taker_of (names_in c.each.so_far.names) c.each.positional (given_of before) a ≡ None) × IsFaultAt s BadArgument (argument_place a))
+    let refused = if_err_at (λ (s : Stop). (destination_of (names_in c.each.so_far.names) c.each.positional (call_arguments_of before) a ≡ None) × IsFaultAt s BadArgument (argument_place a))
     c.destination_for-free.result stop c.in_err-held.ensures.err c.destination_for-free.ensures.none in
     record {
       value = rw (p.1, p.2) (fault_at arguments_of stop _ BadArgument (argument_place a) _
           (argument_none here names c.each.positional _ (args_from (map arg_of (drop i xs))) (arguments_of before) c.each.evaluation.turns
           inv.told a rest (args_here xs i x h is)
-          (ap (λ (ns : Names). taker_of (names_in ns) c.each.positional (arguments_of before) a) (sym inv.names)
+          (ap (λ (ns : Names). destination_of (names_in ns) c.each.positional (arguments_of before) a) (sym inv.names)
           ∙ taker_given (names_in c.each.so_far.names) c.each.positional before a ∙ refused.0)) refused.1);
       kept = inv.kept;
     }
@@ -633,19 +633,19 @@ arguments-returns-in_err-so_far-2-clause-given t c =
     let before = c.each.so_far.given in
     let d = c.in_ok-held.destination in
     let w = c.in_ok-held.ensures.ok in
-    let free = ap (λ (ns : Names). taker_of (names_in ns) c.each.positional (arguments_of before) a) (sym inv.names)
+    let free = ap (λ (ns : Names). destination_of (names_in ns) c.each.positional (arguments_of before) a) (sym inv.names)
     ∙ taker_given (names_in c.each.so_far.names) c.each.positional before a
-    ∙ if_ok_at (λ (d : Destination). taker_of (names_in c.each.so_far.names) c.each.positional (given_of before) a ≡ Some (taker_seen d))
+    ∙ if_ok_at (λ (d : Destination). destination_of (names_in c.each.so_far.names) c.each.positional (call_arguments_of before) a ≡ Some (destination_term d))
     c.destination_for-free.result d w.1 c.destination_for-free.ensures.free in
     let step = meets_along c.evaluate-next.result _ _ _ (ap (λ e. value_at here true e c.each.evaluation.turns)
     (sym c.argument_value.ensures.value) ∙ moved (λ s. value_at s true (term_of c.argument_value.result.now) c.each.evaluation.turns)
     inv.kept) g.value in
     let stop = c.in_err-so_far-2.field-0.0 in
     let held = held_seen before d c.evaluate-next.result (Err stop)
-    (subst (λ (v : ArgumentsSoFar BoundedValue). IsGiven v.given d c.evaluate-next.result (Err stop)) w.0 c.in_err-so_far-2.ensures.given) in
+    (subst (λ (v : ArgumentsSoFar BoundedValue). IsOneMoreGiven v.given d c.evaluate-next.result (Err stop)) w.0 c.in_err-so_far-2.ensures.given) in
     record {
       value = rw (p.1, p.2) (argument_stops here names c.each.positional _ (args_from (map arg_of (drop i xs))) (arguments_of before) c.each.evaluation.turns
-          inv.told a rest (taker_seen d) c.evaluate-next.new.evaluation.turns c.evaluate-next.new.evaluation.turns c.evaluate-next.result stop
+          inv.told a rest (destination_term d) c.evaluate-next.new.evaluation.turns c.evaluate-next.new.evaluation.turns c.evaluate-next.result stop
           (args_here xs i x h is) free step held);
       kept = keeps_trans inv.kept g.kept;
     }
@@ -672,16 +672,16 @@ parameters-each-preserved t c =
     let inv = c.each.invariant in
     let still = c.each.open.items in
     let held : i < length still = omega (arith, h, inv.count) in
-    let s = slot_of c.replace-given.result in
+    let s = bound_argument_of c.replace-given.result in
     let dest = c.replace-given.new.dest in
-    let slot = slots_here still i c.index_mut.result.now held c.index_mut.ensures.value ∙ ap
-    (λ o. slot_of o ∷ slots_in (drop (i + 1) still)) (sym c.replace-given.ensures.value) in
+    let bound_argument = slots_here still i c.index_mut.result.now held c.index_mut.ensures.value ∙ ap
+    (λ o. bound_argument_of o ∷ bound_arguments_in (drop (i + 1) still)) (sym c.replace-given.ensures.value) in
     let w = c.in_ok-open.ensures.ok in
     let unfilled = c.in_ok-open.field-0-0 in
     let values = c.in_ok-open.field-0-1 in
     let same : unfilled.items ≡ set still i dest = ap (λ (v : Vec (Option BoundedValue) Global). v.items) w.0 in
-    let slots = slot ∙ ap (λ l. s ∷ slots_in l) (sym (drop-set-lt (i + 1) still i dest (omega arith)))
-    ∙ ap (λ (l : List (Option BoundedValue)). s ∷ slots_in (drop (i + 1) l)) (sym same) in
+    let bound = bound_argument ∙ ap (λ l. s ∷ bound_arguments_in l) (sym (drop-set-lt (i + 1) still i dest (omega arith)))
+    ∙ ap (λ (l : List (Option BoundedValue)). s ∷ bound_arguments_in (drop (i + 1) l)) (sym same) in
     let g = c.parameter-next.ensures in
     let r = c.parameter-next.result in
     let longer = subst (λ (y : Result BoundedValues Stop). IsOneMore c.each.values r y) w.1
@@ -690,10 +690,10 @@ parameters-each-preserved t c =
     let ps = map param_of (drop (i + 1) xs) in
     record {
       told = item_told _ _ inv.kept c.each.values _
-          (each_parameter here (map param_of (drop i xs)) (slots_in (drop i still)) c.each.evaluation.turns)
-          (λ here. parameter_value here (param_of x) s) (each_parameter here ps (slots_in (drop (i + 1) unfilled.items))) inv.told
-          (ap (λ l. each_parameter here l (slots_in (drop i still)) c.each.evaluation.turns) next
-          ∙ ap (λ l. each_parameter here (param_of x ∷ ps) l c.each.evaluation.turns) slots)
+          (each_parameter here (map param_of (drop i xs)) (bound_arguments_in (drop i still)) c.each.evaluation.turns)
+          (λ here. parameter_value here (param_of x) s) (each_parameter here ps (bound_arguments_in (drop (i + 1) unfilled.items))) inv.told
+          (ap (λ l. each_parameter here l (bound_arguments_in (drop i still)) c.each.evaluation.turns) next
+          ∙ ap (λ l. each_parameter here (param_of x ∷ ps) l c.each.evaluation.turns) bound)
           _ r values longer g;
       count = ap length same ∙ length-set still i dest ∙ inv.count;
       got = longer_length c.each.values r values longer ∙ ap (λ n. n + 1) inv.got;
@@ -707,7 +707,7 @@ parameters-returns t c =
     let le : length xs ≤ i = omega (arith, c.each-test.false, ap length c.deref-param-items.ensures.value) in
     record {
       value = filled_end (setting_here c.args.evaluation.now) _ (vals_in c.each.values.items.items)
-          (map param_of (drop i xs)) (slots_in (drop i c.each.open.items)) c.each.evaluation.turns
+          (map param_of (drop i xs)) (bound_arguments_in (drop i c.each.open.items)) c.each.evaluation.turns
           c.each.invariant.told (params_end xs i le);
       count = omega (arith, c.each.invariant.got, le, c.each.far-i, ap length c.deref-param-items.ensures.value);
       kept = c.each.invariant.kept;
@@ -721,7 +721,7 @@ function_call-returns-in_err-given t c =
     let stop = c.in_err-given.field-0.0 in
     record {
       value = rw (p.1, p.2) (call_refused bounded_val e c.args.place stop _
-          (λ calls turns. function_value (with_calls (setting_here e) calls) (function_of c.args.function) (arguments_of c.args.given) turns)
+          (λ calls turns. function_value (setting_with_calls (setting_here e) calls) (function_of c.args.function) (arguments_of c.args.given) turns)
           (if_err_at (IsRefusedCall e c.args.place) begun.result stop c.in_err-given.ensures.err begun.ensures.refused));
       kept = on_err_at _ begun.result stop c.in_err-given.ensures.err begun.ensures.kept;
     }
@@ -732,24 +732,24 @@ function_call-function_value-value-requires t c =
     let begun = c.begin_counted_call-begun in
     let mid = begun.new.self in
     let w = c.in_ok-given.ensures.ok in
-    let deeper : OneCallDeeper e mid = on_ok_at _ begun.result _ w.1 begun.ensures.begun in (
+    let at_next_depth : OneCallDeeper e mid = on_ok_at _ begun.result _ w.1 begun.ensures.begun in (
       omega (
         arith,
-        ap (λ (x : Source). work_left x mid.calls) deeper.source,
-        ap (work_left e.source.now) deeper.calls,
-        work_falls e.source.now e.calls deeper.within,
+        ap (λ (x : Source). work_left x mid.calls) at_next_depth.source,
+        ap (work_left e.source.now) at_next_depth.calls,
+        work_falls e.source.now e.calls at_next_depth.within,
         c.requires.within,
         c.decreases,
       ),
-      subst (λ (given : GivenArguments BoundedValue). length given.slots.items ≡ length c.args.function.params.now.items.items) (sym w.0) c.requires.count,
+      subst (λ (given : CallArguments BoundedValue). length given.bound.items ≡ length c.args.function.params.now.items.items) (sym w.0) c.requires.count,
     )
 
 pub function_call-end_call-requires : goal.function_call-end_call-requires
 function_call-end_call-requires t c =
     let e = c.args.evaluation.now in
     let begun = c.begin_counted_call-begun in
-    let deeper : OneCallDeeper e begun.new.self = on_ok_at _ begun.result _ c.in_ok-given.ensures.ok.1 begun.ensures.begun in
-    omega (arith, deeper.calls, c.function_value-value.ensures.kept.calls)
+    let at_next_depth : OneCallDeeper e begun.new.self = on_ok_at _ begun.result _ c.in_ok-given.ensures.ok.1 begun.ensures.begun in
+    omega (arith, at_next_depth.calls, c.function_value-value.ensures.kept.calls)
 
 pub function_call-returns : goal.function_call-returns
 function_call-returns t c =
@@ -758,17 +758,17 @@ function_call-returns t c =
     let begun = c.begin_counted_call-begun in
     let mid = begun.new.self in
     let w = c.in_ok-given.ensures.ok in
-    let deeper : OneCallDeeper e mid = on_ok_at _ begun.result _ w.1 begun.ensures.begun in
-    let counted = on_ok_at _ begun.result _ w.1 begun.ensures.counted in
+    let at_next_depth : OneCallDeeper e mid = on_ok_at _ begun.result _ w.1 begun.ensures.begun in
+    let count_elements = on_ok_at _ begun.result _ w.1 begun.ensures.counted in
     let g = c.function_value-value.ensures in
     let told : Setting → Arguments → ℕ → Outcome Val = λ here given turns. function_value here f given turns in
     record {
       value = rw (c.end_call.ensures.turns) (meets_along c.function_value-value.result _ _ _
-          (call_goes c.args.place e.calls e.turns (λ calls turns. told (with_calls (setting_here e) calls) (arguments_of c.args.given) turns) deeper.within counted.0
-          ∙ ap (λ s. told s (arguments_of c.args.given) (e.turns + 1)) (sym (call_setting e mid deeper))
-          ∙ ap (told (setting_here mid) (arguments_of c.args.given)) (sym counted.1)
-          ∙ ap (λ (given : GivenArguments BoundedValue). told (setting_here mid) (arguments_of given) mid.turns) (sym w.0)) g.value);
-      kept = c.end_call.ensures.back e (call_kept e deeper g.kept);
+          (call_goes c.args.place e.calls e.turns (λ calls turns. told (setting_with_calls (setting_here e) calls) (arguments_of c.args.given) turns) at_next_depth.within count_elements.0
+          ∙ ap (λ s. told s (arguments_of c.args.given) (e.turns + 1)) (sym (call_setting e mid at_next_depth))
+          ∙ ap (told (setting_here mid) (arguments_of c.args.given)) (sym count_elements.1)
+          ∙ ap (λ (given : CallArguments BoundedValue). told (setting_here mid) (arguments_of given) mid.turns) (sym w.0)) g.value);
+      kept = c.end_call.ensures.back e (call_kept e at_next_depth g.kept);
     }
 
 pub suffix-returns-in-Member : goal.suffix-returns-in-Member
@@ -777,61 +777,61 @@ suffix-returns-in-Member t c =
     let v = indexed_val (numbered_env_here e) c.args.of in
     record {
       value = meets_along c.member_item.result e.turns _ _
-          (ap (λ (x : Suffix). suffixed (setting_here e) v (suffix_of x) e.turns) c.in-Member.is
-          ∙ ap (λ x. suffixed (setting_here e) v x e.turns) (member_form c.in-Member.place c.in-Member.name c.in-Member.name_place))
+          (ap (λ (x : Suffix). suffix_value (setting_here e) v (suffix_of x) e.turns) c.in-Member.is
+          ∙ ap (λ x. suffix_value (setting_here e) v x e.turns) (member_form c.in-Member.place c.in-Member.name c.in-Member.name_place))
           (c.member_item.ensures e.turns);
       kept = keeps_same _;
     }
 
-pub function_value-returns-in_err-slots : goal.function_value-returns-in_err-slots
-function_value-returns-in_err-slots t c =
+pub function_value-returns-in_err-bound : goal.function_value-returns-in_err-bound
+function_value-returns-in_err-bound t c =
     let p = err_from_is_err_and c.from_residual.result c.from_residual.ensures.1 in
-    let stop = c.in_err-slots.field-0.0 in
+    let stop = c.in_err-bound.field-0.0 in
     record {
-      value = rw (p.1, p.2) (none_told bounded_val stop _ _ (if_err_at IsNoMemory c.begin_specials-begun.result stop c.in_err-slots.ensures.err c.begin_specials-begun.ensures.stop));
-      kept = on_err_at _ c.begin_specials-begun.result stop c.in_err-slots.ensures.err c.begin_specials-begun.ensures.begins.kept;
+      value = rw (p.1, p.2) (none_told bounded_val stop _ _ (if_err_at IsNoMemory c.push_bindings-begun.result stop c.in_err-bound.ensures.err c.push_bindings-begun.ensures.stop));
+      kept = on_err_at _ c.push_bindings-begun.result stop c.in_err-bound.ensures.err c.push_bindings-begun.ensures.begins.kept;
     }
 
 pub function_value-with_defaults-value-requires : goal.function_value-with_defaults-value-requires
 function_value-with_defaults-value-requires t c =
     let e = c.args.evaluation.now in
-    let begun = c.begin_specials-begun.new.self in
-    let w = c.in_ok-slots.ensures.ok in
-    let begins : MoreSpecials e begun c.in_ok-slots.before = if_ok_at (λ (n : ℕ). MoreSpecials e begun n) c.begin_specials-begun.result _ w.1 c.begin_specials-begun.ensures.begins.begun in (
+    let begun = c.push_bindings-begun.new.self in
+    let w = c.in_ok-bound.ensures.ok in
+    let begins : MoreBindings e begun c.in_ok-bound.before = if_ok_at (λ (n : ℕ). MoreBindings e begun n) c.push_bindings-begun.result _ w.1 c.push_bindings-begun.ensures.begins.begun in (
       omega (arith, ap (λ (x : Source). work_left x begun.calls) begins.source, ap (work_left e.source.now) begins.calls, c.decreases),
       ap (λ (v : Vec (Option BoundedValue) Global). length v.items) w.0 ∙ c.requires.count,
     )
 
-pub function_value-end_specials-requires : goal.function_value-end_specials-requires
-function_value-end_specials-requires t c =
+pub function_value-pop_bindings-requires : goal.function_value-pop_bindings-requires
+function_value-pop_bindings-requires t c =
     let e = c.args.evaluation.now in
-    let begun = c.begin_specials-begun.new.self in
-    let w = c.in_ok-slots.ensures.ok in
-    let begins : MoreSpecials e begun c.in_ok-slots.before = if_ok_at (λ (n : ℕ). MoreSpecials e begun n) c.begin_specials-begun.result _ w.1 c.begin_specials-begun.ensures.begins.begun in
-    let chain = on_ok_at _ c.begin_specials-begun.result _ w.1 c.begin_specials-begun.ensures.begins.chain in
+    let begun = c.push_bindings-begun.new.self in
+    let w = c.in_ok-bound.ensures.ok in
+    let begins : MoreBindings e begun c.in_ok-bound.before = if_ok_at (λ (n : ℕ). MoreBindings e begun n) c.push_bindings-begun.result _ w.1 c.push_bindings-begun.ensures.begins.begun in
+    let bindings = on_ok_at _ c.push_bindings-begun.result _ w.1 c.push_bindings-begun.ensures.begins.bindings in
     omega (
       arith,
       begins.number,
-      ap length (c.with_defaults-value.ensures.kept.chain ∙ chain),
-      length-append (specials_in c.args.given.specials.items) (chain_of e.scopes.now),
+      ap length (c.with_defaults-value.ensures.kept.bindings ∙ bindings),
+      length-append (bindings_in c.args.given.dynamic.items) (bindings_of e.scopes.now),
     )
 
 pub function_value-returns : goal.function_value-returns
 function_value-returns t c =
     let e = c.args.evaluation.now in
     let f = function_of c.args.function in
-    let begun = c.begin_specials-begun.new.self in
-    let w = c.in_ok-slots.ensures.ok in
-    let before = c.in_ok-slots.before in
+    let begun = c.push_bindings-begun.new.self in
+    let w = c.in_ok-bound.ensures.ok in
+    let before = c.in_ok-bound.before in
     let given = arguments_of c.args.given in
-    let begins : MoreSpecials e begun before = if_ok_at (λ (n : ℕ). MoreSpecials e begun n) c.begin_specials-begun.result _ w.1 c.begin_specials-begun.ensures.begins.begun in
-    let chain : chain_of begun.scopes.now ≡ given.specials ++ chain_of e.scopes.now = on_ok_at _ c.begin_specials-begun.result _ w.1 c.begin_specials-begun.ensures.begins.chain in
+    let begins : MoreBindings e begun before = if_ok_at (λ (n : ℕ). MoreBindings e begun n) c.push_bindings-begun.result _ w.1 c.push_bindings-begun.ensures.begins.begun in
+    let bindings : bindings_of begun.scopes.now ≡ given.dynamic ++ bindings_of e.scopes.now = on_ok_at _ c.push_bindings-begun.result _ w.1 c.push_bindings-begun.ensures.begins.bindings in
     let g = c.with_defaults-value.ensures in
-    let told : Setting → Slots → ℕ → Outcome Val = λ here slots turns. then_with (each_parameter here f.params slots turns) (λ turns vs. with_parameters here f vs turns) in
+    let told : Setting → BoundArguments → ℕ → Outcome Val = λ here bound turns. then_with (each_parameter here f.params bound turns) (λ turns vs. with_parameters here f vs turns) in
     record {
-      value = rw (c.end_specials.ensures.turns) (meets_along c.with_defaults-value.result _ _ _
-          (ap (λ s. told s given.slots e.turns) (sym (specials_setting e begun before given.specials begins chain))
-          ∙ ap (λ (v : Vec (Option BoundedValue) Global). told (setting_here begun) (slots_in v.items) e.turns) (sym w.0)
-          ∙ ap (told (setting_here begun) (slots_in c.in_ok-slots.slots.items)) (sym c.begin_specials-begun.ensures.begins.turns)) g.value);
-      kept = c.end_specials.ensures.back e (specials_kept e before begins g.kept);
+      value = rw (c.pop_bindings.ensures.turns) (meets_along c.with_defaults-value.result _ _ _
+          (ap (λ s. told s given.bound e.turns) (sym (specials_setting e begun before given.dynamic begins bindings))
+          ∙ ap (λ (v : Vec (Option BoundedValue) Global). told (setting_here begun) (bound_arguments_in v.items) e.turns) (sym w.0)
+          ∙ ap (told (setting_here begun) (bound_arguments_in c.in_ok-bound.bound.items)) (sym c.push_bindings-begun.ensures.begins.turns)) g.value);
+      kept = c.pop_bindings.ensures.back e (specials_kept e before begins g.kept);
     }

@@ -12,20 +12,20 @@ use Rattle.scad_ast.specs.ExprView.{term_of, terms_of, args_of, arg_of, suffix_o
 use Rattle.scad_ast.specs.StatementView.{param_of, params_of}
 use Rattle.scad_value.specs.View.{vals_in}
 use Rattle.scad_value.specs.BoundedView.{bounded_val}
-use Rattle.scad_arguments.specs.Arguments.{nothing_given}
-use Rattle.scad_arguments.specs.ArgumentsView.{names_in}
-use Rattle.scad_evaluation.specs.Meaning.{each_value, each_argument, each_parameter, each_suffix, each_link}
-use Rattle.scad_evaluation.specs.Steps.{all_values}
-use Rattle.scad_evaluation.specs.View.{indexed_val, slots_in, arguments_of, function_size, param_size, params_size}
-use Rattle.scad_evaluation.specs.Evaluations.{Keeps, work_left, numbered_env_here, setting_here}
-use Rattle.scad_evaluation.proofs.Calls.{in_front}
+use Rattle.scad_definitions.specs.Arguments.{no_arguments_of}
+use Rattle.scad_definitions.specs.ArgumentsView.{names_in}
+use Rattle.scad_func.specs.Meaning.{each_value, each_argument, each_parameter, each_suffix, each_link}
+use Rattle.scad_func.specs.Steps.{all_values}
+use Rattle.scad_func.specs.View.{indexed_val, bound_arguments_in, arguments_of, function_size, param_size, params_size}
+use Rattle.scad_func.specs.Evaluations.{Keeps, work_left, numbered_env_here, setting_here}
+use Rattle.scad_func.proofs.Calls.{in_front}
 use Rattle.scad_func.proofs.evaluator.+value.Given as goal
 
 abbrev pub decreases-evaluate : goal.decreases-evaluate
 decreases-evaluate l = work_left l.evaluation.now.source.now l.evaluation.now.calls + (4 * size-Expr l.expr.now + 2)
 
-abbrev pub decreases-deeper : goal.decreases-deeper
-decreases-deeper l = work_left l.evaluation.now.source.now l.evaluation.now.calls + (4 * size-Expr l.expr.now + 1)
+abbrev pub decreases-at_next_depth : goal.decreases-at_next_depth
+decreases-at_next_depth l = work_left l.evaluation.now.source.now l.evaluation.now.calls + (4 * size-Expr l.expr.now + 1)
 
 abbrev pub decreases-operand : goal.decreases-operand
 decreases-operand l = work_left l.evaluation.now.source.now l.evaluation.now.calls + 4 * size-Expr l.expr.now
@@ -57,8 +57,8 @@ decreases-suffixes l = work_left l.evaluation.now.source.now l.evaluation.now.ca
 abbrev pub decreases-suffix : goal.decreases-suffix
 decreases-suffix l = work_left l.evaluation.now.source.now l.evaluation.now.calls + (4 * size-Suffix l.part.now + 1)
 
-abbrev pub decreases-chain : goal.decreases-chain
-decreases-chain l = work_left l.evaluation.now.source.now l.evaluation.now.calls +
+abbrev pub decreases-operators : goal.decreases-operators
+decreases-operators l = work_left l.evaluation.now.source.now l.evaluation.now.calls +
     (4 * max (size-Expr l.first.now) (size-Links l.rest.now) + 3)
 
 abbrev pub decreases-links : goal.decreases-links
@@ -144,7 +144,7 @@ invariant-arguments-each l =
     let here = setting_here l.fn.evaluation in
     record {
       told : each_argument here (names_in l.names) 0 (args_from (args_of l.args))
-          (nothing_given (length (names_in l.names))) l.fn.evaluation.turns
+          (no_arguments_of (length (names_in l.names))) l.fn.evaluation.turns
           ≡ each_argument here (names_in l.names) l.positional
           (args_from (map arg_of (drop l.arg-index l.args.items.items))) (arguments_of l.so_far.given) l.evaluation.turns;
       names : l.so_far.names ≡ l.names;
@@ -156,9 +156,9 @@ abbrev pub invariant-parameters-each : goal.invariant-parameters-each
 invariant-parameters-each l =
     let here = setting_here l.fn.evaluation in
     record {
-      told : each_parameter here (params_of l.params) (slots_in l.fn.slots.items) l.fn.evaluation.turns
+      told : each_parameter here (params_of l.params) (bound_arguments_in l.fn.bound.items) l.fn.evaluation.turns
           ≡ in_front (vals_in l.values.items.items) (each_parameter here
-          (map param_of (drop l.i l.params.items.items)) (slots_in (drop l.i l.open.items)) l.evaluation.turns);
+          (map param_of (drop l.i l.params.items.items)) (bound_arguments_in (drop l.i l.open.items)) l.evaluation.turns);
       count : length l.open.items ≡ length l.params.items.items;
       got : length l.values.items.items ≡ l.i;
       kept : Keeps l.fn.evaluation l.evaluation;

@@ -1,7 +1,7 @@
 use Rattle.std.proofs.Common.{◌≤◌, List, length, sym, subst, arith}
-use Rattle.scad_evaluation.specs.View.{source_text}
-use Rattle.scad_evaluation.specs.Evaluations.{env_here}
-use Rattle.scad_evaluation.specs.Definitions.{statements_at}
+use Rattle.scad_func.specs.View.{table_in}
+use Rattle.scad_func.specs.Evaluations.{env_here}
+use Rattle.scad_func.specs.Definitions.{statements_at}
 use Rattle.scad_meaning.specs.Bodies.{evaluated_in}
 use Rattle.scad_instances.specs.declared.numbered.NumberedInstance.{NumberedInstance}
 use Rattle.scad_instances.specs.Positions.{HaveBodyBlocks}
@@ -11,9 +11,9 @@ use Rattle.scad_instances.proofs.children.children.Goals as goal
 pub returns : goal.returns
 returns c =
     let e = c.args.evaluation.now in
-    let text = source_text e.source.now in
-    let body = statements_at text c.args.block in
+    let table = table_in e.source.now in
+    let body = statements_at table c.args.block in
     let xs = c.deref-instance-items.result.now in
     let end : length xs ≤ c.each.instance-index = omega (arith, c.each-test.false) in
-    children_numbered (env_here e) xs c.each.children.items c.each.instance-index c.each.invariant end text body
-    (subst (λ (l : List NumberedInstance). HaveBodyBlocks text (evaluated_in body) l) (sym c.deref-instance-items.ensures.value) c.in_ok-instances.ensures)
+    children_numbered (env_here e) xs c.each.children.items c.each.instance-index c.each.invariant end table body
+    (subst (λ (l : List NumberedInstance). HaveBodyBlocks table (evaluated_in body) l) (sym c.deref-instance-items.ensures.value) c.in_ok-instances.ensures)

@@ -1,6 +1,6 @@
 use Rattle.std.proofs.Common.{◌≡◌, take}
 use Rattle.std.specs.List.{filter}
-use Rattle.scad_evaluation.specs.Evaluations.{env_here}
+use Rattle.scad_func.specs.Evaluations.{env_here}
 use Rattle.scad_instances.proofs.KeptChildren.{is_child_here}
 use Rattle.scad_instances.proofs.children.children.Given as goal
 

@@ -1,7 +1,7 @@
 use Rattle.std.proofs.Common.{ap, ◌∙◌, arith}
 use Rattle.std.proofs.lemmas.Int.{ints}
 use Rattle.scad_value.specs.Values.{NumberVal}
-use Rattle.scad_evaluation.specs.Evaluations.{env_here}
+use Rattle.scad_func.specs.Evaluations.{env_here}
 use Rattle.scad_instances.proofs.KeptChildren.{children_counted, number_form}
 use Rattle.scad_instances.proofs.children.count_children.Goals as goal
 

@@ -2,8 +2,8 @@ use Rattle.std.proofs.Common.{◌≡◌, ◌<◌, ◌+◌, ◌∙◌, List, leng
 use Rattle.scad_ast.specs.declared.statement.Statement.{Statement}
 use Rattle.scad_ast.specs.Terms.{StatementTerm, statements_from}
 use Rattle.scad_ast.specs.StatementView.{statement_of, statements_of}
-use Rattle.scad_evaluation.specs.View.{source_text}
-use Rattle.scad_blocks.specs.Blocks.{StandAt, beginnings_of}
+use Rattle.scad_func.specs.View.{table_in}
+use Rattle.scad_definitions.specs.Blocks.{StandAt, entities_of}
 use Rattle.scad_instances.specs.Positions.{term_of_numbered}
 use Rattle.scad_instances.proofs.Numbering.{remaining_more, statements_here, here_stands, nesting_here, nesting_of, block_form}
 use Rattle.scad_instances.proofs.numbered.+numbered.Goals as goal
@@ -18,7 +18,7 @@ add_all-add-requires t c =
       omega (arith, nesting_here c.args.statements.now i s h here, c.decreases),
       (
         c.requires.whole,
-        here_stands (source_text c.args.source.now) c.args.first c.each.next (statements_from (statements_of c.args.statements.now))
+        here_stands (table_in c.args.source.now) c.args.first c.each.next (statements_from (statements_of c.args.statements.now))
             (map term_of_numbered c.args.found.now.items) (map term_of_numbered c.each.found.items) ss i s h here c.each.invariant.remaining,
       ),
     )
@@ -32,11 +32,11 @@ add_all-each-preserved t c =
     let here : s ≡ get_or ss i s = c.statement-item.is ∙ ap (λ (l : List Statement). get_or l i s) c.deref-statement-items.ensures.value in
     let g = c.in_ok-next.ensures in
     record {
-      remaining = remaining_more (source_text c.args.source.now) c.args.first c.each.next c.in_ok-next.next
+      remaining = remaining_more (table_in c.args.source.now) c.args.first c.each.next c.in_ok-next.next
           (statements_from (statements_of c.args.statements.now)) (statements_from (map statement_of (drop i ss)))
           (map term_of_numbered c.args.found.now.items) (map term_of_numbered c.each.found.items) (map term_of_numbered c.add.new.found.items)
           (statement_of s) (statements_from (map statement_of (drop (i + 1) ss))) c.each.invariant.remaining (statements_here ss i s h here)
-          g.behind g.adds.instances;
+          g.block_end g.adds.instances;
       blocks = λ before. g.adds.blocks (c.each.invariant.blocks before);
     }
 
@@ -46,6 +46,6 @@ add-add_all-requires t c =
       omega (arith, ap nesting_of is, c.decreases),
       (
         c.requires.whole,
-        subst (λ (s : StatementTerm). StandAt (source_text c.args.source.now) c.args.first (beginnings_of s)) is c.requires.stand,
+        subst (λ (s : StatementTerm). StandAt (table_in c.args.source.now) c.args.first (entities_of s)) is c.requires.stand,
       ),
     )

@@ -2,17 +2,17 @@ use Rattle.std.proofs.Common.{◌+◌, ◌*◌, map, drop}
 use Rattle.std.specs.List.{All}
 use Rattle.scad_ast.specs.Terms.{statements_from}
 use Rattle.scad_ast.specs.StatementView.{statement_of, statements_of}
-use Rattle.scad_evaluation.specs.View.{source_text}
+use Rattle.scad_func.specs.View.{table_in}
 use Rattle.scad_instances.specs.Positions.{term_of_numbered, HasBlocks}
 use Rattle.scad_instances.proofs.Numbering.{RemainingStatements, nesting_in, nesting_of}
 use Rattle.scad_instances.proofs.numbered.+numbered.Given as goal
 
 abbrev pub invariant-add_all-each : goal.invariant-add_all-each
 invariant-add_all-each l = record {
-  remaining : RemainingStatements (source_text l.source) l.first l.next (statements_from (statements_of l.statements))
+  remaining : RemainingStatements (table_in l.source) l.first l.next (statements_from (statements_of l.statements))
       (statements_from (map statement_of (drop l.statement-index l.statements.items.items)))
       (map term_of_numbered l.fn.found.items) (map term_of_numbered l.found.items);
-  blocks : All (HasBlocks (source_text l.source)) l.fn.found.items → All (HasBlocks (source_text l.source)) l.found.items;
+  blocks : All (HasBlocks (table_in l.source)) l.fn.found.items → All (HasBlocks (table_in l.source)) l.found.items;
 }
 
 abbrev pub decreases-add_all : goal.decreases-add_all

@@ -15,7 +15,7 @@ words-preserved-then-begins c =
     let longest = blank_found rest (sym c.begins.ensures.begins ∙ c.if-begins.true) in
     let next = appends_none rest c.words.tokens.items c.words.place 1 Blank longest refl in
     record {
-      told = rw c.advance-place.ensures.moved (goes_on c.args.text.now c.words.tokens.items _ c.words.place rest 1 c.words.invariant.told next);
+      told = rw c.advance-place.ensures.place_after (goes_on c.args.text.now c.words.tokens.items _ c.words.place rest 1 c.words.invariant.told next);
       line = omega (arith, c.advance-place.ensures.line, rest_length rest 1 longest.within, length-take-le 1 rest longest.within, c.words.invariant.line);
       column = omega (arith, c.advance-place.ensures.column, rest_length rest 1 longest.within, length-take-le 1 rest longest.within, c.words.invariant.column);
     }
@@ -43,7 +43,7 @@ words-preserved c =
     let step = goes_on c.args.text.now c.words.tokens.items _ c.words.place c.words.rest.now bytes c.words.invariant.told c.in_ok-push_word.ensures.appended in
     let within = c.in_ok-push_word.ensures.appended.longest.within in
     record {
-      told = rw c.advance-place-in-words.ensures.moved step;
+      told = rw c.advance-place-in-words.ensures.place_after step;
       line = omega (arith, c.advance-place-in-words.ensures.line, rest_length c.words.rest.now bytes within, length-take-le bytes c.words.rest.now within, c.words.invariant.line);
       column = omega (arith, c.advance-place-in-words.ensures.column, rest_length c.words.rest.now bytes within, length-take-le bytes c.words.rest.now within, c.words.invariant.column);
     }

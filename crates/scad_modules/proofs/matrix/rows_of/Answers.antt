@@ -1,5 +1,5 @@
 use Rattle.std.proofs.Common.{arith}
-use Rattle.scad_slots.specs.Reading.{vector_in}
+use Rattle.scad_modules.specs.Reading.{vector_in}
 use Rattle.scad_modules.proofs.MatrixRows.{no_rows}
 use Rattle.scad_modules.proofs.matrix.rows_of.Goals as goal
 

@@ -9,5 +9,5 @@ pub returns-clause-safe : goal.returns-clause-safe
 returns-clause-safe c =
     let same = to_z-of_z w64 c.args.default c.ranges.default in
     reads_safe IsSafe c.found_number.result _ c.found_number.ensures
-    (number_or_safe c.args.slots.now c.args.parameter (to_z w64 (of_z w64 c.args.default))
+    (number_or_safe c.args.bound.now c.args.parameter (to_z w64 (of_z w64 c.args.default))
     (subst IsSafe (sym same) c.requires))

@@ -1,4 +1,4 @@
-use Rattle.newest_names.specs.Names.{newest_first}
+use Rattle.scad_definitions.specs.Names.{newest_first}
 use Rattle.scad_scope.proofs.Chain.{value_found}
 use Rattle.scad_scope.proofs.table.find_variable.Goals as goal
 

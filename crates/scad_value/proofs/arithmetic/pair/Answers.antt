@@ -1,5 +1,5 @@
 use Rattle.std.proofs.Common.{◌∙◌, ap, sym}
-use Rattle.scad_value.specs.Operators.{sized}
+use Rattle.scad_value.specs.Operators.{number_or_too_large}
 use Rattle.scad_value.specs.Rows.{pair_row}
 use Rattle.scad_value.proofs.Integers.{widens, sum_wide, sum_told, difference_wide, difference_told}
 use Rattle.scad_value.proofs.arithmetic.pair.Goals as goal
@@ -23,11 +23,11 @@ pub overflow_sub-left : goal.overflow_sub-left
 overflow_sub-left c = difference_wide c.args.left c.args.right c.ranges.left c.ranges.right
 
 pub returns-in-Sum : goal.returns-in-Sum
-returns-in-Sum c = c.sized.ensures
-    ∙ ap sized (sum_told c.args.left c.args.right c.ranges.left c.ranges.right)
+returns-in-Sum c = c.number_or_too_large.ensures
+    ∙ ap number_or_too_large (sum_told c.args.left c.args.right c.ranges.left c.ranges.right)
     ∙ ap (λ row. pair_row row c.args.left c.args.right) (sym c.in-Sum.is)
 
 pub returns-in-Difference : goal.returns-in-Difference
-returns-in-Difference c = c.sized-in-Difference.ensures
-    ∙ ap sized (difference_told c.args.left c.args.right c.ranges.left c.ranges.right)
+returns-in-Difference c = c.number_or_too_large-in-Difference.ensures
+    ∙ ap number_or_too_large (difference_told c.args.left c.args.right c.ranges.left c.ranges.right)
     ∙ ap (λ row. pair_row row c.args.left c.args.right) (sym c.in-Difference.is)

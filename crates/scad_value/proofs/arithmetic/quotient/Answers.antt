@@ -27,5 +27,5 @@ pub returns-then-left-right-ne0 : goal.returns-then-left-right-ne0
 returns-then-left-right-ne0 c = inexact_quotient c.args.left c.args.right c.if-right-eq0.false c.ranges.left c.ranges.right c.if-left-right-ne0.true
 
 pub returns : goal.returns
-returns c = c.sized.ensures
+returns c = c.number_or_too_large.ensures
     ∙ exact_quotient c.args.left c.args.right c.if-right-eq0.false c.ranges.left c.ranges.right c.if-left-right-ne0.false

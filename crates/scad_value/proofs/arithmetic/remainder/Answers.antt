@@ -15,5 +15,5 @@ pub nonzero_rem-left : goal.nonzero_rem-left
 nonzero_rem-left c = divides c.args.left c.args.right c.if-right-eq0.false c.ranges.left c.ranges.right
 
 pub returns : goal.returns
-returns c = c.sized.ensures
+returns c = c.number_or_too_large.ensures
     ∙ remainder_told c.args.left c.args.right c.if-right-eq0.false c.ranges.left c.ranges.right

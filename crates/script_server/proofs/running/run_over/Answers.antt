@@ -110,6 +110,7 @@ returns g c =
           (All-weaker (λ (s : FlightView). (s.share.parts ≡ parts_each) × (offered_of s.share ≤ s.share.misses)) (λ (s : FlightView). offered_of s.share ≤ s.share.misses) (λ s both. both.1)
           c.shares_of-shares.result.items c.shares_of-shares.ensures.whole));
       sound = told.sound;
+      claims = told.claims;
       callers = subst (λ n. All (λ (i : Item Formula). i.caller < n) c.close-core.result.1.journal) (sym c.requires.limits.2 ∙ c.requires.callers.0) told.callers;
       limits = (told.limits.0 ∙ sym c.requires.limits.0, told.limits.1 ∙ sym c.requires.limits.1);
     }

@@ -1,9 +1,9 @@
 use Rattle.std.proofs.Common.{◌≡◌, ◌+◌, ◌≤◌, ◌<◌, ◌++◌, ◌∷◌, [], length, ap, sym, subst, ◌∙◌, arith, length-append}
 use Rattle.std.specs.Arc.{arc_value}
 use Rattle.std.proofs.lemmas.List.{length-map, map-append}
-use Rattle.flight_memo.specs.Claims.{Claim, Begun, IsFree, IsLegalLog, live_in, begun_in}
+use Rattle.flight_memo.specs.Claims.{Claim, Begun, IsFree, IsLegalLog, live_in, begun_in, ended_in}
 use Rattle.flight_memo.specs.Fields.{claim_in, claims_of, event_of, events_of}
-use Rattle.flight_memo.proofs.Logs.{legal_more, begun_more, begun_few, live_more}
+use Rattle.flight_memo.proofs.Logs.{legal_more, begun_more, ended_more, begun_few, live_more}
 use Rattle.flight_memo.proofs.Legal.{known_of_legal}
 use Rattle.flight_memo.proofs.claims.Claims.begin.Goals as goal
 
@@ -30,4 +30,5 @@ invariant_of-self g c =
       live = lives ∙ (ap (λ l. l ++ claim ∷ []) kept.live ∙ (sym (live_more log claim fresh) ∙ ap live_in (sym logged)));
       count = omega (arith, kept.count, begun_more log (Begun claim), ap begun_in logged);
       room = omega (arith, kept.room, asked, ap length lives, length-append live (claim ∷ []), c.push_reserved.ensures.len, c.push_reserved.ensures.capacity);
+      few = omega (arith, kept.few, ap length lives, length-append live (claim ∷ []), begun_more log (Begun claim), ended_more log (Begun claim), ap begun_in logged, ap ended_in logged);
     }

@@ -1,5 +1,5 @@
 use Rattle.std.proofs.Common.{◌≡◌, ◌+◌, ◌-◌, ◌++◌, ◌∷◌, [], if◌then◌else◌, refl, ap, subst, sym, ◌∙◌, arith}
-use Rattle.join_solids.specs.Joins.{AreAsked}
+use Rattle.parallel_eval.specs.Joins.{AreAsked}
 use Rattle.parallel_eval.specs.Runs.{joins_to, HasMade}
 use Rattle.parallel_eval.proofs.Laned.{lane_steps, lane_breaks}
 use Rattle.parallel_eval.proofs.lanes.RunWork.do_lane.Goals as goal

@@ -3,7 +3,7 @@ use Rattle.csg_tree.specs.Formulas.{Formula}
 use Rattle.csg_tree.specs.Numberings.{tree_numbered}
 use Rattle.bsp_boolean.specs.Solids.{solid_of}
 use Rattle.bsp_boolean.specs.TreeSolids.{is_join}
-use Rattle.join_solids.specs.Joins.{Gives}
+use Rattle.parallel_eval.specs.Joins.{Gives}
 use Rattle.parallel_eval.specs.Runs.{joins_to}
 use Rattle.parallel_eval.proofs.Books.{none_asked, asked_at}
 use Rattle.parallel_eval.proofs.Running.{leaf_of_run, join_of_run, in_reach}

@@ -1,5 +1,5 @@
 use Rattle.std.proofs.Common.{subst, All}
-use Rattle.plane_line.specs.Lines.{IsSmall}
+use Rattle.plane_predicate.specs.Lines.{IsSmall}
 use Rattle.plane_table.proofs.Small.{small_named}
 use Rattle.plane_table.proofs.table.PlaneTable.is_small.Goals as goal
 

@@ -12,41 +12,41 @@ use Rattle.scad_value.specs.declared.bounded_value.BoundedValue.{BoundedValue}
 use Rattle.scad_value.specs.Values.{Val, Vals, truth_of}
 use Rattle.scad_value.specs.BoundedView.{bounded_val}
 use Rattle.scad_scope.specs.Names.{Row, oldest}
-use Rattle.scad_scope.specs.Table.{chain_of}
-use Rattle.scad_blocks.specs.declared.text.Module.{Module}
-use Rattle.scad_blocks.specs.TextView.{module_of}
-use Rattle.scad_blocks.specs.Blocks.{SourceModule, statements_of_body}
-use Rattle.scad_arguments.specs.declared.parameters.GivenArguments.{GivenArguments}
+use Rattle.scad_scope.specs.Table.{bindings_of}
+use Rattle.scad_definitions.specs.declared.text.Module.{Module}
+use Rattle.scad_definitions.specs.TextView.{module_of}
+use Rattle.scad_definitions.specs.Blocks.{SourceModule, statements_of_body}
+use Rattle.scad_definitions.specs.declared.parameters.CallArguments.{CallArguments}
 use Rattle.scad_modules.specs.declared.effects.Effect.{Effect}
 use Rattle.scad_modules.specs.declared.table.BuiltinModule.{BuiltinModule}
 use Rattle.scad_modules.specs.Effects.{ChosenCall}
 use Rattle.scad_modules.specs.View.{chosen_of, call_of}
 use Rattle.scad_design.specs.Designs.{moved_by}
-use Rattle.scad_evaluation.specs.Limits.{most_calls, most_turns}
-use Rattle.scad_evaluation.specs.Meaning.{Outcome, Gives, Faults, Opened, Within, no_call, opened, with_value, then_with, or_fault, each_parameter, entered_scope, Arguments, Slots, Setting, Env}
-use Rattle.scad_evaluation.specs.View.{env_seen, source_text, arguments_of, slots_in, specials_in, values_seen, IsNoMemory}
-use Rattle.scad_evaluation.specs.Definitions.{statements_at, block_scope, IsWhole}
-use Rattle.scad_evaluation.specs.Evaluations.{OneCallDeeper, MoreSpecials, env_here, setting_in}
-use Rattle.scad_evaluation.specs.Transitions.{IsRefusedCall}
-use Rattle.scad_evaluation.specs.declared.source.Source.{Source}
+use Rattle.scad_func.specs.Limits.{most_calls, most_turns}
+use Rattle.scad_func.specs.Meaning.{Outcome, Gives, Faults, Activation, Within, no_activation, activation, with_value, then_with, or_fault, each_parameter, entered_scope, Arguments, BoundArguments, Setting, Env}
+use Rattle.scad_func.specs.View.{env_seen, table_in, arguments_of, bound_arguments_in, bindings_in, values_seen, IsNoMemory}
+use Rattle.scad_func.specs.Definitions.{statements_at, block_scope, IsWhole}
+use Rattle.scad_func.specs.Evaluations.{OneCallDeeper, MoreBindings, env_here, setting_in}
+use Rattle.scad_func.specs.Transitions.{IsRefusedCall}
+use Rattle.scad_func.specs.declared.source.Source.{Source}
 use Rattle.scad_instances.specs.declared.numbered.NumberedInstance.{NumberedInstance}
-use Rattle.scad_pieces.specs.declared.position.NumberedBody.{NumberedBody}
-use Rattle.scad_pieces.specs.declared.position.Position.{Position}
+use Rattle.scad_instances.specs.declared.position.NumberedBody.{NumberedBody}
+use Rattle.scad_instances.specs.declared.position.Position.{Position}
 use Rattle.scad_instances.specs.Choosing.{chosen_seen}
 use Rattle.scad_instances.specs.Items.{remaining_in}
 use Rattle.scad_instances.specs.Positions.{term_of_numbered, HasBlocks}
-use Rattle.scad_pieces.specs.Seen.{one_member_of, instance_design_of, member_designs_of}
+use Rattle.scad_instances.specs.Seen.{one_member_of, instance_design_of, member_designs_of}
 use Rattle.scad_meaning.specs.Verdicts.{Judge}
 use Rattle.scad_meaning.specs.Bodies.{is_child}
 use Rattle.scad_meaning.specs.Loops.{items_of}
-use Rattle.scad_meaning.specs.Meaning.{Context, MemberDesigns, InstanceDesign, Evaluator, joined_members, moved_design, no_design, as_member, and_members, body_design, core_design, core_of_instance, hull_design, loop_design, built_in_design, children_design, effect_design, after_step, each_member, each_step, each_turn, in_loop, module_design, module_scope, with_calls_left, with_chain, inside_scope, setting, apart, block_members, built_in_given, instances_chosen, module_filled, module_given}
+use Rattle.scad_meaning.specs.Meaning.{Context, MemberDesigns, InstanceDesign, Evaluator, joined_members, moved_design, no_design, as_member, and_members, body_design, core_design, core_of_instance, hull_design, loop_design, built_in_design, children_design, effect_design, after_step, each_member, each_step, each_iteration, in_loop, module_design, module_scope, with_calls_left, with_bindings, inside_scope, setting, as_root, block_members, built_in_given, instances_chosen, module_filled, module_given}
 use Rattle.scad_eval.specs.declared.evaluator.InstanceEvaluator.{InstanceEvaluator}
 use Rattle.scad_eval.specs.Keeping.{evaluator_at, env_at, context_at, Stays, Enters, meant_at}
 use Rattle.scad_eval.specs.Steps.{one_step}
 use Rattle.scad_eval.specs.Within.{body_seen, IsInstanceAt, IsModuleCall}
 use Rattle.scad_func.proofs.Kept.{keeps_same, keeps_trans, specials_kept, scope_kept}
 use Rattle.scad_eval.proofs.Work.{work_falls, work_same}
-use Rattle.scad_evaluation.proofs.Counting.{call_refused, call_goes}
+use Rattle.scad_func.proofs.Counting.{call_refused, call_goes}
 use Rattle.scad_eval.proofs.Counting.{design_too_deep, call_too_deep, turn_counted}
 use Rattle.scad_eval.proofs.Membership.{child_is_member, as_member_outcome, member_step, instances_here}
 use Rattle.scad_eval.proofs.Outcomes.{along, then_outcome, stop_outcome, only_no_memory, told_outcome, lengthened, lengthening_stops}
@@ -54,7 +54,7 @@ use Rattle.scad_eval.proofs.Told.{begun_at, told_from, told_after, told_there, s
 use Rattle.scad_eval.proofs.Contexts.{stays_same, stays_then, stays_kept, stays_told, same_context}
 use Rattle.scad_eval.proofs.Beginning.{evaluation_kept, call_kept, specials_there}
 use Rattle.scad_eval.proofs.Standing.{position_still, instance_still, body_still, call_still, instances_stand, scope_bound, block_bound}
-use Rattle.scad_eval.proofs.Newest.{with_specials, specials_began, slots_lent}
+use Rattle.scad_eval.proofs.Newest.{with_more_bindings, specials_began, slots_lent}
 use Rattle.scad_eval.proofs.Equations.{refused_outcome, entered_meant, body_meant, block_meant, entered_block, instances_meant, deeper_meant, call_meant, children_meant, specials_meant, specials_setting, built_in_refused, built_in_meant, marked_form, begun_front, lengthened_kept, first_outcome, OnOk-at_ok}
 use Rattle.scad_eval.proofs.evaluator.InstanceEvaluator.+instances.Goals as goal
 
@@ -82,7 +82,7 @@ body-returns t c =
     joins c.args.op c.in_ok-members.ensures
     (λ judge right. body_meant c.args.op judge m (begun_at c.in_ok-members.ensures) c.args.position c.in_ok-before.before c.args.body c.requires
     (record { unit = refl; leaves = refl; evaluation = e }) c.in_ok-before.ensures.inside c.enter_body.ensures.turns)
-    c.in_ok-joined.ensures c.leave.ensures.turns refl (stays_kept m _ b.older.unit (c.leave.ensures.back m.evaluation (scope_bound m b e)))
+    c.in_ok-join_members.ensures c.leave.ensures.turns refl (stays_kept m _ b.older.unit (c.leave.ensures.back m.evaluation (scope_bound m b e)))
 
 pub body-leave-requires : goal.body-leave-requires
 body-leave-requires t c =
@@ -95,23 +95,23 @@ members_in_scope-members-requires t c =
     let a = (c.in_ok-assign_all.ensures c.args.position).kept.older in (
       omega (arith, work_same c.assign_all.new.self.evaluation.depth m.evaluation.depth a.same.depth, c.decreases),
       instances_stand c.assign_all.new.self c.args.position c.deref.result.now (position_still m _ a.unit a.same.source c.requires.position)
-          (subst (λ (is : List NumberedInstance). All (HasBlocks (source_text c.assign_all.new.self.evaluation.source.now)) is) (sym c.deref.ensures.value)
+          (subst (λ (is : List NumberedInstance). All (HasBlocks (table_in c.assign_all.new.self.evaluation.source.now)) is) (sym c.deref.ensures.value)
           c.in_ok-instances.ensures.blocks),
     )
 
 pub members_in_scope-chosen_instances-requires-clause-whole : goal.members_in_scope-chosen_instances-requires-clause-whole
 members_in_scope-chosen_instances-requires-clause-whole t c =
     let a = (c.in_ok-assign_all.ensures c.args.position).kept.older in
-    subst (λ (source : Source). IsWhole (source_text source)) (sym a.same.source) c.requires.position.whole
+    subst (λ (source : Source). IsWhole (table_in source)) (sym a.same.source) c.requires.position.whole
 
-pub members_in_scope-end_specials-requires : goal.members_in_scope-end_specials-requires
-members_in_scope-end_specials-requires t c =
+pub members_in_scope-pop_bindings-requires : goal.members_in_scope-pop_bindings-requires
+members_in_scope-pop_bindings-requires t c =
     let a = (c.in_ok-assign_all.ensures c.args.position).kept in
     omega (
       arith,
       c.in_ok-length.ensures,
-      ap length (c.in_ok-members.ensures.kept.evaluation.chain ∙ a.chain),
-      length-append a.newer (chain_of c.args.self.now.evaluation.scopes.now),
+      ap length (c.in_ok-members.ensures.kept.evaluation.bindings ∙ a.bindings),
+      length-append a.newer (bindings_of c.args.self.now.evaluation.scopes.now),
     )
 
 pub members_in_scope-returns-in_err-assign_all : goal.members_in_scope-returns-in_err-assign_all
@@ -119,7 +119,7 @@ members_in_scope-returns-in_err-assign_all t c =
     let p = err_from_is_err_and c.from_residual-in_err-assign_all.result c.from_residual-in_err-assign_all.ensures.1 in
     let m = c.args.self.now in
     rw (p.1, p.2) (stops (λ judge turns there. each_member (evaluator_at m judge) there (instances_chosen there.env (chosen_seen c.args.chosen)
-    (statements_at (source_text m.evaluation.source.now) c.args.block)) turns m.leaves)
+    (statements_at (table_in m.evaluation.source.now) c.args.block)) turns m.leaves)
     (c.in_err-assign_all.ensures c.args.position) (λ judge right. refl) tt)
 
 pub members_in_scope-returns-in_err-members : goal.members_in_scope-returns-in_err-members
@@ -138,17 +138,17 @@ members_in_scope-returns t c =
     told_from c.in_ok-members.ensures
     (λ judge right. instances_meant m c.assign_all.new.self c.args.position c.args.block (chosen_seen c.args.chosen)
     (map term_of_numbered c.deref.result.now) judge a.kept (a.equation judge right).is
-    (ap (map term_of_numbered) c.deref.ensures.value ∙ c.in_ok-instances.ensures.found)) c.end_specials.ensures.turns refl
+    (ap (map term_of_numbered) c.deref.ensures.value ∙ c.in_ok-instances.ensures.found)) c.pop_bindings.ensures.turns refl
     (block_bound m c.assign_all.new.self c.members.new.self _ a.kept c.in_ok-members.ensures.kept refl
-    c.end_specials.ensures.same c.end_specials.ensures.rows
-    (c.end_specials.ensures.chain ∙ ap (λ n. oldest n (chain_of c.members.new.self.evaluation.scopes.now)) c.in_ok-length.ensures))
+    c.pop_bindings.ensures.same c.pop_bindings.ensures.rows
+    (c.pop_bindings.ensures.bindings ∙ ap (λ n. oldest n (bindings_of c.members.new.self.evaluation.scopes.now)) c.in_ok-length.ensures))
 
 pub children_made-returns-in-None : goal.children_made-returns-in-None
 children_made-returns-in-None t c =
     let m = c.args.self.now in
     record {
       equation = λ judge right. record {
-        is = ap (λ (o : Opened). children_design (evaluator_at m judge) (context_at m c.args.position) o (chosen_of c.args.chosen.now) m.evaluation.turns m.leaves)
+        is = ap (λ (o : Activation). children_design (evaluator_at m judge) (context_at m c.args.position) o (chosen_of c.args.chosen.now) m.evaluation.turns m.leaves)
             c.in-None.ensures.value
             ∙ ap (λ (made : InstanceDesign). Gives m.evaluation.turns made) (sym (c.nothing_made.ensures m.leaves));
       };
@@ -164,19 +164,19 @@ children_made-members_in_scope-requires t c =
     )
 
 -- the chosen children of a call that was found
-children_entered : (judge : Judge) (m mid : InstanceEvaluator) (position : Position) (before block : ℕ) (caller : Env) (call : Opened) (chosen : ChosenCall)
-    → IsWhole (source_text m.evaluation.source.now) → call ≡ opened (statements_at (source_text m.evaluation.source.now) block) caller → Enters m mid before
-    → env_here mid.evaluation ≡ block_scope (source_text m.evaluation.source.now) block no_call caller → mid.evaluation.turns ≡ m.evaluation.turns
+children_entered : (judge : Judge) (m mid : InstanceEvaluator) (position : Position) (before block : ℕ) (caller : Env) (call : Activation) (chosen : ChosenCall)
+    → IsWhole (table_in m.evaluation.source.now) → call ≡ activation (statements_at (table_in m.evaluation.source.now) block) caller → Enters m mid before
+    → env_here mid.evaluation ≡ block_scope (table_in m.evaluation.source.now) block no_activation caller → mid.evaluation.turns ≡ m.evaluation.turns
     → children_design (evaluator_at m judge) (context_at m position) call chosen m.evaluation.turns m.leaves
-    ≡ then_with (meant_at mid position judge (λ evaluator. block_members evaluator (Some chosen) (statements_at (source_text mid.evaluation.source.now) block)))
+    ≡ then_with (meant_at mid position judge (λ evaluator. block_members evaluator (Some chosen) (statements_at (table_in mid.evaluation.source.now) block)))
     (λ turns members. Gives turns (joined_members Union members))
 children_entered judge m mid position before block caller call chosen whole found e inside turns =
-    let text = source_text m.evaluation.source.now in
-    let statements = statements_at text block in
-    ap (λ (o : Opened). children_design (evaluator_at m judge) (context_at m position) o chosen m.evaluation.turns m.leaves) found
+    let table = table_in m.evaluation.source.now in
+    let statements = statements_at table block in
+    ap (λ (o : Activation). children_design (evaluator_at m judge) (context_at m position) o chosen m.evaluation.turns m.leaves) found
     ∙ ap (λ o. then_with o (λ turns members. Gives turns (joined_members Union members)))
-    (block_meant judge m mid position before block (Some chosen) statements (entered_scope statements no_call caller) refl e
-    (entered_block text block no_call caller statements whole refl inside) turns)
+    (block_meant judge m mid position before block (Some chosen) statements (entered_scope statements no_activation caller) refl e
+    (entered_block table block no_activation caller statements whole refl inside) turns)
 
 pub children_made-returns-in_err-members-in-Some : goal.children_made-returns-in_err-members-in-Some
 children_made-returns-in_err-members-in-Some t c =
@@ -188,8 +188,8 @@ children_made-returns-in_err-members-in-Some t c =
     (chosen_of c.args.chosen.now) c.requires.position.whole c.in-Some.ensures.value (record { unit = refl; leaves = refl; evaluation = e })
     c.in_ok-before-in-Some.ensures.inside c.enter_body.ensures.turns) tt)
 
-pub children_made-returns-in_ok-joined-in-Some : goal.children_made-returns-in_ok-joined-in-Some
-children_made-returns-in_ok-joined-in-Some t c =
+pub children_made-returns-in_ok-join_members-in-Some : goal.children_made-returns-in_ok-join_members-in-Some
+children_made-returns-in_ok-join_members-in-Some t c =
     let m = c.args.self.now in
     let e = c.in_ok-before-in-Some.ensures.entered in
     let b = c.in_ok-members-in-Some.ensures.kept in
@@ -197,7 +197,7 @@ children_made-returns-in_ok-joined-in-Some t c =
     (λ judge right. children_entered judge m (begun_at c.in_ok-members-in-Some.ensures) c.args.position c.in_ok-before-in-Some.before c.in-Some.call.children (env_at m c.in-Some.call.caller) _
     (chosen_of c.args.chosen.now) c.requires.position.whole c.in-Some.ensures.value (record { unit = refl; leaves = refl; evaluation = e })
     c.in_ok-before-in-Some.ensures.inside c.enter_body.ensures.turns)
-    c.in_ok-joined-in-Some.ensures c.leave.ensures.turns refl (stays_kept m _ b.older.unit (c.leave.ensures.back m.evaluation (scope_bound m b e)))
+    c.in_ok-join_members-in-Some.ensures c.leave.ensures.turns refl (stays_kept m _ b.older.unit (c.leave.ensures.back m.evaluation (scope_bound m b e)))
 
 pub children_made-leave-requires : goal.children_made-leave-requires
 children_made-leave-requires t c =
@@ -238,20 +238,20 @@ children_called-returns t c =
     c.begin_call.ensures.turns c.in_ok-begin_call.ensures.begun) c.end_call.ensures.turns refl
     (stays_kept m _ k.unit (c.end_call.ensures.back m.evaluation (call_kept c.in_ok-begin_call.ensures.begun k.evaluation)))
 
-pub built_in_made-returns-in_err-slots : goal.built_in_made-returns-in_err-slots
-built_in_made-returns-in_err-slots t c =
+pub built_in_made-returns-in_err-bound : goal.built_in_made-returns-in_err-bound
+built_in_made-returns-in_err-bound t c =
     let p = err_from_is_err_and c.from_residual.result c.from_residual.ensures.1 in
     rw (p.1, p.2) (record {
-      equation = λ judge right. only_no_memory _ (IfErr-at_err IsNoMemory c.in_err-slots.ensures.err c.begin_specials-begun.ensures.stop);
+      equation = λ judge right. only_no_memory _ (IfErr-at_err IsNoMemory c.in_err-bound.ensures.err c.push_bindings-begun.ensures.stop);
       kept = tt;
     })
 
 pub built_in_made-effect_made-requires : goal.built_in_made-effect_made-requires
 built_in_made-effect_made-requires t c =
     let m = c.args.self.now in
-    let ok = c.in_ok-slots.ensures.ok in
-    let begins = specials_began c.begin_specials-begun.ensures.begins ok.1 in (
-      omega (arith, work_same c.begin_specials-begun.new.self.depth m.evaluation.depth begins.0.depth, c.decreases),
+    let ok = c.in_ok-bound.ensures.ok in
+    let begins = specials_began c.push_bindings-begun.ensures.begins ok.1 in (
+      omega (arith, work_same c.push_bindings-begun.new.self.depth m.evaluation.depth begins.0.depth, c.decreases),
       (body_still m _ refl begins.0.source c.requires, c.in_ok-effect.ensures.safe),
     )
 
@@ -259,45 +259,45 @@ pub built_in_made-returns-in_err-effect : goal.built_in_made-returns-in_err-effe
 built_in_made-returns-in_err-effect t c =
     let p = err_from_is_err_and c.from_residual-in_err-effect.result c.from_residual-in_err-effect.ensures.1 in
     let m = c.args.self.now in
-    let ok = c.in_ok-slots.ensures.ok in
-    let begins = specials_began c.begin_specials-begun.ensures.begins ok.1 in
-    let begun = with_specials m c.begin_specials-begun.new.self c.in_ok-slots.length begins.0 in
-    rw (p.1, p.2) (built_in_refused m begun c.args.position c.args.place c.args.built_in (arguments_of c.args.given) (body_seen c.args.body) (slots_in c.in_ok-slots.slots.items) begins.1
+    let ok = c.in_ok-bound.ensures.ok in
+    let begins = specials_began c.push_bindings-begun.ensures.begins ok.1 in
+    let begun = with_more_bindings m c.push_bindings-begun.new.self c.in_ok-bound.length begins.0 in
+    rw (p.1, p.2) (built_in_refused m begun c.args.position c.args.place c.args.built_in (arguments_of c.args.given) (body_seen c.args.body) (bound_arguments_in c.in_ok-bound.bound.items) begins.1
     (slots_lent ok.0) c.in_err-effect.field-0.0 _ c.in_err-effect.ensures.effect tt)
 
 pub built_in_made-returns-in_err-made : goal.built_in_made-returns-in_err-made
 built_in_made-returns-in_err-made t c =
     let p = err_from_is_err_and c.from_residual-in_err-made.result c.from_residual-in_err-made.ensures.1 in
     let m = c.args.self.now in
-    let ok = c.in_ok-slots.ensures.ok in
-    let begins = specials_began c.begin_specials-begun.ensures.begins ok.1 in
-    let begun = with_specials m c.begin_specials-begun.new.self c.in_ok-slots.length begins.0 in
+    let ok = c.in_ok-bound.ensures.ok in
+    let begins = specials_began c.push_bindings-begun.ensures.begins ok.1 in
+    let begun = with_more_bindings m c.push_bindings-begun.new.self c.in_ok-bound.length begins.0 in
     rw (p.1, p.2) (told_from c.in_err-made.ensures
-    (λ judge right. built_in_meant m begun c.args.position c.args.place c.args.built_in (arguments_of c.args.given) (body_seen c.args.body) (slots_in c.in_ok-slots.slots.items) begins.1
+    (λ judge right. built_in_meant m begun c.args.position c.args.place c.args.built_in (arguments_of c.args.given) (body_seen c.args.body) (bound_arguments_in c.in_ok-bound.bound.items) begins.1
     (slots_lent ok.0)
-    judge (begun_at c.in_err-made.ensures) c.in_ok-slots.length (call_of c.in_ok-effect.effect) refl refl c.begin_specials-begun.ensures.begins.turns begins.0 (stays_kept begun _ refl (keeps_same _)) refl
+    judge (begun_at c.in_err-made.ensures) c.in_ok-bound.length (call_of c.in_ok-effect.effect) refl refl c.push_bindings-begun.ensures.begins.turns begins.0 (stays_kept begun _ refl (keeps_same _)) refl
     c.in_ok-effect.ensures.effect) refl refl tt)
 
 pub built_in_made-returns : goal.built_in_made-returns
 built_in_made-returns t c =
     let m = c.args.self.now in
-    let ok = c.in_ok-slots.ensures.ok in
-    let begins = specials_began c.begin_specials-begun.ensures.begins ok.1 in
-    let begun = with_specials m c.begin_specials-begun.new.self c.in_ok-slots.length begins.0 in
+    let ok = c.in_ok-bound.ensures.ok in
+    let begins = specials_began c.push_bindings-begun.ensures.begins ok.1 in
+    let begun = with_more_bindings m c.push_bindings-begun.new.self c.in_ok-bound.length begins.0 in
     let k = c.in_ok-made.ensures.kept in
     told_from c.in_ok-made.ensures
-    (λ judge right. built_in_meant m begun c.args.position c.args.place c.args.built_in (arguments_of c.args.given) (body_seen c.args.body) (slots_in c.in_ok-slots.slots.items) begins.1
+    (λ judge right. built_in_meant m begun c.args.position c.args.place c.args.built_in (arguments_of c.args.given) (body_seen c.args.body) (bound_arguments_in c.in_ok-bound.bound.items) begins.1
     (slots_lent ok.0)
-    judge (begun_at c.in_ok-made.ensures) c.in_ok-slots.length (call_of c.in_ok-effect.effect) refl refl c.begin_specials-begun.ensures.begins.turns begins.0 (stays_kept begun _ refl (keeps_same _)) refl
-    c.in_ok-effect.ensures.effect) c.end_specials.ensures.turns refl
-    (stays_kept m _ k.unit (c.end_specials.ensures.back m.evaluation (specials_kept m.evaluation c.in_ok-slots.length begins.0 k.evaluation)))
+    judge (begun_at c.in_ok-made.ensures) c.in_ok-bound.length (call_of c.in_ok-effect.effect) refl refl c.push_bindings-begun.ensures.begins.turns begins.0 (stays_kept begun _ refl (keeps_same _)) refl
+    c.in_ok-effect.ensures.effect) c.pop_bindings.ensures.turns refl
+    (stays_kept m _ k.unit (c.pop_bindings.ensures.back m.evaluation (specials_kept m.evaluation c.in_ok-bound.length begins.0 k.evaluation)))
 
-pub built_in_made-end_specials-requires : goal.built_in_made-end_specials-requires
-built_in_made-end_specials-requires t c =
+pub built_in_made-pop_bindings-requires : goal.built_in_made-pop_bindings-requires
+built_in_made-pop_bindings-requires t c =
     let m = c.args.self.now in
-    let ok = c.in_ok-slots.ensures.ok in
-    let begins = specials_began c.begin_specials-begun.ensures.begins ok.1 in
-    specials_there c.in_ok-slots.length (specials_in c.args.given.specials.items) c.in_ok-made.ensures.kept.evaluation begins.0 begins.1
+    let ok = c.in_ok-bound.ensures.ok in
+    let begins = specials_began c.push_bindings-begun.ensures.begins ok.1 in
+    specials_there c.in_ok-bound.length (bindings_in c.args.given.dynamic.items) c.in_ok-made.ensures.kept.evaluation begins.0 begins.1
 
 pub built_in_called-returns-in_err-given-in-Some : goal.built_in_called-returns-in_err-given-in-Some
 built_in_called-returns-in_err-given-in-Some t c =
@@ -372,8 +372,8 @@ instance-returns-in_err-begin_evaluation t c =
       kept = tt;
     })
 
-pub instance-marked_or_not-requires : goal.instance-marked_or_not-requires
-instance-marked_or_not-requires t c =
+pub instance-by_root_modifier-requires : goal.instance-by_root_modifier-requires
+instance-by_root_modifier-requires t c =
     let m = c.args.self.now in
     let b = c.in_ok-begin_evaluation.ensures.begun in (
       omega (arith, work_falls m.evaluation.depth b.within, work_same c.begin_evaluation.new.self.depth (m.evaluation.depth + 1) b.depth, c.decreases),
@@ -399,7 +399,7 @@ instance-returns t c =
 -- a loop's variables, as they are read
 turns_meant : (m : InstanceEvaluator) (position : Position) (judge : Judge) (op : Op) (place : Place) (body : BodyTerm) {binders read : List Binder} → read ≡ binders
     → meant_at m position judge (λ evaluator here. loop_design evaluator op here place (map binder_of binders) body)
-    ≡ then_with (meant_at m position judge (λ evaluator. each_turn evaluator place (map binder_of read) body)) (λ turns members. Gives turns (joined_members op members))
+    ≡ then_with (meant_at m position judge (λ evaluator. each_iteration evaluator place (map binder_of read) body)) (λ turns members. Gives turns (joined_members op members))
 turns_meant m position judge op place body same =
     ap (λ (bs : List Binder). meant_at m position judge (λ evaluator here. loop_design evaluator op here place (map binder_of bs) body)) (sym same)
 
@@ -413,21 +413,21 @@ pub looped-returns : goal.looped-returns
 looped-returns t c =
     joins c.args.op c.in_ok-members.ensures
     (λ judge right. turns_meant c.args.self.now c.args.position judge c.args.op c.args.place (body_seen c.args.body) c.deref.ensures.value)
-    c.in_ok-joined.ensures refl refl c.in_ok-members.ensures.kept
+    c.in_ok-join_members.ensures refl refl c.in_ok-members.ensures.kept
 
-pub marked_or_not-returns : goal.marked_or_not-returns
-marked_or_not-returns t c =
+pub by_root_modifier-returns : goal.by_root_modifier-returns
+by_root_modifier-returns t c =
     let m = c.args.self.now in
     let i = term_of_numbered c.args.instance in
     let f = c.in_ok-made.ensures in
     record {
       equation = λ judge right.
           along (marked_form (evaluator_at m judge) (context_at m c.args.position) i m.evaluation.turns m.leaves
-          (sym c.is_marked.ensures ∙ c.if-not-is_marked.false) (sym c.is_some.ensures ∙ c.if-is_some.false) c.if-position.false)
-          (then_outcome (λ turns made. Gives turns (apart made))
-          (along (ap (λ (position : Position). meant_at m position judge (λ evaluator here. core_design evaluator here (core_of_instance i))) (sym c.marked.ensures))
+          (sym c.has_root_modifier.ensures ∙ c.if-not-has_root_modifier.false) (sym c.is_some.ensures ∙ c.if-is_some.false) c.if-position.false)
+          (then_outcome (λ turns made. Gives turns (as_root made))
+          (along (ap (λ (position : Position). meant_at m position judge (λ evaluator here. core_design evaluator here (core_of_instance i))) (sym c.inside_root.ensures))
           (f.equation judge right))
-          (record { is = ap (λ (made : InstanceDesign). Gives c.core-2.new.self.evaluation.turns made) (sym (c.set_apart.ensures c.core-2.new.self.leaves)) }));
+          (record { is = ap (λ (made : InstanceDesign). Gives c.core-2.new.self.evaluation.turns made) (sym (c.as_root.ensures c.core-2.new.self.leaves)) }));
       kept = f.kept;
     }
 
@@ -468,15 +468,15 @@ members-each-preserved t c =
           let go : ℕ → ℕ → Outcome MemberDesigns = λ turns leaves. each_member evaluator here (map term_of_numbered (drop (i + 1) xs)) turns leaves in
           lengthened (one_member_of b) (λ leaves x. refl) (each_member evaluator here (map term_of_numbered xs) m.evaluation.turns m.leaves) c.each.members m.leaves
           (each_member evaluator here (map term_of_numbered (drop i xs)) mid.evaluation.turns mid.leaves)
-          (then_with (evaluator.deeper here (term_of_numbered x) mid.evaluation.turns mid.leaves) (λ turns made. Gives turns (as_member b made))) go
+          (then_with (evaluator.at_next_depth here (term_of_numbered x) mid.evaluation.turns mid.leaves) (λ turns made. Gives turns (as_member b made))) go
           (inv.told judge right)
           (ap (λ is. each_member evaluator here is mid.evaluation.turns mid.leaves) (instances_here xs i x h c.instance-item.is)
-          ∙ ap (λ (b : Bool). then_with (evaluator.deeper here (term_of_numbered x) mid.evaluation.turns mid.leaves) (λ turns made.
+          ∙ ap (λ (b : Bool). then_with (evaluator.at_next_depth here (term_of_numbered x) mid.evaluation.turns mid.leaves) (λ turns made.
           then_with (go turns made.leaves) (λ turns ms. Gives turns (and_members (as_member b made) ms))))
           (child_is_member here.env (term_of_numbered x)
           ∙ ap (λ (s : Context). is_child s.env (term_of_numbered x)) (sym (same_context m mid c.args.position inv.stays))
           ∙ sym c.is_child-is_member.ensures)
-          ∙ member_step b (evaluator.deeper here (term_of_numbered x) mid.evaluation.turns mid.leaves) go)
+          ∙ member_step b (evaluator.at_next_depth here (term_of_numbered x) mid.evaluation.turns mid.leaves) go)
           c.instance-next.result c.in_ok-members.members _ _ c.in_ok-members.ensures
           (as_member_outcome b (f.equation judge right));
     }
@@ -488,39 +488,39 @@ module_called-returns-in_err-given t c =
     rw (p.1, p.2) (record {
       equation = λ judge right. record {
         is = call_refused (instance_design_of m.leaves) m.evaluation c.args.place _ _
-            (λ calls turns. module_given (evaluator_at m judge) (module_of c.args.defined, env_at m c.args.home)
+            (λ calls turns. module_given (evaluator_at m judge) (module_of c.args.defined, env_at m c.args.defining_scope)
             (arguments_of c.args.given) (body_seen c.args.body) (with_calls_left (context_at m c.args.position) calls) turns m.leaves)
             (IfErr-at_err (IsRefusedCall m.evaluation c.args.place) c.in_err-given.ensures.err c.begin_counted_call-begun.ensures.refused);
       };
       kept = tt;
     })
 
-pub module_called-module_with_specials-requires : goal.module_called-module_with_specials-requires
-module_called-module_with_specials-requires t c =
+pub module_called-module_with_bindings-requires : goal.module_called-module_with_bindings-requires
+module_called-module_with_bindings-requires t c =
     let m = c.args.self.now in
     let ok = c.in_ok-given.ensures.ok in
     let begun : OneCallDeeper m.evaluation c.begin_counted_call-begun.new.self = OnOk-at_ok ok.1 c.begin_counted_call-begun.ensures.begun in (
       omega (arith, work_same c.begin_counted_call-begun.new.self.depth m.evaluation.depth begun.depth, c.decreases),
       (
         call_still m _ refl begun.source begun.rows c.requires.called,
-        subst (λ (given : GivenArguments BoundedValue). length given.slots.items ≡ length (params_of c.args.defined.params.now)) (sym ok.0) c.requires.given,
+        subst (λ (given : CallArguments BoundedValue). length given.bound.items ≡ length (params_of c.args.defined.params.now)) (sym ok.0) c.requires.given,
       ),
     )
 
 -- a module called from where its call was counted
-counted_meant : (judge : Judge) (m mid : InstanceEvaluator) (position : Position) (place : Place) (defined : SourceModule) (home : ℕ) (body : BodyTerm)
-    {given lent : GivenArguments BoundedValue} → mid.unit ≡ m.unit → mid.leaves ≡ m.leaves → OneCallDeeper m.evaluation mid.evaluation
+counted_meant : (judge : Judge) (m mid : InstanceEvaluator) (position : Position) (place : Place) (defined : SourceModule) (defining_scope : ℕ) (body : BodyTerm)
+    {given lent : CallArguments BoundedValue} → mid.unit ≡ m.unit → mid.leaves ≡ m.leaves → OneCallDeeper m.evaluation mid.evaluation
     → (m.evaluation.turns < most_turns) × (mid.evaluation.turns ≡ m.evaluation.turns + 1) → lent ≡ given
-    → meant_at m position judge (λ evaluator here. module_design evaluator here place (defined, env_at m home) (arguments_of given) body)
-    ≡ meant_at mid position judge (λ evaluator. module_given evaluator (defined, env_at mid home) (arguments_of lent) body)
-counted_meant judge m mid position place defined home body {given = given} {lent = lent} unit leaves begun counted same =
+    → meant_at m position judge (λ evaluator here. module_design evaluator here place (defined, env_at m defining_scope) (arguments_of given) body)
+    ≡ meant_at mid position judge (λ evaluator. module_given evaluator (defined, env_at mid defining_scope) (arguments_of lent) body)
+counted_meant judge m mid position place defined defining_scope body {given = given} {lent = lent} unit leaves begun count_elements same =
     let left = most_calls - (m.evaluation.calls + 1) in
-    let go : GivenArguments BoundedValue → ℕ → ℕ → Outcome InstanceDesign = λ given calls turns. module_given (evaluator_at m judge) (defined, env_at m home)
+    let go : CallArguments BoundedValue → ℕ → ℕ → Outcome InstanceDesign = λ given calls turns. module_given (evaluator_at m judge) (defined, env_at m defining_scope)
     (arguments_of given) body (with_calls_left (context_at m position) calls) turns m.leaves in
-    call_goes place m.evaluation.calls m.evaluation.turns (go given) begun.within counted.0
-    ∙ ap (go given left) (sym counted.1)
-    ∙ ap (λ (given : GivenArguments BoundedValue). go given left mid.evaluation.turns) (sym same)
-    ∙ call_meant (λ (x : Source) (rows : List Row) evaluator. module_given evaluator (defined, env_seen x rows home) (arguments_of lent) body)
+    call_goes place m.evaluation.calls m.evaluation.turns (go given) begun.within count_elements.0
+    ∙ ap (go given left) (sym count_elements.1)
+    ∙ ap (λ (given : CallArguments BoundedValue). go given left mid.evaluation.turns) (sym same)
+    ∙ call_meant (λ (x : Source) (rows : List Row) evaluator. module_given evaluator (defined, env_seen x rows defining_scope) (arguments_of lent) body)
     judge m mid position unit leaves begun
 
 pub module_called-returns-in_err-made : goal.module_called-returns-in_err-made
@@ -528,7 +528,7 @@ module_called-returns-in_err-made t c =
     let p = err_from_is_err_and c.from_residual-in_err-made.result c.from_residual-in_err-made.ensures.1 in
     let ok = c.in_ok-given.ensures.ok in
     rw (p.1, p.2) (told_from c.in_err-made.ensures
-    (λ judge right. counted_meant judge c.args.self.now (begun_at c.in_err-made.ensures) c.args.position c.args.place (module_of c.args.defined) c.args.home (body_seen c.args.body) refl refl
+    (λ judge right. counted_meant judge c.args.self.now (begun_at c.in_err-made.ensures) c.args.position c.args.place (module_of c.args.defined) c.args.defining_scope (body_seen c.args.body) refl refl
     (OnOk-at_ok ok.1 c.begin_counted_call-begun.ensures.begun) (OnOk-at_ok ok.1 c.begin_counted_call-begun.ensures.counted) ok.0) refl refl tt)
 
 pub module_called-returns : goal.module_called-returns
@@ -538,7 +538,7 @@ module_called-returns t c =
     let begun : OneCallDeeper m.evaluation c.begin_counted_call-begun.new.self = OnOk-at_ok ok.1 c.begin_counted_call-begun.ensures.begun in
     let k = c.in_ok-made.ensures.kept in
     told_from c.in_ok-made.ensures
-    (λ judge right. counted_meant judge m (begun_at c.in_ok-made.ensures) c.args.position c.args.place (module_of c.args.defined) c.args.home (body_seen c.args.body) refl refl
+    (λ judge right. counted_meant judge m (begun_at c.in_ok-made.ensures) c.args.position c.args.place (module_of c.args.defined) c.args.defining_scope (body_seen c.args.body) refl refl
     begun (OnOk-at_ok ok.1 c.begin_counted_call-begun.ensures.counted) ok.0)
     c.end_call.ensures.turns refl
     (stays_kept m _ k.unit (c.end_call.ensures.back m.evaluation (call_kept begun k.evaluation)))
@@ -553,14 +553,14 @@ module_made-members_in_scope-requires t c =
     )
 
 -- a module's body in its scope
-module_meant : (judge : Judge) (m mid : InstanceEvaluator) (position : Position) (before : ℕ) (defined : Module) (home : ℕ) (values : Vals) (body : NumberedBody)
-    → IsModuleCall m defined home body → Enters m mid before
-    → env_here mid.evaluation ≡ module_scope (env_at m home) (module_of defined) values (statements_of_body (body_seen body)) (env_here m.evaluation)
+module_meant : (judge : Judge) (m mid : InstanceEvaluator) (position : Position) (before : ℕ) (defined : Module) (defining_scope : ℕ) (values : Vals) (body : NumberedBody)
+    → IsModuleCall m defined defining_scope body → Enters m mid before
+    → env_here mid.evaluation ≡ module_scope (env_at m defining_scope) (module_of defined) values (statements_of_body (body_seen body)) (env_here m.evaluation)
     → mid.evaluation.turns ≡ m.evaluation.turns
-    → meant_at m position judge (λ evaluator. module_filled evaluator (module_of defined, env_at m home) values (body_seen body))
-    ≡ then_with (meant_at mid position judge (λ evaluator. block_members evaluator None (statements_at (source_text mid.evaluation.source.now) defined.block)))
+    → meant_at m position judge (λ evaluator. module_filled evaluator (module_of defined, env_at m defining_scope) values (body_seen body))
+    ≡ then_with (meant_at mid position judge (λ evaluator. block_members evaluator None (statements_at (table_in mid.evaluation.source.now) defined.block)))
     (λ turns members. Gives turns (joined_members Union members))
-module_meant judge m mid position before defined home values body called e inside turns =
+module_meant judge m mid position before defined defining_scope values body called e inside turns =
     ap (λ o. then_with o (λ turns members. Gives turns (joined_members Union members)))
     (block_meant judge m mid position before defined.block None _ _ called.its_block e inside turns)
 
@@ -568,7 +568,7 @@ pub module_made-returns-in_err-members : goal.module_made-returns-in_err-members
 module_made-returns-in_err-members t c =
     let p = err_from_is_err_and c.from_residual-in_err-members.result c.from_residual-in_err-members.ensures.1 in
     rw (p.1, p.2) (join_stops Union c.in_err-members.ensures
-    (λ judge right. module_meant judge c.args.self.now c.enter_module.new.self c.args.position c.in_ok-before.before c.args.defined c.args.home (values_seen c.args.values) c.args.body
+    (λ judge right. module_meant judge c.args.self.now c.enter_module.new.self c.args.position c.in_ok-before.before c.args.defined c.args.defining_scope (values_seen c.args.values) c.args.body
     c.requires.called.called c.in_ok-before.ensures.entered c.in_ok-before.ensures.inside c.enter_module.ensures.turns) tt)
 
 pub module_made-returns : goal.module_made-returns
@@ -577,9 +577,9 @@ module_made-returns t c =
     let e = c.in_ok-before.ensures.entered in
     let b = c.in_ok-members.ensures.kept in
     joins Union c.in_ok-members.ensures
-    (λ judge right. module_meant judge m c.enter_module.new.self c.args.position c.in_ok-before.before c.args.defined c.args.home (values_seen c.args.values) c.args.body
+    (λ judge right. module_meant judge m c.enter_module.new.self c.args.position c.in_ok-before.before c.args.defined c.args.defining_scope (values_seen c.args.values) c.args.body
     c.requires.called.called e c.in_ok-before.ensures.inside c.enter_module.ensures.turns)
-    c.in_ok-joined.ensures c.leave.ensures.turns refl
+    c.in_ok-join_members.ensures c.leave.ensures.turns refl
     (stays_kept m _ (b.older.unit ∙ e.unit) (c.leave.ensures.back m.evaluation (scope_bound m b e.evaluation)))
 
 pub module_made-leave-requires : goal.module_made-leave-requires
@@ -587,105 +587,105 @@ module_made-leave-requires t c =
     let e = c.in_ok-before.ensures.entered.evaluation in
     omega (arith, e.from, e.number, c.in_ok-members.ensures.kept.older.same.stands, c.args.self.now.evaluation.there)
 
-pub module_with_specials-returns-in_err-slots : goal.module_with_specials-returns-in_err-slots
-module_with_specials-returns-in_err-slots t c =
+pub module_with_bindings-returns-in_err-bound : goal.module_with_bindings-returns-in_err-bound
+module_with_bindings-returns-in_err-bound t c =
     let p = err_from_is_err_and c.from_residual.result c.from_residual.ensures.1 in
     rw (p.1, p.2) (record {
-      equation = λ judge right. only_no_memory _ (IfErr-at_err IsNoMemory c.in_err-slots.ensures.err c.begin_specials-begun.ensures.stop);
+      equation = λ judge right. only_no_memory _ (IfErr-at_err IsNoMemory c.in_err-bound.ensures.err c.push_bindings-begun.ensures.stop);
       kept = tt;
     })
 
-pub module_with_specials-module_made-requires : goal.module_with_specials-module_made-requires
-module_with_specials-module_made-requires t c =
+pub module_with_bindings-module_made-requires : goal.module_with_bindings-module_made-requires
+module_with_bindings-module_made-requires t c =
     let m = c.args.self.now in
-    let ok = c.in_ok-slots.ensures.ok in
-    let begins = specials_began c.begin_specials-begun.ensures.begins ok.1 in
+    let ok = c.in_ok-bound.ensures.ok in
+    let begins = specials_began c.push_bindings-begun.ensures.begins ok.1 in
     let k = c.parameters_in.ensures.kept in (
       omega (arith, work_same c.parameters_in.new.evaluation.depth m.evaluation.depth (k.depth ∙ begins.0.depth), c.decreases),
       (call_still m _ refl (k.source ∙ begins.0.source) (k.rows ∙ begins.0.rows) c.requires.called, c.in_ok-values.ensures.count),
     )
 
 -- the values of a module's parameters, and the module with them
-module _ (evaluator : Evaluator) (defined : SourceModule) (home : Env) (given : Arguments) (there : Context) (from : Setting) (slots : Slots) (start : ℕ) {turns : ℕ}
-    (same : from ≡ setting evaluator.evaluations (inside_scope there home)) (slot : given.slots ≡ slots) (more : start ≡ turns) where
-  parameters_from : each_parameter (setting evaluator.evaluations (inside_scope there home)) defined.params given.slots turns ≡ each_parameter from defined.params slots start
+module _ (evaluator : Evaluator) (defined : SourceModule) (defining_scope : Env) (given : Arguments) (there : Context) (from : Setting) (bound : BoundArguments) (start : ℕ) {turns : ℕ}
+    (same : from ≡ setting evaluator.evaluations (inside_scope there defining_scope)) (bound_argument : given.bound ≡ bound) (more : start ≡ turns) where
+  parameters_from : each_parameter (setting evaluator.evaluations (inside_scope there defining_scope)) defined.params given.bound turns ≡ each_parameter from defined.params bound start
   parameters_from =
-      ap (λ s. each_parameter s defined.params given.slots turns) (sym same) ∙ ap (λ s. each_parameter from defined.params s turns) slot
-      ∙ ap (λ n. each_parameter from defined.params slots n) (sym more)
+      ap (λ s. each_parameter s defined.params given.bound turns) (sym same) ∙ ap (λ s. each_parameter from defined.params s turns) bound_argument
+      ∙ ap (λ n. each_parameter from defined.params bound n) (sym more)
 
-  filled_from : (body : BodyTerm) (leaves : ℕ) {after : ℕ} {vs : Vals} → each_parameter from defined.params slots start ≡ Gives after vs
-      → then_with (each_parameter (setting evaluator.evaluations (inside_scope there home)) defined.params given.slots turns) (λ turns vs. module_filled evaluator (defined, home) vs body there turns leaves)
-      ≡ module_filled evaluator (defined, home) vs body there after leaves
-  filled_from body leaves h = ap (λ o. then_with o (λ turns vs. module_filled evaluator (defined, home) vs body there turns leaves)) (parameters_from ∙ h)
+  filled_from : (body : BodyTerm) (leaves : ℕ) {after : ℕ} {vs : Vals} → each_parameter from defined.params bound start ≡ Gives after vs
+      → then_with (each_parameter (setting evaluator.evaluations (inside_scope there defining_scope)) defined.params given.bound turns) (λ turns vs. module_filled evaluator (defined, defining_scope) vs body there turns leaves)
+      ≡ module_filled evaluator (defined, defining_scope) vs body there after leaves
+  filled_from body leaves h = ap (λ o. then_with o (λ turns vs. module_filled evaluator (defined, defining_scope) vs body there turns leaves)) (parameters_from ∙ h)
 
-pub module_with_specials-returns-in_err-values : goal.module_with_specials-returns-in_err-values
-module_with_specials-returns-in_err-values t c =
+pub module_with_bindings-returns-in_err-values : goal.module_with_bindings-returns-in_err-values
+module_with_bindings-returns-in_err-values t c =
     let p = err_from_is_err_and c.from_residual-in_err-values.result c.from_residual-in_err-values.ensures.1 in
     let m = c.args.self.now in
-    let ok = c.in_ok-slots.ensures.ok in
-    let begins = specials_began c.begin_specials-begun.ensures.begins ok.1 in
-    let begun = with_specials m c.begin_specials-begun.new.self c.in_ok-slots.length begins.0 in
+    let ok = c.in_ok-bound.ensures.ok in
+    let begins = specials_began c.push_bindings-begun.ensures.begins ok.1 in
+    let begun = with_more_bindings m c.push_bindings-begun.new.self c.in_ok-bound.length begins.0 in
     rw (p.1, p.2) (record {
       equation = λ judge right.
           let given = arguments_of c.args.given in
-          let home = env_at m c.args.home in
-          let there = with_chain (context_at m c.args.position) (given.specials ++ chain_of m.evaluation.scopes.now) in
-          let go : ℕ → Vals → Outcome InstanceDesign = λ turns vs. module_filled (evaluator_at m judge) (module_of c.args.defined, home) vs (body_seen c.args.body) there turns m.leaves in
-          along (ap (λ o. then_with o go) (parameters_from (evaluator_at m judge) (module_of c.args.defined) home given there _ _ _
-          (specials_setting m begun c.args.position c.args.home c.in_ok-slots.length given.specials begins.0 begins.1)
-          (slots_lent ok.0) c.begin_specials-begun.ensures.begins.turns))
+          let defining_scope = env_at m c.args.defining_scope in
+          let there = with_bindings (context_at m c.args.position) (given.dynamic ++ bindings_of m.evaluation.scopes.now) in
+          let go : ℕ → Vals → Outcome InstanceDesign = λ turns vs. module_filled (evaluator_at m judge) (module_of c.args.defined, defining_scope) vs (body_seen c.args.body) there turns m.leaves in
+          along (ap (λ o. then_with o go) (parameters_from (evaluator_at m judge) (module_of c.args.defined) defining_scope given there _ _ _
+          (specials_setting m begun c.args.position c.args.defining_scope c.in_ok-bound.length given.dynamic begins.0 begins.1)
+          (slots_lent ok.0) c.push_bindings-begun.ensures.begins.turns))
           (stop_outcome go (told_outcome values_seen (Err c.in_err-values.field-0.0) c.parameters_in.new.evaluation.turns m.leaves _ c.in_err-values.ensures.value));
       kept = tt;
     })
 
--- a module with its special arguments on the chain, and with the values of its parameters
-specials_filled : (judge : Judge) (m begun mid : InstanceEvaluator) (position : Position) (count : ℕ) (defined : SourceModule) (home : ℕ) (given : Arguments) (slots : Slots)
-    (values : Vals) (body : BodyTerm) → begun.unit ≡ m.unit → begun.leaves ≡ m.leaves → begun.evaluation.turns ≡ m.evaluation.turns → MoreSpecials m.evaluation begun.evaluation count
-    → chain_of begun.evaluation.scopes.now ≡ given.specials ++ chain_of m.evaluation.scopes.now → given.slots ≡ slots
+-- a module with its special arguments among the dynamic bindings, and with the values of its parameters
+specials_filled : (judge : Judge) (m begun mid : InstanceEvaluator) (position : Position) (count : ℕ) (defined : SourceModule) (defining_scope : ℕ) (given : Arguments) (bound : BoundArguments)
+    (values : Vals) (body : BodyTerm) → begun.unit ≡ m.unit → begun.leaves ≡ m.leaves → begun.evaluation.turns ≡ m.evaluation.turns → MoreBindings m.evaluation begun.evaluation count
+    → bindings_of begun.evaluation.scopes.now ≡ given.dynamic ++ bindings_of m.evaluation.scopes.now → given.bound ≡ bound
     → Stays begun mid → mid.leaves ≡ begun.leaves
-    → each_parameter (setting_in begun.evaluation home) defined.params slots begun.evaluation.turns ≡ Gives mid.evaluation.turns values
-    → meant_at m position judge (λ evaluator. module_given evaluator (defined, env_at m home) given body)
-    ≡ meant_at mid position judge (λ evaluator. module_filled evaluator (defined, env_at mid home) values body)
-specials_filled judge m begun mid position count defined home given slots values body unit leaves turns begins chain slot k same is =
-    filled_from (evaluator_at m judge) defined (env_at m home) given (with_chain (context_at m position) (given.specials ++ chain_of m.evaluation.scopes.now)) _ _ _
-    (specials_setting m begun position home count given.specials begins chain) slot turns body m.leaves is
-    ∙ specials_meant (λ (x : Source) (rows : List Row) evaluator. module_filled evaluator (defined, env_seen x rows home) values body)
-    judge m begun mid position count given.specials unit leaves begins chain k same
+    → each_parameter (setting_in begun.evaluation defining_scope) defined.params bound begun.evaluation.turns ≡ Gives mid.evaluation.turns values
+    → meant_at m position judge (λ evaluator. module_given evaluator (defined, env_at m defining_scope) given body)
+    ≡ meant_at mid position judge (λ evaluator. module_filled evaluator (defined, env_at mid defining_scope) values body)
+specials_filled judge m begun mid position count defined defining_scope given bound values body unit leaves turns begins bindings bound_argument k same is =
+    filled_from (evaluator_at m judge) defined (env_at m defining_scope) given (with_bindings (context_at m position) (given.dynamic ++ bindings_of m.evaluation.scopes.now)) _ _ _
+    (specials_setting m begun position defining_scope count given.dynamic begins bindings) bound_argument turns body m.leaves is
+    ∙ specials_meant (λ (x : Source) (rows : List Row) evaluator. module_filled evaluator (defined, env_seen x rows defining_scope) values body)
+    judge m begun mid position count given.dynamic unit leaves begins bindings k same
 
-pub module_with_specials-returns-in_err-made : goal.module_with_specials-returns-in_err-made
-module_with_specials-returns-in_err-made t c =
+pub module_with_bindings-returns-in_err-made : goal.module_with_bindings-returns-in_err-made
+module_with_bindings-returns-in_err-made t c =
     let p = err_from_is_err_and c.from_residual-in_err-made.result c.from_residual-in_err-made.ensures.1 in
     let m = c.args.self.now in
-    let ok = c.in_ok-slots.ensures.ok in
-    let begins = specials_began c.begin_specials-begun.ensures.begins ok.1 in
-    let begun = with_specials m c.begin_specials-begun.new.self c.in_ok-slots.length begins.0 in
+    let ok = c.in_ok-bound.ensures.ok in
+    let begins = specials_began c.push_bindings-begun.ensures.begins ok.1 in
+    let begun = with_more_bindings m c.push_bindings-begun.new.self c.in_ok-bound.length begins.0 in
     rw (p.1, p.2) (told_from c.in_err-made.ensures
-    (λ judge right. specials_filled judge m begun (begun_at c.in_err-made.ensures) c.args.position c.in_ok-slots.length (module_of c.args.defined) c.args.home (arguments_of c.args.given)
-    (slots_in c.in_ok-slots.slots.items) (values_seen c.in_ok-values.values) (body_seen c.args.body) refl refl c.begin_specials-begun.ensures.begins.turns begins.0 begins.1
+    (λ judge right. specials_filled judge m begun (begun_at c.in_err-made.ensures) c.args.position c.in_ok-bound.length (module_of c.args.defined) c.args.defining_scope (arguments_of c.args.given)
+    (bound_arguments_in c.in_ok-bound.bound.items) (values_seen c.in_ok-values.values) (body_seen c.args.body) refl refl c.push_bindings-begun.ensures.begins.turns begins.0 begins.1
     (slots_lent ok.0) (stays_kept begun _ refl c.parameters_in.ensures.kept) refl
     c.in_ok-values.ensures.value) refl refl tt)
 
-pub module_with_specials-returns : goal.module_with_specials-returns
-module_with_specials-returns t c =
+pub module_with_bindings-returns : goal.module_with_bindings-returns
+module_with_bindings-returns t c =
     let m = c.args.self.now in
-    let ok = c.in_ok-slots.ensures.ok in
-    let begins = specials_began c.begin_specials-begun.ensures.begins ok.1 in
-    let begun = with_specials m c.begin_specials-begun.new.self c.in_ok-slots.length begins.0 in
+    let ok = c.in_ok-bound.ensures.ok in
+    let begins = specials_began c.push_bindings-begun.ensures.begins ok.1 in
+    let begun = with_more_bindings m c.push_bindings-begun.new.self c.in_ok-bound.length begins.0 in
     let k = c.in_ok-made.ensures.kept in
     told_from c.in_ok-made.ensures
-    (λ judge right. specials_filled judge m begun (begun_at c.in_ok-made.ensures) c.args.position c.in_ok-slots.length (module_of c.args.defined) c.args.home (arguments_of c.args.given)
-    (slots_in c.in_ok-slots.slots.items) (values_seen c.in_ok-values.values) (body_seen c.args.body) refl refl c.begin_specials-begun.ensures.begins.turns begins.0 begins.1
+    (λ judge right. specials_filled judge m begun (begun_at c.in_ok-made.ensures) c.args.position c.in_ok-bound.length (module_of c.args.defined) c.args.defining_scope (arguments_of c.args.given)
+    (bound_arguments_in c.in_ok-bound.bound.items) (values_seen c.in_ok-values.values) (body_seen c.args.body) refl refl c.push_bindings-begun.ensures.begins.turns begins.0 begins.1
     (slots_lent ok.0) (stays_kept begun _ refl c.parameters_in.ensures.kept) refl
-    c.in_ok-values.ensures.value) c.end_specials.ensures.turns refl
-    (stays_kept m _ k.unit (c.end_specials.ensures.back m.evaluation
-    (specials_kept m.evaluation c.in_ok-slots.length begins.0 (keeps_trans c.parameters_in.ensures.kept k.evaluation))))
+    c.in_ok-values.ensures.value) c.pop_bindings.ensures.turns refl
+    (stays_kept m _ k.unit (c.pop_bindings.ensures.back m.evaluation
+    (specials_kept m.evaluation c.in_ok-bound.length begins.0 (keeps_trans c.parameters_in.ensures.kept k.evaluation))))
 
-pub module_with_specials-end_specials-requires : goal.module_with_specials-end_specials-requires
-module_with_specials-end_specials-requires t c =
+pub module_with_bindings-pop_bindings-requires : goal.module_with_bindings-pop_bindings-requires
+module_with_bindings-pop_bindings-requires t c =
     let m = c.args.self.now in
-    let ok = c.in_ok-slots.ensures.ok in
-    let begins = specials_began c.begin_specials-begun.ensures.begins ok.1 in
-    specials_there c.in_ok-slots.length (specials_in c.args.given.specials.items) (keeps_trans c.parameters_in.ensures.kept c.in_ok-made.ensures.kept.evaluation) begins.0 begins.1
+    let ok = c.in_ok-bound.ensures.ok in
+    let begins = specials_began c.push_bindings-begun.ensures.begins ok.1 in
+    specials_there c.in_ok-bound.length (bindings_in c.args.given.dynamic.items) (keeps_trans c.parameters_in.ensures.kept c.in_ok-made.ensures.kept.evaluation) begins.0 begins.1
 
 -- a choice by a value that was evaluated
 chosen_by : {A : Type 0} (go : Bool → ℕ → Outcome A) {out : Outcome Val} {turns : ℕ} {value : Val} (test b : Bool) → out ≡ Gives turns value
@@ -726,33 +726,33 @@ one_or_other-returns t c =
     chosen_by (λ b turns. body_design (evaluator_at m judge) Union (context_at m c.args.position) (if b then body_seen c.args.body else body_seen c.args.other) turns m.leaves)
     c.truth.result false c.in_ok-value.ensures.value c.truth.ensures c.if-truth.false)
 
-pub one_turn-returns : goal.one_turn-returns
-one_turn-returns t c =
+pub one_iteration-returns : goal.one_iteration-returns
+one_iteration-returns t c =
     let m = c.args.self.now in
-    let counted = c.in_ok-turn.ensures.counted in
+    let count_elements = c.in_ok-turn.ensures.counted in
     let f = told_there (stays_kept m _ refl c.turn.ensures.kept) c.body-made.ensures in
     record {
       equation = λ judge right.
           let go : ℕ → Outcome MemberDesigns = λ turns. then_with (body_design (evaluator_at m judge) Union (context_at m c.args.position) (body_seen c.args.body) turns m.leaves) (λ turns made. Gives turns (as_member true made)) in
-          along (turn_counted c.args.place m.evaluation.turns go counted.0 ∙ ap go (sym counted.1))
+          along (turn_counted c.args.place m.evaluation.turns go count_elements.0 ∙ ap go (sym count_elements.1))
           (first_outcome true c.no_members.result 0 c.body-made.result c.with_made.result _ _ (go c.turn.new.self.turns) c.no_members.ensures c.with_made.ensures
           (as_member_outcome true (f.equation judge right)));
       kept = lengthened_kept (one_member_of true) c.no_members.result c.body-made.result c.with_made.result _ c.with_made.ensures f.kept;
     }
 
-pub turns-returns-in-Some-of : goal.turns-returns-in-Some-of
-turns-returns-in-Some-of t c =
+pub iterations-returns-in-Some-of : goal.iterations-returns-in-Some-of
+iterations-returns-in-Some-of t c =
     let m = c.args.self.now in
     let n = c.evaluate.new.evaluation.turns in
     let binder = c.in-Some.binder.now in
     told_after (stays_kept m _ refl c.evaluate.ensures.kept) c.each_item.ensures (λ judge right.
     let evaluator = evaluator_at m judge in
     let here = context_at m c.args.position in
-    let turned : List ℕ → Val → ℕ → ℕ → Outcome MemberDesigns = λ name item. each_turn evaluator c.args.place (map binder_of c.in-Some.rest.now) (body_seen c.args.body) (in_loop here name item) in
-    ap (λ (bs : List Binder). each_turn evaluator c.args.place (map binder_of bs) (body_seen c.args.body) here m.evaluation.turns m.leaves) c.in-Some.ensures.cases.0
-    ∙ ap (λ o. then_with o (λ turns value. or_fault (items_of value) TypeMismatch c.args.place (λ items. each_step c.args.place (turned binder.name) items turns m.leaves))) c.in_ok-value-in-Some.ensures.value
-    ∙ ap (λ (o : Option Vals). or_fault o TypeMismatch c.args.place (λ items. each_step c.args.place (turned binder.name) items n m.leaves)) (sym c.in-Some-of.ensures)
-    ∙ ap (λ (name : List ℕ). each_step c.args.place (turned name) (remaining_in c.in-Some-of.items.remaining) n m.leaves) (sym c.items.ensures))
+    let quarter_turns_about : List ℕ → Val → ℕ → ℕ → Outcome MemberDesigns = λ name item. each_iteration evaluator c.args.place (map binder_of c.in-Some.rest.now) (body_seen c.args.body) (in_loop here name item) in
+    ap (λ (bs : List Binder). each_iteration evaluator c.args.place (map binder_of bs) (body_seen c.args.body) here m.evaluation.turns m.leaves) c.in-Some.ensures.cases.0
+    ∙ ap (λ o. then_with o (λ turns value. or_fault (items_of value) TypeMismatch c.args.place (λ items. each_step c.args.place (quarter_turns_about binder.name) items turns m.leaves))) c.in_ok-value-in-Some.ensures.value
+    ∙ ap (λ (o : Option Vals). or_fault o TypeMismatch c.args.place (λ items. each_step c.args.place (quarter_turns_about binder.name) items n m.leaves)) (sym c.in-Some-of.ensures)
+    ∙ ap (λ (name : List ℕ). each_step c.args.place (quarter_turns_about name) (remaining_in c.in-Some-of.items.remaining) n m.leaves) (sym c.items.ensures))
 
 pub each_item-each-init : goal.each_item-each-init
 each_item-each-init t c = record {
@@ -779,13 +779,13 @@ each_item-returns-in_err-members t c =
       equation = λ judge right.
           let evaluator = evaluator_at m judge in
           let here = context_at m c.args.position in
-          let turned : Val → ℕ → ℕ → Outcome MemberDesigns = λ item. each_turn evaluator c.args.place (map binder_of c.args.rest.now) (body_seen c.args.body) (in_loop here c.args.name.now item) in
-          let go : ℕ → ℕ → Outcome MemberDesigns = λ turns leaves. each_step c.args.place turned (remaining_in c.next.new.self.remaining) turns leaves in
-          lengthening_stops member_designs_of (λ leaves x. refl) (each_step c.args.place turned (remaining_in c.args.items.remaining) m.evaluation.turns m.leaves) c.each.members m.leaves
-          (each_step c.args.place turned (remaining_in c.each.remaining.remaining) mid.evaluation.turns mid.leaves)
+          let quarter_turns_about : Val → ℕ → ℕ → Outcome MemberDesigns = λ item. each_iteration evaluator c.args.place (map binder_of c.args.rest.now) (body_seen c.args.body) (in_loop here c.args.name.now item) in
+          let go : ℕ → ℕ → Outcome MemberDesigns = λ turns leaves. each_step c.args.place quarter_turns_about (remaining_in c.next.new.self.remaining) turns leaves in
+          lengthening_stops member_designs_of (λ leaves x. refl) (each_step c.args.place quarter_turns_about (remaining_in c.args.items.remaining) m.evaluation.turns m.leaves) c.each.members m.leaves
+          (each_step c.args.place quarter_turns_about (remaining_in c.each.remaining.remaining) mid.evaluation.turns mid.leaves)
           (one_step evaluator c.args.place c.args.name.now (map binder_of c.args.rest.now) (body_seen c.args.body) (bounded_val c.in-Some.value) here mid.evaluation.turns mid.leaves) go
           (inv.told judge right)
-          (ap (λ vs. each_step c.args.place turned vs mid.evaluation.turns mid.leaves) c.in-Some.ensures.next)
+          (ap (λ vs. each_step c.args.place quarter_turns_about vs mid.evaluation.turns mid.leaves) c.in-Some.ensures.next)
           c.step-next.result c.in_err-members.field-0.0 _ _ _ _ c.in_err-members.ensures
           (f.equation judge right);
       kept = tt;
@@ -802,13 +802,13 @@ each_item-each-preserved t c =
       told = λ judge right.
           let evaluator = evaluator_at m judge in
           let here = context_at m c.args.position in
-          let turned : Val → ℕ → ℕ → Outcome MemberDesigns = λ item. each_turn evaluator c.args.place (map binder_of c.args.rest.now) (body_seen c.args.body) (in_loop here c.args.name.now item) in
-          let go : ℕ → ℕ → Outcome MemberDesigns = λ turns leaves. each_step c.args.place turned (remaining_in c.next.new.self.remaining) turns leaves in
-          lengthened member_designs_of (λ leaves x. refl) (each_step c.args.place turned (remaining_in c.args.items.remaining) m.evaluation.turns m.leaves) c.each.members m.leaves
-          (each_step c.args.place turned (remaining_in c.each.remaining.remaining) mid.evaluation.turns mid.leaves)
+          let quarter_turns_about : Val → ℕ → ℕ → Outcome MemberDesigns = λ item. each_iteration evaluator c.args.place (map binder_of c.args.rest.now) (body_seen c.args.body) (in_loop here c.args.name.now item) in
+          let go : ℕ → ℕ → Outcome MemberDesigns = λ turns leaves. each_step c.args.place quarter_turns_about (remaining_in c.next.new.self.remaining) turns leaves in
+          lengthened member_designs_of (λ leaves x. refl) (each_step c.args.place quarter_turns_about (remaining_in c.args.items.remaining) m.evaluation.turns m.leaves) c.each.members m.leaves
+          (each_step c.args.place quarter_turns_about (remaining_in c.each.remaining.remaining) mid.evaluation.turns mid.leaves)
           (one_step evaluator c.args.place c.args.name.now (map binder_of c.args.rest.now) (body_seen c.args.body) (bounded_val c.in-Some.value) here mid.evaluation.turns mid.leaves) go
           (inv.told judge right)
-          (ap (λ vs. each_step c.args.place turned vs mid.evaluation.turns mid.leaves) c.in-Some.ensures.next)
+          (ap (λ vs. each_step c.args.place quarter_turns_about vs mid.evaluation.turns mid.leaves) c.in-Some.ensures.next)
           c.step-next.result c.in_ok-members.members _ _ c.in_ok-members.ensures
           (f.equation judge right);
     }
@@ -818,25 +818,25 @@ step-returns-in_err-members t c =
     let p = err_from_is_err_and c.from_residual.result c.from_residual.ensures.1 in
     rw (p.1, p.2) (stops (λ judge turns ms. after_step c.args.place ms.designs turns (λ turns. Gives turns ms)) c.in_err-members.ensures (λ judge right. refl) tt)
 
-pub turns_with-turns-requires : goal.turns_with-turns-requires
-turns_with-turns-requires t c =
+pub iterations_with-iterations-requires : goal.iterations_with-iterations-requires
+iterations_with-iterations-requires t c =
     let m = c.args.self.now in
     let e = c.bind.ensures.binds.entered m.evaluation c.in_ok-before.before c.in_ok-before.ensures.entered in (
       omega (arith, work_same c.bind.new.self.depth m.evaluation.depth e.depth, c.decreases),
       body_still m _ refl e.source c.requires,
     )
 
--- the turns of a loop in the scope of a variable
+-- the iterations of a loop in the scope of a variable
 variable_meant : (judge : Judge) (m mid : InstanceEvaluator) (position : Position) (before : ℕ) (place : Place) (name : List ℕ) (rest : List BinderTerm) (body : BodyTerm) (value : Val)
-    {empty : Env} → Enters m mid before → env_here mid.evaluation ≡ with_value name value empty → empty ≡ Within [] [] [] no_call (env_here m.evaluation)
+    {empty : Env} → Enters m mid before → env_here mid.evaluation ≡ with_value name value empty → empty ≡ Within [] [] [] no_activation (env_here m.evaluation)
     → mid.evaluation.turns ≡ m.evaluation.turns
-    → meant_at m position judge (λ evaluator here. each_turn evaluator place rest body (in_loop here name value)) ≡ meant_at mid position judge (λ evaluator. each_turn evaluator place rest body)
+    → meant_at m position judge (λ evaluator here. each_iteration evaluator place rest body (in_loop here name value)) ≡ meant_at mid position judge (λ evaluator. each_iteration evaluator place rest body)
 variable_meant judge m mid position before place name rest body value e bound inside turns =
-    entered_meant (λ (x : Source) evaluator. each_turn evaluator place rest body) judge m mid position before
-    (Within ((name, value) ∷ []) [] [] no_call (env_here m.evaluation)) e (bound ∙ ap (λ (x : Env). with_value name value x) inside) turns
+    entered_meant (λ (x : Source) evaluator. each_iteration evaluator place rest body) judge m mid position before
+    (Within ((name, value) ∷ []) [] [] no_activation (env_here m.evaluation)) e (bound ∙ ap (λ (x : Env). with_value name value x) inside) turns
 
-pub turns_with-returns-in_err-members : goal.turns_with-returns-in_err-members
-turns_with-returns-in_err-members t c =
+pub iterations_with-returns-in_err-members : goal.iterations_with-returns-in_err-members
+iterations_with-returns-in_err-members t c =
     let p = err_from_is_err_and c.from_residual-in_err-members.result c.from_residual-in_err-members.ensures.1 in
     let m = c.args.self.now in
     let e = c.bind.ensures.binds.entered m.evaluation c.in_ok-before.before c.in_ok-before.ensures.entered in
@@ -844,8 +844,8 @@ turns_with-returns-in_err-members t c =
     (λ judge right. variable_meant judge m (begun_at c.in_err-members.ensures) c.args.position c.in_ok-before.before c.args.place c.args.name.now (map binder_of c.args.rest.now) (body_seen c.args.body) (bounded_val c.args.value)
     (record { unit = refl; leaves = refl; evaluation = e }) c.in_ok-bind.ensures.binds.bound c.in_ok-before.ensures.inside (c.bind.ensures.binds.turns ∙ c.enter_empty.ensures.turns)) refl refl tt)
 
-pub turns_with-returns : goal.turns_with-returns
-turns_with-returns t c =
+pub iterations_with-returns : goal.iterations_with-returns
+iterations_with-returns t c =
     let m = c.args.self.now in
     let e = c.bind.ensures.binds.entered m.evaluation c.in_ok-before.before c.in_ok-before.ensures.entered in
     let k = c.in_ok-members.ensures.kept in
@@ -855,8 +855,8 @@ turns_with-returns t c =
     c.leave.ensures.turns refl
     (stays_kept m _ k.unit (c.leave.ensures.back m.evaluation (scope_kept m.evaluation c.in_ok-before.before e k.evaluation)))
 
-pub turns_with-leave-requires : goal.turns_with-leave-requires
-turns_with-leave-requires t c =
+pub iterations_with-leave-requires : goal.iterations_with-leave-requires
+iterations_with-leave-requires t c =
     let m = c.args.self.now in
     let e = c.bind.ensures.binds.entered m.evaluation c.in_ok-before.before c.in_ok-before.ensures.entered in
     omega (arith, e.from, e.number, c.in_ok-members.ensures.kept.evaluation.stands, m.evaluation.there)

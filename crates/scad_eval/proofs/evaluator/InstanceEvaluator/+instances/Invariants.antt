@@ -2,12 +2,12 @@
 use Rattle.std.proofs.Common.{◌≡◌, ℕ, ◌+◌, ◌*◌, length, map, drop}
 use Rattle.scad_ast.specs.StatementView.{binder_of}
 use Rattle.scad_meaning.specs.Verdicts.{Judge, IsRight}
-use Rattle.scad_meaning.specs.Meaning.{MemberDesigns, each_member, each_step, each_turn, in_loop}
+use Rattle.scad_meaning.specs.Meaning.{MemberDesigns, each_member, each_step, each_iteration, in_loop}
 use Rattle.scad_instances.specs.Positions.{term_of_numbered}
 use Rattle.scad_value.specs.Values.{Val, count_of}
-use Rattle.scad_evaluation.specs.Meaning.{Outcome}
+use Rattle.scad_func.specs.Meaning.{Outcome}
 use Rattle.scad_instances.specs.Items.{remaining_in}
-use Rattle.scad_pieces.specs.Seen.{member_designs_of, members_in_front}
+use Rattle.scad_instances.specs.Seen.{member_designs_of, members_in_front}
 use Rattle.scad_eval.specs.Keeping.{evaluator_at, context_at, Stays, meant_at}
 use Rattle.scad_eval.specs.Within.{body_seen}
 use Rattle.scad_eval.proofs.Work.{work}
@@ -25,14 +25,14 @@ decreases-members_in_scope l = work l.self.now.evaluation.depth + 2
 abbrev pub decreases-body : goal.decreases-body
 decreases-body l = work l.self.now.evaluation.depth + 4
 
-abbrev pub decreases-one_turn : goal.decreases-one_turn
-decreases-one_turn l = work l.self.now.evaluation.depth + 5
+abbrev pub decreases-one_iteration : goal.decreases-one_iteration
+decreases-one_iteration l = work l.self.now.evaluation.depth + 5
 
-abbrev pub decreases-turns : goal.decreases-turns
-decreases-turns l = work l.self.now.evaluation.depth + (4 * length l.binders.now + 6)
+abbrev pub decreases-iterations : goal.decreases-iterations
+decreases-iterations l = work l.self.now.evaluation.depth + (4 * length l.binders.now + 6)
 
-abbrev pub decreases-turns_with : goal.decreases-turns_with
-decreases-turns_with l = work l.self.now.evaluation.depth + (4 * length l.rest.now + 7)
+abbrev pub decreases-iterations_with : goal.decreases-iterations_with
+decreases-iterations_with l = work l.self.now.evaluation.depth + (4 * length l.rest.now + 7)
 
 abbrev pub decreases-step : goal.decreases-step
 decreases-step l = work l.self.now.evaluation.depth + (4 * length l.rest.now + 8)
@@ -52,8 +52,8 @@ decreases-one_or_other l = work l.self.now.evaluation.depth + 5
 abbrev pub decreases-module_made : goal.decreases-module_made
 decreases-module_made l = work l.self.now.evaluation.depth + 3
 
-abbrev pub decreases-module_with_specials : goal.decreases-module_with_specials
-decreases-module_with_specials l = work l.self.now.evaluation.depth + 4
+abbrev pub decreases-module_with_bindings : goal.decreases-module_with_bindings
+decreases-module_with_bindings l = work l.self.now.evaluation.depth + 4
 
 abbrev pub decreases-module_called : goal.decreases-module_called
 decreases-module_called l = work l.self.now.evaluation.depth + 5
@@ -85,8 +85,8 @@ decreases-called l = work l.self.now.evaluation.depth + 9
 abbrev pub decreases-core : goal.decreases-core
 decreases-core l = work l.self.now.evaluation.depth + 1099511627777
 
-abbrev pub decreases-marked_or_not : goal.decreases-marked_or_not
-decreases-marked_or_not l = work l.self.now.evaluation.depth + 1099511627778
+abbrev pub decreases-by_root_modifier : goal.decreases-by_root_modifier
+decreases-by_root_modifier l = work l.self.now.evaluation.depth + 1099511627778
 
 abbrev pub invariant-members-each : goal.invariant-members-each
 invariant-members-each l =
@@ -105,9 +105,9 @@ invariant-each_item-each l =
     record {
       stays : Stays old l.self;
       told : (judge : Judge) → IsRight judge →
-          let turned : Val → ℕ → ℕ → Outcome MemberDesigns = λ item. each_turn (evaluator_at old judge) l.place (map binder_of l.rest) (body_seen l.body) (in_loop (context_at old l.position) l.name item) in
-          each_step l.place turned (remaining_in l.fn.items.remaining) old.evaluation.turns old.leaves
-          ≡ members_in_front (member_designs_of old.leaves l.members) (each_step l.place turned (remaining_in l.remaining.remaining) l.self.evaluation.turns l.self.leaves);
+          let quarter_turns_about : Val → ℕ → ℕ → Outcome MemberDesigns = λ item. each_iteration (evaluator_at old judge) l.place (map binder_of l.rest) (body_seen l.body) (in_loop (context_at old l.position) l.name item) in
+          each_step l.place quarter_turns_about (remaining_in l.fn.items.remaining) old.evaluation.turns old.leaves
+          ≡ members_in_front (member_designs_of old.leaves l.members) (each_step l.place quarter_turns_about (remaining_in l.remaining.remaining) l.self.evaluation.turns l.self.leaves);
     }
 
 abbrev pub decreases-each_item-each : goal.decreases-each_item-each

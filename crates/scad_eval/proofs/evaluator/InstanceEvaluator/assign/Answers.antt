@@ -26,6 +26,6 @@ returns-in_ok-bind_special c = λ position.
         };
         leaves = refl;
         newer = pair ∷ [];
-        chain = c.in_ok-bind_special.ensures.chain ∙ ap (λ l. pair ∷ l) k.chain;
+        bindings = c.in_ok-bind_special.ensures.bindings ∙ ap (λ l. pair ∷ l) k.bindings;
       };
     }

@@ -1,6 +1,6 @@
 use Rattle.std.proofs.Common.{◌-◌, ◌<◌, length, map, sym, ap, arith}
 use Rattle.std.proofs.lemmas.Result.{err_from_is_err_and}
-use Rattle.scad_blocks.specs.TextView.{assigned_of}
+use Rattle.scad_definitions.specs.TextView.{assigned_of}
 use Rattle.scad_meaning.specs.Meaning.{each_assigned}
 use Rattle.scad_eval.specs.Keeping.{evaluations_left, context_at}
 use Rattle.scad_eval.proofs.Binding.{assigned_next, assigned_stops}
@@ -8,7 +8,7 @@ use Rattle.scad_eval.proofs.Outcomes.{along}
 use Rattle.scad_meaning.proofs.Judges.{some_judge}
 use Rattle.scad_eval.proofs.Contexts.{assigns_then, some_position}
 use Rattle.scad_eval.proofs.evaluator.InstanceEvaluator.assign_all.Goals as goal
-use Rattle.scad_evaluation.specs.Limits.{most_evaluations}
+use Rattle.scad_func.specs.Limits.{most_evaluations}
 
 pub each-preserved : goal.each-preserved
 each-preserved c =

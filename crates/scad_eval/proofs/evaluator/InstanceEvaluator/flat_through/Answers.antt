@@ -1,7 +1,7 @@
 use Rattle.std.proofs.Common.{refl, ap, ◌∙◌, rules, FitsSigned, w64, to_z-of_z}
 use Rattle.primitives.specs.Prisms.{extrusion_of}
 use Rattle.scad_modules.specs.View.{flat_call_of}
-use Rattle.scad_meaning.specs.Verdicts.{extruded}
+use Rattle.scad_meaning.specs.Verdicts.{extrusion_mesh}
 use Rattle.scad_eval.proofs.Outcomes.{no_memory}
 use Rattle.scad_eval.proofs.Told.{told_from}
 use Rattle.scad_eval.proofs.Contexts.{stays_same}
@@ -17,7 +17,7 @@ returns-in-Ok-extrude c = λ position.
     let f = c.leaf.ensures position in
     told_from f (λ judge right.
     let t = c.in-Ok.ensures judge right in
-    shape_checked (judge.flat m.unit call) c.args.place (extruded m.unit c.args.through call) c.in-Ok-extrude.shape m.evaluation.turns m.leaves t.0
+    shape_checked (judge.flat m.unit call) c.args.place (extrusion_mesh m.unit c.args.through call) c.in-Ok-extrude.shape m.evaluation.turns m.leaves t.0
     (shape ∙ ap (λ f. extrusion_of m.unit c.args.through.center f c.args.through.height) t.1)) refl refl f.kept
 
 pub returns-in-Ok : goal.returns-in-Ok

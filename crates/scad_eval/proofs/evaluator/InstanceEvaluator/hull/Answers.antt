@@ -1,8 +1,8 @@
 use Rattle.std.proofs.Common.{refl}
 use Rattle.std.proofs.lemmas.Result.{err_from_is_err_and}
-use Rattle.scad_evaluation.specs.Meaning.{Gives}
-use Rattle.scad_meaning.specs.Meaning.{hulled}
-use Rattle.scad_pieces.specs.Seen.{instance_design_of}
+use Rattle.scad_func.specs.Meaning.{Gives}
+use Rattle.scad_meaning.specs.Meaning.{with_leaf_of}
+use Rattle.scad_instances.specs.Seen.{instance_design_of}
 use Rattle.scad_eval.proofs.Outcomes.{along, then_outcome}
 use Rattle.scad_eval.proofs.Told.{stops}
 use Rattle.scad_eval.proofs.Leaving.{hull_checked}
@@ -15,7 +15,7 @@ returns-in_err-leaf-in-Ok c =
     let made = instance_design_of m.leaves c.args.made in
     rw (p.1, p.2) (λ position.
     let f = c.in_err-leaf-in-Ok.ensures position in
-    stops (λ judge turns leaf. Gives turns (hulled made leaf)) f (λ judge right.
+    stops (λ judge turns leaf. Gives turns (with_leaf_of made leaf)) f (λ judge right.
     let t = c.in-Ok.ensures judge right in
     hull_checked (judge.hull made.design) c.args.place made c.in-Ok.shape m.evaluation.turns c.is_nothing.result c.is_nothing.ensures c.if-is_nothing.false t.0 t.1) f.kept)
 
@@ -28,6 +28,6 @@ returns-in-Ok c = λ position.
       equation = λ judge right.
           let t = c.in-Ok.ensures judge right in
           along (hull_checked (judge.hull made.design) c.args.place made c.in-Ok.shape m.evaluation.turns c.is_nothing.result c.is_nothing.ensures c.if-is_nothing.false t.0 t.1)
-          (then_outcome (λ turns leaf. Gives turns (hulled made leaf)) (f.equation judge right) (record { is = refl }));
+          (then_outcome (λ turns leaf. Gives turns (with_leaf_of made leaf)) (f.equation judge right) (record { is = refl }));
       kept = f.kept;
     }

@@ -1,6 +1,6 @@
 use Rattle.std.proofs.Common.{refl}
 use Rattle.scad_value.specs.View.{val_of}
-use Rattle.scad_blocks.specs.Numbered.{numbers_below}
+use Rattle.scad_definitions.specs.Numbered.{numbers_below}
 use Rattle.scad_scope.specs.Table.{rows_of}
 use Rattle.scad_scope.proofs.Envs.{binding_shown, binding_keeps}
 use Rattle.scad_scope.proofs.Numbered.{binding_passes}

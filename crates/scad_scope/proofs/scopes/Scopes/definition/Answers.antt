@@ -11,7 +11,7 @@ returns-in-Some c =
     record {
       there = c.outward.invariant.within;
       same = c.outward.invariant.same ∙ definition_found ss c.outward.at c.index-here.result.now
-          c.args.name.now h c.index-here.ensures c.args.family c.in-Some.definition f;
+          c.args.name.now h c.index-here.ensures c.args.name_space c.in-Some.definition f;
     }
 
 pub returns-then-here-at : goal.returns-then-here-at
@@ -20,7 +20,7 @@ returns-then-here-at c =
     let h : c.outward.at < length ss = omega (arith, c.outward.invariant.within, rows_length ss) in
     let f = ap (λ ds. find_in ds c.args.name.now) (sym c.definitions.ensures) ∙ sym c.in_default.ensures in
     c.outward.invariant.same ∙ definition_none ss c.outward.at c.index-here.result.now c.args.name.now h
-    c.index-here.ensures c.args.family f c.if-here-at.true
+    c.index-here.ensures c.args.name_space f c.if-here-at.true
 
 pub outward-preserved : goal.outward-preserved
 outward-preserved c =
@@ -30,5 +30,5 @@ outward-preserved c =
     record {
       within = omega (arith, c.outward.invariant.within, c.if-here-at.false);
       same = c.outward.invariant.same ∙ definition_outer ss c.outward.at c.index-here.result.now
-          c.args.name.now h c.index-here.ensures c.args.family f c.if-here-at.false;
+          c.args.name.now h c.index-here.ensures c.args.name_space f c.if-here-at.false;
     }

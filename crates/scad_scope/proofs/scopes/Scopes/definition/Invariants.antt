@@ -7,7 +7,7 @@ use Rattle.scad_scope.proofs.scopes.Scopes.definition.Given as goal
 abbrev pub invariant-outward : goal.invariant-outward
 invariant-outward l = record {
   within : l.at < length (rows_of l.self);
-  same : definition_in l.family (env_of (rows_of l.self) l.scope) l.name ≡ definition_in l.family
+  same : definition_in l.name_space (env_of (rows_of l.self) l.scope) l.name ≡ definition_in l.name_space
       (env_of (rows_of l.self) l.at) l.name;
 }
 

@@ -1,15 +1,15 @@
 use Rattle.std.proofs.Common.{refl, subst, ◌≡◌, [], ◌∷◌, ◌++◌}
 use Rattle.std.specs.Prelude.{OnOk}
-use Rattle.scad_scope.specs.Names.{Row, no_numbered_call}
+use Rattle.scad_scope.specs.Names.{Row, no_numbered_activation}
 use Rattle.scad_scope.specs.Rows.{row_of_block}
-use Rattle.scad_blocks.specs.Tables.{text_held}
+use Rattle.scad_definitions.specs.Tables.{table_held}
 use Rattle.scad_scope.specs.Table.{rows_of}
 use Rattle.scad_scope.proofs.Envs.{entering_told, entering_kept}
 use Rattle.scad_scope.proofs.Numbered.{block_stays_below}
 use Rattle.scad_scope.proofs.scopes.Scopes.enter.Goals as goal
 
 row : goal.After-add → Row
-row c = row_of_block c.args.outer (text_held c.args.blocks.now) c.args.block
+row c = row_of_block c.args.outer (table_held c.args.blocks.now) c.args.block
 
 added : (c : goal.After-add) → OnOk c.add.result
     (rows_of c.add.new.self ≡ rows_of c.args.self.now ++ row c ∷ [])
@@ -21,7 +21,7 @@ pub returns-clause-inside : goal.returns-clause-inside
 unfolding row
 returns-clause-inside c = entering_told (rows_of c.args.self.now)
     (rows_of c.add.new.self) c.args.outer (row c)
-    c.add.result no_numbered_call refl
+    c.add.result no_numbered_activation refl
     refl
     c.add.ensures.number (added c)
 
@@ -29,7 +29,7 @@ pub returns-clause-kept : goal.returns-clause-kept
 returns-clause-kept c = record {
   scopes = entering_kept (rows_of c.args.self.now) (rows_of c.add.new.self) c.args.outer (row c)
       c.add.result (added c) c.add.ensures.unchanged;
-  chain = c.add.ensures.chain;
+  bindings = c.add.ensures.bindings;
 }
 
 pub returns-clause-numbered : goal.returns-clause-numbered

@@ -1,7 +1,7 @@
 use Rattle.std.proofs.Common.{refl, subst, ◌≡◌, [], ◌∷◌, ◌++◌}
 use Rattle.std.specs.Prelude.{OnOk}
-use Rattle.scad_scope.specs.Names.{empty_row, no_numbered_call}
-use Rattle.scad_blocks.specs.Numbered.{numbers_below}
+use Rattle.scad_scope.specs.Names.{empty_row, no_numbered_activation}
+use Rattle.scad_definitions.specs.Numbered.{numbers_below}
 use Rattle.scad_scope.specs.Table.{rows_of}
 use Rattle.scad_scope.proofs.Envs.{entering_told, entering_kept}
 use Rattle.scad_scope.proofs.Numbered.{entering_passes}
@@ -14,13 +14,13 @@ added c = subst (λ r. OnOk c.add.result (rows_of c.add.new.self ≡ rows_of c.a
 
 pub returns-clause-inside : goal.returns-clause-inside
 returns-clause-inside c = entering_told (rows_of c.args.self.now) (rows_of c.add.new.self) c.args.outer
-    (empty_row c.args.outer) c.add.result no_numbered_call refl refl c.add.ensures.number (added c)
+    (empty_row c.args.outer) c.add.result no_numbered_activation refl refl c.add.ensures.number (added c)
 
 pub returns-clause-kept : goal.returns-clause-kept
 returns-clause-kept c = record {
   scopes = entering_kept (rows_of c.args.self.now) (rows_of c.add.new.self) c.args.outer
       (empty_row c.args.outer) c.add.result (added c) c.add.ensures.unchanged;
-  chain = c.add.ensures.chain;
+  bindings = c.add.ensures.bindings;
 }
 
 pub returns-clause-numbered : goal.returns-clause-numbered

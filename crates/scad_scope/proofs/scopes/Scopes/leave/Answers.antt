@@ -4,7 +4,7 @@ use Rattle.std.proofs.lemmas.List.{take-map}
 use Rattle.std.proofs.Math.Seq.{take-append_seam}
 use Rattle.scad_scope.specs.declared.table.Scope.{Scope}
 use Rattle.scad_scope.specs.Names.{env_of}
-use Rattle.scad_blocks.specs.Numbered.{numbers_below}
+use Rattle.scad_definitions.specs.Numbered.{numbers_below}
 use Rattle.scad_scope.specs.Numbered.{each_row}
 use Rattle.scad_scope.specs.Table.{rows_of}
 use Rattle.scad_scope.specs.View.{row_of_scope, rows_in}

@@ -1,5 +1,0 @@
-use Rattle.closed_facets.proofs.Slides.{along_near, against_near}
-use Rattle.closed_facets.proofs.laws.edges_run_on.Goals as goal
-
-pub returns : goal.returns
-returns c = record { along = along_near; against = against_near }

@@ -1,6 +1,0 @@
-use Rattle.bsp_tree.specs.Cells.{world_box}
-use Rattle.closed_facets.proofs.Closing.{facets_closed}
-use Rattle.closed_facets.proofs.laws.facets_are_closed.Goals as goal
-
-pub returns : goal.returns
-returns c = λ t h. facets_closed t h (c.facets_bound_their_solid.ensures world_box t h) (c.facets_are_polygons.ensures.facets world_box t h)

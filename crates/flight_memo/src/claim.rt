@@ -1,0 +1,32 @@
+//! Claims that their callers hold.
+
+ghost use Rattle.std.specs.Prelude.{◌≡◌};
+ghost use Rattle.std.specs.Arc.{arc_value};
+
+use crate::claims::Ticket;
+use crate::ledgers::FlightBooks;
+use std::marker::Model;
+use std::sync::ledger::Share as Part;
+use subtree_memo::Share;
+
+/// A claim of one's own, which is to be spent: it is not dropped, and only `finish` and `give_back` take it. It takes along its
+/// caller's share of the books, so that the caller can claim no second key, and its books hold no end without one in the log.
+pub struct Claim<K, B: FlightBooks> {
+    pub(crate) ticket: Ticket<K>,
+    pub(crate) share: Share<B>,
+    pub(crate) begun: Part<B::Begun>,
+    pub(crate) ended: Part<B::Ended>,
+}
+
+impl<K, B: FlightBooks> Model for Claim<K, B> {
+    ghost use Rattle.std.specs.Prelude.{◌≡◌, ◌+◌, ◌<◌};
+    ghost use Rattle.std.specs.Arc.{arc_value};
+    ghost use Rattle.flight_memo.specs.Claims.{ClaimView};
+
+    ghost Value = { ClaimView K };
+
+    ghost view = { λ c. record { number = c.ticket.number; key = arc_value c.ticket.key; share = c.share } };
+
+    ghost invariant = { λ c. (0 < c.share.parts) × (c.begun.parts ≡ c.share.parts) × (c.ended.parts ≡ c.share.parts)
+        × (c.begun.amount ≡ c.share.misses) × (c.ended.amount + 1 ≡ c.share.misses) };
+}

@@ -1,2 +1,0 @@
-mod Knowing
-pub mod Shared

@@ -1,2 +1,0 @@
--- What is known of the trees of a store.
-pub mod Known

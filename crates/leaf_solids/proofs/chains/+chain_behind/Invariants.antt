@@ -1,5 +1,0 @@
-use Rattle.std.proofs.Common.{length}
-use Rattle.leaf_solids.proofs.chains.+chain_behind.Given as goal
-
-abbrev pub decreases-chain_behind : goal.decreases-chain_behind
-decreases-chain_behind l = length l.faces.now

@@ -1,4 +1,0 @@
-pub mod Combined
-pub mod Chains
-pub mod Solids
-pub mod UprightBoxes

@@ -1,9 +1,0 @@
-use Rattle.plane_predicate.proofs.Divisions.{factor_above}
-use Rattle.lowest_terms.proofs.Factors.{factor_of}
-use Rattle.lowest_terms.proofs.lowest.common_factor.Goals as goal
-
-pub returns-clause-factor : goal.returns-clause-factor
-returns-clause-factor c = factor_of _ _ _ _ _ _ _ c.greatest_divisor-with_x.ensures c.greatest_divisor-with_y.ensures c.greatest_divisor.ensures
-
-pub returns-clause-above : goal.returns-clause-above
-returns-clause-above c = factor_above _ _ _ _ _ (factor_of _ _ _ _ _ _ _ c.greatest_divisor-with_x.ensures c.greatest_divisor-with_y.ensures c.greatest_divisor.ensures)

@@ -1,4 +1,0 @@
-pub mod Index
-pub mod Names
-pub mod Newest
-pub mod View

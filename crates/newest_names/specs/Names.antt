@@ -1,8 +1,0 @@
--- What a list of names is to its callers.
-use Rattle.newest_names.specs.declared.list.NameList.{NameList}
-use Rattle.newest_names.specs.Newest.{Pairs}
-use Rattle.newest_names.specs.View.{pairs_in}
-
--- its pairs, the newest first
-abbrev pub newest_first : {T : Type 0} → NameList T → Pairs T
-newest_first names = pairs_in names.items.items

@@ -1,0 +1,10 @@
+use Rattle.std.proofs.Common.{◌≡◌, ◌+◌, length}
+use Rattle.parallel_eval.specs.Known.{AreKnown, known_sizes, most_known}
+use Rattle.parallel_eval.proofs.known_store.leaves_of.Given as goal
+
+abbrev pub invariant-loop-before : goal.invariant-loop-before
+invariant-loop-before l = record {
+  count : length l.leaves.items ≡ l.before;
+  known : AreKnown l.store l.leaves.items;
+  room : known_sizes l.leaves.items + l.room ≡ most_known;
+}

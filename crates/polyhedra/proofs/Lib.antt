@@ -1,9 +1,0 @@
-pub mod Steps
-pub mod Searches
-pub mod Planes
-pub mod Rounds
-pub mod OuterPlanes
-pub mod Sets
-pub mod Grids
-pub mod FirstFaults
-pub mod Solids

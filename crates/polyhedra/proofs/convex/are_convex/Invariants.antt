@@ -1,6 +1,0 @@
-use Rattle.std.proofs.Common.{All, take}
-use Rattle.polyhedra.specs.Bounding.{IsBounded}
-use Rattle.polyhedra.proofs.convex.are_convex.Given as goal
-
-abbrev pub invariant-loop-face : goal.invariant-loop-face
-invariant-loop-face l = All (IsBounded (record { points = l.points; faces = l.faces })) (take l.face-index l.faces)

@@ -1,6 +1,0 @@
-use Rattle.std.proofs.Common.{All, take}
-use Rattle.polyhedra.specs.Checks.{IsFlat}
-use Rattle.polyhedra.proofs.flat.are_flat.Given as goal
-
-abbrev pub invariant-loop-face : goal.invariant-loop-face
-invariant-loop-face l = All (IsFlat l.points) (take l.face-index l.faces)

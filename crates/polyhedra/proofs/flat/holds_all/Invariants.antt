@@ -1,6 +1,0 @@
-use Rattle.std.proofs.Common.{◌≡◌, ℕ, pos, All, take}
-use Rattle.shape_planes.specs.Shapes.{value_at}
-use Rattle.polyhedra.proofs.flat.holds_all.Given as goal
-
-abbrev pub invariant-loop-i : goal.invariant-loop-i
-invariant-loop-i l = All (λ (i : ℕ). value_at l.points l.plane i ≡ pos 0) (take l.i-index l.face)

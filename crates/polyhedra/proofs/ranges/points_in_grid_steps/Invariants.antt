@@ -1,6 +1,0 @@
-use Rattle.std.proofs.Common.{◌≡◌, map, take}
-use Rattle.polyhedra.specs.Checks.{grid_steps}
-use Rattle.polyhedra.proofs.ranges.points_in_grid_steps.Given as goal
-
-abbrev pub invariant-loop-point : goal.invariant-loop-point
-invariant-loop-point l = l.steps.items ≡ map (grid_steps l.unit) (take l.point-index l.points)

@@ -1,7 +1,0 @@
-use Rattle.std.proofs.Common.{◌≡◌, take}
-use Rattle.std.specs.List.{flat_map}
-use Rattle.polyhedra.specs.Ways.{ways_of}
-use Rattle.polyhedra.proofs.ways.ways_of_faces.Given as goal
-
-abbrev pub invariant-loop-face : goal.invariant-loop-face
-invariant-loop-face l = l.ways.items ≡ flat_map (ways_of l.points) (take l.face-index l.faces)

@@ -1,0 +1,5 @@
+use Rattle.std.proofs.Common.{ℕ, ◌≤◌, List, length, All, take}
+use Rattle.primitives.proofs.counts.have_at_least.Given as goal
+
+abbrev pub invariant-loop-face : goal.invariant-loop-face
+invariant-loop-face l = All (λ (f : List ℕ). l.least ≤ length f) (take l.face-index l.faces)

@@ -1,0 +1,12 @@
+use Rattle.std.proofs.Common.{ℕ, ◌≤◌, List, length, ◌∙◌, arith, subst}
+use Rattle.primitives.proofs.Lists.{all_done, all_next}
+use Rattle.primitives.proofs.counts.have_at_most.Goals as goal
+
+pub loop-face-preserved : goal.loop-face-preserved
+loop-face-preserved c =
+    let P = (λ (f : List ℕ). length f ≤ c.args.most) in
+    all_next P c.args.faces.now c.loop-face.face-index c.face-item.result (omega arith) c.loop-face.invariant (subst P (c.items.ensures ∙ c.face-item.is) c.if-items-most.false)
+
+pub returns-clause-all : goal.returns-clause-all
+returns-clause-all c =
+    all_done (λ (f : List ℕ). length f ≤ c.args.most) c.args.faces.now c.loop-face.face-index (omega arith) c.loop-face.invariant

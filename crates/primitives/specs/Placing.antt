@@ -1,0 +1,47 @@
+-- Placed shapes, and the planes of their faces.
+use Rattle.std.specs.Prelude.{◌≡◌, ℕ, pos, ◌<ℤ◌, Bool, not, ◌&&◌, List, [], ◌∷◌, map, filter, All, ⊤}
+use Rattle.std.specs.Ordering.{int_eq}
+use Rattle.std.specs.List.{AllZip}
+use Rattle.text_place.specs.declared.fault.FaultKind.TheVariants.{TooLarge, OutOfRange}
+use Rattle.plane_predicate.specs.Space.{Coefficients, Coordinates, point_at, value, IsInReach}
+use Rattle.int_transform.specs.declared.affine.Affine.{Affine}
+use Rattle.int_transform.specs.Maps.{coordinates, image}
+use Rattle.primitives.specs.declared.stop.ShapeStop.{ShapeStop}
+use Rattle.primitives.specs.declared.stop.ShapeStop.TheVariants.{Kind, NoMemory}
+use Rattle.primitives.specs.Shapes.{Mesh, IsFacePlane}
+
+-- the shape with its points moved
+abbrev pub moved_mesh : Affine → Mesh → Mesh
+moved_mesh m mesh = record { points = map (λ p. coordinates (image m (point_at p))) mesh.points; faces = mesh.faces }
+
+-- the same four numbers
+abbrev pub same : Coefficients → Coefficients → Bool
+same m n = int_eq m.a n.a && int_eq m.b n.b && int_eq m.c n.c && int_eq m.d n.d
+
+-- of equal planes the first stays
+abbrev pub distinct_planes : List Coefficients → List Coefficients
+distinct_planes [] = []
+distinct_planes (m ∷ planes) = m ∷ filter (λ n. not (same m n)) (distinct_planes planes)
+
+-- the planes of some faces in order, of equal ones the first
+pub record ArePlanesOf (mesh : Mesh) (faces : List (List ℕ)) (planes : List Coefficients) : Type 0 where
+  pub all : List Coefficients
+  pub each : AllZip (IsFacePlane mesh) faces all
+  pub first : planes ≡ distinct_planes all
+
+-- a point that is strictly behind every plane
+abbrev pub IsBehindAll : List Coefficients → Coordinates → Type 0
+IsBehindAll planes p = All (λ m. value m p <ℤ pos 0) planes
+
+-- a plane with a point whose coordinates are at most 4095 in size
+pub record MeetsReach (m : Coefficients) : Type 0 where
+  pub point : Coordinates
+  pub reach : IsInReach point
+  pub on : value m point ≡ pos 0
+
+-- the stops of placing: a coordinate past a limit, or want of memory
+abbrev pub IsPlacingStop : ShapeStop → Type 0
+IsPlacingStop (Kind TooLarge) = ⊤
+IsPlacingStop (Kind OutOfRange) = ⊤
+IsPlacingStop (Kind kind) = ⊥
+IsPlacingStop NoMemory = ⊤

@@ -1,8 +1,0 @@
-use Rattle.std.proofs.Common.{◌≡◌, drop}
-use Rattle.scad_arguments.specs.Arguments.{first_named, later}
-use Rattle.scad_arguments.specs.ArgumentsView.{names_seen}
-use Rattle.scad_arguments.proofs.parameters.first_listed.Given as goal
-
-abbrev pub invariant-loop-i : goal.invariant-loop-i
-invariant-loop-i l = first_named (names_seen l.names) l.name ≡ later l.i
-    (first_named (names_seen (drop l.i l.names)) l.name)

@@ -1,4 +1,0 @@
-pub mod Arguments
-pub mod ArgumentsView
-pub mod Lookup
-pub mod SoFarView

@@ -1,7 +1,0 @@
-pub mod Scans
-pub mod Walks
-pub mod Held
-pub mod Placed
-pub mod Order
-pub mod Begun
-pub mod Numbered

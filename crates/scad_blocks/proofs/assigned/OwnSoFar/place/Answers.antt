@@ -1,8 +1,0 @@
-use Rattle.std.proofs.Common.{◌∙◌}
-use Rattle.scad_blocks.specs.TextView.{assigned_of}
-use Rattle.scad_blocks.proofs.Placed.{place_there}
-use Rattle.scad_blocks.proofs.assigned.OwnSoFar.place.Goals as goal
-
-pub returns-clause-within : goal.returns-clause-within
-returns-clause-within c = place_there c.args.self.now.own.assignments.items (assigned_of c.args.sought.now) c.find.result
-    (c.find.ensures ∙ c.args.self.now.placed (assigned_of c.args.sought.now))

@@ -1,0 +1,83 @@
+-- Lists in memory with one item changed.
+use Rattle.std.proofs.Common.{◌≡◌, ℕ, zero, suc, ◌<◌, List, [], ◌∷◌, ◌++◌, length, map, get_or, set, Bool, true, false, cond, Option, Some, None, refl, sym, ap, subst, ◌∙◌, arith}
+use Rattle.std.proofs.lemmas.List.{map-set}
+use Rattle.scad_definitions.specs.Newest.{next}
+use Rattle.scad_definitions.specs.Blocks.{Assigned, same_name, place_in, with_assigned, SourceBlock, nothing_there}
+use Rattle.scad_definitions.specs.declared.text.Entry.{Entry}
+use Rattle.scad_definitions.specs.declared.text.LocalDefinitions.{LocalDefinitions}
+use Rattle.scad_definitions.specs.declared.text.Assignment.{Assignment}
+use Rattle.scad_definitions.specs.TextView.{entry_of, locals_of, assigned_of}
+use Rattle.scad_definitions.specs.Walk.{entry_ended}
+
+pub mapped_length : {A B : Type 0} (f : A → B) (xs : List A) → length (map f xs) ≡ length xs
+mapped_length f [] = refl
+mapped_length f (x ∷ xs) = ap suc (mapped_length f xs)
+
+pub at_mapped : {A B : Type 0} (f : A → B) (xs : List A) (k : ℕ) (x : A) (d : B) → k < length xs → x ≡ get_or xs k x → get_or (map f xs) k d ≡ f x
+at_mapped f [] k x d h e = absurd (omega arith)
+at_mapped f (y ∷ ys) zero x d h e = ap f (sym e)
+at_mapped f (y ∷ ys) (suc k) x d h e = at_mapped f ys k x d (omega arith) e
+
+pub entry_set : (es : List Entry) (k : ℕ) (x : Entry) (local : LocalDefinitions) (b : ℕ) → k < length es → x ≡ get_or es k x → b ≡ length es
+    → map entry_of (set es k (record { text = x.text; local = local; block_end = b }))
+    ≡ set (map entry_of es) k (entry_ended (get_or (map entry_of es) k nothing_there) (locals_of local) (length (map entry_of es)))
+entry_set es k x local b h e n =
+    map-set entry_of es k (record { text = x.text; local = local; block_end = b })
+    ∙ ap (λ m. set (map entry_of es) k (entry_ended (entry_of x) (locals_of local) m)) (n ∙ sym (mapped_length entry_of es))
+    ∙ ap (λ (y : SourceBlock). set (map entry_of es) k (entry_ended y (locals_of local) (length (map entry_of es))))
+    (sym (at_mapped entry_of es k x nothing_there h e))
+
+none_some : (i : ℕ) (o : Option ℕ) → o ≡ None → o ≡ Some i → ⊥
+none_some i o f g = cc
+
+module _ (a : Assigned) where
+  -- the same with the expression of `a`
+  changed : Assigned → Assigned
+  changed b = record b { value = a.value }
+
+  with_first : (b : Assigned) (bs : List Assigned) (i : ℕ) (t : Bool) (o : Option ℕ)
+      → ((k : ℕ) → o ≡ Some k → with_assigned bs a ≡ set bs k (changed (get_or bs k a)))
+      → cond t (Some zero) (next o) ≡ Some i
+      → cond t (changed b ∷ bs) (b ∷ with_assigned bs a) ≡ set (b ∷ bs) i (changed (get_or (b ∷ bs) i a))
+  with_first b bs i true o rest e =
+      let z : zero ≡ i = cc in
+      subst (λ n. changed b ∷ bs ≡ set (b ∷ bs) n (changed (get_or (b ∷ bs) n a))) z refl
+  with_first b bs i false (Some k) rest e =
+      let z : suc k ≡ i = cc in
+      subst (λ n. b ∷ with_assigned bs a ≡ set (b ∷ bs) n (changed (get_or (b ∷ bs) n a))) z (ap (λ l. b ∷ l) (rest k refl))
+  with_first b bs i false None rest e = absurd (none_some i None refl e)
+
+  assigned_there : (bs : List Assigned) (i : ℕ) → place_in bs a ≡ Some i → with_assigned bs a ≡ set bs i (changed (get_or bs i a))
+  unfolding changed
+  assigned_there [] i e = absurd (none_some i None refl e)
+  assigned_there (b ∷ bs) i e = with_first b bs i (same_name b a) (place_in bs a) (assigned_there bs) e
+
+  behind_first : (b : Assigned) (bs : List Assigned) (t : Bool) (o : Option ℕ)
+      → (o ≡ None → with_assigned bs a ≡ bs ++ a ∷ [])
+      → cond t (Some zero) (next o) ≡ None → cond t (changed b ∷ bs) (b ∷ with_assigned bs a) ≡ (b ∷ bs) ++ a ∷ []
+  behind_first b bs true o rest e = absurd (none_some zero (Some zero) e refl)
+  behind_first b bs false (Some k) rest e = absurd (none_some (suc k) (Some (suc k)) e refl)
+  behind_first b bs false None rest e = ap (λ l. b ∷ l) (rest refl)
+
+  assigned_new : (bs : List Assigned) → place_in bs a ≡ None → with_assigned bs a ≡ bs ++ a ∷ []
+  unfolding changed
+  assigned_new [] e = refl
+  assigned_new (b ∷ bs) e = behind_first b bs (same_name b a) (place_in bs a) (assigned_new bs) e
+
+pub assigned_set : (bs : List Assignment) (i : ℕ) (x a : Assignment) → i < length bs → x ≡ get_or bs i x
+    → Some i ≡ place_in (map assigned_of bs) (assigned_of a)
+    → map assigned_of (set bs i (record { place = x.place; special = x.special; name = x.name; value = a.value }))
+    ≡ with_assigned (map assigned_of bs) (assigned_of a)
+unfolding changed
+assigned_set bs i x a h e f =
+    map-set assigned_of bs i (record { place = x.place; special = x.special; name = x.name; value = a.value })
+    ∙ ap (λ (y : Assigned). set (map assigned_of bs) i (changed (assigned_of a) y)) (sym (at_mapped assigned_of bs i x (assigned_of a) h e))
+    ∙ sym (assigned_there (assigned_of a) (map assigned_of bs) i (sym f))
+
+pub assigned_pushed : (bs cs : List Assignment) (a : Assignment) → cs ≡ bs ++ a ∷ [] → None ≡ place_in (map assigned_of bs) (assigned_of a)
+    → map assigned_of cs ≡ with_assigned (map assigned_of bs) (assigned_of a)
+assigned_pushed bs cs a e f = ap (map assigned_of) e ∙ mapped bs ∙ sym (assigned_new (assigned_of a) (map assigned_of bs) (sym f))
+  where
+    mapped : (bs : List Assignment) → map assigned_of (bs ++ a ∷ []) ≡ map assigned_of bs ++ assigned_of a ∷ []
+    mapped [] = refl
+    mapped (b ∷ bs) = ap (λ l. assigned_of b ∷ l) (mapped bs)

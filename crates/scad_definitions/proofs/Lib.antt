@@ -1,0 +1,10 @@
+mod Places
+mod Updates
+pub mod Scans
+pub mod Walks
+pub mod Held
+pub mod Placed
+pub mod Order
+pub mod Begun
+pub mod Numbered
+pub mod Looking

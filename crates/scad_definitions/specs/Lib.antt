@@ -1,0 +1,15 @@
+pub mod Index
+pub mod Names
+pub mod Newest
+pub mod View
+pub mod Blocks
+pub mod Numbered
+pub mod Walk
+pub mod TextView
+pub mod Tables
+pub mod Places
+pub mod PlacesView
+pub mod Arguments
+pub mod ArgumentsView
+pub mod Lookup
+pub mod SoFarView

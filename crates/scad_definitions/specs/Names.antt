@@ -1,0 +1,8 @@
+-- What a list of names is to its callers.
+use Rattle.scad_definitions.specs.declared.list.NameList.{NameList}
+use Rattle.scad_definitions.specs.Newest.{Pairs}
+use Rattle.scad_definitions.specs.View.{pairs_in}
+
+-- its pairs, the newest first
+abbrev pub newest_first : {T : Type 0} → NameList T → Pairs T
+newest_first names = pairs_in names.items.items

@@ -1,0 +1,66 @@
+-- What a program's blocks, functions and modules in memory stand for.
+use Rattle.std.specs.Prelude.{ℕ, List, map}
+use Rattle.scad_ast.specs.Terms.{InstanceStatement, StatementTerms, no_statements, and_statement, statements_from}
+use Rattle.scad_ast.specs.ExprView.{term_of}
+use Rattle.scad_ast.specs.StatementView.{params_of, statements_of, instance_of, body_of}
+use Rattle.scad_definitions.specs.declared.text.BlockText.{BlockText}
+use Rattle.scad_definitions.specs.declared.text.BlockText.TheVariants.{Nothing, Statements, Single}
+use Rattle.scad_definitions.specs.declared.text.Function.{Function}
+use Rattle.scad_definitions.specs.declared.text.Module.{Module}
+use Rattle.scad_definitions.specs.declared.text.Assignment.{Assignment}
+use Rattle.scad_definitions.specs.declared.text.Named.{Named}
+use Rattle.scad_definitions.specs.declared.text.LocalDefinitions.{LocalDefinitions}
+use Rattle.scad_definitions.specs.declared.text.Entry.{Entry}
+use Rattle.scad_definitions.specs.Blocks.{SourceFunction, SourceModule, Assigned, LocalTerms, SourceBlock, BlockTable}
+
+-- the statements of a block: none, those in braces, or a single instance
+abbrev pub statements_held : BlockText → StatementTerms
+statements_held Nothing = no_statements
+statements_held (Statements statements) = statements_from (statements_of statements.now)
+statements_held (Single instance) = and_statement (InstanceStatement (instance_of instance.now)) no_statements
+
+-- a function as its plain parameters and value
+abbrev pub function_of : Function → SourceFunction
+function_of function = record { params = params_of function.params.now; value = term_of function.value.now }
+
+-- a module as its plain parameters and body
+abbrev pub module_of : Module → SourceModule
+module_of defined = record { params = params_of defined.params.now; body = body_of defined.body.now }
+
+-- the number of the block of a module's body
+abbrev pub block_of_module : Module → ℕ
+block_of_module defined = defined.block
+
+-- an assignment as its plain name and expression
+abbrev pub assigned_of : Assignment → Assigned
+assigned_of assignment = record {
+  at = assignment.place;
+  special = assignment.special;
+  name = assignment.name.now;
+  value = term_of assignment.value.now;
+}
+
+-- a name with the number of its definition
+abbrev pub named_of : Named → List ℕ × ℕ
+named_of named = (named.name.now, named.number)
+
+-- a block's local definitions and assignments
+abbrev pub locals_of : LocalDefinitions → LocalTerms
+locals_of local = record {
+  functions = map named_of local.functions.items;
+  modules = map named_of local.modules.items;
+  assignments = map assigned_of local.assignments.items;
+}
+
+-- a block with its statements and its local definitions
+abbrev pub entry_of : Entry → SourceBlock
+entry_of entry = record { statements = statements_held entry.text; local = locals_of entry.local; block_end = entry.block_end }
+
+-- a program by numbers, of its blocks, functions and modules
+abbrev pub table_of : List Entry → List Function → List Module → BlockTable
+table_of entries functions modules = record {
+  entries = map entry_of entries;
+  functions = map function_of functions;
+  modules = map module_of modules;
+  bodies = map block_of_module modules;
+}

@@ -1,0 +1,104 @@
+ghost use Rattle.std.specs.Prelude.{IsTrue, length, map};
+ghost use Rattle.scad_definitions.specs.Numbered.{entries_below};
+ghost use Rattle.scad_definitions.specs.TextView.{entry_of};
+
+use crate::text::{Assignment, BlockText, Entry, Function, LocalDefinitions, Module};
+use crate::walk::walk_program;
+use scad_ast::Program;
+use std::alloc::Global;
+use text_place::NoMemory;
+
+/// The blocks, functions and modules of a program by number. Block 0 is the program itself; the bodies
+/// and the expressions of functions are numbered from 1 in the order in which they begin, functions
+/// and modules from 0, each by themselves. The type keeps that each block's local definitions are among
+/// them.
+#[derive(Drop)]
+pub struct Blocks<'a> {
+    pub(crate) entries: Vec<Entry<'a>>,
+    pub(crate) functions: Vec<Function<'a>>,
+    pub(crate) modules: Vec<Module<'a>>,
+    ghost numbered: { IsTrue (entries_below (length functions.items) (length modules.items) (map entry_of entries.items)) },
+}
+
+impl<'a> Blocks<'a> {
+    ghost use Rattle.std.specs.Prelude.{◌≡◌, ◌<◌, IfOk, slice_index_or};
+    ghost use Rattle.scad_ast.specs.ProgramView.{program_of};
+    ghost use Rattle.scad_definitions.specs.Blocks.{block_table, nothing_there, StandsInOrder};
+    ghost use Rattle.scad_definitions.specs.Numbered.{count_of_functions, count_of_modules};
+    ghost use Rattle.scad_definitions.specs.Tables.{table_held, functions_held, modules_held};
+    ghost use Rattle.scad_definitions.specs.TextView.{function_of, module_of, assigned_of, locals_of, statements_held};
+
+    /// The blocks, functions and modules of a program, by one walk through its text.
+    pub fn of(alloc: Global, program: &'a Program) -> Result<Blocks<'a>, NoMemory>
+        ensures text { IfOk result (λ blocks. table_held blocks ≡ block_table (program_of program.now)) }
+        ensures order { IfOk result (λ blocks. StandsInOrder (table_held blocks)) }
+        ensures functions { IfOk result (λ blocks. length (functions_held blocks) ≡ count_of_functions (program_of program.now)) }
+        ensures modules { IfOk result (λ blocks. length (modules_held blocks) ≡ count_of_modules (program_of program.now)) }
+    {
+        let walk = walk_program(alloc, program)?;
+        Ok(Blocks {
+            entries: walk.entries,
+            functions: walk.functions,
+            modules: walk.modules,
+        })
+    }
+
+    /// How many blocks there are.
+    pub fn count(&self) -> usize
+        ensures { result ≡ length (table_held self.now).entries }
+    {
+        self.entries.len()
+    }
+
+    /// The function of a number.
+    pub fn function(&self, number: u32) -> Function<'a>
+        requires { number < length (functions_held self.now) }
+        ensures same { function_of result ≡ slice_index_or (functions_held self.now) number (function_of result) }
+        ensures item { result ≡ slice_index_or self.now.functions.items number result }
+    {
+        self.functions[number as usize]
+    }
+
+    /// The module of a number, with the number of its body's block.
+    pub fn module(&self, number: u32) -> Module<'a>
+        requires { number < length (modules_held self.now) }
+        ensures same { module_of result ≡ slice_index_or (modules_held self.now) number (module_of result) }
+        ensures item { result ≡ slice_index_or self.now.modules.items number result }
+        ensures block { result.block ≡ slice_index_or (table_held self.now).bodies number result.block }
+    {
+        self.modules[number as usize]
+    }
+
+    /// What stands in a block.
+    pub fn text(&self, number: u32) -> BlockText<'a>
+        requires { number < length (table_held self.now).entries }
+        ensures { statements_held result ≡ (slice_index_or (table_held self.now).entries number nothing_there).statements }
+    {
+        self.entries[number as usize].text
+    }
+
+    /// What stands in a block and in no block inside it.
+    pub fn local(&self, number: u32) -> &LocalDefinitions<'a>
+        requires { number < length (table_held self.now).entries }
+        ensures { locals_of result.now ≡ (slice_index_or (table_held self.now).entries number nothing_there).local }
+    {
+        &self.entries[number as usize].local
+    }
+
+    /// The number of the first block behind a block and all that stands in it.
+    pub fn block_end(&self, number: u32) -> u32
+        requires { number < length (table_held self.now).entries }
+        ensures { result ≡ (slice_index_or (table_held self.now).entries number nothing_there).block_end }
+    {
+        self.entries[number as usize].block_end
+    }
+
+    /// A block's assignments, each name once, in the order of the text: a name that is assigned more than
+    /// once has the place of its first assignment and the expression of its last.
+    pub fn assignments(&self, number: u32) -> &[Assignment<'a>]
+        requires { number < length (table_held self.now).entries }
+        ensures { map assigned_of result.now ≡ (slice_index_or (table_held self.now).entries number nothing_there).local.assignments }
+    {
+        &self.entries[number as usize].local.assignments
+    }
+}

@@ -1,0 +1,21 @@
+//! A program's blocks and definitions by number, the newest of a name, and a call's arguments by parameter.
+#![tactic(auto)]
+
+mod assigned;
+mod blocks;
+mod index;
+mod list;
+mod lookup;
+mod parameters;
+mod so_far;
+mod text;
+mod walk;
+
+pub use blocks::Blocks;
+pub use list::NameList;
+pub use parameters::{
+    CallArguments, Destination, Matching, Names, SpecialArgument, arguments, name_of,
+    positional_after,
+};
+pub use so_far::ArgumentsSoFar;
+pub use text::{Assignment, BlockText, Function, LocalDefinitions, Module, Named};

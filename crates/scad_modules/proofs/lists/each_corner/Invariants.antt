@@ -1,0 +1,11 @@
+use Rattle.std.proofs.Common.{◌≡◌, drop}
+use Rattle.scad_value.specs.Values.{vals_from}
+use Rattle.scad_value.specs.View.{vals_in}
+use Rattle.scad_modules.specs.Reading.{corner_in, each_in}
+use Rattle.scad_modules.proofs.Fronts.{in_front}
+use Rattle.scad_modules.proofs.lists.each_corner.Given as goal
+
+abbrev pub invariant-loop-value : goal.invariant-loop-value
+invariant-loop-value l =
+    in_front l.corners.items (each_in corner_in (vals_from (vals_in (drop l.value-index l.values))))
+    ≡ each_in corner_in (vals_from (vals_in l.values))

@@ -1,6 +1,0 @@
-use Rattle.scad_ast.specs.StatementView.{binders_of}
-use Rattle.scad_expressions.proofs.Stops.{memory_ran_out}
-use Rattle.scad_statement_parts.proofs.loop_variables.binder_list.Goals as goal
-
-pub returns-in_err-items : goal.returns-in_err-items
-returns-in_err-items c = record { value = memory_ran_out binders_of c.from_residual-in_err-items.result _ c.from_residual-in_err-items.ensures.1 }

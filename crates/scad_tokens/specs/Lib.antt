@@ -1,2 +1,0 @@
-pub mod TokenClasses
-pub mod Views

@@ -1,6 +1,0 @@
-use Rattle.std.proofs.Common.{ℕ, pos, ◌≤ℤ◌, List, All, take}
-use Rattle.shape_planes.specs.Shapes.{value_at}
-use Rattle.shape_planes.proofs.ahead.has_corner_ahead.Given as goal
-
-abbrev pub invariant-loop-face : goal.invariant-loop-face
-invariant-loop-face l = All (λ (f : List ℕ). All (λ (i : ℕ). value_at l.points l.plane i ≤ℤ pos 0) f) (take l.face-index l.faces)

@@ -1,0 +1,14 @@
+-- The bytes that a value stores, in itself or elsewhere.
+use Rattle.std.specs.Prelude.{ℕ, List, ◌≤◌, ◌<◌, length, take}
+use Rattle.text_place.specs.declared.compact.Stored.{Stored}
+use Rattle.text_place.specs.declared.compact.Stored.TheVariants.{Inline, Boxed}
+
+-- the bytes in order
+abbrev pub stored_bytes : Stored → List ℕ
+stored_bytes (Inline n room) = take n room
+stored_bytes (Boxed bytes) = bytes.value.items
+
+-- no more bytes than there is room for, or more than that elsewhere
+abbrev pub fits : Stored → Type 0
+fits (Inline n room) = n ≤ 14
+fits (Boxed bytes) = 14 < length bytes.value.items

@@ -1,8 +1,0 @@
-use Rattle.std.proofs.Common.{◌≡◌, ◌≤◌, length, All}
-use Rattle.tree_names.proofs.named_store.joins_by_left.Given as goal
-
-abbrev pub invariant-loop-before : goal.invariant-loop-before
-invariant-loop-before l = record {
-  many : length l.joins.items ≡ length l.store;
-  within : All (λ n. n ≤ length l.store) l.joins.items;
-}

@@ -1,0 +1,4 @@
+pub mod Lists
+pub mod Ways
+pub mod Boxed
+pub mod Halves

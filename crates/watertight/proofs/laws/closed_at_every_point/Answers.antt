@@ -1,0 +1,5 @@
+use Rattle.watertight.proofs.Boxed.{closed_everywhere}
+use Rattle.watertight.proofs.laws.closed_at_every_point.Goals as goal
+
+pub returns : goal.returns
+returns c = closed_everywhere

@@ -1,0 +1,36 @@
+//! Laws of texts whose faces are closed. They are proved, and do nothing when they run.
+
+ghost use Rattle.std.specs.Prelude.{◌≡◌, ℕ, ◌<ℤ◌, pos, true, List, map, All};
+ghost use Rattle.plane_predicate.specs.declared.unit.Unit.{Unit as LengthUnit};
+ghost use Rattle.plane_predicate.specs.Space.{Coordinates, IsInWorld};
+ghost use Rattle.plane_predicate.specs.InUnits.{in_steps};
+ghost use Rattle.csg_tree.specs.Formulas.{Formula};
+ghost use Rattle.closed_surface.specs.Closed.{corners_at, Closed};
+ghost use Rattle.off_text.specs.Bounding.{IsBoundary};
+ghost use Rattle.watertight.specs.Everywhere.{AreClosedEverywhere, IsClosedEverywhere};
+ghost use Rattle.watertight.specs.Pieces.{is_elementary, edges_along_part};
+
+/// Faces that are closed inside the world box, and whose vertices are strictly inside it, are closed at every point of space.
+pub fn closed_at_every_point()
+    ensures { (unit : LengthUnit) (vertices : List Coordinates) (faces : List (List ℕ)) →
+        All (λ p. IsInWorld (in_steps unit p)) vertices → Closed unit vertices faces → IsClosedEverywhere vertices faces }
+{}
+
+/// Where faces are closed at every point, each directed elementary edge stands as often as its reverse: between two points with no
+/// corner strictly between them, as many edges run one way as the other.
+pub fn elementary_edges_pair()
+    ensures { (faces : List (List Coordinates)) → All (λ corners. All (λ p. pos 0 <ℤ p.w) corners) faces → AreClosedEverywhere faces →
+        (p q : Coordinates) → pos 0 <ℤ p.w → pos 0 <ℤ q.w → is_elementary faces (p, q) ≡ true →
+        edges_along_part faces (p, q) ≡ edges_along_part faces (q, p) }
+{}
+
+/// The text of a boundary whose vertices are strictly inside the world box is watertight: its faces are closed at every point of
+/// space, and each of their directed elementary edges stands as often as its reverse.
+pub fn texts_are_watertight()
+    ensures everywhere { (unit : LengthUnit) (bytes : List ℕ) (f : Formula) (text : IsBoundary unit bytes f) →
+        All (λ p. IsInWorld (in_steps unit p)) text.vertices → IsClosedEverywhere text.vertices text.faces }
+    ensures edges { (unit : LengthUnit) (bytes : List ℕ) (f : Formula) (text : IsBoundary unit bytes f) →
+        All (λ p. IsInWorld (in_steps unit p)) text.vertices → (p q : Coordinates) → pos 0 <ℤ p.w → pos 0 <ℤ q.w →
+        is_elementary (map (corners_at text.vertices) text.faces) (p, q) ≡ true →
+        edges_along_part (map (corners_at text.vertices) text.faces) (p, q) ≡ edges_along_part (map (corners_at text.vertices) text.faces) (q, p) }
+{}

@@ -1,0 +1,6 @@
+//! Watertight: what closed faces tell at every point of space, as laws that the program doesn't call.
+#![tactic(auto)]
+
+mod laws;
+
+pub use laws::{closed_at_every_point, elementary_edges_pair, texts_are_watertight};
