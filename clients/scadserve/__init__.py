@@ -1,4 +1,15 @@
-"""A client of the server: scripts, the answers to them, and the tools that stand on both."""
+"""Solids of OpenSCAD sources, exactly. docs/PYTHON.md says all of it.
 
-from .server import *  # noqa: F403
-from .server import __all__ as __all__
+    from scadserve import Fault, Solid, solve
+
+    for it in solve(["cube([1, 2, 3]);", "cube(2.5);"]):
+        print(it.volume if isinstance(it, Solid) else it)
+
+`scadserve.server` writes scripts of edits, shows and exports of several clients, and reads what they are answered.
+"""
+
+from .server import BadScript, BadWords, Malformed, NotStarted, OutOfMemory, OutOfTime, ReadFault, ServerFailed, WriteFault
+from .solving import Fault, Point, Solid, Source, solve
+
+__all__ = ["solve", "Solid", "Fault", "Point", "Source"]
+__all__ += ["ServerFailed", "NotStarted", "BadWords", "BadScript", "ReadFault", "WriteFault", "OutOfMemory", "OutOfTime", "Malformed"]

@@ -32,7 +32,7 @@ def close(boundary: Boundary) -> list[Ring]:
     lines = {}
     ends: dict[Line, set[int]] = {}
     for face in boundary.faces:
-        for edge in _edges(face):
+        for edge in edges(face):
             if edge not in lines:
                 line = line_through(boundary.corners[edge[0]], boundary.corners[edge[1]])
                 lines[edge] = lines[edge[::-1]] = line
@@ -50,7 +50,7 @@ def close(boundary: Boundary) -> list[Ring]:
             return along[line][start:end]
         return along[line][end + 1 : start + 1][::-1]
 
-    return [tuple(corner for edge in _edges(face) for corner in from_start(edge)) for face in boundary.faces]
+    return [tuple(corner for edge in edges(face) for corner in from_start(edge)) for face in boundary.faces]
 
 
 def line_through(p: Corner, q: Corner) -> Line:
@@ -74,7 +74,7 @@ def _sorted_along(line: Line, corners: Iterable[int], points: Sequence[Corner]) 
     return sorted(corners, key=place)
 
 
-def _edges(ring: Ring) -> Iterable[tuple[int, int]]:
+def edges(ring: Ring) -> Iterable[tuple[int, int]]:
     """The ways from each corner of the ring to the next."""
     return zip(ring, ring[1:] + ring[:1])
 
@@ -119,7 +119,7 @@ def ears(ring: Sequence[Flat]) -> list[tuple[int, int, int]]:
 
 def ways(rings: Iterable[Ring]) -> Ways:
     """How often the rings go along each way from a corner to another."""
-    return Counter(edge for ring in rings for edge in _edges(ring))
+    return Counter(edge for ring in rings for edge in edges(ring))
 
 
 def open_edges(used: Ways) -> int:

@@ -4,13 +4,18 @@ from __future__ import annotations
 
 import os
 import re
-from codecs import BOM_UTF8
+from codecs import BOM_UTF8, BOM_UTF16_BE, BOM_UTF16_LE
+from fractions import Fraction
 
 from .top import TOP
 
+BYTE_ORDER_MARK = "a byte order mark"
 DOCUMENT = os.path.join(TOP, "docs", "FAULTS.md")
 
 PAGE = "docs/OPENSCAD.md says what there is, and what to write instead"
+
+PARAMETERS_PAGE = "docs/LANGUAGE.md has the parameters of each module in order"
+NO_TYPE = 'is_num, is_list and is_undef ask for it before; "4" is a text, and 4 a number'
 
 # Of each kind of fault what is wrong, in which {} stands for the token at its place, and its cure.
 FAULTS: dict[str, tuple[str, str]] = {
@@ -18,14 +23,14 @@ FAULTS: dict[str, tuple[str, str]] = {
     "OpenComment": ("this comment is not closed", "close it by */"),
     "OpenText": ("this text is not closed on its line", 'close it by " on the same line'),
     "NotWhole": ("{} is no whole number", "write lengths in tenths, 25 for 2.5, and print by off2stl --unit 1/10"),
-    "TooLarge": ("at {} a number is past its limit", "numbers are at most 2^53 - 1 in size, those of a multmatrix 65,535"),
+    "TooLarge": ("at {} a number is past 2^53 - 1, or 65,535 in a multmatrix", "take smaller ones: the room ends at 4,095"),
     "TypeMismatch": ("a value of another type is wanted at {}", PAGE),
     "ZeroDivisor": ("a division by 0", "test the divisor first: b == 0 ? 0 : a / b"),
     "BadSize": ("a side, a height or a radius is below 1", "leave out what has no size, as in if (w > 2 * t) cube(w - 2 * t);"),
     "NotOnGrid": ("what is centred would lie between whole numbers", "make its sides even, or use --half"),
     "OutOfRange": (
-        "a coordinate of {} is past its limit",
-        "there is room for 4095 units to each side of the origin, with --half for 2047",
+        "a coordinate of {} is past 4,095, or with --half past 2,047",
+        "move it to the middle, or make several parts of it: there is so much room to each side of the origin",
     ),
     "FewPoints": ("too few points or faces", "a polygon has 3 points at least, and a polyhedron 4 faces of 3 corners"),
     "BadPoint": ("a face names a point that is not there", "points are numbered from 0"),
@@ -69,6 +74,10 @@ FORMS: dict[str, str] = {
 EVEN = "count in tenths, 70 / 2 for 7 / 2, or drop the rest: (w - w % 2) / 2"
 PLAIN = "write numbers without an exponent, 10 for 1e1"
 
+# The cures of a number that makes shapes overlap, and of what an editor writes before the first line.
+OVERLAP = "leave it out: touching faces are exact, and need no overlap"
+NO_MARK = "save without it, as plain text in UTF-8"
+
 # The cure of a letter behind a number, as in 0x10 and 3d_part.
 NAMED = "names begin with a letter or _, and numbers have decimal digits alone"
 
@@ -86,14 +95,25 @@ LIMITS: dict[str, tuple[str, str]] = {
     "TooManyCommands": ("a client has at most 8,192 commands", "use several clients"),
 }
 
+# Of the files that sources include and use.
+FILES: dict[str, tuple[str, str]] = {
+    "NoFile": ("there is no such file", "it is looked for in the folder of its source, in those of -I and of OPENSCADPATH"),
+    "Ring": ("this file is being read already", "put what both files need into a third one"),
+    "TooManyFiles": ("more than 1,024 files, or 64 in one another", "join some of them"),
+    "TooLarge": ("with this file the source is more than a script's 1 MiB", "make several parts of it"),
+    "OpenComment": FAULTS["OpenComment"],
+    "BadUnit": ("{} is no number above 0 like 2, 25.4 or 1/10", "write // unit: 1/10 once, of a millimetre, or call with --unit 1/10"),
+}
+
 # Of solids that pass a limit, by its kind.
-COMPLEX_CURE = "make several parts of it, or fewer cuts that go across all of it"
+CUTS = "make several parts of it, or let fewer cuts go across all of it: a bar cuts once where many boxes cut often"
+FACES = "make several parts of it, or let fewer shapes cross one another"
 COMPLEX: dict[str, tuple[str, str]] = {
-    "solid": ("one of its solids grows past 50,000 in size, at node {}", COMPLEX_CURE),
-    "sum": ("its solids grow past 500,000 in size together, at node {}", COMPLEX_CURE),
-    "facets": ("it has more than 20,000 faces", COMPLEX_CURE),
-    "corners": ("its faces have more than 200,000 corners", COMPLEX_CURE),
-    "vertices": ("it has more than 60,000 vertices", COMPLEX_CURE),
+    "solid": ("one of its unions, differences or intersections grows past 50,000 pieces and their edges", CUTS),
+    "sum": ("its unions, differences and intersections grow past 500,000 pieces and their edges together", CUTS),
+    "facets": ("it has more than 20,000 faces", FACES),
+    "corners": ("its faces have more than 200,000 corners", FACES),
+    "vertices": ("it has more than 60,000 vertices", FACES),
 }
 
 # Of statuses with which the server fails.
@@ -121,6 +141,11 @@ TOKEN = re.compile(
 )
 
 
+def cure_by_openscad(word: str, cure: str) -> str:
+    """The cure of a fault, with the way that OpenSCAD's front end is where the profile's limits are the cause."""
+    return f"{cure}; or let OpenSCAD evaluate it: --by-openscad" if word in ("NotWhole", "NotInProfile", "UnknownFunction") else cure
+
+
 def what_is_wrong(word: str, line: bytes | None, column: int) -> tuple[str, str]:
     """What a fault of this kind says is wrong at a byte of a source's line, from 1, and its cure. No line: at the end."""
     said, cure = FAULTS.get(word, (word, PAGE))
@@ -133,6 +158,10 @@ def what_is_wrong(word: str, line: bytes | None, column: int) -> tuple[str, str]
         return said.format(f"what {shown} gives"), EVEN
     if word == "NotWhole" and "e" in shown.lower():
         return said.format(shown), PLAIN
+    if word == "NotWhole" and Fraction(shown) < Fraction(1, 10):
+        return said.format(shown), OVERLAP
+    if word == "BadCharacter" and shown == BYTE_ORDER_MARK:
+        return said.format(shown), NO_MARK
     if word == "BadCharacter" and re.match(r"[A-Za-z_]", shown):
         return said.format(shown), NAMED
     return said.format(shown), cure
@@ -143,8 +172,8 @@ def _token(line: bytes, column: int) -> str:
     token = TOKEN.match(line, column - 1)
     if token is None:
         return "this"
-    if token[0] == BOM_UTF8:
-        return "a byte order mark"
+    if token[0].startswith((BOM_UTF8, BOM_UTF16_LE, BOM_UTF16_BE)) and column == 1:
+        return BYTE_ORDER_MARK
     return printable(token[0] if len(token[0]) <= 40 else token[0][:40] + b"..")
 
 

@@ -41,6 +41,20 @@ def write_file(path: str, data: bytes) -> None:
         raise
 
 
+def left_over(path: str, begins: tuple[bytes, ...]) -> str:
+    """Removes what is left of an earlier solid where a fault leaves nothing to write, and gives the line that says so. What
+    does not begin as one of these does is nothing that the tool made: it stays, and the line says that it is old."""
+    if _is_stream(path) or not os.path.isfile(path):
+        return ""
+    with contextlib.suppress(OSError):
+        with open(path, "rb") as it:
+            is_made = bool(begins) and it.read(max(map(len, begins))).startswith(begins)
+        if is_made and not _is_protected(path):
+            os.unlink(os.path.realpath(path))
+            return f"{path}: removed, since it was made of an earlier source\n"
+    return f"{path}: warning: it stays as it was, and is not of this source\n"
+
+
 def called(path: str, stream: str = "<stdin>") -> str:
     """What a file is called in messages, in which `-` is this stream."""
     return stream if path == "-" else path
@@ -90,6 +104,11 @@ def _is_output(path: str) -> bool:
         return os.path.samestat(os.stat(path), os.fstat(1))
     except OSError:
         return False
+
+
+def reason(error: Exception) -> str:
+    """The reason alone, without the number and the name of the file."""
+    return (error.strerror if isinstance(error, OSError) else None) or str(error)
 
 
 def say(text: str) -> None:

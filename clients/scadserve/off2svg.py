@@ -10,24 +10,21 @@ from __future__ import annotations
 import os
 import re
 from argparse import ArgumentTypeError
+from html import escape
 from math import cos, radians, sin
 from typing import Callable, Sequence
 
 from . import closing
 from . import off2tool
 from .closing import Ring
-from .ending import PART_FAULT
-from .files import called
 from .fouroff import Boundary, Corner, Plane
 from .fouroff_measures import direction
-from .off2painter import Step, outline, painted, visible_patches
-from .off2tool import BadSolid
+from .off2painter import Step, outline, painted, patches, visible
+from .words import Words, write_out
 
-MOST_FACES = 5000
 #: The view where none is asked for, in degrees.
 VIEW = (30.0, 30.0)
 _VIEW_HELP = "the degrees of the viewer to the right of the front, and above it; else 30 30"
-_VIEWERS = "look at it with geomview, or with f3d or meshlab at what off2stl makes of it"
 _DESCRIPTION = "Draws the solid of a 4OFF text of the server in SVG."
 # The endings of sources, of solids and of other pictures.
 _OTHERS = (".scad", ".4off", ".stl", ".3mf", ".obj", ".off", ".png", ".jpg", ".pdf")
@@ -81,21 +78,25 @@ def main(words: Sequence[str]) -> int:
     return off2tool.run("off2svg", _draw, words)
 
 
+def parser() -> Words:
+    """The words that there are."""
+    words = off2tool.off_words("off2svg", _DESCRIPTION)
+    words.add_argument("--view", nargs=2, type=degrees, default=VIEW, metavar=("AZ", "EL"), help=_VIEW_HELP)
+    words.add_argument("--width", type=_pixels, default=480, metavar="PX", help="the width in pixels, else 480")
+    return words
+
+
 def _draw(words: Sequence[str]) -> None:
-    parser = off2tool.Words("off2svg", _DESCRIPTION)
-    parser.add_argument("--view", nargs=2, type=_degrees, default=VIEW, metavar=("AZ", "EL"), help=_VIEW_HELP)
-    parser.add_argument("--width", type=_pixels, default=480, metavar="PX", help="the width in pixels, else 480")
-    asked = parser.parse_args(words)
+    own = parser()
+    asked = own.parse_args(words)
     if os.path.splitext(asked.out)[1].lower() in _OTHERS:
-        parser.error(f"{asked.out} would be an SVG picture, and has another ending")
-    boundary = off2tool.read(asked.file, asked.out)
-    if len(boundary.faces) > MOST_FACES:
-        count = f"{len(boundary.faces)} faces are too many to draw, above {MOST_FACES}"
-        raise BadSolid(f"{called(asked.file)}: {count}: {_VIEWERS}", PART_FAULT)
-    rings = closing.close(boundary)
-    off2tool.check(asked.file, boundary, rings)
+        own.error(f"{asked.out} would be an SVG picture, and has another ending")
+    with off2tool.nothing_old(asked.out, (b"<svg ",)):
+        boundary = off2tool.read(asked.file, asked.out)
+        rings = closing.close(boundary)
+        off2tool.check(asked.file, boundary, rings)
     text = drawing(boundary, rings, Camera(*asked.view), asked.width, off2tool.stem(asked.file))
-    off2tool.write(asked.out, text.encode("ascii"))
+    write_out(asked.out, text.encode())
 
 
 def drawing(boundary: Boundary, rings: Sequence[Ring], camera: Camera, width: int, title: str) -> str:
@@ -103,7 +104,7 @@ def drawing(boundary: Boundary, rings: Sequence[Ring], camera: Camera, width: in
 
     It is so many pixels wide, and at most twice as tall.
     """
-    patches = painted(visible_patches(boundary, rings, camera.view))
+    order = painted(visible(patches(boundary, rings), camera.view), camera.view)
     places = [camera.project(corner) for corner in boundary.corners]
     left, right = min(x for x, _ in places), max(x for x, _ in places)
     low, high = min(y for _, y in places), max(y for _, y in places)
@@ -117,10 +118,10 @@ def drawing(boundary: Boundary, rings: Sequence[Ring], camera: Camera, width: in
     tall = round((high - low) * scale) + 2 * _MARGIN
     lines = [
         f'<svg xmlns="http://www.w3.org/2000/svg" width="{width}" height="{-(-tall // 10)}" viewBox="0 0 {10 * width} {tall}">',
-        f"<title>{title}</title>",
+        f"<title>{escape(title)}</title>",
         f'<g fill="none" stroke="{_LINE}" stroke-width="{_LINE_WIDTH}" stroke-linejoin="round" stroke-linecap="round">',
     ]
-    for patch in patches:
+    for patch in order:
         lines += paths(outline(patch), camera.color(patch.plane), pixel)
     return "\n".join(lines + ["</g>", "</svg>"]) + "\n"
 
@@ -158,10 +159,10 @@ def _path(pixels: list[tuple[int, int]]) -> str:
     return text.replace("l ", "l").replace(" -", "-")
 
 
-def _degrees(text: str) -> float:
+def degrees(text: str) -> float:
     """An angle in degrees."""
     if re.fullmatch(r"[+-]?[0-9]{1,4}(\.[0-9]{1,6})?", text) is None:
-        raise ArgumentTypeError(f"{text!r} is no angle in degrees")
+        raise ArgumentTypeError(f"{text!r} is no angle from -9999 to 9999 degrees")
     return float(text)
 
 

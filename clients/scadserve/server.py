@@ -18,6 +18,7 @@ import os
 import re
 import signal
 import subprocess
+from time import monotonic
 from typing import Iterable, Sequence
 
 from .replies import ANSWERED, SOURCE_LINES, Answers, Complex, Fault, Malformed, NoMemory, Ok, Refused, Reply
@@ -27,7 +28,7 @@ from .top import TOP
 # What a program that sends scripts needs, the types of replies too.
 __all__ = ["Script", "Client", "run", "passed_limit", "read", "printed", "Answers", "Reply", "Ok", "Refused", "Text", "Solid"]
 __all__ += ["Fault", "Complex", "NoMemory", "Limit", "Malformed", "ServerFailed", "NotStarted", "BadWords", "BadScript"]
-__all__ += ["ReadFault", "WriteFault", "OutOfMemory"]
+__all__ += ["ReadFault", "WriteFault", "OutOfMemory", "OutOfTime"]
 
 SCRIPT_BYTES = 1_048_576
 LINE_BYTES = 1_024  # (of a line of a script, without its end)
@@ -35,7 +36,9 @@ CLIENTS = 16
 COMMANDS = 8_192  # (of each client)
 
 NAME = re.compile("[a-z0-9]{1,16}")
-SERVER = (os.path.join(TOP, "scadserve"),)
+_BESIDE = os.path.join(TOP, "scadserve")
+#: The starter beside this package, or else the one on the PATH.
+SERVER = (_BESIDE if os.path.exists(_BESIDE) else "scadserve",)
 
 
 class Limit(ValueError):
@@ -76,6 +79,10 @@ class WriteFault(ServerFailed):
 
 class OutOfMemory(ServerFailed):
     """Memory ran out, and the output is not whole."""
+
+
+class OutOfTime(ServerFailed):
+    """The time was over, and the server was ended."""
 
 
 STATUSES = {2: BadWords, 3: BadScript, 4: ReadFault, 5: WriteFault, 6: OutOfMemory}
@@ -181,13 +188,24 @@ class Script:
         return b"".join(self._lines)
 
 
-def run(scripts: Iterable[Script], server: Sequence[str] = SERVER) -> list[Answers]:
+def run(
+    scripts: Iterable[Script],
+    server: Sequence[str] = SERVER,
+    workers: int | None = None,
+    memo: int | None = None,
+    until: float | None = None,
+) -> list[Answers]:
     """What each script is answered: the replies of each client, by name. The server is these words before its own.
 
-    Raises ServerFailed, or one of its kinds, where the server does not start or ends with a status other than 0, and
-    Malformed where its output can't be what the script is answered.
+    `workers` are at most so many for an export (1 to 64, else 4), `memo` is the weight of what it keeps (0 to 2,000,000,
+    else 500,000), and `until` is the time of `time.monotonic` at which it is ended.
+
+    Raises ServerFailed, or one of its kinds, where the server does not start, ends with a status other than 0 or takes too
+    long, and Malformed where its output can't be what the script is answered.
     """
-    return [read(bytes(it), _output(it, server)) for it in scripts]
+    options = [] if workers is None else ["--workers", str(workers)]
+    options += [] if memo is None else ["--memo", str(memo)]
+    return [read(bytes(it), _output(it, server, options, until)) for it in scripts]
 
 
 def passed_limit(lines: Sequence[bytes]) -> Fault | None:
@@ -234,19 +252,21 @@ def _line(name: bytes, command: bytes) -> bytes:
     return b"%b %b%b\n" % (name, command, b"\r" * command.endswith(b"\r"))
 
 
-def _output(script: Script, server: Sequence[str]) -> bytes:
-    words = [*server, "run", *["--half"] * script.half]
+def _output(script: Script, server: Sequence[str], options: Sequence[str], until: float | None) -> bytes:
+    words = [*server, "run", *["--half"] * script.half, *options]
     try:
         # In a session of its own, so that all that the server starts can be ended with it.
         process = subprocess.Popen(words, stdin=subprocess.PIPE, stdout=subprocess.PIPE, start_new_session=True)
     except OSError as error:
         raise NotStarted(f"{server[0]} does not start: {error.strerror}", 127) from error
     try:
-        output = process.communicate(bytes(script))[0]
-    except BaseException:
+        output = process.communicate(bytes(script), None if until is None else max(0, until - monotonic()))[0]
+    except BaseException as error:
         with contextlib.suppress(ProcessLookupError):
             os.killpg(process.pid, signal.SIGTERM)
-        process.wait()
+        process.communicate()
+        if isinstance(error, subprocess.TimeoutExpired):
+            raise OutOfTime("the server took too long", 128 + signal.SIGTERM) from error
         raise
     status = process.returncode if process.returncode >= 0 else 128 - process.returncode
     if status:

@@ -1,6 +1,9 @@
-"""The folder that this package stands in: that of the starters, the documents and the examples."""
+"""The folder of the starter `scadserve`, of the documents and the examples."""
 
 import os
 
-#: The folder of the starters `scadserve`, `scad2off` and so on.
-TOP = os.path.dirname(os.path.dirname(os.path.dirname(os.path.realpath(__file__))))
+_PACKAGE = os.path.dirname(os.path.realpath(__file__))
+_INSTALLED = os.path.join(_PACKAGE, "release")
+
+#: The top of the repository or of a release. What pip installs has the part of it that is needed beside the modules.
+TOP = _INSTALLED if os.path.isdir(_INSTALLED) else os.path.dirname(os.path.dirname(_PACKAGE))

@@ -1,9 +1,14 @@
-"""The gate ends with the status of `rt ci` where that fails, and else with that of tools/check.sh, which counts tests."""
+"""The gate ends with the status of `rt ci` where that fails, and else with that of tools/check.sh, which counts tests. What it
+leaves for the starter and for releases is that of one commit, and of sources that nobody touched while it ran."""
 
+import hashlib
 import os
 import shutil
+import unittest
 
 from tests.calls import TOP, Calls
+
+needs_git = unittest.skipUnless(shutil.which("git"), "git is not installed")
 
 CASE = "import unittest\nclass Case(unittest.TestCase):\n"
 PASSES = CASE + "    def test(self):\n        pass\n"
@@ -11,29 +16,103 @@ FAILS = CASE + "    def test(self):\n        for it in 1, 2:\n            with s
 SKIPS = CASE + "    @unittest.skip('not here')\n    def test(self):\n        pass\n"
 
 
+RT = """#!/bin/sh
+case $1 in
+version) echo "the kit of this test" ;;
+ci)
+    echo "rt $*"
+    mkdir -p crates/scadserve/out
+    echo "the program" >crates/scadserve/out/scadserve
+    chmod +x crates/scadserve/out/scadserve
+    {also}
+    echo "7 passed, {failed} failed"
+    exit {status}
+    ;;
+esac
+"""
+
+
 class Gate(Calls):
     def setUp(self):
         super().setUp()
-        os.makedirs(self.path("top/tools"))
-        os.makedirs(self.path("bin"))
-        self.environment["PATH"] = self.path("bin") + ":" + os.environ["PATH"]
+        for folder in ("bin", "top/tools", "top/.ci", "top/crates/scadserve/src"):
+            os.makedirs(self.path(folder))
+        for name in ("tools/built.sh", ".ci/run"):
+            shutil.copy(os.path.join(TOP, name), self.path(f"top/{name}"))
+        for name, text in ((".gitignore", "out/\n"), ("crates.txt", "scadserve:\n"), ("HANDLES", "")):
+            self.write(f"top/{name}", text)
+        self.write("top/crates/scadserve/src/main.rt", "")
+        self.environment.update(PATH=self.path("bin") + ":" + os.environ["PATH"], XDG_STATE_HOME=self.path("state"))
+        # (no settings of this machine's user)
+        self.environment.update(GIT_CONFIG_GLOBAL="/dev/null", GIT_CONFIG_NOSYSTEM="1")
 
-    def gate(self, of_rt, of_check):
+    def commit(self):
+        """Makes the folder a repository with one commit, and gives its name."""
+        self.write("top/tools/check.sh", "echo '3 passed, 0 failed'\n")
+        self.write("top/tools/house.py", "")
+        who = ["-c", "user.name=a", "-c", "user.email=a@b"]
+        for words in (["init", "-q"], ["add", "-A"], [*who, "commit", "-q", "-m", "all"], ["rev-parse", "HEAD"]):
+            status, out, error = self.call("-C", "top", *words, tool="git")
+            self.assertEqual(status, 0, error)
+        return out.decode().strip()
+
+    def gate(self, of_rt, of_check=None, also=":"):
         """The status of the gate, and the lines that the two commands leave."""
-        self.write("bin/rt", f"#!/bin/sh\necho rt \"$@\"\nexit {of_rt}\n")
+        self.write("bin/rt", RT.format(status=of_rt, failed=int(of_rt > 0), also=also))
         os.chmod(self.path("bin/rt"), 0o755)
-        self.write("top/tools/check.sh", f"echo check \"$@\"\nexit {of_check}\n")
-        words = ["-c", 'cd top && bash "$0"', os.path.join(TOP, ".ci", "run")]
-        status, out, _ = self.call(*words, tool="bash")
+        if of_check is not None:
+            self.write("top/tools/house.py", "")
+            self.write("top/tools/check.sh", f"echo check \"$@\"\nexit {of_check}\n")
+        status, out, error = self.call("-c", "cd top && bash .ci/run", tool="bash")
+        self.said = error.decode()
         return status, out.decode().splitlines()
 
     def test_the_tests_follow_a_plain_rt_ci_that_passes(self):
-        self.assertEqual(self.gate(0, 0), (0, ["rt ci", "check"]))
-        self.assertEqual(self.gate(0, 1), (1, ["rt ci", "check"]))
+        self.assertEqual(self.gate(0, 0), (0, ["rt ci", "7 passed, 0 failed", "check"]))
+        self.assertEqual(self.gate(0, 1), (1, ["rt ci", "7 passed, 0 failed", "check"]))
+        self.assertNotIn("gate", os.listdir(self.path("top/out")))
 
     def test_a_failure_of_rt_ci_ends_it(self):
-        self.assertEqual(self.gate(1, 0), (1, ["rt ci"]))
-        self.assertEqual(self.gate(3, 0), (3, ["rt ci"]))
+        self.assertEqual(self.gate(1, 0), (1, ["rt ci", "7 passed, 1 failed"]))
+        self.assertEqual(self.gate(3, 0), (3, ["rt ci", "7 passed, 1 failed"]))
+        self.assertNotIn("scadserve.proved", os.listdir(self.path("top/crates/scadserve/out")))
+
+    @needs_git
+    def test_a_green_gate_of_a_commit_is_kept(self):
+        commit = self.commit()
+        self.assertEqual(self.gate(0)[0], 0)
+        program = hashlib.sha256(b"the program\n").hexdigest()
+        empty = hashlib.sha256(b"").hexdigest()
+        listed = f"{empty}  HANDLES\n{hashlib.sha256(b'scadserve:' + bytes([10])).hexdigest()}  crates.txt\n"
+        listed += f"{empty}  crates/scadserve/src/main.rt\n"
+        sources = hashlib.sha256(listed.encode()).hexdigest()
+        wanted = f"commit {commit}\nkit the kit of this test\ngate 7 passed, 0 failed\ntests 3 passed, 0 failed\n"
+        self.assertEqual(self.read("top/out/gate").decode(), f"{wanted}program {program}\nsources {sources}\n")
+        record = f"{program} {sources}\n".encode()
+        self.assertEqual(self.read("top/crates/scadserve/out/scadserve.proved"), record)
+        self.assertEqual(self.read("state/scadserve/proved"), record)
+        # A red one after it leaves none.
+        self.assertEqual(self.gate(1)[0], 1)
+        self.assertNotIn("gate", os.listdir(self.path("top/out")))
+
+    @needs_git
+    def test_a_tree_with_changes_is_no_commit(self):
+        self.commit()
+        self.write("top/README.md", "more")
+        self.assertEqual(self.gate(0)[0], 0)
+        self.assertIn("makes no release", self.said)
+        self.assertNotIn("gate", os.listdir(self.path("top/out")))
+        self.assertIn("scadserve.proved", os.listdir(self.path("top/crates/scadserve/out")))
+
+    @needs_git
+    def test_sources_that_were_touched_meanwhile_are_not_noted(self):
+        self.commit()
+        # (changed, and changed back)
+        changed = "mv crates/scadserve/src/main.rt was; echo x >crates/scadserve/src/main.rt; rm crates/scadserve/src/main.rt; "
+        self.assertEqual(self.gate(0, also=changed + "mv was crates/scadserve/src/main.rt")[0], 0)
+        self.assertIn("sources were touched while it ran", self.said)
+        self.assertNotIn("gate", os.listdir(self.path("top/out")))
+        self.assertNotIn("scadserve.proved", os.listdir(self.path("top/crates/scadserve/out")))
 
 
 class Counts(Calls):

@@ -19,7 +19,7 @@ from tests import calls
 from tests.calls import PROGRAM, needs_program
 
 TOP = Path(calls.TOP)
-DOCUMENTS = [TOP / "README.md", *sorted((TOP / "docs").glob("*.md"))]
+DOCUMENTS = [*sorted(TOP.glob("*.md")), *sorted((TOP / "docs").rglob("*.md"))]
 
 SECTION = re.compile(
     r"## (?P<word>\w+)\n\n(?:(?P<block>(?:    .+\n)+)|Source: none is known.+\n)\n"
@@ -84,7 +84,7 @@ class Faults(unittest.TestCase):
     """docs/FAULTS.md."""
 
     def test_each_word_has_a_section(self) -> None:
-        wanted = {"complex", "nomem", "Empty"}
+        wanted = {"complex", "nomem", "Empty", "NoFile", "Ring", "TooManyFiles", "BadUnit"}
         for file, pattern in WORDS.items():
             found = re.findall(pattern, (TOP / file).read_text(encoding="utf-8"), re.MULTILINE)
             self.assertTrue(found, file)

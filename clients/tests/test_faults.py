@@ -44,7 +44,7 @@ class Lines(unittest.TestCase):
         ("NotWhole", b"cube(.5e1);", 6, ".5e1 is no whole number"),
         ("NotWhole", b"w = 7 / 2;", 7, "what / gives is no whole number"),
         ("NotWhole", b"w = pow(2, -1);", 5, "what pow gives is no whole number"),
-        ("TooLarge", b"w = 9007199254740992;", 5, "at 9007199254740992 a number is past its limit"),
+        ("TooLarge", b"w = 9007199254740992;", 5, "at 9007199254740992 a number is past 2^53 - 1, or 65,535 in a multmatrix"),
         ("UnknownName", b"cube($x);", 6, "$x has no value here"),
         ("UnknownModule", b"cub(1);", 1, "there is no module cub"),
         ("NotInProfile", b"x = 2 ^ 3;", 7, "^ is left out of this profile of OpenSCAD"),
@@ -57,7 +57,7 @@ class Lines(unittest.TestCase):
         ("BadCharacter", b"\xef\xbb\xbfcube(1);", 1, "a byte order mark can't stand here"),
         ("BadCharacter", b"x = \xef\xbb\xbf\xc3\xa4;", 5, "\\ufeffä can't stand here"),
         ("BadCharacter", b"cube(\x00);", 6, "\\x00 can't stand here"),
-        ("OutOfRange", b"  cube(9999);", 3, "a coordinate of cube is past its limit"),
+        ("OutOfRange", b"  cube(9999);", 3, "a coordinate of cube is past 4,095, or with --half past 2,047"),
         ("SomethingNew", b"cube(1);", 1, "SomethingNew"),
     ]
 
@@ -77,7 +77,13 @@ class Lines(unittest.TestCase):
             ("NotWhole", b"w = 7 / 2;", 7, "(w - w % 2) / 2"),
             ("NotWhole", b"cube(1E1);", 6, "without an exponent, 10 for 1e1"),
             ("BadCharacter", b"cube(0x10);", 7, "names begin with a letter or _"),
+            ("NotWhole", b"cube(0.01);", 6, "leave it out: touching faces are exact"),
+            ("NotWhole", b"cube(.001);", 6, "leave it out: touching faces are exact"),
+            ("NotWhole", b"cube(0.1);", 6, "off2stl --unit 1/10"),
             ("BadCharacter", b"cube(\x00);", 6, "without a byte order mark"),
+            ("BadCharacter", b"\xef\xbb\xbfcube(1);", 1, "save without it"),
+            ("BadCharacter", b"\xff\xfec\x00", 1, "save without it, as plain text in UTF-8"),
+            ("BadCharacter", b"x = \xef\xbb\xbf1;", 5, "any byte may stand in comments"),
         ):
             with self.subTest(line=line):
                 self.assertIn(part, faults.what_is_wrong(word, line, column)[1])

@@ -2,7 +2,9 @@
 
 import contextlib
 import io
+import math
 import os
+import re
 import shutil
 import subprocess
 import tempfile
@@ -64,20 +66,66 @@ BY_HAND = {
 }
 
 
+def polygon(corners: int) -> float:
+    """The area of a regular polygon on a circle of the radius 1."""
+    return corners / 2 * math.sin(2 * math.pi / corners)
+
+
+def stack(corners: int, profile) -> float:
+    """The volume of frustums over regular polygons, whose radii and heights are the profile's."""
+    return polygon(corners) * sum((z - y) * (q * q + q * r + r * r) / 3 for (q, y), (r, z) in zip(profile, profile[1:]))
+
+
+def rounded(wide: float, deep: float, radius: float) -> float:
+    """The area of a rectangle whose corners are quarters of a regular polygon of 24 corners."""
+    return wide * deep - (4 - polygon(24)) * radius**2
+
+
+def half_ball(radius: float) -> float:
+    """The volume of the lower half of a ball of 24 corners and 12 rings: from the lowest ring to the middle."""
+    angles = [math.radians(15 * it + 7.5) for it in range(6)]
+    rings = [(radius * math.sin(it), -radius * math.cos(it)) for it in angles]
+    return stack(24, [*rings, (rings[-1][0], 0)])
+
+
+GROOVE = [(14, 0), (14, 1.5), (10.2, 4.5), (14, 7.5), (14, 9)]
+BORE = [(3.8, 0), (3.2, 0.6), (3.2, 4.6), (3.8, 5.2)]
+SLOT_24 = 12 * 1.8 * 7.2
+#: Volume, box and about the surface of each round part, by the formulas of regular polygons, in OpenSCAD's lengths.
+ROUND = {
+    "pulley": (stack(48, GROOVE) - stack(48, [(2.5, 0), (2.5, 9)]), (28, 28, 9), 2200),
+    # (what goes round an axis has the volume of its shape times the way of its middle, here along chords)
+    "ring": (2 * polygon(24) * 12.5 * polygon(12) * 3.2**2, (31.4, 31.4, 6.4), 1600),
+    "enclosure": (rounded(62.4, 41.8, 4) * 23.5 - rounded(58.8, 38.2, 2.2) * 21.7 - SLOT_24, (62.4, 41.8, 23.5), 15000),
+    "nut": (polygon(6) * 5.75**2 * 5.2 - stack(24, BORE), (11.5, 11.5 * math.sqrt(3) / 2, 5.2), 400),
+    "bowl": (half_ball(20) - half_ball(18.4), (40 * math.cos(math.radians(7.5)), 40 * math.cos(math.radians(7.5)), 19.83), 5000),
+}
+
+
 class Parts(unittest.TestCase):
     def test_the_parts_are_those_with_sources(self):
         names = sorted(name[: -len(".scad")] for name in os.listdir(f"{TOP}/gallery") if name.endswith(".scad"))
         self.assertEqual(names, sorted(gallery.PARTS))
-        self.assertEqual(names, sorted(BY_HAND))
+        self.assertEqual(names, sorted([*BY_HAND, *ROUND]))
         self.assertEqual(names, sorted(solids.gallery()))
 
     def test_volumes_and_boxes_by_hand(self):
-        for name, text in solids.gallery().items():
+        for name, (expected, sides) in BY_HAND.items():
             with self.subTest(name):
-                boundary = read(text)
-                expected, sides = BY_HAND[name]
+                boundary = read(solids.gallery()[name])
                 self.assertEqual(volume(boundary), Volume(Fraction(expected), True))
                 self.assertEqual(tuple(high - low for low, high in box(boundary)), sides)
+
+    def test_round_parts_are_as_large_as_their_own_lengths_say(self):
+        for name, (expected, sides, surface) in ROUND.items():
+            with self.subTest(name):
+                boundary = read(solids.gallery()[name])
+                with open(f"{TOP}/gallery/{name}.scad", encoding="ascii") as source:
+                    unit = Fraction(re.search("^// unit: (.+)$", source.read(), re.MULTILINE)[1])
+                # (a corner is moved by less than a step of the grid)
+                self.assertAlmostEqual(float(volume(boundary).value * unit**3), expected, delta=surface * unit)
+                for (low, high), side in zip(box(boundary), sides):
+                    self.assertAlmostEqual(float((high - low) * unit), side, delta=float(unit))
 
     def test_none_touches_itself(self):
         for name, text in solids.gallery().items():
@@ -114,7 +162,7 @@ class Made(unittest.TestCase):
 
     def test_the_script(self):
         done = subprocess.run([f"{TOP}/tools/gallery.sh", "--kept", "--compare"], stdout=subprocess.PIPE, check=False)
-        self.assertEqual((done.returncode, done.stdout), (0, b"27 files compared, 0 differ\n"))
+        self.assertEqual((done.returncode, done.stdout), (0, b"65 files compared, 0 differ\n"))
 
     def test_faults(self):
         with tempfile.TemporaryDirectory() as top, mock.patch("scadserve.gallery.TOP", top):

@@ -55,35 +55,45 @@ class Telling(Case):
         return line[len("a.4off: ") : -1]
 
     def test_the_bracket(self):
-        expected = "46 faces, 120 triangles, closed; box 20 x 12 x 16; volume 824; 0 corners rounded"
+        expected = "46 faces, 72 triangles, 1 part, closed; unit 1 mm; box 20 x 12 x 16; volume 824"
         self.assertEqual(self.told(gallery()["bracket"]), expected)
 
     def test_a_unit(self):
-        self.assertEqual(self.told(BLOCK), "6 faces, 12 triangles, closed; box 20 x 12 x 16; volume 3840; 0 corners rounded")
+        self.assertEqual(self.told(BLOCK), "6 faces, 12 triangles, 1 part, closed; unit 1 mm; box 20 x 12 x 16; volume 3840")
         for unit, rest in (
-            ("1/10", "box 2 x 1.2 x 1.6; volume 3.84; 0 corners rounded"),
-            ("0.1", "box 2 x 1.2 x 1.6; volume 3.84; 0 corners rounded"),
-            ("25.4", "box 508 x 304.8 x 406.4; volume 62926325.76; 0 corners rounded"),
-            ("1/3", "box 20/3 x 4 x 16/3; volume 1280/9; 6 corners rounded"),
+            ("1/10", "unit 0.1 mm; box 2 x 1.2 x 1.6; volume 3.84"),
+            ("0.1", "unit 0.1 mm; box 2 x 1.2 x 1.6; volume 3.84"),
+            ("25.4", "unit 25.4 mm; box 508 x 304.8 x 406.4; volume 62926325.76"),
+            ("1/3", "unit 1/3 mm; box 20/3 x 4 x 16/3; volume 1280/9; 6 corners rounded to the nearest the format has"),
         ):
-            self.assertEqual(self.told(BLOCK, "--unit", unit), f"6 faces, 12 triangles, closed; {rest}")
+            self.assertEqual(self.told(BLOCK, "--unit", unit), f"6 faces, 12 triangles, 1 part, closed; {rest}")
 
     def test_thirds_are_rounded(self):
         # The corner that is cut off has the legs 1, 2/3 and 2/3: a sixth of their product is missing, 2/27.
-        expected = "7 faces, 14 triangles, closed; box 1 x 1 x 1; volume 25/27; 2 corners rounded"
-        self.assertEqual(self.told(CUT_CUBE), expected)
-        expected = "7 faces, 14 triangles, closed; box 3 x 3 x 3; volume 25; 0 corners rounded"
+        expected = "7 faces, 14 triangles, 1 part, closed; unit 1 mm; box 1 x 1 x 1; volume 25/27; 2 corners rounded "
+        self.assertEqual(self.told(CUT_CUBE), expected + "to the nearest the format has")
+        expected = "7 faces, 14 triangles, 1 part, closed; unit 3 mm; box 3 x 3 x 3; volume 25"
         self.assertEqual(self.told(CUT_CUBE, "--unit", "3"), expected)
 
     def test_a_solid_that_touches_itself(self):
         cube = box((0, 0, 0), (1, 1, 1))
-        self.assertIn("closed, 1 edge of more than two faces; box", self.told(off(cube + box((1, 1, 0), (2, 2, 1)))))
-        self.assertIn("closed, 1 corner where it touches itself; box", self.told(off(cube + box((1, 1, 1), (2, 2, 2)))))
+        told = self.told(off(cube + box((1, 1, 0), (2, 2, 1))))
+        self.assertIn(" 24 triangles, 2 parts, closed, 1 edge of more than two faces; unit", told)
+        told = self.told(off(cube + box((1, 1, 1), (2, 2, 2))))
+        self.assertIn(" 24 triangles, 2 parts, closed, 1 corner where it touches itself; unit", told)
+
+    def test_a_hollow(self):
+        hollow = [face[::-1] for face in box((1, 1, 1), (2, 2, 2))]
+        told = self.told(off(box((0, 0, 0), (3, 3, 3)) + hollow))
+        self.assertEqual(told, "12 faces, 24 triangles, 1 part with 1 hollow, closed; unit 1 mm; box 3 x 3 x 3; volume 26")
 
     def test_corners_that_rounding_makes_one(self):
         thin = off(box((0, 0, 1), (1, 1, 1 + Fraction(1, 10**30))))
-        expected = "6 faces, 4 triangles, closed; box 1 x 1 x 1/1" + 30 * "0"
-        self.assertEqual(self.told(thin), f"{expected}; volume 1/1{30 * '0'}; 4 corners rounded, 8 triangles lost by that")
+        # Of twelve triangles the two of the top and the two of the floor are left. Where these have a diagonal in common,
+        # a corner inside one of the two tells them apart.
+        expected = "6 faces, 6 triangles, 1 part, closed; unit 1 mm; box 1 x 1 x 1/1" + 30 * "0"
+        rounded = "4 corners rounded to the nearest the format has, 8 triangles lost by that"
+        self.assertEqual(self.told(thin), f"{expected}; volume 1/1{30 * '0'}; {rounded}")
         self.assert_closed(self.triangles("a.stl")[0], 0)
 
     def test_a_volume_with_too_many_digits(self):
@@ -93,10 +103,16 @@ class Telling(Case):
         tetrahedron = [[tips[a], tips[b], tips[c]] for a, b, c in ((0, 2, 1), (0, 1, 3), (0, 3, 2), (1, 2, 3))]
         self.assertIn("; volume about 1.66666666667e-109; ", self.told(off(tetrahedron)))
 
+    def test_an_edge_that_no_point_can_be_put_inside(self):
+        far = Fraction(4095)
+        near = far + Fraction(1, 2**41)
+        told = self.told(off(box((far, far, 1), (near, near, 1 + Fraction(1, 10**30)))))
+        self.assertIn("6 faces, 4 triangles, 1 part, closed, 1 edge of more than two triangles; unit 1 mm; ", told)
+
     def test_info_writes_nothing(self):
         file = self.file("a.4off", BLOCK)
         done = subprocess.run([TOP + "/off2stl", "--info", file], capture_output=True, check=True)
-        expected = "6 faces, 12 triangles, closed; box 20 x 12 x 16; volume 3840; 0 corners rounded"
+        expected = "6 faces, 12 triangles, 1 part, closed; unit 1 mm; box 20 x 12 x 16; volume 3840"
         self.assertEqual(done.stdout.decode(), f"{file}: {expected}\n")
         self.assertEqual((done.stderr, os.listdir(self.folder)), (b"", ["a.4off"]))
 
@@ -110,7 +126,7 @@ class Formats(Case):
 
     def test_stl(self):
         triangles, normals = self.triangles(self.write(off(split_box()), "stl", "--unit", "1/10"))
-        self.assertEqual(len(triangles), 16)
+        self.assertEqual(len(triangles), 12)
         self.assert_closed(triangles, Fraction(2, 1000))
         self.assertEqual(set(normals), {(1, 0, 0), (-1, 0, 0), (0, 1, 0), (0, -1, 0), (0, 0, 1), (0, 0, -1)})
         self.assertTrue(self.bytes_of("new.stl").startswith(b"solid a_b\nfacet normal -1 0 0\nouter loop\n"))
@@ -125,8 +141,8 @@ class Formats(Case):
     def test_binary_stl(self):
         data = self.bytes_of(self.write(off(split_box()), "stl", "--format", "binstl", "--unit", "1/2"))
         self.assertEqual(data[:18], b"binary STL of a_b\0")
-        self.assertEqual((len(data), struct.unpack_from("<I", data, 80)), (84 + 50 * 16, (16,)))
-        records = [struct.unpack_from("<12fH", data, 84 + 50 * at) for at in range(16)]
+        self.assertEqual((len(data), struct.unpack_from("<I", data, 80)), (84 + 50 * 12, (12,)))
+        records = [struct.unpack_from("<12fH", data, 84 + 50 * at) for at in range(12)]
         self.assert_closed([(r[3:6], r[6:9], r[9:12]) for r in records], Fraction(1, 4))
         self.assertEqual({r[12] for r in records}, {0})
 
@@ -135,20 +151,22 @@ class Formats(Case):
         # 20, 12 and 16 times 2 to the power 24 and 1 have too many bits for a single, and none for a double.
         for unit, rounded in (("1/10", 6), ("1/4", 0), ("1/134217728", 0), ("16777217", 7)):
             _, line = self.call("--format", "binstl", "--unit", unit, "-o", self.path("a.stl"), file)
-            self.assertTrue(line.endswith(f"; {rounded} corners rounded\n"), line)
+            said = f"; {rounded} corners rounded to the nearest the format has\n" if rounded else "; volume"
+            self.assertIn(said, line)
+            self.assertEqual("rounded" in line, rounded > 0, line)
 
     def test_off_and_obj(self):
         lines = self.bytes_of(self.write(off(split_box()), "off")).decode().split("\n")
-        self.assertEqual((lines[:2], lines.pop()), (["OFF", "10 16 0"], ""))
-        points = [tuple(map(Fraction, line.split())) for line in lines[2:12]]
-        faces = [list(map(int, line.split())) for line in lines[12:]]
+        self.assertEqual((lines[:2], lines.pop()), (["OFF", "8 12 0"], ""))
+        points = [tuple(map(Fraction, line.split())) for line in lines[2:10]]
+        faces = [list(map(int, line.split())) for line in lines[10:]]
         self.assertEqual({face[0] for face in faces}, {3})
         self.assert_closed([tuple(points[at] for at in face[1:]) for face in faces], 2)
         lines = self.bytes_of(self.write(off(split_box()), "obj")).decode().split("\n")
         self.assertEqual((lines[0], lines.pop()), ("o a_b", ""))
-        self.assertEqual([tuple(map(Fraction, line[2:].split())) for line in lines[1:11]], points)
-        others = [tuple(points[int(at) - 1] for at in line[2:].split()) for line in lines[11:]]
-        self.assertEqual({line[:2] for line in lines[11:]}, {"f "})
+        self.assertEqual([tuple(map(Fraction, line[2:].split())) for line in lines[1:9]], points)
+        others = [tuple(points[int(at) - 1] for at in line[2:].split()) for line in lines[9:]]
+        self.assertEqual({line[:2] for line in lines[9:]}, {"f "})
         self.assert_closed(others, 2)
 
     def test_3mf(self):
@@ -165,21 +183,72 @@ class Formats(Case):
         points = [tuple(Fraction(vertex.get(axis)) for axis in "xyz") for vertex in model.iter(core + "vertex")]
         triangles = [tuple(points[int(it.get(f"v{at}"))] for at in "123") for it in model.iter(core + "triangle")]
         self.assert_closed(triangles, 2)
+        said = {it.get("name"): it.text for it in model.iter(core + "metadata")}
+        self.assertEqual(said, {"Title": "a b", "Description": "a unit of the source is 1 mm"})
         item, thing = model.find(f"{core}build/{core}item"), model.find(f"{core}resources/{core}object")
         self.assertEqual(item.get("objectid"), thing.get("id"))
         self.write(off(split_box()), "3mf")
         self.assertEqual(self.bytes_of(name), first)
+
+    def test_names_in_other_alphabets_are_kept_where_a_format_has_them(self):
+        file = self.file("Gehäuse & \u03a9\x07.4off", BLOCK)
+        for ending, name in (("3mf", "Gehäuse & \u03a9_"), ("stl", "Geh_use_____"), ("obj", "Geh_use_____")):
+            self.assertEqual(self.call("-o", self.path("new." + ending), file)[0], 0)
+            if ending == "3mf":
+                with zipfile.ZipFile(self.path("new.3mf")) as package:
+                    model = ElementTree.fromstring(package.read("3D/3dmodel.model"))
+                self.assertEqual(next(it.get("name") for it in model.iter() if it.tag.endswith("object")), name)
+            else:
+                first = self.bytes_of("new." + ending).decode("ascii").splitlines()[0]
+                self.assertEqual(first.split(" ", 1)[1], name)
 
     def test_capital_endings_and_formats_that_are_told(self):
         self.assertTrue(self.bytes_of(self.write(BLOCK, "OBJ")).startswith(b"o a_b\n"))
         self.assertTrue(self.bytes_of(self.write(BLOCK, "txt", "--format", "off")).startswith(b"OFF\n"))
 
 
+class Many(Case):
+    def test_many_files_go_to_a_folder(self):
+        files = [self.file("a.4off", BLOCK), self.file("b.off", CUT_CUBE), self.file("c d.4off", off(split_box()))]
+        status, said = self.call("-d", self.path("out"), "--unit", "1/10", *files)
+        self.assertEqual(status, 0, said)
+        self.assertEqual(sorted(os.listdir(self.path("out"))), ["a.stl", "b.off.stl", "c d.stl"])
+        self.assertEqual(re.findall(r"^([\w .]+): .* unit 0.1 mm; ", said, re.MULTILINE), ["a.4off", "b.off", "c d.4off"])
+        self.assertEqual(said.splitlines()[3:], ["3 files: 3 solids, 0 faults"])
+        for form, ending in (("3mf", ".3mf"), ("binstl", ".stl"), ("obj", ".obj")):
+            self.assertEqual(self.call("-d", self.path(form), "--format", form, *files)[0], 0)
+            self.assertIn("a" + ending, os.listdir(self.path(form)))
+
+    def test_what_is_wrong_with_one_stops_no_other(self):
+        files = [self.path("none.4off"), self.file("a.4off", BLOCK), self.file("b.4off", EMPTY), self.file("c.4off", b"x\n")]
+        status, said = self.call("-d", self.path("out"), *files)
+        self.assertEqual((status, os.listdir(self.path("out"))), (2, ["a.stl"]))
+        self.assertIn("off2stl: cannot open none.4off: No such file or directory\n", said)
+        self.assertIn("b.4off: error: the solid is empty, so nothing is written\n", said)
+        self.assertIn("c.4off:1: error: the first line is not '4OFF'\n", said)
+        self.assertTrue(said.endswith("\n4 files: 1 solid, 1 fault, 2 not read or written\n"), said)
+
+    def test_info_of_many(self):
+        files = [self.file("a.4off", BLOCK), self.file("b.4off", CUT_CUBE)]
+        done = subprocess.run([TOP + "/off2stl", "--info", *files], capture_output=True, check=True)
+        self.assertEqual([line.split(":")[0] for line in done.stdout.decode().splitlines()], files)
+
+    def test_words(self):
+        files = [self.file("a.4off", BLOCK), self.file("b.4off", BLOCK)]
+        self.assert_fault(2, files, "off2stl: several FILEs need -d DIR")
+        self.assert_fault(2, ["-o", self.path("a.stl"), *files], "off2stl: several FILEs need -d DIR")
+        self.assert_fault(2, ["-o", self.path("a.stl"), "-d", self.path("out"), files[0]], "-o and -d can't both be given")
+        self.assert_fault(2, ["-d", self.path("out"), files[0], files[0]], "would both be written to out/a.stl")
+        self.assert_fault(2, ["-d", self.path("out"), "-"], "`-` is read once, and has no name for -d")
+        self.assert_fault(2, ["--info", "-d", self.path("out"), files[0]], "--info writes no solid, so it takes no -o and no -d")
+        self.assert_fault(2, ["-d", self.path("a.4off/x"), files[0]], "off2stl: cannot make the folder a.4off/x: Not a directory")
+
+
 class Faults(Case):
     def test_the_empty_solid(self):
         file = self.file("a.4off", EMPTY)
-        self.assert_fault(1, ["-o", self.path("a.stl"), file], "a.4off: the solid is empty, so nothing is written\n")
-        self.assert_fault(1, ["--info", file], "a.4off: the solid is empty")
+        self.assert_fault(1, ["-o", self.path("a.stl"), file], "a.4off: error: the solid is empty, so nothing is written\n")
+        self.assert_fault(1, ["--info", file], "a.4off: error: the solid is empty")
 
     def test_words(self):
         file = self.file("a.4off", BLOCK)
@@ -222,7 +291,7 @@ class Faults(Case):
     def test_a_solid_that_rounding_makes_one_point(self):
         # Near 1 singles are 6e-8 apart, and doubles 1e-16.
         tiny = self.file("a.4off", off(box((1, 1, 1), [1 + Fraction(1, 10**9)] * 3)))
-        said = "a.4off: rounding makes one corner of all, so nothing is written: "
+        said = "a.4off: error: rounding makes one corner of all, so nothing is written: "
         self.assert_fault(1, ["--format", "binstl", "-o", self.path("a.stl"), tiny], said)
         self.assertEqual(self.call("-o", self.path("a.stl"), tiny)[0], 0)
 
@@ -232,18 +301,22 @@ class Faults(Case):
 
     def test_texts(self):
         for data, said in (
-            (b"", "a.4off:1: the text is empty\n"),
-            (b"part.scad:2:10: error: NotWhole\n", "a.4off:1: the first line is not '4OFF'\n"),
-            (BLOCK[:-1], "a.4off:16: the text breaks off: no newline at its end\n"),
-            (off(box((0, 0, 0), (1, 1, 1))[1:]), "a.4off: not closed: 4 edges are not met as often one way as the other\n"),
-            (off([face[::-1] for face in box((0, 0, 0), (1, 2, 3))]), "a.4off: its faces look inward: the volume is -6\n"),
+            (b"", "a.4off:1: error: the text is empty\n"),
+            (b"part.scad:2:10: error: NotWhole\n", "a.4off:1: error: the first line is not '4OFF'\n"),
+            (BLOCK[:-1], "a.4off:16: error: the text breaks off: no newline at its end\n"),
+            (off(box((0, 0, 0), (1, 1, 1))[1:]), "a.4off: error: not closed: 4 edges are not met as often one way as the other\n"),
+            (off([face[::-1] for face in box((0, 0, 0), (1, 2, 3))]), "a.4off: error: its faces look inward: the volume is -6\n"),
         ):
+            words = ["-o", self.path("old.stl"), self.file("a.4off", data)]
             self.file("old.stl", b"as it was")
-            self.assert_fault(2, ["-o", self.path("old.stl"), self.file("a.4off", data)], said)
+            self.assertEqual(self.call(*words), (2, f"{said}old.stl: warning: it stays as it was, and is not of this source\n"))
             self.assertEqual(self.bytes_of("old.stl"), b"as it was")
+            self.file("old.stl", b"solid a\nendsolid a\n")
+            self.assertEqual(self.call(*words), (2, f"{said}old.stl: removed, since it was made of an earlier source\n"))
+            self.assertEqual(os.listdir(self.folder), ["a.4off"])
 
     def test_a_source_is_told_as_that(self):
-        said = "part.scad:1: the first line is not '4OFF': scad2off makes a 4OFF text of a source\n"
+        said = "part.scad:1: error: the first line is not '4OFF': scad2off makes a 4OFF text of a source\n"
         self.assert_fault(2, ["-o", self.path("a.stl"), self.file("part.scad", b"cube(2);\n")], said)
 
     def test_a_write_that_fails_leaves_the_old_file(self):

@@ -7,11 +7,14 @@ import subprocess
 import unittest
 import xml.etree.ElementTree as ElementTree
 from fractions import Fraction
+from unittest import mock
 
+from scadserve import off2painter
 from scadserve import off2svg
 from scadserve.closing import close, line_through
 from scadserve.fouroff import flatten, read, turn
-from scadserve.off2painter import Patch, crossing, divide, outline, painted, side, visible_patches
+from scadserve.off2painter import Patch, crossing, divide, outline, painted, side, visible
+from scadserve.off2painter import _sides as sides
 from scadserve.off2svg import Camera
 from tests import tool_case
 from tests.calls import TOP
@@ -20,7 +23,7 @@ from tests.solids import CUT_CUBE, EMPTY, box, comb, examples, gallery, off, spl
 def patches(data, view):
     """The patches of a solid in the order in which they are painted."""
     boundary = read(data)
-    return list(painted(visible_patches(boundary, close(boundary), view)))
+    return list(painted(visible(off2painter.patches(boundary, close(boundary)), view), view))
 
 
 def leaning_bars():
@@ -38,6 +41,20 @@ def leaning_bars():
         + bar(lambda x, y, z: (10 - x, 10 - y, z))
         + bar(lambda x, y, z: (y, 10 - x, z))
     )
+
+
+def drum(sides, y=0):
+    """A prism of 9 over a polygon without a dent, whose corners lie on a circle of 10 round (0, y)."""
+    ring = []
+    for at in range(sides):
+        part = Fraction(at % (sides // 4), sides // 4)
+        across, up = (1 - part**2) / (1 + part**2), 2 * part / (1 + part**2)
+        for _ in range(at // (sides // 4)):
+            across, up = -up, across
+        ring.append((10 * across, 10 * up + y))
+    low, high = ([(x, y, Fraction(z)) for x, y in ring] for z in (0, 9))
+    walls = [[low[at - 1], low[at], high[at], high[at - 1]] for at in range(sides)]
+    return [low[::-1], high, *walls]
 
 
 class Cameras(unittest.TestCase):
@@ -94,6 +111,31 @@ class Painting(unittest.TestCase):
         for name, text in {**gallery(), "cut cube": CUT_CUBE, "bars": off(leaning_bars())}.items():
             with self.subTest(name):
                 self.assert_in_order(text, view, 8)
+
+    def test_bodies_of_many_planes(self):
+        # Each plane has all others behind it, so none of them divides the rest.
+        data = off(drum(160))
+        order = patches(data, Camera(30, 30).view)
+        self.assertLess(len(order), 81 + 20)
+        self.assert_in_order(data, Camera(30, 30).view, 8)
+        # Two of them, one before the other, with a dent between them.
+        self.assert_in_order(off(drum(100) + drum(100, 30)), (3, -20, 5), 8)
+
+    def test_many_planes_are_not_tried_each_with_all(self):
+        looked_at = []
+
+        def counting(plane, pieces):
+            looked_at.append(len(pieces))
+            return sides(plane, pieces)
+
+        counts = []
+        with mock.patch("scadserve.off2painter._sides", counting):
+            for size in (200, 800):
+                looked_at.clear()
+                patches(off(drum(size)), Camera(30, 30).view)
+                counts.append(sum(looked_at))
+        # Four times as many planes take less than eight times as long; all with all would take sixteen times.
+        self.assertLess(counts[1], 8 * counts[0])
 
     def test_from_all_around(self):
         rolled = random.Random(5)
@@ -166,7 +208,7 @@ class Outlines(unittest.TestCase):
                     planes.update(((p, q), plane) for p, q in zip(ring, ring[1:] + ring[:1]))
                 corners = boundary.corners
                 edges = {line_through(corners[p], corners[q]) for p, q in planes if planes[p, q] != planes[q, p]}
-                for patch in painted(visible_patches(boundary, rings, Camera(30, 30).view)):
+                for patch in patches(data, Camera(30, 30).view):
                     for loop in outline(patch):
                         for (corner, is_cut), (following, _) in zip(loop, loop[1:] + loop[:1]):
                             self.assertTrue(is_cut or line_through(corner, following) in edges)
@@ -248,27 +290,32 @@ class Tool(tool_case.Case):
                             x, y = x + step, y + next(steps)
                             self.assertTrue(0 < x < width and 0 < y < height)
 
-    def test_too_many_faces(self):
-        data = off(comb(833))
-        status, said = self.call(self.file("a.4off", data))
-        self.assertEqual(status, 1)
-        self.assertRegex(said, r"\Aa\.4off: 5003 faces are too many to draw, .*geomview.*f3d.*meshlab.*\n\Z")
+    def test_a_name_in_another_alphabet_is_the_title(self):
+        status, said = self.call("-o", self.path("a.svg"), self.file("Gehäuse <\u03a9>.4off", off(box((0, 0, 0), (1, 1, 1)))))
+        self.assertEqual(status, 0, said)
+        title = next(it for it in ElementTree.fromstring(self.bytes_of("a.svg")).iter() if it.tag.endswith("title"))
+        self.assertEqual(title.text, "Gehäuse <\u03a9>")
+
+    def test_many_faces(self):
+        # A comb of 1,000 teeth has 6,005 faces; seen are the front, the right end, the tops, and the right of each tooth.
+        text, _ = self.draw(off(comb(1000)))
+        self.assertGreater(len(re.findall("<path ", text)), 1000)
 
     def test_faults(self):
         cube = box((0, 0, 0), (1, 1, 1))
         good = self.file("a.4off", off(cube))
         for status, words, said in (
-            (1, [self.file("e.4off", EMPTY)], "e.4off: the solid is empty, so nothing is written\n"),
-            (2, [self.file("m.4off", b"4OFF\n")], "m.4off:2: the second line is not 'VERTICES FACES 0'\n"),
-            (2, [self.file("o.4off", off(cube[1:]))], "o.4off: not closed: 4 edges"),
+            (1, [self.file("e.4off", EMPTY)], "e.4off: error: the solid is empty, so nothing is written\n"),
+            (2, [self.file("m.4off", b"4OFF\n")], "m.4off:2: error: the second line is not 'VERTICES FACES 0'\n"),
+            (2, [self.file("o.4off", off(cube[1:]))], "o.4off: error: not closed: 4 edges"),
             (2, [self.path("none")], "off2svg: cannot open none: No such file"),
             (2, ["-o", self.path("none/a.svg"), good], "off2svg: cannot write none/a.svg: No such file"),
             (2, ["-o", "", good], "off2svg: cannot write : No such file"),
             (2, ["-o", self.path("a.scad"), good], "off2svg: a.scad would be an SVG picture, and has another ending"),
             (2, ["-o", self.path("a.PNG"), good], "off2svg: a.PNG would be an SVG picture, and has another ending"),
             (2, ["--view", "30", good], "off2svg: "),
-            (2, ["--view", "x", "1", good], "is no angle in degrees"),
-            (2, ["--view", "1e9", "1", good], "is no angle in degrees"),
+            (2, ["--view", "x", "1", good], "is no angle from -9999 to 9999 degrees"),
+            (2, ["--view", "1e9", "1", good], "is no angle from -9999 to 9999 degrees"),
             (2, ["--width", "3", good], "is no width"),
             (2, ["--wide", good], "off2svg: "),
         ):

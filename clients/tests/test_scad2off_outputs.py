@@ -11,7 +11,7 @@ BOX_6 = BOX.format(6).encode()
 
 
 class Outputs(Calls):
-    def test_a_text_is_renamed_to_its_place_and_a_fault_leaves_what_is_there(self):
+    def test_a_text_is_renamed_to_its_place_and_a_fault_removes_what_is_there(self):
         self.write("part.scad", "w=6;\n")
         self.write("part.4off", "old\n")
         os.chmod(self.path("part.4off"), 0o640)
@@ -21,9 +21,34 @@ class Outputs(Calls):
         self.assertEqual((self.read("part.4off"), self.read("old.4off")), (BOX_6, b"old\n"))
         self.assertEqual(os.stat(self.path("part.4off")).st_mode & 0o777, 0o640)
         self.write("part.scad", "cube(2.5);\n")
-        self.assertEqual(self.call("part.scad", "-o", "part.4off")[0], 1)
-        self.assertEqual(self.read("part.4off"), BOX_6)
-        self.assertEqual(self.names(), ["old.4off", "part.4off", "part.scad"])
+        status, _, error = self.call("part.scad", "-o", "part.4off")
+        self.assertEqual((status, self.names()), (1, ["old.4off", "part.scad"]))
+        self.assertEqual(error.decode().splitlines()[-1], "part.4off: removed, since it was made of an earlier source")
+
+    def test_what_is_old_is_removed_for_each_kind_of_fault_and_kept_where_memory_ran_out(self):
+        long = "/" * 1_017
+        for source, status in (("//= complex sum 12", 1), ("//= empty", 1), (long, 1), ("//= nomem", 6), ("//= status 6", 6)):
+            with self.subTest(source=source):
+                self.write("out.4off", BOX_6)
+                self.assertEqual(self.call("-o", "out.4off", self.write("part.scad", source))[0], status)
+                self.assertEqual("out.4off" in self.names(), status == 6)
+
+    def test_what_is_no_text_of_a_solid_is_not_removed_and_said_to_be_old(self):
+        self.write("part.scad", "cube(2.5);\n")
+        self.write("notes", "4OFF is a format\n")
+        status, _, error = self.call("-o", "notes", "part.scad")
+        self.assertEqual((status, self.read("notes")), (1, b"4OFF is a format\n"))
+        self.assertEqual(error.decode().splitlines()[-1], "notes: warning: it stays as it was, and is not of this source")
+        for out in ("-", "/dev/null", "/dev/stdout"):
+            self.assertEqual(self.call("-o", out, "part.scad")[2].decode().count("\n"), 4, out)
+
+    def test_a_file_that_standard_output_goes_to_is_not_removed(self):
+        self.write("part.scad", "cube(2.5);\n")
+        self.write("all.4off", BOX_6)
+        with open(self.path("all.4off"), "ab") as stdout:
+            words = [*SCAD2OFF, "part.scad", "-o", "all.4off"]
+            subprocess.run(words, stdout=stdout, stderr=subprocess.PIPE, cwd=self.folder, env=self.environment, timeout=100)
+        self.assertEqual(self.read("all.4off"), BOX_6)
 
     @unittest.skipIf(os.geteuid() == 0, "the superuser may write every file")
     def test_a_file_that_may_not_be_written_stays(self):

@@ -15,6 +15,10 @@ from tests.stand_in import BOX
 BOX_6, BOX_8 = (BOX.format(it).encode() for it in (6, 8))
 
 
+# What -D does not take: nothing assigned, several assignments, and what would be more than one with the `;` behind it.
+NO_DEFINITIONS = ["w", "w=", "2=w", "=2", "w=1\nx=2", "w=1; x=2", "w=6; cube(9)", "w=6; }", "w=6 //", "w=(6", "cube(2)", "w==6", ""]
+
+
 class Words(Calls):
     def test_a_variable_is_assigned_behind_the_source(self):
         self.write("part.scad", "w=6;")
@@ -22,8 +26,19 @@ class Words(Calls):
         self.assertEqual(self.call("-Dw=1", "-D", "w=6", "part.scad", "-D", "$fn=4"), (0, BOX_6, b""))
         self.assertEqual(self.runs()[1][1], b"a put 1 w=6;\na put 2 w=1;\na put 3 w=6;\na put 4 $fn=4;\na export\n")
 
+    def test_an_assignment_takes_spaces_and_a_semicolon_and_is_one(self):
+        self.write("part.scad", "w=6;")
+        self.assertEqual(self.call("-D", " w = 8 ; ", "part.scad"), (0, BOX_8, b""))
+        self.assertEqual(self.runs()[0][1], b"a put 1 w=6;\na put 2 w = 8;\na export\n")
+
+    def test_an_assignment_of_a_name_that_the_source_never_has_is_told(self):
+        self.write("part.scad", "// h\nw=6; $k = 1;")
+        warning = b"part.scad: warning: the source never has %b, which -D assigns\n"
+        self.assertEqual(self.call("-D", "h=8", "part.scad"), (0, BOX_6, warning % b"h"))
+        self.assertEqual(self.call("-D", "$h=8", "-D", "$fn=4", "-D", "$k=2", "part.scad"), (0, BOX_6, warning % b"$h"))
+
     def test_a_fault_in_an_assignment_is_told_of_it(self):
-        self.write("part.scad", "w=6;\n")
+        self.write("part.scad", "h=2; w=6;\n")
         status, out, error = self.call("-D", "h=3", "-D", "w=2.5", "part.scad")
         self.assertEqual((status, out), (1, b""))
         self.assertEqual(
@@ -32,7 +47,7 @@ class Words(Calls):
         )
 
     def test_a_limit_that_an_assignment_passes_is_told_of_it(self):
-        status, _, error = self.call("-D", "w=8", self.write("part.scad", b"\n" * 4_096))
+        status, _, error = self.call("-D", "w=8", self.write("part.scad", b"w=1;" + b"\n" * 4_096))
         self.assertEqual(status, 1)
         self.assertTrue(error.startswith(b"-D w=8: error: TooManyLines: "), error)
 
@@ -59,8 +74,9 @@ class Words(Calls):
     def test_help_tells_each_option(self):
         status, out, error = self.call("--help")
         self.assertEqual((status, error), (0, b""))
-        for option in (b"-o", b"-d", b"--half", b"-D", b"--allow-empty", b"--script", b"--explain", b"--"):
+        for option in (b"-o", b"-d", b"--half", b"-D", b"--allow-empty", b"--script", b"--explain", b"-I"):
             self.assertIn(b"\n  %b " % option, out)
+        self.assertIn(b"behind `--`", out)
 
     def test_wrong_words_are_told_and_nothing_runs(self):
         self.write("a.scad", "")
@@ -70,25 +86,25 @@ class Words(Calls):
         self.write("x.4off", "")
         for words, said in (
             ([], "no FILE is named"),
-            (["--nonsense", "a.scad"], "option --nonsense not recognized"),
-            (["-x"], "option -x not recognized"),
-            (["-o"], "option -o requires argument"),
+            (["--nonsense", "a.scad"], "unrecognized arguments: --nonsense (see scad2off --help)"),
+            (["--hal", "a.scad"], "unrecognized arguments: --hal"),
+            (["-o", "--", "a.scad"], "argument -o: expected one argument"),
+            (["-x"], "unrecognized arguments: -x"),
+            (["-o"], "argument -o: expected one argument"),
             (["--explain", "Empty", "a.scad"], "--explain takes no FILE"),
             (["a.scad", "b/a.scad"], "several FILEs need -d DIR"),
             (["-d", "out", "-o", "out", "a.scad"], "-o and -d can't both be given"),
             (["-d", "out", "--script", "a.scad"], "--script prints one script"),
             (["-d", "out", "a.scad", "b/a.scad"], "a.scad and b/a.scad would both be written to out/a.4off"),
             (["-d", "out", "-"], "`-` is read once, and has no name for -d"),
-            (["-D", "w", "a.scad"], "-D takes NAME=VALUE, and not w"),
-            (["-D", "2=w", "a.scad"], "-D takes NAME=VALUE, and not 2=w"),
-            (["-D", "w=1\nx=2", "a.scad"], "-D takes NAME=VALUE"),
+            *((["-D", it, "a.scad"], "is not one NAME=VALUE (see") for it in NO_DEFINITIONS),
             (["-o", "x.4off", "x.4off"], "cannot write x.4off: that is a source"),
             (["-o", "a.scad", "b/x.scad"], "a.scad would be a 4OFF text: that is the ending of a source"),
             (["-o", "a.png", "a.scad"], "a.png would be a 4OFF text: off2svg makes a picture of one, as SVG"),
             (["-o", "", "a.scad"], "cannot write : No such file or directory"),
             (["-d", "", "a.scad"], "cannot make the folder : No such file or directory"),
-            (["-d", ".", "b/x.scad", "x.4off"], "cannot write ./x.4off: that is a source"),
             (["-o", "a.STL", "a.scad"], "a.STL would be a 4OFF text: off2stl makes such a file of one"),
+            (["-o", "a.off", "a.scad"], "a.off would be a 4OFF text: off2stl makes such a file of one"),
             (["-o", "a.svg", "a.scad"], "a.svg would be a 4OFF text: off2svg makes such a file of one"),
             (["-o", "b", "a.scad"], "cannot write b: Is a directory"),
             (["-o", "no/a.4off", "a.scad"], "cannot write no/a.4off: No such file or directory"),
@@ -101,6 +117,17 @@ class Words(Calls):
                 self.assertEqual(error.count(b"scad2off: "), 1)
         self.assertEqual(self.runs(), [])
         self.assertNotIn("out", self.names())
+
+    def test_a_file_that_would_be_written_over_a_source_stops_no_other(self):
+        os.mkdir(self.path("b"))
+        self.write("b/x.scad", "w=6;\n")
+        self.write("x.4off", "w=8;\n")
+        status, _, error = self.call("-d", ".", "b/x.scad", "x.4off")
+        self.assertEqual((status, self.read("x.4off"), self.read("x.4off.4off")), (2, b"w=8;\n", BOX_8))
+        self.assertEqual(
+            error.decode().splitlines(),
+            ["scad2off: cannot write ./x.4off: that is a source", "2 files: 1 solid, 0 faults, 1 not read or written"],
+        )
 
     def test_the_script_is_printed_and_not_run(self):
         for name in ("box", "bracket", "family", "fault", "plate"):
@@ -151,7 +178,7 @@ class Statuses(Calls):
 
     def test_an_interrupt_while_a_tool_loads_is_no_traceback(self):
         os.makedirs(self.path("clients/scadserve"))
-        for name in ("scad2off", "off2stl", "off2svg"):
+        for name in ("scad2off", "off2stl", "off2svg", "off2html"):
             shutil.copy(os.path.join(TOP, name), self.folder)
             self.write(f"clients/scadserve/{name}.py", "import time\nprint(flush=True)\ntime.sleep(60)\n")
             pipes = {"stdout": subprocess.PIPE, "stderr": subprocess.PIPE}

@@ -1,8 +1,11 @@
 """What ./scadserve says and does where the proved program is there, and where it isn't, with a stand-in for `rt`."""
 
+import hashlib
 import os
+import pty
 import shutil
 import subprocess
+import time
 import unittest
 
 from tests.calls import TOP, Calls
@@ -23,24 +26,30 @@ exit 6"""
 FAULT = """echo "checked: fault: an index is out of bounds" >&2
 echo "run=fault proved=no" >&2
 exit 4"""
-UTILITIES = "sh cat dirname find head mktemp readlink rm".split()
-COST = "about a minute, each time; `rt ci` once, in {}, takes about an hour, and then it takes milliseconds"
+UTILITIES = "sh cat cmp cut dirname find grep head mkdir mktemp mv readlink rm sed sha256sum sleep sort stat tail xargs".split()
+COST = "about a minute, each time; `bash .ci/run` once, in {}, takes about an hour, and then it takes milliseconds"
+PROGRAM = '#!/bin/sh\necho proved "$@"\ncat\nexit 3\n'
 
 
 class Unproved(Calls):
     def setUp(self):
         super().setUp()
         self.top = self.path("top")
-        os.makedirs(os.path.join(self.top, "crates/scadserve/src"))
-        for name in ("scadserve", "memory.sh"):
-            shutil.copy(os.path.join(TOP, name), self.top)
-        self.write("top/crates.txt", "scadserve: std\n")
-        self.write("top/crates/scadserve/src/main.rt", "")
+        for folder in ("tools", "crates/scadserve/src", "crates/below/src", "crates/below/specs"):
+            os.makedirs(os.path.join(self.top, folder))
+        for name in ("scadserve", "memory.sh", "tools/built.sh"):
+            shutil.copy(os.path.join(TOP, name), os.path.join(self.top, name))
+        self.write("top/HANDLES", "Handles allowed: none.\n")
+        self.write("top/crates.txt", "below:\nscadserve: below\n")
+        self.write("top/crates/scadserve/src/main.rt", "fn main() {}\n")
+        self.write("top/crates/below/src/lib.rt", "1\n")
+        self.write("top/crates/below/specs/Lib.antt", "2\n")
         # Nothing but these utilities is on the path, and maybe a stand-in for rt.
         os.mkdir(self.path("bin"))
         for name in UTILITIES:
             os.symlink(shutil.which(name), self.path(f"bin/{name}"))
         self.environment.update(PATH=self.path("bin"), RT_LOG=self.path("rt.log"), TMPDIR=self.log)
+        self.environment.update(XDG_STATE_HOME=self.path("state"))
 
     def program(self, name, text):
         os.chmod(self.path(self.write(name, text)), 0o755)
@@ -104,6 +113,7 @@ class Unproved(Calls):
         status, out, error = self.serve("run")
         self.assertEqual((status, out), (127, b""))
         self.assertTrue(error.startswith("scadserve: needs rt of the Rattle kit"), error)
+        self.assertIn("a release of scadserve needs no kit (docs/RELEASE.md", error)
         self.assertEqual(error.count("\n"), 1)
 
     def test_a_script_that_comes_slowly_is_whole(self):
@@ -118,19 +128,173 @@ class Unproved(Calls):
         self.rt()
         self.assertEqual(self.serve("demo", "3")[:2], (0, b""))
 
-    def test_the_proved_program_runs_and_nothing_is_said(self):
-        os.mkdir(f"{self.top}/crates/scadserve/out")
-        self.program("top/crates/scadserve/out/scadserve", '#!/bin/sh\necho proved "$@"\ncat\nexit 3\n')
-        self.assertEqual(self.serve("run", "--half"), (3, b"proved run --half\na show\n", ""))
-        # A source that is newer is not what was proved.
-        newer = os.stat(f"{self.top}/crates/scadserve/out/scadserve").st_mtime + 9
-        os.utime(f"{self.top}/crates/scadserve/src/main.rt", (newer, newer))
+    def build(self, top=None):
+        """Leaves a program in the folder of the sources."""
+        os.makedirs(f"{top or self.top}/crates/scadserve/out", exist_ok=True)
+        self.program(f"{top or self.top}/crates/scadserve/out/scadserve", PROGRAM)
+
+    def record(self, place):
+        """Writes the line that says of which sources the program is, by sums that are made here."""
+        names = ["HANDLES", "crates.txt", "crates/below/specs/Lib.antt", "crates/below/src/lib.rt"]
+        names.append("crates/scadserve/src/main.rt")
+        listed = "".join(f"{hashlib.sha256(self.read('top/' + it)).hexdigest()}  {it}\n" for it in names)
+        program = hashlib.sha256(self.read("top/crates/scadserve/out/scadserve")).hexdigest()
+        os.makedirs(os.path.dirname(self.path(place)), exist_ok=True)
+        self.write(place, f"{program} {hashlib.sha256(listed.encode()).hexdigest()}\n")
+
+    def assert_proved(self, top=None):
+        """The proved program runs, twice, and nothing else is said."""
+        for _ in range(2):
+            said = self.serve("run", "--half", tool=f"{top or self.top}/scadserve")
+            self.assertEqual(said, (3, b"proved run --half\na show\n", ""))
+
+    def assert_unproved(self, top=None):
+        """The sources run unproved."""
         self.rt()
-        self.assertIn("UNPROVED", self.serve("run")[2])
+        self.assertIn("UNPROVED", self.serve("run", tool=f"{top or self.top}/scadserve")[2])
+
+    def test_the_program_of_these_sources_runs_and_nothing_is_said(self):
+        self.build()
+        self.assert_unproved()
+        self.record("top/crates/scadserve/out/scadserve.proved")
+        self.assert_proved()
+
+    def test_what_was_seen_once_is_summed_no_more_until_it_is_touched(self):
+        self.build()
+        self.record("top/crates/scadserve/out/scadserve.proved")
+        time.sleep(2.2)
+        self.assert_proved()
+        os.remove(self.path("bin/sha256sum"))
+        self.assert_proved()
+        os.utime(self.path("top/crates/below/src/lib.rt"))
+        self.assert_unproved()
+        os.symlink(shutil.which("sha256sum"), self.path("bin/sha256sum"))
+        self.assert_proved()
+
+    def test_a_changed_source_is_found_whatever_its_date_and_size(self):
+        self.build()
+        self.record("top/crates/scadserve/out/scadserve.proved")
+        time.sleep(2.2)
+        self.assert_proved()
+        source, crates = self.path("top/crates/below/src/lib.rt"), self.path("top/crates.txt")
+        more = self.path("top/crates/below/src/more.rt")
+        was = os.stat(source)
+        for change, undo in (
+            (lambda: self.write(source, "3\n"), lambda: self.write(source, "1\n")),
+            (lambda: self.write(more, ""), lambda: os.remove(more)),
+            (lambda: os.rename(source, source + "s"), lambda: os.rename(source + "s", source)),
+            (lambda: self.write(crates, "below:\n"), lambda: self.write(crates, "below:\nscadserve: below\n")),
+        ):
+            change()
+            if os.path.exists(source):
+                os.utime(source, ns=(was.st_atime_ns, was.st_mtime_ns))
+            self.assert_unproved()
+            undo()
+            self.assert_proved()
+
+    def test_another_crate_in_place_of_one_is_found(self):
+        self.build()
+        self.record("top/crates/scadserve/out/scadserve.proved")
+        shutil.copytree(self.path("top/crates/below"), self.path("other"))
+        self.write("other/src/lib.rt", "3\n")
+        time.sleep(2.2)
+        self.assert_proved()
+        os.rename(self.path("top/crates/below"), self.path("was"))
+        os.rename(self.path("other"), self.path("top/crates/below"))
+        self.assert_unproved()
+
+    def test_another_program_is_not_that_of_these_sources(self):
+        self.build()
+        self.record("top/crates/scadserve/out/scadserve.proved")
+        time.sleep(2.2)
+        self.assert_proved()
+        self.program("top/crates/scadserve/out/scadserve", PROGRAM + "#\n")
+        self.assert_unproved()
+
+    def test_a_copied_program_is_known_in_another_clone_of_the_same_sources(self):
+        self.build()
+        self.record("state/scadserve/proved")
+        shutil.copytree(self.top, self.path("clone"), ignore=shutil.ignore_patterns("out"))
+        os.mkdir(self.path("clone/crates/scadserve/out"))
+        shutil.copy2(self.path("top/crates/scadserve/out/scadserve"), self.path("clone/crates/scadserve/out"))
+        self.assert_proved(self.path("clone"))
+        # Of another user nothing is known, unless the record stands beside the program.
+        self.environment.update(XDG_STATE_HOME=self.path("nobody"))
+        os.utime(self.path("clone/crates/scadserve/out/scadserve"))
+        self.assert_unproved(self.path("clone"))
+        self.record("clone/crates/scadserve/out/scadserve.proved")
+        self.assert_proved(self.path("clone"))
+        # A changed clone is other sources.
+        self.write("clone/crates/below/src/lib.rt", "3\n")
+        self.assert_unproved(self.path("clone"))
+
+    def left_by_rt_ci(self):
+        """Leaves what `rt ci` does, in the second after the sources were written."""
+        time.sleep(1.1)
+        for crate in ("below", "scadserve"):
+            os.mkdir(f"{self.top}/crates/{crate}/out")
+        self.build()
+        self.write("top/crates/scadserve/out/stdout", "")
+        if subprocess.run(["stat", "-c", "%W", self.top], stdout=subprocess.PIPE, check=True).stdout.strip() in (b"0", b"-"):
+            self.skipTest("this file system keeps no times of birth")
+
+    def test_what_rt_ci_left_is_known_where_no_source_was_touched_since(self):
+        self.left_by_rt_ci()
+        self.assert_proved()
+        [line] = self.read("top/crates/scadserve/out/scadserve.proved").splitlines()
+        self.assertEqual(self.read("state/scadserve/proved").splitlines(), [line])
+        self.record("wanted")
+        self.assertEqual(self.read("wanted").splitlines(), [line])
+
+    def test_what_rt_ci_left_is_not_known_where_a_source_was_touched(self):
+        self.left_by_rt_ci()
+        was = os.stat(self.path("top/crates/below/src/lib.rt"))
+        self.write("top/crates/below/src/lib.rt", "3\n")
+        os.utime(self.path("top/crates/below/src/lib.rt"), ns=(was.st_atime_ns, was.st_mtime_ns))
+        self.assert_unproved()
+
+    def test_a_program_that_was_put_where_rt_ci_left_one_is_not_known(self):
+        self.left_by_rt_ci()
+        time.sleep(1.1)
+        self.build()
+        self.assert_unproved()
+
+    def test_a_program_without_the_rest_that_rt_ci_leaves_is_not_known(self):
+        self.left_by_rt_ci()
+        os.rmdir(self.path("top/crates/below/out"))
+        self.assert_unproved()
+        time.sleep(1.1)
+        os.mkdir(self.path("top/crates/below/out"))
+        self.assert_unproved()
+
+    def test_a_long_run_says_each_quarter_minute_to_a_terminal_that_it_goes_on(self):
+        self.rt(also="/bin/sleep 1")
+        os.remove(self.path("bin/sleep"))
+        self.program("bin/sleep", f"#!/bin/sh\necho $* >>'{self.path('slept')}'\n/bin/sleep 0.2\n")
+        self.assertNotIn("still at it", self.serve("run")[2])
+        self.assertNotIn("slept", self.names())
+        terminal, side = pty.openpty()
+        how = {"stdin": subprocess.DEVNULL, "stdout": subprocess.DEVNULL, "env": self.environment}
+        ended = subprocess.run([f"{self.top}/scadserve", "run"], stderr=side, timeout=100, check=False, **how)
+        os.close(side)
+        said = b""
+        # (a terminal that nobody holds ends by an error)
+        try:
+            while True:
+                said += os.read(terminal, 4096)
+        except OSError:
+            os.close(terminal)
+        self.assertEqual(ended.returncode, 0)
+        lines = said.decode().splitlines()[1:]
+        self.assertGreaterEqual(len(lines), 2)
+        for number, line in enumerate(lines, 1):
+            self.assertEqual(line, f"scadserve: still at it, after {15 * number} seconds")
+        self.assertEqual(set(self.read("slept").split()), {b"15"})
 
     def test_it_is_found_through_links_and_with_a_path_for_cd(self):
         os.mkdir(f"{self.top}/crates/scadserve/out")
         self.program("top/crates/scadserve/out/scadserve", "#!/bin/sh\necho proved\n")
+        self.record("top/crates/scadserve/out/scadserve.proved")
         os.makedirs(self.path("elsewhere/top/crates"))
         os.symlink("../top/scadserve", self.path("bin/one"))
         os.symlink("one", self.path("bin/two"))

@@ -1,0 +1,36 @@
+"""Reads a source file with all that it includes and uses, as the server is sent it."""
+
+from __future__ import annotations
+
+from typing import Sequence
+
+from .joining import File, Folders
+from .sources import Source
+from .tokens import tokens
+from .using import with_uses
+
+
+def read_source(file: str, definitions: Sequence[str] = (), folders: Sequence[str] = ()) -> Source:
+    """The source in a file, with NAME=VALUE to be assigned behind it; `-` is standard input. What it includes and uses is
+    looked for in these folders too. Raises OSError where the file can't be read, and Refused."""
+    there = Folders(folders)
+    return _joined(there, there.first(file), definitions)
+
+
+def source_of(data: bytes, name: str, definitions: Sequence[str] = (), folders: Sequence[str] = ()) -> Source:
+    """The same of a source with these bytes, which stands in no folder but the one that the program runs in."""
+    return _joined(Folders(folders), File("-", name, data), definitions)
+
+
+def _joined(there: Folders, first: File, definitions: Sequence[str]) -> Source:
+    source = Source(first.name, [], definitions, len(first.data.removesuffix(b"\n").split(b"\n")) if first.data else 0)
+    source.lines = with_uses(there, there.join(first), source.sent())
+    return source
+
+
+def unused(source: Source) -> list[str]:
+    """The names that are assigned behind a source, and that it never has."""
+    own = [it.sent for it in source.lines if not it.is_used()]
+    found = {it.text.decode("ascii", "replace") for it in tokens(own) if it.is_name()} | {"$fn", "$fa", "$fs"}
+    names = [it.partition("=")[0].strip() for it in source.definitions]
+    return [it for it in names if it not in found]

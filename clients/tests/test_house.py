@@ -1,0 +1,131 @@
+"""Tests of tools/house.py, which keeps the crates in their layers and the page on the architecture in step."""
+
+import contextlib
+import importlib.util
+import io
+import sys
+import tempfile
+import unittest
+from pathlib import Path
+
+from tests.calls import TOP
+
+SPEC = importlib.util.spec_from_file_location("house", Path(TOP, "tools", "house.py"))
+house = importlib.util.module_from_spec(SPEC)
+sys.modules["house"] = house
+SPEC.loader.exec_module(house)
+
+PAGE = """# How it is built
+
+<!-- made by tools/house.py: picture -->
+<!-- end -->
+
+`low_words` stands below `high_words`, which calls `read_words`.
+
+<!-- made by tools/house.py: table -->
+<!-- end -->
+"""
+
+
+class House(unittest.TestCase):
+    """Houses of two crates or more in a folder of the test's own."""
+
+    def setUp(self):
+        folder = tempfile.TemporaryDirectory()
+        self.addCleanup(folder.cleanup)
+        self.top = Path(folder.name)
+        (self.top / "docs").mkdir()
+        self.page = self.top / "docs" / "ARCHITECTURE.md"
+        self.page.write_text(PAGE)
+        self.crate("low_words", "//! Words.\n\npub fn read_words() {}\n")
+        self.crate("high_words", "//! What is made\n//! of words.\n//!\n//! More.\n")
+        self.list("# ground: words\nlow_words: itoa\n\n# roof: what is made of words\nhigh_words may_wait=2: low_words\n")
+
+    def crate(self, name, text):
+        source = self.top / "crates" / name / "src"
+        source.mkdir(parents=True)
+        (source / "lib.rt").write_text(text)
+
+    def list(self, text):
+        (self.top / "crates.txt").write_text(text)
+
+    def call(self, *words):
+        with contextlib.redirect_stdout(io.StringIO()) as out, contextlib.redirect_stderr(io.StringIO()):
+            return house.main(list(words), self.top), out.getvalue()
+
+    def assert_fault(self, said):
+        """After --write one fault is left, which has these words."""
+        status, out = self.call("--write")
+        self.assertEqual((status, out.count("\n")), (1, 1), out)
+        self.assertIn(said, out)
+
+    def test_the_page_of_this_repository(self):
+        with contextlib.redirect_stdout(io.StringIO()) as out:
+            self.assertEqual(house.main([]), 0, out.getvalue())
+        self.assertEqual(out.getvalue(), "")
+
+    def test_a_page_is_out_of_date_until_it_is_written(self):
+        status, out = self.call()
+        self.assertEqual(status, 1)
+        self.assertIn("out of date", out)
+        self.assertEqual(self.page.read_text(), PAGE)
+        self.assertEqual(self.call("--write"), (0, ""))
+        self.assertEqual(self.call(), (0, ""))
+
+    def test_what_is_written(self):
+        self.call("--write")
+        page = self.page.read_text()
+        self.assertIn("    roof    what is made of words\n            high_words\n\n    ground  words\n            low_words\n", page)
+        self.assertIn("| Layer | Crate | Stands on | What it is |\n|---|---|---|---|\n| ground | low_words | `itoa` | Words |\n", page)
+        self.assertIn("| roof | high_words | low_words | What is made of words |\n", page)
+
+    def test_a_crate_that_stands_on_a_higher_layer(self):
+        self.list("# ground: words\nlow_words: high_words\n# roof: what is made of words\nhigh_words:\n")
+        self.assert_fault("low_words stands on high_words, which is of a higher layer")
+
+    def test_a_crate_before_the_first_layer(self):
+        self.list("low_words:\n# roof: what is made of words\nhigh_words: low_words\n")
+        self.assert_fault("low_words stands in no layer")
+
+    def test_a_crate_that_stands_on_itself(self):
+        self.list("# ground: words\nlow_words: high_words\nhigh_words: low_words\n")
+        status, out = self.call("--write")
+        self.assertEqual(status, 1)
+        self.assertIn("chain of more than 10 crates", out)
+
+    def test_a_chain_of_eleven_crates(self):
+        for number in range(11):
+            self.crate(f"link_{number}", "//! A link.\n")
+        links = [f"link_{number}: link_{number - 1}" for number in range(1, 11)]
+        self.list("\n".join(["# ground: words", "low_words:", "high_words:", "link_0:", *links]))
+        self.assert_fault("link_10 ends a chain of more than 10 crates")
+
+    def test_a_crate_that_says_nothing_of_itself(self):
+        self.crate("mute_words", "#![tactic(auto)]\n")
+        self.list("# ground: words\nlow_words:\nhigh_words: low_words\nmute_words:\n")
+        self.assert_fault("crates/mute_words/src")
+
+    def test_a_name_that_is_no_crate(self):
+        self.page.write_text(PAGE + "\n`gone_words` was a crate.\n")
+        self.assert_fault("gone_words is no crate")
+
+    def test_a_page_without_a_place_for_the_table(self):
+        self.page.write_text(PAGE.partition("<!-- made by tools/house.py: table")[0])
+        self.assert_fault("no place for the picture and the table")
+
+    def test_how_many_functions_may_wait(self):
+        self.call("--write")
+        log = self.top / "log"
+        log.write_text("== low_words\nlogic=proved functions=1 sum=0\n== high_words\nlogic=proved functions=3 may-wait=2 sum=0\n")
+        self.assertEqual(self.call("--gate", str(log)), (0, ""))
+        log.write_text("== low_words\nlogic=proved functions=1 may-wait=1 sum=0\nrt: high_words is kept\n")
+        self.assertEqual(self.call("--gate", str(log)), (1, "crates.txt: 1 functions of low_words may wait, and not 0\n"))
+        log.write_text("== high_words\nlogic=proved functions=3 sum=0\n")
+        self.assertEqual(self.call("--gate", str(log)), (1, "crates.txt: 0 functions of high_words may wait, and not 2\n"))
+
+    def test_other_words(self):
+        self.assertEqual(self.call("--compare")[0], 2)
+
+
+if __name__ == "__main__":
+    unittest.main()

@@ -1,0 +1,305 @@
+"""The words of docs/STATEMENT.md that no source has: its headings, the promise in plain words, and the names of the library."""
+
+from __future__ import annotations
+
+from typing import NamedTuple
+
+
+class Heading(NamedTuple):
+    """A heading, what stands below it, whose size that is, and the crates whose definitions stand there."""
+
+    title: str
+    about: str
+    size: str
+    crates: str
+
+
+# A crate whose definitions are reached and that stands below no heading is an error.
+HEADINGS: list[Heading] = [
+    Heading(
+        "Bytes and words",
+        "Bytes as they are read and written, the numerals and names that they spell, and the words of the command line.",
+        "the program's own",
+        "text_place outside_io run_words",
+    ),
+    Heading(
+        "Scripts and sessions",
+        "A script is a list of clients with their commands. A session is the state of one client. A reply answers one command.",
+        "the program's own",
+        "script_reader edit_session reply_text big_input",
+    ),
+    Heading(
+        "Syntax",
+        "How a source is cut into tokens, and which tokens write which program.",
+        "the language's own: each token, each form of the grammar and each first fault of a text has its line",
+        "scad_lexer scad_ast scad_grammar scad_parser",
+    ),
+    Heading(
+        "Values",
+        "What expressions are made of: numbers, truths, texts, lists and ranges, with the tables of operators and functions.",
+        "the language's own: one equation for each row of its tables",
+        "scad_value scad_builtin",
+    ),
+    Heading(
+        "Points, planes, trees and moves",
+        "Points and planes in whole numbers, trees of operations over sets of planes, and the steps that move shapes.",
+        "that of the geometry",
+        "plane_predicate csg_tree int_transform",
+    ),
+    Heading(
+        "Shapes",
+        "The shapes that calls of a source write, with the first fault of each.",
+        "the language's own: one shape for each module that makes one, with the checks of its arguments",
+        "primitives round_four scad_hull",
+    ),
+    Heading(
+        "Meaning of a source",
+        "Scopes, calls, evaluation, instances, and the tree that a program means.",
+        "the language's own: one equation for each form of the grammar and for each module",
+        "scad_definitions scad_scope scad_func scad_modules "
+        "scad_design scad_meaning",
+    ),
+    Heading(
+        "Solids, faces, text",
+        "What a tree is as a solid, what bounds it, and which text has these faces.",
+        "that of the geometry",
+        "plane_polygon bsp_tree bsp_partition bsp_boolean facet_cut closed_surface off_text tree_export",
+    ),
+    Heading(
+        "The memo's books",
+        "The clients share one memo of solids. Its tally is that of a memo which one client after another uses.",
+        "the program's own",
+        "memo_core subtree_memo",
+    ),
+    Heading(
+        "Statuses",
+        "What the program reads, writes and answers as a whole.",
+        "the program's own",
+        "script_service script_server",
+    ),
+]
+
+HEAD = (
+    "This page is the whole of what is proved of the program: the contract of the public call `serve`, and each definition "
+    "that its clauses reach. Whoever trusts the theorem trusts this page and what is assumed below, and needs no other file. "
+    "These are {definitions} definitions and types in {lines} lines, of which most are the language's own. The prover has "
+    "checked that the code meets these words. That they say what is meant, only a reader can judge."
+)
+
+READING = (
+    "Each definition has a comment above it that says what it means, and then its text, which counts. A definition uses only "
+    "what stands above it on the page, or beside it in a group. The language is antt, in which a statement is a type."
+)
+
+BEGINNING = (
+    "The page goes from the bottom up. Whoever would rather come from above begins with these, and looks up what they name: a "
+    "definition begins with its name at the left, as in `pub Fits :`."
+)
+
+LAWS = (
+    "Public calls that do nothing when they run; their clauses are proved. They show that the words above can be met, and how "
+    "many answers they leave: each source has a meaning or a first fault, one alone, and one answer. So some judge of shapes "
+    "is right, of which `IsMeaning` asks."
+)
+
+# The promise in plain words, clause by clause. A clause of the call that has no words here is an error, and so is the opposite.
+PROMISE: dict[str, str] = {
+    "told": "The status tells what was done. At `Done` the words chose settings, the whole input was read, and just its output "
+    "was written. The replies of each client are those that its own commands define. Each solid is the boundary of the tree "
+    "that the client's source means. Each other status says which fault there was, and what was written before it.",
+    "unread": "Where the words are outside the grammar, or choose the demonstration, nothing is read.",
+    "causes": "A source that failed is told as that, and so is a sink, and nothing else is told as either. The counts of their faults "
+    "never fall.",
+    "complete": "Where neither count rose and the words choose settings, the status is `Done`, `BadScript` or `NoMemory`.",
+    "script": "Where the source tells its bytes and these are a script, the status is not `BadScript`.",
+    "no_script": "Where a script is asked for, and the bytes have a fault, the status is not `Done`.",
+}
+
+# What is assumed, and what is not claimed.
+ASSUMED: list[tuple[str, str]] = [
+    (
+        "The run ends",
+        "A contract speaks of a call that returns. That `serve` returns is not claimed, and nothing is claimed of time, of "
+        "fairness or of how much memory is used. Memory may run out at any command: the answer says so, and the state stays.",
+    ),
+    (
+        "The toolchain",
+        "Rattle's prover checks each contract. Its two compilers, and clang behind one of them, make the program from the text "
+        "that was checked. Both are trusted, and so are the C library and the operating system.",
+    ),
+    (
+        "The ported crates",
+        "The kit's crates `itoa`, `lru`, `indexmap`, `smallvec`, `clap`, `sha2` and `hex` are proved in the kit against their "
+        "own statements. Those statements are trusted.",
+    ),
+    (
+        "Standard input and output",
+        "`serve` takes any source and any sink. Clauses on bytes hold where these tell their bytes, as those in memory do. The "
+        "program hands in `ReadSource` and `WriteSink`, over standard input and output, and these two tell no bytes: this is "
+        "the one edge. There `Consumes`, `IsAtEnd` and `Appends` hold of anything. What a `read` or a `write` of the operating "
+        "system does to a stream is as trusted as the system is, and that both pass bytes on as they are is tested.",
+    ),
+    (
+        "The first and the last step",
+        "`run_program` takes the words behind the program's name and hands them, with standard input and standard output, to "
+        "`serve_to_exit`, whose clauses stand at the end. It is proved safe and has no clause: its four lines are to be read.",
+    ),
+    (
+        "These definitions",
+        "That they say what is meant is for the reader to judge. The laws at the end show that they leave nothing open.",
+    ),
+]
+
+# Where a reader from above begins. A name that isn't reached, or twice, is an error.
+WAY: list[tuple[str, str]] = [
+    ("StatusTells", "what each status tells of the words, the source and the sink"),
+    ("IsOutputFor", "what is written for the clients of a script"),
+    ("Fits", "which replies a client's commands define"),
+    ("AnswersExport", "what the export of a source is answered"),
+    ("Means", "the tree that a source means"),
+    ("Lexes", "the tokens of a source, or its first fault"),
+    ("WholeProgram", "the program that tokens write"),
+    ("IsMeaning", "what a program means"),
+    ("IsBoundary", "when a text is the boundary of a tree"),
+    ("Closed", "when faces leave no hole along their edges"),
+    ("AreBooks", "what the printed tally tells"),
+]
+
+NOTATION: list[tuple[str, str]] = [
+    ("`(x : A) → P`", "for each `x` of the type `A`, `P`; without a name, `P → Q`: where `P` holds, so does `Q`"),
+    ("`(x : A) × P`", "there is an `x` of the type `A` with `P`; without a name, `P × Q`: both hold, or a pair"),
+    ("`P ⊎ Q`", "one of the two holds"),
+    ("`⊥`, `P → ⊥`", "never; `P` doesn't hold"),
+    ("`Unit {0}`, `⊤`", "always"),
+    ("`x ≡ y`, `x ≢ y`", "equal, not equal"),
+    ("`f x y`", "the function `f` of `x` and `y`; `λ x. t` is the function that gives `t` for `x`"),
+    ("`abbrev pub f : A → B`", "`f` takes an `A` and gives a `B`; its equations follow, and the first that fits counts"),
+    ("`unfoldable pub f : A → B`", "the same; only proofs tell the two apart"),
+    ("`pub data T : Type 0 where`", "the type of its variants, which follow with what each holds"),
+    ("`{A : Type 0} →`", "for each type `A`, which is found by what follows"),
+    ("`elim x [ p ↦ a | q ↦ b ]`", "`a` where `x` is `p`, and `b` where it is `q`"),
+    ("`A → Type 0`", "a statement about an `A`; a record is the statement that each of its fields holds"),
+    ("`record { a = x }`", "the record whose field `a` is `x`; `record r { a = x }` is `r` but for that; `r.a` is the field"),
+    ("`u8` to `u64`, `i64`, `bool`, `Vec`", "in a type of the sources: `ℕ`, `ℤ`, `Bool` and `List`"),
+    ("`x.now`, `x.old`, `x.new`", "what a reference points to: in a call that changes it, before and after"),
+    ("`mutual`, `module _ (x : A) where`", "definitions that use one another; definitions that all take `x` first"),
+]
+
+# The names of the toolchain's library that are reached. One that has no words here is an error.
+LIBRARY: dict[str, str] = {
+    "ℕ": "a whole number from 0 on, of any size; `zero` is 0 and `suc n` is `n + 1`",
+    "zero": "0",
+    "suc": "one more",
+    "ℤ": "a whole number, of any size; `pos 5` is 5 and `negsuc 4` is -5",
+    "pos": "a number from 0 on, as a whole number",
+    "negsuc": "`negsuc n` is `-(n + 1)`",
+    "+": "the sum",
+    "-": "the difference, and 0 where it would be below 0",
+    "*": "the product",
+    "/": "the quotient, rounded down",
+    "%": "the remainder",
+    "^": "the power",
+    "<": "below",
+    "≤": "at most",
+    "+ℤ": "the sum of whole numbers",
+    "-ℤ": "the difference of whole numbers",
+    "*ℤ": "the product of whole numbers",
+    "<ℤ": "below, of whole numbers",
+    "≤ℤ": "at most, of whole numbers",
+    "∣": "divides",
+    "neg_ℤ": "the opposite number",
+    "unsigned_abs": "a number without its sign",
+    "int_div": "the quotient, rounded towards 0",
+    "int_rem": "the remainder, with the sign of the dividend",
+    "int_eq": "whether two whole numbers are equal",
+    "int_lt": "whether the first whole number is below the second",
+    "int_le": "whether the first whole number is at most the second",
+    "int_cmp": "the order of two whole numbers",
+    "nat_eq": "whether two numbers from 0 on are equal",
+    "nat_lt": "whether the first is below the second",
+    "nat_le": "whether the first is at most the second",
+    "eqb": "whether two numbers from 0 on are equal",
+    "==": "whether two numbers from 0 on are equal",
+    "min": "the lower of two numbers",
+    "max": "the higher of two numbers",
+    "Bool": "a truth: `true` or `false`",
+    "true": "true",
+    "false": "false",
+    "not": "the opposite truth",
+    "&&": "both are true",
+    "||": "one is true",
+    "beq": "whether two truths are equal",
+    "cond": "`cond b x y` is `x` where `b` is true, else `y`",
+    "if": "`if b then x else y`",
+    "IsTrue": "the truth is `true`",
+    "⊤": "always",
+    "≡": "equal",
+    "≢": "not equal",
+    "⊎": "one of two statements holds",
+    "↔": "each of two statements follows from the other",
+    "List": "a list; `[]` is empty, and `x ∷ xs` is `x` in front of `xs`",
+    "[]": "the empty list",
+    "∷": "an item in front of a list",
+    "++": "two lists, one behind the other",
+    "length": "how many items a list has",
+    "map": "a function applied to each item",
+    "filter": "the items that pass a test",
+    "flat_map": "the lists that a function gives for the items, one behind the other",
+    "fold": "`fold f a xs` goes from `a` on by `f` over the items",
+    "reverse": "the list from its end",
+    "take": "the first so many items",
+    "drop": "all but the first so many items",
+    "replicate": "so many times the same item",
+    "zip": "the pairs of items at the same place, as long as both lists have one",
+    "get_or": "`get_or xs i d` is the item at place `i`, from 0, and `d` where there is none",
+    "slice_index": "the number at a place, from 0, and 0 where there is none",
+    "slice_index_or": "the item at a place, and the given one where there is none",
+    "slice_set": "the list with another item at a place",
+    "insert": "the list with an item more at a place",
+    "sum_by": "the sum of what a function gives for the items",
+    "count_by": "how many items pass a test",
+    "list_any": "whether some item passes a test",
+    "list_all": "whether each item passes a test",
+    "position_or_len": "the place of the first item that passes a test, and the length where none does",
+    "range_with_len": "`range_with_len a n`: `n` numbers from `a` on",
+    "All": "a statement holds of each item",
+    "AllByRecursion": "a statement holds of each item",
+    "Any": "a statement holds of some item",
+    "AllZip": "a relation holds of the items of two lists of one length, place by place",
+    "Contains": "an item is in a list",
+    "pointwise": "whether two lists of one length are equal, place by place, by a test",
+    "slice_cmp": "the order of two lists by their first different items",
+    "bytes_eq": "whether two lists of bytes are equal",
+    "Option": "`Some x`, or `None`",
+    "Some": "there is a value",
+    "None": "there is no value",
+    "is_some": "whether there is a value",
+    "option_map": "a function applied to the value, where there is one",
+    "option_map_or": "what a function gives for the value, or else what is given last",
+    "IfSome": "a statement holds of the value, where there is one",
+    "MatchOption": "the first statement where there is no value, the second one of the value",
+    "Result": "`Ok x`, or `Err e`",
+    "Ok": "it went well",
+    "Err": "it failed",
+    "IfOk": "a statement holds of the value, where it went well",
+    "IfErr": "a statement holds of what failed, where it failed",
+    "IsErrOf": "it failed with this",
+    "exit_status": "the number with which a program ends",
+    "Ordering": "`Less`, `Equal` or `Greater`",
+    "is_lt": "whether an order is `Less`",
+    "is_le": "whether an order is `Less` or `Equal`",
+    "is_gt": "whether an order is `Greater`",
+    "is_ge": "whether an order is `Greater` or `Equal`",
+    "codes": "the bytes of a text in quotes",
+    "string_bytes": "the bytes of a word of the command line",
+    "AllDigits": "each byte is a digit to a base",
+    "digits_value": "the number that digits to a base write",
+    "w64": "the width of 64 bits",
+    "cast_unsigned": "a whole number as its two's complement of a width",
+    "to_be_bytes": "the bytes of a number of a width, the high byte first",
+    "Appends": "`Appends old new bytes`: where a sink tells its bytes, they are the old ones and then `bytes`; else always",
+    "Consumes": "`Consumes old new bytes`: where a source tells its bytes, the old are `bytes` and then the new; else always",
+    "IsAtEnd": "where a source tells its bytes, none are left; else always",
+    "sha256": "the SHA-256 of bytes (FIPS 180-4)",
+    "encode_lower": "bytes as hexadecimal digits in lower case",
+}
