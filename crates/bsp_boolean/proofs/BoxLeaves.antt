@@ -16,9 +16,9 @@ use Rattle.plane_polygon.specs.Boxes.{high_x, low_x, high_y, low_y, high_z, low_
 use Rattle.plane_polygon.proofs.BoxStarts.{four, four_polygon, over_x_above, over_x_below, over_y_above, over_y_below, over_z_above, over_z_below}
 use Rattle.plane_polygon.proofs.ParallelPlanes.{below_is_behind, above_is_ahead, same_direction}
 use Rattle.plane_table.specs.declared.faces.Face.{Face}
-use Rattle.plane_table.specs.Tables.{turned_by_number, HasNoTwoAlike, IsNumberIn}
+use Rattle.plane_table.specs.Tables.{oriented_by_number, HasNoTwoAlike, IsNumberIn}
 use Rattle.plane_table.specs.Faces.{outline_of, IsFaceOver}
-use Rattle.plane_table.specs.Orders.{normalized, plane_order}
+use Rattle.plane_table.specs.Orders.{normal_form, plane_order}
 use Rattle.plane_table.proofs.Orders.{ascending_apart}
 use Rattle.bsp_tree.specs.Shapes.{SolidParts}
 use Rattle.bsp_tree.specs.Trees.{Tree, inside}
@@ -160,7 +160,7 @@ abbrev table : (a b c d e f : ℤ) → List Coefficients
 table a b c d e f = low_z ∷ z_low e ∷ z_high f ∷ high_z ∷ low_y ∷ y_low c ∷ y_high d ∷ high_y ∷ x_low a ∷ x_high b ∷ []
 
 table_rises : (a b c d e f : ℤ) → HasRoom a b → HasRoom c d → HasRoom e f → Rises (table a b c d e f)
-unfolding normalized
+unfolding normal_form
 table_rises a b c d e f x y z =
     let xr = x.between in
     let yl = y.low_within in
@@ -228,7 +228,7 @@ six_outlines : (r s t u v w : Outline) (m n o p q k : Coefficients) → box_outl
 six_outlines r s t u v w m n o p q k a b c d e f = λ i. a i ∷ b i ∷ c i ∷ d i ∷ e i ∷ f i ∷ []
 
 known : (a b c d e f : ℤ) → HasRoom a b → HasRoom c d → HasRoom e f → IsKnown a b c d e f
-unfolding turned_by_number
+unfolding oriented_by_number
 known a b c d e f hx hy hz =
     let x : Axis low_x (x_low a) (x_high b) high_x = axis (pos 1) (pos 0) (pos 0) a b hx in
     let y : Axis low_y (y_low c) (y_high d) high_y = axis (pos 0) (pos 1) (pos 0) c d hy in

@@ -17,7 +17,7 @@ use Rattle.plane_table.specs.declared.faces.Face.{Face}
 use Rattle.plane_table.specs.Faces.{outline_of}
 use Rattle.bsp_tree.proofs.Sheets.{node_shown}
 use Rattle.bsp_tree.proofs.Growths.{is_fork, make_size}
-use Rattle.bsp_tree.specs.Links.{is_alike, turned}
+use Rattle.bsp_tree.specs.Links.{is_alike, exchanged_leaf}
 use Rattle.bsp_tree.specs.Shapes.{leaf_of}
 use Rattle.bsp_tree.specs.Growths.{Sheet, tree_on, with_sides_exchanged}
 use Rattle.bsp_tree.proofs.Wholes.{leaf_tree, end_exchanged}
@@ -138,15 +138,15 @@ end_gives sheet side d r e =
     ap (λ (t : Tree). combination d t r) (leaf_tree sheet.planes sheet.nodes side ∙ ap leaf_of (other_side side d e)) ∙ left_gives d r
 
 -- the same of an end of the right tree, whose leaves may be exchanged
-pub right_end_decides : (sheet : Sheet) (side turn d : Bool) (l : Tree) → is_alike (turned side turn) d ≡ true →
+pub right_end_decides : (sheet : Sheet) (side turn d : Bool) (l : Tree) → is_alike (exchanged_leaf side turn) d ≡ true →
     combination d l (with_sides_exchanged turn (tree_on sheet (End side))) ≡ leaf_of d
 right_end_decides sheet side turn d l e =
-    ap (combination d l) (end_exchanged sheet.planes sheet.nodes side turn ∙ ap leaf_of (same_side (turned side turn) d e)) ∙ right_decides d l
+    ap (combination d l) (end_exchanged sheet.planes sheet.nodes side turn ∙ ap leaf_of (same_side (exchanged_leaf side turn) d e)) ∙ right_decides d l
 
-pub right_end_gives : (sheet : Sheet) (side turn d : Bool) (l : Tree) → is_alike (turned side turn) d ≡ false →
+pub right_end_gives : (sheet : Sheet) (side turn d : Bool) (l : Tree) → is_alike (exchanged_leaf side turn) d ≡ false →
     combination d l (with_sides_exchanged turn (tree_on sheet (End side))) ≡ l
 right_end_gives sheet side turn d l e =
-    ap (combination d l) (end_exchanged sheet.planes sheet.nodes side turn ∙ ap leaf_of (other_side (turned side turn) d e)) ∙ right_gives d l
+    ap (combination d l) (end_exchanged sheet.planes sheet.nodes side turn ∙ ap leaf_of (other_side (exchanged_leaf side turn) d e)) ∙ right_gives d l
 
 -- two nodes: the left one's polygon divides the right tree
 pub nodes_combined : (d turn : Bool) (s t : Outline) (b a c e right : Tree) → right ≡ node t c e →

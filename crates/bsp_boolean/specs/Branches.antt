@@ -3,7 +3,7 @@ use Rattle.std.specs.Prelude.{◌≡◌, Bool, true, false}
 use Rattle.csg_tree.specs.declared.op.Op.{Op}
 use Rattle.csg_tree.specs.declared.op.Op.TheVariants.{Union, Intersection, Difference}
 use Rattle.bsp_tree.specs.Growths.{Sheet, Growth}
-use Rattle.bsp_tree.specs.Moves.{Moved}
+use Rattle.bsp_tree.specs.Moves.{MovedSheet}
 
 -- whether the leaf inside decides, and else the leaf outside
 abbrev pub inside_decides : Op → Bool
@@ -18,6 +18,6 @@ exchanges Intersection = false
 exchanges Difference = true
 
 -- the left tree, the right one and what grows stand over one table
-pub record AreOverOne (left : Moved) (right : Sheet) (growth : Growth) : Type 0 where
+pub record AreOverOne (left : MovedSheet) (right : Sheet) (growth : Growth) : Type 0 where
   pub right_planes : right.planes ≡ left.planes
   pub growing_planes : growth.sheet.planes ≡ left.planes

@@ -9,7 +9,8 @@ ghost use Rattle.bsp_boolean.specs.Branches.{AreOverOne};
 
 use bsp_partition::add_parts;
 use bsp_tree::{
-    GrowStop, Growing, Link, MovedNodes, NodeId, Nodes, add_branch, add_moved, is_alike, turned,
+    GrowStop, Growing, Link, MovedNodes, NodeId, Nodes, add_branch, add_moved, exchanged_leaf,
+    is_alike,
 };
 use std::alloc::Global;
 
@@ -40,7 +41,9 @@ impl<'a> Merge<'a> {
         requires left { IsLinkOf self.now.left.now.own.nodes left }
         requires right { IsLinkOf scratch.old.nodes right }
         ensures scratch { OnOk result (scratch.new ≡ scratch.old) }
-        ensures grows { GrowsBy growing.old growing.new (combination self.now.in_decides (tree_on self.now.left.now.own left) (with_sides_exchanged self.now.is_exchanged (tree_on scratch.old right))) result }
+        ensures grows { GrowsBy growing.old growing.new
+            (combination self.now.in_decides (tree_on self.now.left.now.own left)
+            (with_sides_exchanged self.now.is_exchanged (tree_on scratch.old right))) result }
     {
         match (left, right) {
             (Link::End(is_inside), _) => {
@@ -50,7 +53,10 @@ impl<'a> Merge<'a> {
                 add_branch(alloc, growing, scratch, right, self.is_exchanged)
             }
             (Link::To(_), Link::End(is_inside)) => {
-                if is_alike(turned(is_inside, self.is_exchanged), self.in_decides) {
+                if is_alike(
+                    exchanged_leaf(is_inside, self.is_exchanged),
+                    self.in_decides,
+                ) {
                     return Ok(Link::End(self.in_decides));
                 }
                 add_moved(alloc, growing, self.left, left)
@@ -73,7 +79,9 @@ impl<'a> Merge<'a> {
         requires left { left.index < length self.now.left.now.own.nodes }
         requires right { right.index < length scratch.old.nodes }
         ensures scratch { OnOk result (scratch.new ≡ scratch.old) }
-        ensures grows { GrowsBy growing.old growing.new (combination self.now.in_decides (tree_on self.now.left.now.own (To left)) (with_sides_exchanged self.now.is_exchanged (tree_on scratch.old (To right)))) result }
+        ensures grows { GrowsBy growing.old growing.new
+            (combination self.now.in_decides (tree_on self.now.left.now.own (To left))
+            (with_sides_exchanged self.now.is_exchanged (tree_on scratch.old (To right)))) result }
     {
         let (face, behind, ahead) = self.left.node(alloc, left)?;
         let kept = scratch.len();

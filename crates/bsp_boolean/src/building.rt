@@ -30,7 +30,8 @@ pub trait Builder {
         requires { builds self.old < 2 ^ 48 }
         ensures counted { builds self.new ≡ builds self.old + 1 }
         ensures built { IsBuilt (merge_of op (tree_of left.now) (tree_of right.now)) most result }
-        ensures operation { IfOk result (λ s. IsOperationOn op (tree_of left.now) (tree_of right.now) (tree_of s)) };
+        ensures operation { IfOk result
+            (λ s. IsOperationOn op (tree_of left.now) (tree_of right.now) (tree_of s)) };
 }
 
 /// A builder that only counts, which contracts see as its count.

@@ -32,7 +32,8 @@ fn chain_behind(
     faces: &[Face],
 ) -> Result<Option<Vec<Face>>, NoMemory>
     requires { All (IsFaceOver table.now) faces.now }
-    ensures { IfOk result (IsChainOf table.now (behind_all (map (outline_of table.now) faces.now))) }
+    ensures { IfOk result
+        (IsChainOf table.now (behind_all (map (outline_of table.now) faces.now))) }
 {
     match faces {
         [] => Ok(Some(Vec::new(alloc))),
@@ -54,7 +55,11 @@ fn behind_first(
 ) -> Result<Option<Vec<Face>>, NoMemory>
     requires first { IsFaceOver table.now first }
     requires chain { All (IsFaceOver table.now) chain.items }
-    ensures { IfOk result (IsChainOf table.now (chain_of (outline_of table.now first ∷ []) (divide (chain_of (outlines_of table.now chain.items) inside) (outline_of table.now first)).0)) }
+    ensures { IfOk result
+        (IsChainOf table.now
+        (chain_of (outline_of table.now first ∷ [])
+        (divide (chain_of (outlines_of table.now chain.items) inside)
+        (outline_of table.now first)).0)) }
 {
     let mut low = Vec::with_capacity(alloc, chain.len().saturating_add(1))?;
     let mut by = Some(first.copy(alloc)?);
@@ -95,7 +100,10 @@ fn next_step(
     requires face { IsFaceOver table.now face }
     requires by { IsKeptOver table.now by }
     ensures over { IfOk result (IsStepOver table.now) }
-    ensures gives { IfOk result (λ r. (t : Tree) → part_by table.now by (make (outline_of table.now face) t outside) ≡ after_step table.now r t) }
+    ensures gives { IfOk result
+        (λ r. (t : Tree) →
+        part_by table.now by (make (outline_of table.now face) t outside)
+        ≡ after_step table.now r t) }
 {
     match by {
         Some(by) => step_behind(alloc, table, face, by),
@@ -108,7 +116,10 @@ fn step_behind(alloc: Global, table: &PlaneTable, face: Face, by: Face) -> Resul
     requires face { IsFaceOver table.now face }
     requires by { IsFaceOver table.now by }
     ensures over { IfOk result (IsStepOver table.now) }
-    ensures gives { IfOk result (λ r. (t : Tree) → (divide (node (outline_of table.now face) t outside) (outline_of table.now by)).0 ≡ after_step table.now r t) }
+    ensures gives { IfOk result
+        (λ r. (t : Tree) →
+        (divide (node (outline_of table.now face) t outside) (outline_of table.now by)).0
+        ≡ after_step table.now r t) }
 {
     if table.is_same(face.plane, by.plane) {
         return Ok(Step::Whole(None));
@@ -151,7 +162,8 @@ pub fn grow_behind(
 ) -> Result<Link, GrowStop>
     requires table { growing.old.sheet.planes ≡ table.now }
     requires faces { All (IsFaceOver table.now) faces.now }
-    ensures { GrowsBy growing.old growing.new (behind_all (map (outline_of table.now) faces.now)) result }
+    ensures { GrowsBy growing.old growing.new
+        (behind_all (map (outline_of table.now) faces.now)) result }
 {
     let chain = chain_behind(alloc, table, faces)?;
     grow_chain(alloc, growing, &chain)
@@ -164,7 +176,8 @@ fn grow_chain(
     chain: &Option<Vec<Face>>,
 ) -> Result<Link, GrowStop>
     requires { (t : Tree) × IsChainOf growing.old.sheet.planes t chain.now }
-    ensures { (t : Tree) → IsChainOf growing.old.sheet.planes t chain.now → GrowsBy growing.old growing.new t result }
+    ensures { (t : Tree) → IsChainOf growing.old.sheet.planes t chain.now →
+        GrowsBy growing.old growing.new t result }
 {
     match chain {
         Some(faces) => grow_faces(alloc, growing, faces),
@@ -179,7 +192,8 @@ pub fn grow_faces(
     faces: &[Face],
 ) -> Result<Link, GrowStop>
     requires { All (IsFaceOver growing.old.sheet.planes) faces.now }
-    ensures { GrowsBy growing.old growing.new (chain_of (outlines_of growing.old.sheet.planes faces.now) inside) result }
+    ensures { GrowsBy growing.old growing.new
+        (chain_of (outlines_of growing.old.sheet.planes faces.now) inside) result }
 {
     match faces {
         [] => Ok(Link::End(true)),

@@ -28,14 +28,16 @@ pub fn solids_are_their_trees()
 /// and that they stay within both limits where its size and the sum are.
 pub fn one_tree_more()
     ensures solids { (trees : List Formula) (n : ℕ) → IsNumberIn trees n →
-        map solid_of (take n trees) ≡ map solid_of (take (n - 1) trees) ++ solid_of (tree_numbered trees n) ∷ [] }
+        map solid_of (take n trees) ≡ map solid_of (take (n - 1) trees)
+        ++ solid_of (tree_numbered trees n) ∷ [] }
     ensures sizes { (trees : List Formula) (n : ℕ) → IsNumberIn trees n →
-        total_size (take n trees) ≡ total_size (take (n - 1) trees) + solid_size (tree_numbered trees n) }
+        total_size (take n trees)
+        ≡ total_size (take (n - 1) trees) + solid_size (tree_numbered trees n) }
     ensures joins { (trees : List Formula) (n : ℕ) → IsNumberIn trees n →
         joins (take n trees) ≡ joins (take (n - 1) trees) + is_join (tree_numbered trees n) }
-    ensures within { (trees : List Formula) (n : ℕ) → IsNumberIn trees n → AreWithin (take (n - 1) trees) →
-        solid_size (tree_numbered trees n) ≤ most_of_one → total_size (take n trees) ≤ most_of_all →
-        AreWithin (take n trees) }
+    ensures within { (trees : List Formula) (n : ℕ) → IsNumberIn trees n →
+        AreWithin (take (n - 1) trees) → solid_size (tree_numbered trees n) ≤ most_of_one →
+        total_size (take n trees) ≤ most_of_all → AreWithin (take n trees) }
     ensures numbered { (trees : List Formula) (n m : ℕ) → 1 ≤ m → m ≤ n →
         get_or (map solid_of (take n trees)) (m - 1) outside ≡ solid_of (tree_numbered trees m) }
     ensures few { (trees : List Formula) (n : ℕ) → joins (take n trees) ≤ length trees }

@@ -18,8 +18,10 @@ use text_place::NoMemory;
 /// The merge of two solids of one cell: the operation on them, at each point of the cell off all
 /// their planes. Both solids are lent.
 pub fn merge(alloc: Global, op: Op, left: &Solid, right: &Solid) -> Result<Solid, NoMemory>
-    ensures same { IfOk result (λ s. tree_of s ≡ merge_of op (tree_of left.now) (tree_of right.now)) }
-    ensures operation { IfOk result (λ s. IsOperationOn op (tree_of left.now) (tree_of right.now) (tree_of s)) }
+    ensures same { IfOk result
+        (λ s. tree_of s ≡ merge_of op (tree_of left.now) (tree_of right.now)) }
+    ensures operation { IfOk result
+        (λ s. IsOperationOn op (tree_of left.now) (tree_of right.now) (tree_of s)) }
 {
     in_all_memory(merge_within(alloc, op, left, right, u64::MAX))
 }
@@ -36,7 +38,8 @@ pub fn merge_within(
     most: u64,
 ) -> Result<Solid, BuildStop>
     ensures built { IsBuilt (merge_of op (tree_of left.now) (tree_of right.now)) most result }
-    ensures operation { IfOk result (λ s. IsOperationOn op (tree_of left.now) (tree_of right.now) (tree_of s)) }
+    ensures operation { IfOk result
+        (λ s. IsOperationOn op (tree_of left.now) (tree_of right.now) (tree_of s)) }
 {
     merged_within(alloc, op, left, right, most)
 }

@@ -60,7 +60,8 @@ pub fn tree_solid<B: Builder>(
 ) -> Result<Solid, TreeStop>
     requires some { 0 < length store.now }
     requires counts { B.builds builder.old ≤ 2 ^ 46 }
-    ensures solid { IfOk result (λ s. tree_of s ≡ solid_of (tree_numbered store.now (length store.now))) }
+    ensures solid { IfOk result
+        (λ s. tree_of s ≡ solid_of (tree_numbered store.now (length store.now))) }
     ensures within { OnOk result (AreWithin store.now) }
     ensures stop { IfErr result (IsTreeStop store.now) }
     ensures counted { OnOk result (B.builds builder.new ≡ B.builds builder.old + joins store.now) }
@@ -89,7 +90,8 @@ fn grow<B: Builder>(
     requires counts { B.builds builder.old < 2 ^ 48 }
     ensures grown { OnOk result (IsGrown store.now number growth.new) }
     ensures stop { IfErr result (IsTreeStop store.now) }
-    ensures counted { B.builds builder.new + joins (take (number - 1) store.now) ≡ B.builds builder.old + joins (take number store.now) }
+    ensures counted { B.builds builder.new + joins (take (number - 1) store.now)
+        ≡ B.builds builder.old + joins (take number store.now) }
 {
     let solid = match node_solid(alloc, store.node(number), &growth.solids, builder) {
         Ok(solid) => solid,

@@ -5,7 +5,12 @@ use Rattle.plane_polygon.specs.Polygons.{Outline}
 use Rattle.plane_polygon.specs.Parts.{class_of, part_ahead, part_behind}
 use Rattle.bsp_tree.specs.Trees.{Tree}
 use Rattle.bsp_tree.specs.Growths.{Sheet, tree_on, HasTree, IsLonger}
-use Rattle.plane_table.specs.Faces.{IsFaceOver}
+use Rattle.plane_table.specs.declared.faces.Face.{Face}
+use Rattle.plane_table.specs.declared.cutting.Crossing.{Crossing}
+use Rattle.plane_table.specs.declared.cutting.Half.{Half}
+use Rattle.plane_table.specs.Tables.{plane_named}
+use Rattle.plane_table.specs.Cuts.{part_in}
+use Rattle.plane_table.specs.Faces.{outline_of, IsFaceOver}
 use Rattle.bsp_partition.specs.declared.fork.Fork.{Fork}
 use Rattle.bsp_tree.specs.Partitions.{divide, rows}
 
@@ -14,6 +19,21 @@ abbrev pub row_parts : Outline → Outline → Tree → Tree → Tree × Tree
 row_parts s t b a =
     rows (class_of s t.plane) (class_of t s.plane) s t b a
     (divide b s) (divide a s) (divide b (part_behind s t.plane)) (divide a (part_ahead s t.plane))
+
+-- the outline of a face over a sheet's planes
+abbrev pub outline_on : Sheet → Face → Outline
+outline_on sheet face = outline_of sheet.planes face
+
+-- the part in a half space of a face that is across a plane of a sheet
+abbrev pub half_on : Sheet → Half → Crossing → Outline
+half_on sheet half crossing = part_in half (outline_on sheet crossing.face.now) (plane_named sheet.planes crossing.number)
+
+-- the parts of what lies behind a node's plane, and of what lies ahead of it, by the parts of another face there
+abbrev pub low_division : Sheet → Fork → Face → Tree × Tree
+low_division sheet node by = divide (tree_on sheet node.behind) (part_behind (outline_on sheet by) (plane_named sheet.planes node.face.plane))
+
+abbrev pub high_division : Sheet → Fork → Face → Tree × Tree
+high_division sheet node by = divide (tree_on sheet node.ahead) (part_ahead (outline_on sheet by) (plane_named sheet.planes node.face.plane))
 
 -- nodes were added, and two trees stand at two links
 pub record HasParts (old new : Sheet) (links : Link × Link) (parts : Tree × Tree) : Type 0 where

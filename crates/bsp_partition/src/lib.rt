@@ -18,10 +18,14 @@ use text_place::NoMemory;
 /// The parts of a solid behind and ahead of the plane of a polygon, where the solid and the polygon
 /// are of one cell. The solid is lent.
 pub fn partition(alloc: Global, solid: &Solid, by: &Polygon) -> Result<(Solid, Solid), NoMemory>
-    ensures parts { IfOk result (λ r. (tree_of r.0, tree_of r.1) ≡ divide (tree_of solid.now) by.now) }
-    ensures walks { IfOk result (λ r. KeepWalks (tree_of solid.now) by.now (tree_of r.0, tree_of r.1)) }
-    ensures cells { IfOk result (λ r. AreOfHalves (tree_of solid.now) by.now (tree_of r.0, tree_of r.1)) }
-    ensures planes { IfOk result (λ r. HaveNoNewPlane (tree_of solid.now) (tree_of r.0, tree_of r.1)) }
+    ensures parts { IfOk result
+        (λ r. (tree_of r.0, tree_of r.1) ≡ divide (tree_of solid.now) by.now) }
+    ensures walks { IfOk result
+        (λ r. KeepWalks (tree_of solid.now) by.now (tree_of r.0, tree_of r.1)) }
+    ensures cells { IfOk result
+        (λ r. AreOfHalves (tree_of solid.now) by.now (tree_of r.0, tree_of r.1)) }
+    ensures planes { IfOk result
+        (λ r. HaveNoNewPlane (tree_of solid.now) (tree_of r.0, tree_of r.1)) }
 {
     parts_of(alloc, solid, by)
 }

@@ -4,14 +4,13 @@ ghost use Rattle.std.specs.Prelude.{◌≡◌, ◌<◌, length, IfOk};
 ghost use Rattle.link_forest.specs.Forests.{IsLinkOf};
 ghost use Rattle.link_forest.specs.declared.link.Link.TheVariants.{To};
 ghost use Rattle.plane_polygon.specs.declared.classes.Class.TheVariants.{Across};
-ghost use Rattle.plane_polygon.specs.Parts.{class_of, part_ahead, part_behind};
 ghost use Rattle.plane_table.specs.Tables.{plane_named};
-ghost use Rattle.plane_table.specs.Cuts.{part_in, IsCrossing};
-ghost use Rattle.plane_table.specs.Faces.{outline_of, AreSidesWhereAcross, IsFaceOver};
+ghost use Rattle.plane_table.specs.Cuts.{IsCrossing};
+ghost use Rattle.plane_table.specs.Faces.{AreSidesWhereAcross, IsFaceOver};
 ghost use Rattle.bsp_tree.specs.Trees.{make};
 ghost use Rattle.bsp_tree.specs.Growths.{tree_on};
 ghost use Rattle.bsp_tree.specs.Partitions.{across_row, ahead_row, behind_row, divide};
-ghost use Rattle.bsp_partition.specs.Parts.{row_parts, trees_on, AreLinksOf, HasMade, HasParts, HasSideParts, IsForkOn};
+ghost use Rattle.bsp_partition.specs.Parts.{half_on, high_division, low_division, outline_on, row_parts, trees_on, AreLinksOf, HasMade, HasParts, HasSideParts, IsForkOn};
 
 use crate::fork::Fork;
 use bsp_tree::{Face, Link, NodeId, Nodes, Part, is_same_leaf};
@@ -31,7 +30,9 @@ pub fn add_parts(
 ) -> Result<(Link, Link), NoMemory>
     requires link { IsLinkOf nodes.old.nodes at }
     requires face { IsFaceOver nodes.old.planes by.now }
-    ensures { IfOk result (λ r. HasParts nodes.old nodes.new r (divide (tree_on nodes.old at) (outline_of nodes.old.planes by.now))) }
+    ensures { IfOk result
+        (λ r. HasParts nodes.old nodes.new r
+        (divide (tree_on nodes.old at) (outline_on nodes.old by.now))) }
 {
     match at {
         Link::End(_) => Ok((at, at)),
@@ -49,7 +50,9 @@ fn node_parts(
 ) -> Result<(Link, Link), NoMemory>
     requires link { id.index < length nodes.old.nodes }
     requires face { IsFaceOver nodes.old.planes by.now }
-    ensures { IfOk result (λ r. HasParts nodes.old nodes.new r (divide (tree_on nodes.old (To id)) (outline_of nodes.old.planes by.now))) }
+    ensures { IfOk result
+        (λ r. HasParts nodes.old nodes.new r
+        (divide (tree_on nodes.old (To id)) (outline_on nodes.old by.now))) }
 {
     let table = nodes.table();
     let (face, behind, ahead) = nodes.node(id);
@@ -79,7 +82,10 @@ fn other_parts(
 ) -> Result<(Link, Link), NoMemory>
     requires node { IsForkOn nodes.old node }
     requires face { IsFaceOver nodes.old.planes by.now }
-    ensures { IfOk result (λ r. HasParts nodes.old nodes.new r (row_parts (outline_of nodes.old.planes by.now) (outline_of nodes.old.planes node.face) (tree_on nodes.old node.behind) (tree_on nodes.old node.ahead))) }
+    ensures { IfOk result
+        (λ r. HasParts nodes.old nodes.new r
+        (row_parts (outline_on nodes.old by.now) (outline_on nodes.old node.face)
+        (tree_on nodes.old node.behind) (tree_on nodes.old node.ahead))) }
 {
     let table = nodes.table();
     let of_by = sides_where_across(alloc, table, by, node.face.plane)?;
@@ -109,9 +115,12 @@ fn side_parts(
 ) -> Result<((Link, Link), (Link, Link)), NoMemory>
     requires node { IsForkOn nodes.old node.now }
     requires face { IsFaceOver nodes.old.planes by.now }
-    requires sides { AreSidesWhereAcross (outline_of nodes.old.planes by.now) (plane_named nodes.old.planes node.now.face.plane) of_by.now }
+    requires sides { AreSidesWhereAcross (outline_on nodes.old by.now)
+        (plane_named nodes.old.planes node.now.face.plane) of_by.now }
     requires across { of_by.now.class ≡ Across }
-    ensures { IfOk result (λ r. HasSideParts nodes.old nodes.new r (divide (tree_on nodes.old node.now.behind) (part_behind (outline_of nodes.old.planes by.now) (plane_named nodes.old.planes node.now.face.plane))) (divide (tree_on nodes.old node.now.ahead) (part_ahead (outline_of nodes.old.planes by.now) (plane_named nodes.old.planes node.now.face.plane)))) }
+    ensures { IfOk result
+        (λ r. HasSideParts nodes.old nodes.new r (low_division nodes.old node.now by.now)
+        (high_division nodes.old node.now by.now)) }
 {
     let by = Crossing {
         face: by,
@@ -134,7 +143,9 @@ fn half_parts(
 ) -> Result<(Link, Link), NoMemory>
     requires link { IsLinkOf nodes.old.nodes at }
     requires crossing { IsCrossing nodes.old.planes by }
-    ensures { IfOk result (λ r. HasParts nodes.old nodes.new r (divide (tree_on nodes.old at) (part_in half (outline_of nodes.old.planes by.entry.face.now) (plane_named nodes.old.planes by.entry.number)))) }
+    ensures { IfOk result
+        (λ r. HasParts nodes.old nodes.new r
+        (divide (tree_on nodes.old at) (half_on nodes.old half by.entry))) }
 {
     match at {
         Link::End(_) => Ok((at, at)),
@@ -156,10 +167,14 @@ fn made_across(
 ) -> Result<(Link, Link), NoMemory>
     requires own { IsFaceOver nodes.old.planes face.now }
     requires face { IsFaceOver nodes.old.planes by.now }
-    requires sides { AreSidesWhereAcross (outline_of nodes.old.planes face.now) (plane_named nodes.old.planes by.now.plane) of_own.now }
+    requires sides { AreSidesWhereAcross (outline_on nodes.old face.now)
+        (plane_named nodes.old.planes by.now.plane) of_own.now }
     requires across { of_own.now.class ≡ Across }
     requires links { AreLinksOf nodes.old parts }
-    ensures { IfOk result (λ r. HasParts nodes.old nodes.new r (across_row (outline_of nodes.old.planes by.now) (outline_of nodes.old.planes face.now) (trees_on nodes.old parts.0) (trees_on nodes.old parts.1))) }
+    ensures { IfOk result
+        (λ r. HasParts nodes.old nodes.new r
+        (across_row (outline_on nodes.old by.now) (outline_on nodes.old face.now)
+        (trees_on nodes.old parts.0) (trees_on nodes.old parts.1))) }
 {
     let (low, high) = parts;
     let own = Crossing {
@@ -184,7 +199,10 @@ fn make_half(
     requires crossing { IsCrossing nodes.old.planes own }
     requires behind { IsLinkOf nodes.old.nodes behind }
     requires ahead { IsLinkOf nodes.old.nodes ahead }
-    ensures { IfOk result (λ l. HasMade nodes.old nodes.new l (make (part_in half (outline_of nodes.old.planes own.entry.face.now) (plane_named nodes.old.planes own.entry.number)) (tree_on nodes.old behind) (tree_on nodes.old ahead))) }
+    ensures { IfOk result
+        (λ l. HasMade nodes.old nodes.new l
+        (make (half_on nodes.old half own.entry) (tree_on nodes.old behind)
+        (tree_on nodes.old ahead))) }
 {
     if is_same_leaf(behind, ahead) {
         return Ok(behind);
@@ -204,7 +222,11 @@ fn behind_parts(
 ) -> Result<(Link, Link), NoMemory>
     requires node { IsForkOn nodes.old node }
     requires face { IsFaceOver nodes.old.planes by.now }
-    ensures { IfOk result (λ r. HasParts nodes.old nodes.new r (behind_row part (outline_of nodes.old.planes node.face) (divide (tree_on nodes.old node.behind) (outline_of nodes.old.planes by.now)) (tree_on nodes.old node.ahead))) }
+    ensures { IfOk result
+        (λ r. HasParts nodes.old nodes.new r
+        (behind_row part (outline_on nodes.old node.face)
+        (divide (tree_on nodes.old node.behind) (outline_on nodes.old by.now))
+        (tree_on nodes.old node.ahead))) }
 {
     let (low, high) = add_parts(alloc, nodes, node.behind, by)?;
     match part {
@@ -224,7 +246,10 @@ fn ahead_parts(
 ) -> Result<(Link, Link), NoMemory>
     requires node { IsForkOn nodes.old node }
     requires face { IsFaceOver nodes.old.planes by.now }
-    ensures { IfOk result (λ r. HasParts nodes.old nodes.new r (ahead_row part (outline_of nodes.old.planes node.face) (tree_on nodes.old node.behind) (divide (tree_on nodes.old node.ahead) (outline_of nodes.old.planes by.now)))) }
+    ensures { IfOk result
+        (λ r. HasParts nodes.old nodes.new r
+        (ahead_row part (outline_on nodes.old node.face) (tree_on nodes.old node.behind)
+        (divide (tree_on nodes.old node.ahead) (outline_on nodes.old by.now)))) }
 {
     let (low, high) = add_parts(alloc, nodes, node.ahead, by)?;
     match part {
@@ -238,7 +263,9 @@ fn make_node(nodes: &mut Nodes<'_>, face: Face, behind: Link, ahead: Link) -> Re
     requires face { IsFaceOver nodes.old.planes face }
     requires behind { IsLinkOf nodes.old.nodes behind }
     requires ahead { IsLinkOf nodes.old.nodes ahead }
-    ensures { IfOk result (λ l. HasMade nodes.old nodes.new l (make (outline_of nodes.old.planes face) (tree_on nodes.old behind) (tree_on nodes.old ahead))) }
+    ensures { IfOk result
+        (λ l. HasMade nodes.old nodes.new l
+        (make (outline_on nodes.old face) (tree_on nodes.old behind) (tree_on nodes.old ahead))) }
 {
     if is_same_leaf(behind, ahead) {
         return Ok(behind);

@@ -16,7 +16,7 @@ use Rattle.plane_table.specs.Faces.{outline_of}
 use Rattle.bsp_tree.specs.Trees.{Tree, node, size}
 use Rattle.bsp_tree.specs.Shapes.{tree_of_branch}
 use Rattle.bsp_tree.specs.Growths.{Sheet, Growth, tree_on, HasGrown, GrowsBy}
-use Rattle.bsp_tree.specs.Moves.{Moved, IsMovedNode}
+use Rattle.bsp_tree.specs.Moves.{MovedSheet, IsMovedNode}
 use Rattle.bsp_tree.specs.Ranges.{Spans, none, all, link_shifted_by, AreFirsts, CanShift, IsNext}
 use Rattle.bsp_tree.specs.declared.growing.GrowStop.{GrowStop}
 use Rattle.bsp_tree.proofs.Growths.{leaf_grows, stops, stops_after}
@@ -124,7 +124,7 @@ shifted_same first start at s (End side) e w low high = refl
 shifted_same first start at s (To id) e w low high = ap (λ (k : ℕ). To (node_id k)) (omega (arith, w.0, w.1))
 
 -- the tree of the next node
-next_grows : (moved : Moved) (first start : ℕ) (old now new : Growth) (at : NodeId) (face : Face) (behind ahead : Link) (result : Result Link GrowStop) (begin : ℕ) →
+next_grows : (moved : MovedSheet) (first start : ℕ) (old now new : Growth) (at : NodeId) (face : Face) (behind ahead : Link) (result : Result Link GrowStop) (begin : ℕ) →
     now.sheet.planes ≡ moved.planes → IsMovedNode moved at face behind ahead → (p : HasPassed moved.own first start old now at.index) →
     Adding now new face (link_shifted_by behind at.index (length now.sheet.nodes)) (link_shifted_by ahead at.index (length now.sheet.nodes)) result →
     first ≤ begin → IsOver moved.own.nodes begin behind ahead at.index →
@@ -159,7 +159,7 @@ later_old history at new k below = grind (arith, nat_tests)
 later_new : (history : ℕ → Growth) (at : ℕ) (new : Growth) (k : ℕ) → at < k → later history at new k ≡ new
 later_new history at new k above = grind (arith, nat_tests)
 
-pub passed_more : (moved : Moved) (first start : ℕ) (old now new : Growth) (at : NodeId) (face : Face) (behind ahead link : Link) →
+pub passed_more : (moved : MovedSheet) (first start : ℕ) (old now new : Growth) (at : NodeId) (face : Face) (behind ahead link : Link) →
     first ≤ at.index → now.sheet.planes ≡ moved.planes → IsMovedNode moved at face behind ahead → HasPassed moved.own first start old now at.index →
     Adding now new face (link_shifted_by behind at.index (length now.sheet.nodes)) (link_shifted_by ahead at.index (length now.sheet.nodes)) (Ok link) →
     IsNext now new link → HasPassed moved.own first start old new (at.index + 1)
@@ -201,7 +201,7 @@ node_size own id face behind ahead n =
     omega (arith, ap size e)
 
 -- what stops the next node stops each tree in whose range it stands
-whole_stops : (moved : Moved) (first start : ℕ) (old now new : Growth) (at : NodeId) (face : Face) (behind ahead : Link) (stop : GrowStop) →
+whole_stops : (moved : MovedSheet) (first start : ℕ) (old now new : Growth) (at : NodeId) (face : Face) (behind ahead : Link) (stop : GrowStop) →
     now.sheet.planes ≡ moved.planes → IsMovedNode moved at face behind ahead → (p : HasPassed moved.own first start old now at.index) →
     Adding now new face (link_shifted_by behind at.index (length now.sheet.nodes)) (link_shifted_by ahead at.index (length now.sheet.nodes)) (Err stop) →
     (s e : ℕ) (link : Link) → first ≤ s → s ≤ at.index → at.index < e → Spans moved.own.nodes s link e →
@@ -229,7 +229,7 @@ whole_stops moved first start old now new at face behind ahead stop planes m p a
       ]
     ]
 
-pub range_stops : (moved : Moved) (first start : ℕ) (old now new : Growth) (at : NodeId) (face : Face) (behind ahead : Link) (stop : GrowStop) →
+pub range_stops : (moved : MovedSheet) (first start : ℕ) (old now new : Growth) (at : NodeId) (face : Face) (behind ahead : Link) (stop : GrowStop) →
     now.sheet.planes ≡ moved.planes → IsMovedNode moved at face behind ahead → HasPassed moved.own first start old now at.index →
     Adding now new face (link_shifted_by behind at.index (length now.sheet.nodes)) (link_shifted_by ahead at.index (length now.sheet.nodes)) (Err stop) →
     (end : ℕ) (link : Link) → first ≤ at.index → at.index < end → Spans moved.own.nodes first link end →

@@ -19,7 +19,7 @@ use Rattle.bsp_tree.specs.Trees.{Tree, inside, outside, node, size, walk}
 use Rattle.bsp_tree.specs.Shapes.{leaf_of, tree_of_branch, tree_over, tree_of, AreFacesOver, IsWhole, SolidParts}
 use Rattle.bsp_tree.specs.Kept.{IsKept}
 use Rattle.bsp_tree.specs.Growths.{Sheet, tree_on, with_sides_exchanged, HasGrownWhole}
-use Rattle.bsp_tree.specs.Links.{turned}
+use Rattle.bsp_tree.specs.Links.{exchanged_leaf}
 use Rattle.bsp_tree.proofs.SheetFaces.{faces_more}
 
 pub grown_kept : (planes : List Coefficients) (nodes : List (Entry Face)) (root : Link) (kept : ℕ) →
@@ -123,10 +123,10 @@ end_walk planes nodes side p = leaf_walk side p ∙ sym (ap (λ (t : Tree). walk
 
 -- the leaf that stands where leaves are exchanged
 pub end_exchanged : (planes : List Coefficients) (nodes : List (Entry Face)) (side turn : Bool) →
-    with_sides_exchanged turn (tree_over planes nodes (End side)) ≡ leaf_of (turned side turn)
+    with_sides_exchanged turn (tree_over planes nodes (End side)) ≡ leaf_of (exchanged_leaf side turn)
 end_exchanged planes nodes side turn = ap (with_sides_exchanged turn) (leaf_tree planes nodes side) ∙ leaf_exchanged side turn
   where
-    leaf_exchanged : (side turn : Bool) → with_sides_exchanged turn (leaf_of side) ≡ leaf_of (turned side turn)
+    leaf_exchanged : (side turn : Bool) → with_sides_exchanged turn (leaf_of side) ≡ leaf_of (exchanged_leaf side turn)
     leaf_exchanged true true = refl
     leaf_exchanged false true = refl
     leaf_exchanged true false = refl

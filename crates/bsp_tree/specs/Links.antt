@@ -19,6 +19,6 @@ same_leaf (End side) ahead = is_leaf side ahead
 same_leaf (To id) ahead = false
 
 -- whether a leaf is inside, where leaves are exchanged
-abbrev pub turned : Bool → Bool → Bool
-turned side true = not side
-turned side false = side
+abbrev pub exchanged_leaf : Bool → Bool → Bool
+exchanged_leaf side true = not side
+exchanged_leaf side false = side

@@ -12,7 +12,7 @@ use Rattle.bsp_tree.specs.Growths.{Sheet}
 use Rattle.bsp_tree.specs.Copies.{AreFoundOver}
 
 -- nodes over planes of their own, and the planes over which their faces are given
-pub record Moved : Type 0 where
+pub record MovedSheet : Type 0 where
   pub own : Sheet
   pub planes : List Coefficients
 
@@ -22,7 +22,7 @@ pub record AreMoved (planes : List Coefficients) (numbers : List ℕ) (from : Li
   pub found : AreFoundOver planes numbers from nodes
 
 -- a node's links, and a face over the other planes that has the outline of the node's own
-pub record IsMovedNode (moved : Moved) (id : NodeId) (face : Face) (behind ahead : Link) : Type 0 where
+pub record IsMovedNode (moved : MovedSheet) (id : NodeId) (face : Face) (behind ahead : Link) : Type 0 where
   pub own : Face
   pub node : IsNode moved.own.nodes id own behind ahead
   pub outline : outline_of moved.planes face ≡ outline_of moved.own.planes own

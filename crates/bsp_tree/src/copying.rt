@@ -8,7 +8,7 @@ ghost use Rattle.bsp_tree.specs.Growths.{with_sides_exchanged, tree_on, GrowsBy,
 ghost use Rattle.bsp_tree.specs.Copies.{AreCopied, AreFoundOver};
 
 use crate::growing::{GrowStop, Growing};
-use crate::links::turned;
+use crate::links::exchanged_leaf;
 use crate::nodes::Nodes;
 use crate::solid::Solid;
 use link_forest::{Forest, Link, NodeId};
@@ -28,10 +28,11 @@ pub fn add_branch(
 ) -> Result<Link, GrowStop>
     requires table { growing.old.sheet.planes ≡ from.now.planes }
     requires link { IsLinkOf from.now.nodes at }
-    ensures { GrowsBy growing.old growing.new (with_sides_exchanged is_exchanged (tree_on from.now at)) result }
+    ensures { GrowsBy growing.old growing.new
+        (with_sides_exchanged is_exchanged (tree_on from.now at)) result }
 {
     match at {
-        Link::End(is_inside) => Ok(Link::End(turned(is_inside, is_exchanged))),
+        Link::End(is_inside) => Ok(Link::End(exchanged_leaf(is_inside, is_exchanged))),
         Link::To(id) => {
             let (face, behind, ahead) = from.node(id);
             let behind = add_branch(alloc, growing, from, behind, is_exchanged)?;

@@ -16,9 +16,11 @@ use text_place::NoMemory;
 /// In and Out exchanged: each point off the planes changes sides.
 pub fn exchange(alloc: Global, solid: &Solid) -> Result<Solid, NoMemory>
     ensures tree { IfOk result (λ s. tree_of s ≡ complement (tree_of solid.now)) }
-    ensures walks { IfOk result (λ s. (p : Coordinates) → walk (tree_of s) p ≡ not (walk (tree_of solid.now) p)) }
+    ensures walks { IfOk result
+        (λ s. (p : Coordinates) → walk (tree_of s) p ≡ not (walk (tree_of solid.now) p)) }
     ensures planes { IfOk result (λ s. HasPlanesOf (tree_of s) (tree_of solid.now)) }
-    ensures cells { IfOk result (λ s. (cell : _) → IsOfCell cell (tree_of solid.now) → IsOfCell cell (tree_of s)) }
+    ensures cells { IfOk result
+        (λ s. (cell : _) → IsOfCell cell (tree_of solid.now) → IsOfCell cell (tree_of s)) }
 {
     with_sides_exchanged(alloc, solid)
 }

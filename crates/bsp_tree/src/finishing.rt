@@ -24,7 +24,8 @@ pub fn solid_at(
     is_exchanged: bool,
 ) -> Result<Solid, NoMemory>
     requires { IsLinkOf nodes.now.nodes at }
-    ensures { IfOk result (λ s. tree_of s ≡ with_sides_exchanged is_exchanged (tree_on nodes.now at)) }
+    ensures { IfOk result
+        (λ s. tree_of s ≡ with_sides_exchanged is_exchanged (tree_on nodes.now at)) }
 {
     let mut growing = Growing::new(alloc, nodes.table(), u64::MAX);
     // A solid above that limit is larger than any memory: each node and each edge takes more than one byte.
@@ -43,7 +44,7 @@ pub fn finish(alloc: Global, growing: Growing<'_>, root: Link) -> Result<Solid, 
     let (nodes, size) = growing.into_parts();
     let used = used_planes(alloc, &nodes)?;
     if has_many_unused(&used) {
-        return trimmed(alloc, &nodes, root, size, &used);
+        return trim(alloc, &nodes, root, size, &used);
     }
     whole(alloc, nodes, root, size)
 }
@@ -57,11 +58,11 @@ fn whole(alloc: Global, nodes: Nodes<'_>, root: Link, size: u64) -> Result<Solid
     planes.extend_from_slice(nodes.table().planes())?;
     let mut forest = nodes.into_forest();
     forest.shrink_to_fit();
-    Ok(Solid::grown(planes, forest, root, size))
+    Ok(Solid::of_growth(planes, forest, root, size))
 }
 
 // The solid with those planes that are used.
-fn trimmed(
+fn trim(
     alloc: Global,
     nodes: &Nodes<'_>,
     root: Link,

@@ -58,7 +58,11 @@ impl<'t> Growing<'t> {
 
     /// Nothing yet, over a table. What grows is at most `most` in size.
     pub fn new(alloc: Global, table: &'t PlaneTable, most: u64) -> Growing<'t>
-        ensures { result ≡ record { sheet = record { planes = table.now; nodes = [] }; size = 0; most = most } }
+        ensures { result ≡ record {
+          sheet = record { planes = table.now; nodes = [] };
+          size = 0;
+          most = most;
+        } }
     {
         Growing {
             nodes: Nodes::new(alloc, table),
@@ -89,7 +93,9 @@ impl<'t> Growing<'t> {
         requires face { IsFaceOver self.old.sheet.planes face }
         requires behind { IsLinkOf self.old.sheet.nodes behind }
         requires ahead { IsLinkOf self.old.sheet.nodes ahead }
-        ensures grows { (start middle : Growth) (b a : Tree) → HasGrown start middle behind b → HasGrown middle self.old ahead a → GrowsBy start self.new (node (outline_of self.old.sheet.planes face) b a) result }
+        ensures grows { (start middle : Growth) (b a : Tree) → HasGrown start middle behind b →
+            HasGrown middle self.old ahead a →
+            GrowsBy start self.new (node (outline_of self.old.sheet.planes face) b a) result }
         ensures next { IfOk result (IsNext self.old self.new) }
     {
         let edges = face.edges.len() as u64;
@@ -106,7 +112,9 @@ impl<'t> Growing<'t> {
         requires face { IsFaceOver self.old.sheet.planes face }
         requires behind { IsLinkOf self.old.sheet.nodes behind }
         requires ahead { IsLinkOf self.old.sheet.nodes ahead }
-        ensures { (start middle : Growth) (b a : Tree) → HasGrown start middle behind b → HasGrown middle self.old ahead a → GrowsBy start self.new (make (outline_of self.old.sheet.planes face) b a) result }
+        ensures { (start middle : Growth) (b a : Tree) → HasGrown start middle behind b →
+            HasGrown middle self.old ahead a →
+            GrowsBy start self.new (make (outline_of self.old.sheet.planes face) b a) result }
     {
         if is_same_leaf(behind, ahead) {
             return Ok(behind);

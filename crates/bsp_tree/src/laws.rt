@@ -17,8 +17,12 @@ pub fn world_box_is_a_cell()
 /// Where a plane is across a polygon of a cell, the parts are polygons of the halves of the cell.
 /// A polygon that lies to one side of the plane is a polygon of the half on its side.
 pub fn parts_are_of_halves()
-    ensures part_behind { (cell : List Coefficients) (s : Outline) (m : Coefficients) → IsAcross cell s → class_of s m ≡ Across → IsAcross (m ∷ cell) (part_behind s m) }
-    ensures part_ahead { (cell : List Coefficients) (s : Outline) (m : Coefficients) → IsAcross cell s → class_of s m ≡ Across → IsAcross (opposite_of m ∷ cell) (part_ahead s m) }
-    ensures behind { (cell : List Coefficients) (s : Outline) (m : Coefficients) → IsAcross cell s → class_of s m ≡ Behind → IsAcross (m ∷ cell) s }
-    ensures ahead { (cell : List Coefficients) (s : Outline) (m : Coefficients) → IsAcross cell s → class_of s m ≡ Ahead → IsAcross (opposite_of m ∷ cell) s }
+    ensures part_behind { (cell : List Coefficients) (s : Outline) (m : Coefficients) →
+        IsAcross cell s → class_of s m ≡ Across → IsAcross (m ∷ cell) (part_behind s m) }
+    ensures part_ahead { (cell : List Coefficients) (s : Outline) (m : Coefficients) →
+        IsAcross cell s → class_of s m ≡ Across → IsAcross (opposite_of m ∷ cell) (part_ahead s m) }
+    ensures behind { (cell : List Coefficients) (s : Outline) (m : Coefficients) → IsAcross cell s →
+        class_of s m ≡ Behind → IsAcross (m ∷ cell) s }
+    ensures ahead { (cell : List Coefficients) (s : Outline) (m : Coefficients) → IsAcross cell s →
+        class_of s m ≡ Ahead → IsAcross (opposite_of m ∷ cell) s }
 {}

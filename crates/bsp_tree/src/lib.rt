@@ -22,7 +22,7 @@ pub use growing::{GrowStop, Growing};
 pub use half_spaces::half;
 pub use laws::{parts_are_of_halves, world_box_is_a_cell};
 pub use link_forest::{Forest, Link, NodeId};
-pub use links::{is_alike, is_same_leaf, turned};
+pub use links::{exchanged_leaf, is_alike, is_same_leaf};
 pub use moved_nodes::{MovedNodes, add_moved};
 pub use nodes::Nodes;
 pub use part::Part;

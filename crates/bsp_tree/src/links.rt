@@ -1,7 +1,7 @@
 //! Leaves as ends of links.
 
 ghost use Rattle.std.specs.Prelude.{◌≡◌};
-ghost use Rattle.bsp_tree.specs.Links.{is_alike, is_leaf, same_leaf, turned};
+ghost use Rattle.bsp_tree.specs.Links.{is_alike, is_leaf, same_leaf, exchanged_leaf};
 
 use link_forest::Link;
 
@@ -33,8 +33,8 @@ pub fn is_alike(one: bool, other: bool) -> bool
 }
 
 /// Whether a leaf is inside, where leaves are exchanged.
-pub fn turned(is_inside: bool, is_exchanged: bool) -> bool
-    ensures { result ≡ turned is_inside is_exchanged }
+pub fn exchanged_leaf(is_inside: bool, is_exchanged: bool) -> bool
+    ensures { result ≡ exchanged_leaf is_inside is_exchanged }
 {
     if is_exchanged { !is_inside } else { is_inside }
 }

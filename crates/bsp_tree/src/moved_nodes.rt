@@ -27,9 +27,9 @@ pub struct MovedNodes<'a> {
 }
 
 impl<'a> Model for MovedNodes<'a> {
-    ghost use Rattle.bsp_tree.specs.Moves.{AreMoved, Moved};
+    ghost use Rattle.bsp_tree.specs.Moves.{AreMoved, MovedSheet};
 
-    ghost Value = { Moved };
+    ghost Value = { MovedSheet };
 
     ghost view = { λ m. record { own = record { planes = m.planes.now; nodes = m.nodes }; planes = m.table.now } };
 
@@ -51,7 +51,12 @@ impl<'a> MovedNodes<'a> {
         numbers: &'a [u32],
     ) -> Result<MovedNodes<'a>, NoMemory>
         requires { AreNumbersOf table.now numbers.now solid.now.planes }
-        ensures { IfOk result (λ m. m ≡ record { own = record { planes = solid.now.planes; nodes = solid.now.nodes }; planes = table.now }) }
+        ensures { IfOk result
+            (λ m. m ≡
+            record {
+              own = record { planes = solid.now.planes; nodes = solid.now.nodes };
+              planes = table.now;
+            }) }
     {
         let (planes, forest, _) = solid.parts();
         Ok(MovedNodes {

@@ -84,7 +84,8 @@ fn firsts_of(alloc: Global, forest: &Forest<Face>) -> Result<Vec<usize>, NoMemor
 
 // The same for the node of a number, over those before it.
 fn first_of(firsts: &[usize], behind: Link, ahead: Link, index: usize) -> Option<usize>
-    ensures { (nodes : List (Entry Face)) (face : Face) → AreFirsts nodes firsts.now → IsNode nodes (node_id index) face behind ahead →
+    ensures { (nodes : List (Entry Face)) (face : Face) → AreFirsts nodes firsts.now →
+        IsNode nodes (node_id index) face behind ahead →
         IfSome result (λ first. Spans nodes first (To (node_id index)) (index + 1)) }
 {
     let middle = first_before(firsts, ahead, index)?;
@@ -93,7 +94,8 @@ fn first_of(firsts: &[usize], behind: Link, ahead: Link, index: usize) -> Option
 
 // The number at which the nodes of the tree at a link begin, where they are known to be those from there on up to `end`.
 fn first_before(firsts: &[usize], link: Link, end: usize) -> Option<usize>
-    ensures { (nodes : List (Entry Face)) → AreFirsts nodes firsts.now → IfSome result (λ first. Spans nodes first link end) }
+    ensures { (nodes : List (Entry Face)) → AreFirsts nodes firsts.now →
+        IfSome result (λ first. Spans nodes first link end) }
 {
     match link {
         Link::End(_) => Some(end),

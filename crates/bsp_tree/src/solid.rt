@@ -74,10 +74,16 @@ impl Solid {
     }
 
     /// A solid that has grown over a table from nothing, with its size.
-    pub(crate) fn grown(planes: Vec<Plane>, forest: Forest<Face>, root: Link, size: u64) -> Solid
+    pub(crate) fn of_growth(
+        planes: Vec<Plane>,
+        forest: Forest<Face>,
+        root: Link,
+        size: u64,
+    ) -> Solid
         requires apart { HasNoTwoAlike planes.items }
         requires faces { AreFacesOver planes.items forest.nodes }
-        requires grown { HasGrownWhole (record { planes = planes.items; nodes = forest.nodes }) root size }
+        requires grown { HasGrownWhole
+            (record { planes = planes.items; nodes = forest.nodes }) root size }
         ensures { result ≡ record { planes = planes.items; nodes = forest.nodes; root = root } }
     {
         Solid {
@@ -91,9 +97,14 @@ impl Solid {
     /// The table, the forest of faces over it, and the link at which the solid's tree begins. An end
     /// of a link is a leaf, which is inside the solid where it is true.
     pub fn parts(&self) -> (&[Plane], &Forest<Face>, Link)
-        ensures parts { self.now ≡ record { planes = result.0.now; nodes = result.1.now.nodes; root = result.2 } }
+        ensures parts { self.now ≡
+            record { planes = result.0.now; nodes = result.1.now.nodes; root = result.2 } }
         ensures tree { tree_of self.now ≡ tree_over result.0.now result.1.now.nodes result.2 }
-        ensures whole { IsWhole (record { planes = result.0.now; nodes = result.1.now.nodes; root = result.2 }) }
+        ensures whole { IsWhole (record {
+          planes = result.0.now;
+          nodes = result.1.now.nodes;
+          root = result.2;
+        }) }
     {
         (&self.planes, &self.forest, self.root)
     }
@@ -123,7 +134,8 @@ impl Solid {
 // What the tree at a link of a forest is in size, which stops at the greatest number.
 fn size_at(forest: &Forest<Face>, at: Link) -> u64
     requires { IsLinkOf forest.now.nodes at }
-    ensures { (planes : List Coefficients) → result ≡ min (size (tree_over planes forest.now.nodes at)) (2 ^ 64 - 1) }
+    ensures { (planes : List Coefficients) →
+        result ≡ min (size (tree_over planes forest.now.nodes at)) (2 ^ 64 - 1) }
 {
     match at {
         Link::End(_) => 0,

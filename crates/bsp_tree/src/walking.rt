@@ -41,7 +41,7 @@ fn holds_at(planes: &[Plane], forest: &Forest<Face>, at: Link, point: &Point) ->
 }
 
 // The plane that a number names over a list.
-#[tactic(auto, unfolding(plane_table::specs::Tables::turned_by_number))]
+#[tactic(auto, unfolding(plane_table::specs::Tables::oriented_by_number))]
 fn plane_named(planes: &[Plane], number: u32) -> Plane
     requires { IsNumberIn planes.now number }
     ensures { result ≡ plane_named planes.now number }

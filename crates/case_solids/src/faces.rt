@@ -6,7 +6,7 @@ use crate::numbers::planes_of;
 use case_lines::{CaseStop, put, put_number, put_numbers};
 use case_planes::put_planes;
 use plane_predicate::Plane;
-use plane_table::{Edges, Face, Joined, OwnFace, half_face, join};
+use plane_table::{Edges, Face, JoinedPlanes, OwnFace, half_face, join};
 use std::alloc::Global;
 use text_place::NoMemory;
 
@@ -60,7 +60,7 @@ pub fn put_edges(alloc: Global, out: &mut Vec<u8>, numbers: &[i64]) -> Result<()
 }
 
 // A list in which two lists were joined, and the numbers that each of them has there.
-fn put_join(alloc: Global, out: &mut Vec<u8>, joined: &Joined) -> Result<(), NoMemory> {
+fn put_join(alloc: Global, out: &mut Vec<u8>, joined: &JoinedPlanes) -> Result<(), NoMemory> {
     put_planes(alloc, out, &joined.planes)?;
     put(out, b" left ")?;
     put_numbers(alloc, out, &joined.left)?;

@@ -14,8 +14,8 @@ use case_planes::put_planes;
 use plane_polygon::Class;
 use plane_predicate::Plane;
 use plane_table::{
-    CornerSide, Crossing, Face, Half, Numbered, PlaneTable, cut, faces_are_found, half_face, join,
-    keep_used, mark_used, polygon_of, renumber, sides, sides_where_across,
+    CornerSide, Crossing, Face, Half, NumberedPlanes, PlaneTable, cut, faces_are_found, half_face,
+    join, keep_used, mark_used, polygon_of, renumber, sides, sides_where_across,
 };
 use std::alloc::Global;
 use text_place::NoMemory;
@@ -206,7 +206,7 @@ fn put_corner_sides(
 }
 
 // Planes that are kept, and the numbers that others have among them.
-fn put_kept(alloc: Global, out: &mut Vec<u8>, kept: &Numbered) -> Result<(), NoMemory> {
+fn put_kept(alloc: Global, out: &mut Vec<u8>, kept: &NumberedPlanes) -> Result<(), NoMemory> {
     put_planes(alloc, out, &kept.planes)?;
     put(out, b" numbers ")?;
     put_numbers(alloc, out, &kept.numbers)

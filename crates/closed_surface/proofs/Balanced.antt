@@ -9,10 +9,10 @@ use Rattle.bsp_tree.specs.Trees.{Tree}
 use Rattle.bsp_tree.specs.Cells.{world_box, IsIn, AllBehind, IsPlaneOf}
 use Rattle.bsp_tree.proofs.Opposites.{opposite_twice, opposite_zero, opposite_back}
 use Rattle.facet_cut.specs.Facets.{facets_of}
-use Rattle.facet_cut.specs.Sides.{walk_by, IsOnOnePlane, Bound}
+use Rattle.facet_cut.specs.Sides.{walk_by, IsOnOnePlane, BoundSolid}
 use Rattle.closed_surface.specs.Ways.{Direction, dot, slope}
 use Rattle.closed_surface.specs.Around.{turn_about, sides_at, IsApartFrom, AreApart, fall, total}
-use Rattle.closed_surface.specs.Closed.{edges_of, along, against}
+use Rattle.closed_surface.specs.Closed.{edges_of, edges_along, edges_against}
 use Rattle.closed_surface.proofs.Turns.{turn_exchanged, turn_itself, turn_opposite, opposite_turn}
 use Rattle.closed_surface.proofs.Sectors.{round}
 use Rattle.closed_surface.proofs.Numbers.{below, not_below, false_by, at_least, not_zero_below, not_zero_above, negative_apart, negative_zero}
@@ -111,7 +111,7 @@ either_back : (m n : Coefficients) (p : Coordinates) → IsEither m n → value 
 either_back m n p (inl e) h = subst (λ (k : Coefficients). value k p ≡ pos 0) e h
 either_back m n p (inr e) h = opposite_back n p (subst (λ (k : Coefficients). value k p ≡ pos 0) e h)
 
-module _ (t : Tree) (bounded : Bound world_box t (facets_of t)) (q : Coordinates) (hq : IsIn world_box q) (v : Direction) (hv : pos 0 <ℤ dot v v) (number : ℕ)
+module _ (t : Tree) (bounded : BoundSolid world_box t (facets_of t)) (q : Coordinates) (hq : IsIn world_box q) (v : Direction) (hv : pos 0 <ℤ dot v v) (number : ℕ)
     (planes : Each (TreePlane q v) (planes_of t)) (enough : Each (EnoughBeside t number v) (planes_of t)) (facets : Each (FacetAt t q v) (facets_of t)) where
   abbrev spot : Coefficients → Coordinates
   spot half = near_point number q (direction_beside half v)
@@ -295,7 +295,7 @@ module _ (t : Tree) (bounded : Bound world_box t (facets_of t)) (q : Coordinates
       (not_within f (direction_beside f.plane v) off (each_member (λ s. IsOften number s (direction_beside f.plane v)) (facets_of t) e.first.facets f m))
       (not_within f (direction_beside (opposite_of f.plane) v) off (each_member (λ s. IsOften number s (direction_beside (opposite_of f.plane) v)) (facets_of t) e.second.facets f m)))
 
-  facet_shares : (f : Outline) → Member f (facets_of t) × FacetAt t q v f → pos (along (edges_of (corners f)) q v) -ℤ pos (against (edges_of (corners f)) q v) ≡ total (share v spot f) through
+  facet_shares : (f : Outline) → Member f (facets_of t) × FacetAt t q v f → pos (edges_along (edges_of (corners f)) q v) -ℤ pos (edges_against (edges_of (corners f)) q v) ≡ total (share v spot f) through
   facet_shares f (m, h) =
       let e = sizes_of f h h.plane in
       balance f h.polygon number q hq.weight v hv h.clear
@@ -303,7 +303,7 @@ module _ (t : Tree) (bounded : Bound world_box t (facets_of t)) (q : Coordinates
       (each_member (λ s. IsOften number s (direction_beside (opposite_of f.plane) v)) (facets_of t) e.second.facets f m)
       ∙ sym (gain_by f m h e (zero_or_not (value f.plane q)))
 
-  pub balanced : total (λ f. pos (along (edges_of (corners f)) q v) -ℤ pos (against (edges_of (corners f)) q v)) (facets_of t) ≡ pos 0
+  pub balanced : total (λ f. pos (edges_along (edges_of (corners f)) q v) -ℤ pos (edges_against (edges_of (corners f)) q v)) (facets_of t) ≡ pos 0
   balanced =
       total_same (λ f. Member f (facets_of t) × FacetAt t q v f) _ (λ f. total (share v spot f) through) facet_shares (facets_of t) (each_both (λ f. Member f (facets_of t)) (FacetAt t q v) (facets_of t) (members (facets_of t)) facets)
       ∙ total_exchanged (λ f n. share v spot f n) (facets_of t) through

@@ -19,10 +19,10 @@ use Rattle.bsp_tree.specs.Cells.{world_box, IsIn, IsOfWorld}
 use Rattle.bsp_tree.proofs.NearPoints.{direction, value_direction}
 use Rattle.bsp_tree.proofs.Worlds.{open_world}
 use Rattle.facet_cut.specs.Facets.{facets_of}
-use Rattle.facet_cut.specs.Sides.{IsFacetOf, Bound}
+use Rattle.facet_cut.specs.Sides.{IsFacetOf, BoundSolid}
 use Rattle.closed_surface.specs.Ways.{Direction, way, dot, slope, is_same_place, is_same_way, is_opposite_way}
 use Rattle.closed_surface.specs.Around.{total}
-use Rattle.closed_surface.specs.Closed.{Edge, edges_of, runs_through, along, against, is_corner, AreClosed}
+use Rattle.closed_surface.specs.Closed.{Edge, edges_of, runs_through, edges_along, edges_against, is_corner, AreClosed}
 use Rattle.closed_surface.proofs.Parallels.{dot_above, same_way_parts, opposite_way_parts}
 use Rattle.closed_surface.proofs.Numbers.{false_by, not_both, not_zero_below, not_zero_above}
 use Rattle.closed_surface.specs.Near.{near_point, direction_beside, IsOften, IsNoCorner}
@@ -92,7 +92,7 @@ enough_beside t (n ∷ ns) v number h = (
 own_negative : (x : ℤ) → pos 0 <ℤ x → x ≡ neg_ℤ x → ⊥
 own_negative x h e = omega (arith, sums)
 
-not_opposite : (m : Coefficients) → IsPlane m → m ≢ opposite_of m
+pub not_opposite : (m : Coefficients) → IsPlane m → m ≢ opposite_of m
 not_opposite m h e =
     own_negative (value m (direction m)) (subst (λ (x : ℤ). pos 0 <ℤ x) (sym (value_direction m m)) (directed_above m h.directed))
     (ap (λ (k : Coefficients). value k (direction m)) e ∙ value-opposite m (direction m))
@@ -127,18 +127,18 @@ no_corners (f ∷ fs) q h =
 
 -- ---- the edges of all facets
 abbrev difference_at : Coordinates → Direction → Outline → ℤ
-difference_at q v f = pos (along (edges_of (corners f)) q v) -ℤ pos (against (edges_of (corners f)) q v)
+difference_at q v f = pos (edges_along (edges_of (corners f)) q v) -ℤ pos (edges_against (edges_of (corners f)) q v)
 
 more_apart : (a b c d : ℕ) (s : ℤ) → pos c -ℤ pos d ≡ s → pos (a + c) -ℤ pos (b + d) ≡ (pos a -ℤ pos b) +ℤ s
 more_apart a b c d s e = omega (arith, sums)
 
-all_edges : (fs : List Outline) (q : Coordinates) (v : Direction) → pos (along (flat_map edges_of (map corners fs)) q v) -ℤ pos (against (flat_map edges_of (map corners fs)) q v) ≡ total (difference_at q v) fs
+all_edges : (fs : List Outline) (q : Coordinates) (v : Direction) → pos (edges_along (flat_map edges_of (map corners fs)) q v) -ℤ pos (edges_against (flat_map edges_of (map corners fs)) q v) ≡ total (difference_at q v) fs
 all_edges [] q v = refl
 all_edges (f ∷ fs) q v =
     ap₂ (λ (m n : ℕ). pos m -ℤ pos n)
     (sum_by-append (λ e. cond (runs_through e q && is_same_way (way e.0 e.1) v) 1 0) (edges_of (corners f)) (flat_map edges_of (map corners fs)))
     (sum_by-append (λ e. cond (runs_through e q && is_opposite_way (way e.0 e.1) v) 1 0) (edges_of (corners f)) (flat_map edges_of (map corners fs)))
-    ∙ more_apart (along (edges_of (corners f)) q v) (against (edges_of (corners f)) q v) (along (flat_map edges_of (map corners fs)) q v) (against (flat_map edges_of (map corners fs)) q v) (total (difference_at q v) fs) (all_edges fs q v)
+    ∙ more_apart (edges_along (edges_of (corners f)) q v) (edges_against (edges_of (corners f)) q v) (edges_along (flat_map edges_of (map corners fs)) q v) (edges_against (flat_map edges_of (map corners fs)) q v) (total (difference_at q v) fs) (all_edges fs q v)
 
 same_number : (m n : ℕ) → pos m -ℤ pos n ≡ pos 0 → m ≡ n
 same_number m n e = omega (arith, sums)
@@ -155,7 +155,7 @@ count_none_by p [] h = refl
 count_none_by p (x ∷ xs) h =
     sum_by-append (λ y. cond (p y) 1 0) (x ∷ []) xs ∙ ap₂ (λ (m n : ℕ). m + n) (ap (λ (b : Bool). 0 + cond b 1 0) (h x)) (count_none_by p xs h)
 
-nothing_runs : (edges : List Edge) (q : Coordinates) (v : Direction) → (pos 0 <ℤ dot v v → ⊥) → along edges q v ≡ against edges q v
+nothing_runs : (edges : List Edge) (q : Coordinates) (v : Direction) → (pos 0 <ℤ dot v v → ⊥) → edges_along edges q v ≡ edges_against edges q v
 nothing_runs edges q v none =
     count_none_by (λ e. runs_through e q && is_same_way (way e.0 e.1) v) edges
     (λ e. false_by _ (λ r. none (dot_above v (way e.0 e.1) (λ z. not_zero_above _ (same_way_parts (way e.0 e.1) v (and_parts (runs_through e q) (is_same_way (way e.0 e.1) v) r).1).1 (dot_exchanged (way e.0 e.1) v ∙ z)))))
@@ -163,7 +163,7 @@ nothing_runs edges q v none =
     (λ e. false_by _ (λ r. none (dot_above v (way e.0 e.1) (λ z. not_zero_below _ (opposite_way_parts (way e.0 e.1) v (and_parts (runs_through e q) (is_opposite_way (way e.0 e.1) v) r).1).1 (dot_exchanged (way e.0 e.1) v ∙ z))))))
 
 -- ---- from the point to one beside it on the line, which is on no plane that doesn't hold the line
-module _ (t : Tree) (h : IsOfWorld t) (bounded : Bound world_box t (facets_of t)) (facets : All (IsFacetOf world_box t) (facets_of t))
+module _ (t : Tree) (h : IsOfWorld t) (bounded : BoundSolid world_box t (facets_of t)) (facets : All (IsFacetOf world_box t) (facets_of t))
     (q : Coordinates) (hq : IsIn world_box q) (corner_free : Each (λ f. IsNoCorner f q) (facets_of t)) (v : Direction) (hv : pos 0 <ℤ dot v v) where
   abbrev steps : ℕ
   steps = size_all t v
@@ -202,7 +202,7 @@ module _ (t : Tree) (h : IsOfWorld t) (bounded : Bound world_box t (facets_of t)
       (each_both (λ f. IsOften steps f v) (λ f. IsNoCorner f q) (facets_of t) enough.facets corner_free))
       ∙ there
 
-pub facets_closed : (t : Tree) → IsOfWorld t → Bound world_box t (facets_of t) → All (IsFacetOf world_box t) (facets_of t) → AreClosed Whole (map corners (facets_of t))
+pub facets_closed : (t : Tree) → IsOfWorld t → BoundSolid world_box t (facets_of t) → All (IsFacetOf world_box t) (facets_of t) → AreClosed Whole (map corners (facets_of t))
 facets_closed t h bounded facets q v world free = elim (signs (dot v v)) [
   | inl x ↦ nothing_runs (flat_map edges_of (map corners (facets_of t))) q v (λ y. not_both _ y x)
   | inr (inl x) ↦ nothing_runs (flat_map edges_of (map corners (facets_of t))) q v (λ y. not_zero_above _ y x)

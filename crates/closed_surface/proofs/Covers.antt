@@ -14,7 +14,7 @@ use Rattle.plane_polygon.proofs.Hull.{after_below}
 use Rattle.plane_polygon.proofs.Faces.{earlier, after_injective}
 use Rattle.closed_surface.specs.Ways.{Direction, way, dot, is_same_way, is_opposite_way}
 use Rattle.closed_surface.specs.Around.{turn_about}
-use Rattle.closed_surface.specs.Closed.{edges_of, runs_through, along, against}
+use Rattle.closed_surface.specs.Closed.{edges_of, runs_through, edges_along, edges_against}
 use Rattle.closed_surface.proofs.Turns.{turn_exchanged, turn_itself, turn_opposite}
 use Rattle.closed_surface.proofs.Numbers.{below, below_back, false_by, not_zero_below, not_zero_above, not_both, negative_zero, negative_below, negative_above}
 use Rattle.closed_surface.proofs.EdgeLines.{none_held_first, none_held_second, turn_apart}
@@ -85,15 +85,15 @@ module _ (s : Outline) (h : IsPolygon s) (number : ℕ) (q : Coordinates) (hw : 
   some : 0 < sides s
   some = omega (arith, h.three)
 
-  along_count : along (edges_of (corners s)) q v ≡ count_to along_test (sides s)
+  along_count : edges_along (edges_of (corners s)) q v ≡ count_to along_test (sides s)
   along_count = count_edges (λ e. runs_through e q && is_same_way (way e.0 e.1) v) (corner s) (sides s) some
 
-  against_count : against (edges_of (corners s)) q v ≡ count_to against_test (sides s)
+  against_count : edges_against (edges_of (corners s)) q v ≡ count_to against_test (sides s)
   against_count = count_edges (λ e. runs_through e q && is_opposite_way (way e.0 e.1) v) (corner s) (sides s) some
 
   -- what is to be shown
   abbrev Balance : Type 0
-  Balance = pos (along (edges_of (corners s)) q v) -ℤ pos (against (edges_of (corners s)) q v) ≡ number_of (is_within s left_point) -ℤ number_of (is_within s right_point)
+  Balance = pos (edges_along (edges_of (corners s)) q v) -ℤ pos (edges_against (edges_of (corners s)) q v) ≡ number_of (is_within s left_point) -ℤ number_of (is_within s right_point)
 
   balance_by : (a b : ℕ) (x y : Bool) → count_to along_test (sides s) ≡ a → count_to against_test (sides s) ≡ b → is_within s left_point ≡ x → is_within s right_point ≡ y →
       pos a -ℤ pos b ≡ number_of x -ℤ number_of y → Balance

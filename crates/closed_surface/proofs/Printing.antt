@@ -100,7 +100,7 @@ module _ (unit : LengthUnit) where
   round_count f g e corners printed h =
       zip_count f g e corners (drop 1 corners ++ take 1 corners) (h.front ++ h.back) (drop 1 (h.front ++ h.back) ++ take 1 (h.front ++ h.back)) h.places (next_units corners (h.front ++ h.back) h.places)
       ∙ turned_count g h.front h.back
-      ∙ ap (λ c. count_by g (edges_of c)) (sym h.turned)
+      ∙ ap (λ c. count_by g (edges_of c)) (sym h.order)
 
   all_count : (f g : Edge → Bool) → AreAlike f g → (faces printed : List (List Coordinates)) → AreRoundsOf unit faces printed → count_by f (flat_map edges_of faces) ≡ count_by g (flat_map edges_of printed)
   all_count f g e [] [] h = refl
@@ -120,7 +120,7 @@ module _ (unit : LengthUnit) where
 
   round_any : (q : Coordinates) (corners printed : List Coordinates) → IsRoundOf unit corners printed → list_any (λ p. is_same_place p (in_steps unit q)) corners ≡ list_any (λ p. is_same_place p q) printed
   round_any q corners printed h =
-      units_any q corners (h.front ++ h.back) h.places ∙ turned_any (λ p. is_same_place p q) h.front h.back ∙ ap (list_any (λ p. is_same_place p q)) (sym h.turned)
+      units_any q corners (h.front ++ h.back) h.places ∙ turned_any (λ p. is_same_place p q) h.front h.back ∙ ap (list_any (λ p. is_same_place p q)) (sym h.order)
 
   corner_alike : (q : Coordinates) (faces printed : List (List Coordinates)) → AreRoundsOf unit faces printed → is_corner faces (in_steps unit q) ≡ is_corner printed q
   corner_alike q [] [] h = refl

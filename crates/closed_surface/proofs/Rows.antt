@@ -5,7 +5,7 @@ use Rattle.plane_predicate.specs.declared.unit.Unit.TheVariants.{Whole, Half}
 use Rattle.plane_predicate.specs.Space.{Coordinates, IsInWorld}
 use Rattle.plane_predicate.proofs.IntegerRing.{sums}
 use Rattle.closed_surface.specs.Ways.{Direction}
-use Rattle.closed_surface.specs.Closed.{Edge, edges_of, corners_at, along, against, is_corner, Closed}
+use Rattle.closed_surface.specs.Closed.{Edge, edges_of, corners_at, edges_along, edges_against, is_corner, IsClosedSurface}
 
 abbrev point : ℤ → ℤ → ℤ → ℤ → Coordinates
 point x y z w = record { x = x; y = y; z = z; w = w }
@@ -26,7 +26,7 @@ abbrev all_edges : List Coordinates → List (List ℕ) → List Edge
 all_edges vertices faces = flat_map edges_of (map (corners_at vertices) faces)
 
 abbrev Run : List Coordinates → List (List ℕ) → Coordinates → Direction → ℕ → ℕ → Type 0
-Run vertices faces q v one other = (along (all_edges vertices faces) q v ≡ one) × (against (all_edges vertices faces) q v ≡ other)
+Run vertices faces q v one other = (edges_along (all_edges vertices faces) q v ≡ one) × (edges_against (all_edges vertices faces) q v ≡ other)
 
 -- ---- a box from (0, 0, 0) to (2, 2, 2), and one more vertex in the middle of its first edge
 abbrev box : List Coordinates
@@ -130,30 +130,30 @@ later_in_world = record { weight = omega (arith, sums); x_size = omega arith; y_
 dropped : Run box (front ∷ others) (whole (pos 1) (pos 0) (pos 0)) to_x 1 0
 dropped = (refl, refl)
 
-dropped_is_open : Closed Whole box (front ∷ others) → ⊥
+dropped_is_open : IsClosedSurface Whole box (front ∷ others) → ⊥
 dropped_is_open h = differ 1 0 (h (whole (pos 1) (pos 0) (pos 0)) to_x middle_in_world refl) refl
 
 -- one is given twice
 twice : Run box (low ∷ low ∷ front ∷ others) (whole (pos 1) (pos 0) (pos 0)) to_x 1 2
 twice = (refl, refl)
 
-twice_is_open : Closed Whole box (low ∷ low ∷ front ∷ others) → ⊥
+twice_is_open : IsClosedSurface Whole box (low ∷ low ∷ front ∷ others) → ⊥
 twice_is_open h = differ 1 2 (h (whole (pos 1) (pos 0) (pos 0)) to_x middle_in_world refl) refl
 
 -- one is turned round
 turned : Run box ((0 ∷ 1 ∷ 2 ∷ 3 ∷ []) ∷ front ∷ others) (whole (pos 1) (pos 0) (pos 0)) to_x 2 0
 turned = (refl, refl)
 
-turned_is_open : Closed Whole box ((0 ∷ 1 ∷ 2 ∷ 3 ∷ []) ∷ front ∷ others) → ⊥
+turned_is_open : IsClosedSurface Whole box ((0 ∷ 1 ∷ 2 ∷ 3 ∷ []) ∷ front ∷ others) → ⊥
 turned_is_open h = differ 2 0 (h (whole (pos 1) (pos 0) (pos 0)) to_x middle_in_world refl) refl
 
 -- a corner is moved along its edge: from (2, 0, 0) to (1, 0, 0)
 moved : Run box (low ∷ (0 ∷ 8 ∷ 5 ∷ 4 ∷ []) ∷ others) (point (pos 3) (pos 0) (pos 0) (pos 2)) to_x 0 1
 moved = (refl, refl)
 
-moved_is_open : Closed Whole box (low ∷ (0 ∷ 8 ∷ 5 ∷ 4 ∷ []) ∷ others) → ⊥
+moved_is_open : IsClosedSurface Whole box (low ∷ (0 ∷ 8 ∷ 5 ∷ 4 ∷ []) ∷ others) → ⊥
 moved_is_open h = differ 0 1 (h (point (pos 3) (pos 0) (pos 0) (pos 2)) to_x later_in_world refl) refl
 
 -- in half units the point (1, 0, 0) is (2, 0, 0) in grid steps
-half_is_open : Closed Half box (front ∷ others) → ⊥
+half_is_open : IsClosedSurface Half box (front ∷ others) → ⊥
 half_is_open h = differ 1 0 (h (whole (pos 1) (pos 0) (pos 0)) to_x (record { weight = omega (arith, sums); x_size = omega arith; y_size = omega arith; z_size = omega arith }) refl) refl

@@ -5,7 +5,7 @@ use Rattle.plane_polygon.specs.Polygons.{Outline, after, edge, sides, corner, Is
 use Rattle.plane_polygon.specs.Parts.{corners}
 use Rattle.plane_polygon.proofs.Hull.{after_below, after_other}
 use Rattle.closed_surface.specs.Ways.{Direction, way, is_same_place, is_same_way, is_opposite_way}
-use Rattle.closed_surface.specs.Closed.{edges_of, runs_through, along, against}
+use Rattle.closed_surface.specs.Closed.{edges_of, runs_through, edges_along, edges_against}
 use Rattle.closed_surface.proofs.EdgeLines.{meets_at_first, meets_at_second}
 use Rattle.closed_surface.proofs.Numbers.{same_tests}
 use Rattle.closed_surface.specs.Edges.{edge_at, IsOnEdge, Holds}
@@ -74,13 +74,13 @@ module _ (s : Outline) (h : IsPolygon s) (number : ℕ) (q : Coordinates) (hw : 
   some : 0 < sides s
   some = omega (arith, h.three)
 
-  pub along_near : along (edges_of (corners s)) beside_it v ≡ along (edges_of (corners s)) q v
+  pub along_near : edges_along (edges_of (corners s)) beside_it v ≡ edges_along (edges_of (corners s)) q v
   along_near =
       count_edges (λ e. runs_through e beside_it && is_same_way (way e.0 e.1) v) (corner s) (sides s) some
       ∙ count_same _ _ (sides s) along_alike
       ∙ sym (count_edges (λ e. runs_through e q && is_same_way (way e.0 e.1) v) (corner s) (sides s) some)
 
-  pub against_near : against (edges_of (corners s)) beside_it v ≡ against (edges_of (corners s)) q v
+  pub against_near : edges_against (edges_of (corners s)) beside_it v ≡ edges_against (edges_of (corners s)) q v
   against_near =
       count_edges (λ e. runs_through e beside_it && is_opposite_way (way e.0 e.1) v) (corner s) (sides s) some
       ∙ count_same _ _ (sides s) against_alike

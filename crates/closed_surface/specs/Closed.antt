@@ -19,12 +19,12 @@ abbrev pub runs_through : Edge → Coordinates → Bool
 runs_through e q = is_same_way (way e.0 q) (way q e.1)
 
 -- how many edges run through the point the way of v
-abbrev pub along : List Edge → Coordinates → Direction → ℕ
-along edges q v = count_by (λ e. runs_through e q && is_same_way (way e.0 e.1) v) edges
+abbrev pub edges_along : List Edge → Coordinates → Direction → ℕ
+edges_along edges q v = count_by (λ e. runs_through e q && is_same_way (way e.0 e.1) v) edges
 
 -- how many edges run through the point the way against v
-abbrev pub against : List Edge → Coordinates → Direction → ℕ
-against edges q v = count_by (λ e. runs_through e q && is_opposite_way (way e.0 e.1) v) edges
+abbrev pub edges_against : List Edge → Coordinates → Direction → ℕ
+edges_against edges q v = count_by (λ e. runs_through e q && is_opposite_way (way e.0 e.1) v) edges
 
 -- the point is a corner of some face
 abbrev pub is_corner : List (List Coordinates) → Coordinates → Bool
@@ -38,8 +38,8 @@ corners_at vertices face = map (λ i. slice_index_or vertices i (record { x = po
 -- as many of their edges run one way as the opposite way. In particular as many run the way of an edge as the opposite way
 abbrev pub AreClosed : LengthUnit → List (List Coordinates) → Type 0
 AreClosed unit faces = (q : Coordinates) (v : Direction) → IsInWorld (in_steps unit q) → is_corner faces q ≡ false →
-    along (flat_map edges_of faces) q v ≡ against (flat_map edges_of faces) q v
+    edges_along (flat_map edges_of faces) q v ≡ edges_against (flat_map edges_of faces) q v
 
 -- the same of vertices and faces as a text has them
-abbrev pub Closed : LengthUnit → List Coordinates → List (List ℕ) → Type 0
-Closed unit vertices faces = AreClosed unit (map (corners_at vertices) faces)
+abbrev pub IsClosedSurface : LengthUnit → List Coordinates → List (List ℕ) → Type 0
+IsClosedSurface unit vertices faces = AreClosed unit (map (corners_at vertices) faces)

@@ -16,7 +16,7 @@ pub record IsRoundOf (unit : LengthUnit) (corners printed : List Coordinates) : 
   pub front : List Coordinates
   pub back : List Coordinates
   pub places : AreInUnits unit corners (front ++ back)
-  pub turned : printed ≡ back ++ front
+  pub order : printed ≡ back ++ front
 
 -- face by face
 abbrev pub AreRoundsOf : LengthUnit → List (List Coordinates) → List (List Coordinates) → Type 0

@@ -6,7 +6,7 @@ ghost use Rattle.plane_predicate.specs.Space.{Coordinates, opposite_of};
 ghost use Rattle.plane_polygon.specs.Polygons.{Outline, IsPolygon, IsStrictlyWithin, sides, after};
 ghost use Rattle.plane_polygon.specs.Parts.{corners};
 ghost use Rattle.closed_surface.specs.Ways.{Direction, way, dot, is_same_way, is_opposite_way};
-ghost use Rattle.closed_surface.specs.Closed.{runs_through, edges_of, AreClosed, along as edges_along, against as edges_against};
+ghost use Rattle.closed_surface.specs.Closed.{runs_through, edges_of, AreClosed, edges_along, edges_against};
 ghost use Rattle.bsp_tree.specs.Trees.{Tree};
 ghost use Rattle.bsp_tree.specs.Cells.{IsOfWorld};
 ghost use Rattle.facet_cut.specs.Facets.{facets_of};
@@ -20,32 +20,44 @@ use facet_cut::{facets_are_polygons, facets_bound_their_solid};
 /// both planes hold the direction and the one turns to the left of the other about it, and the opposite
 /// way where it turns to the right.
 pub fn edges_run_on_their_planes()
-    ensures points { (s : Outline) → IsPolygon s → (i : ℕ) → i < sides s → (q : Coordinates) → pos 0 <ℤ q.w →
-        (runs_through (edge_at s i) q ≡ true) ↔ IsOnEdge s (after (sides s) i) q }
-    ensures along { (s : Outline) → IsPolygon s → (i : ℕ) → i < sides s → (q : Coordinates) → pos 0 <ℤ q.w → (v : Direction) →
-        ((runs_through (edge_at s i) q && is_same_way (way (edge_at s i).0 (edge_at s i).1) v) ≡ true) ↔ RunsAlong s (after (sides s) i) q v }
-    ensures against { (s : Outline) → IsPolygon s → (i : ℕ) → i < sides s → (q : Coordinates) → pos 0 <ℤ q.w → (v : Direction) →
-        ((runs_through (edge_at s i) q && is_opposite_way (way (edge_at s i).0 (edge_at s i).1) v) ≡ true) ↔ RunsAgainst s (after (sides s) i) q v }
+    ensures points { (s : Outline) → IsPolygon s → (i : ℕ) → i < sides s → (q : Coordinates) →
+        pos 0 <ℤ q.w → (runs_through (edge_at s i) q ≡ true) ↔ IsOnEdge s (after (sides s) i) q }
+    ensures along { (s : Outline) → IsPolygon s → (i : ℕ) → i < sides s → (q : Coordinates) →
+        pos 0 <ℤ q.w → (v : Direction) →
+        ((runs_through (edge_at s i) q && is_same_way (way (edge_at s i).0 (edge_at s i).1) v)
+        ≡ true) ↔ RunsAlong s (after (sides s) i) q v }
+    ensures against { (s : Outline) → IsPolygon s → (i : ℕ) → i < sides s → (q : Coordinates) →
+        pos 0 <ℤ q.w → (v : Direction) →
+        ((runs_through (edge_at s i) q && is_opposite_way (way (edge_at s i).0 (edge_at s i).1) v)
+        ≡ true) ↔ RunsAgainst s (after (sides s) i) q v }
 {}
 
 /// Where a point is no corner of a polygon, just those of its edges that run through it along a
 /// direction run through a point near by, moved along the direction.
 pub fn edges_run_on()
-    ensures along { (s : Outline) → IsPolygon s → (number : ℕ) (q : Coordinates) → pos 0 <ℤ q.w → IsNoCorner s q → (v : Direction) → IsOften number s v →
-        edges_along (edges_of (corners s)) (near_point number q v) v ≡ edges_along (edges_of (corners s)) q v }
-    ensures against { (s : Outline) → IsPolygon s → (number : ℕ) (q : Coordinates) → pos 0 <ℤ q.w → IsNoCorner s q → (v : Direction) → IsOften number s v →
-        edges_against (edges_of (corners s)) (near_point number q v) v ≡ edges_against (edges_of (corners s)) q v }
+    ensures along { (s : Outline) → IsPolygon s → (number : ℕ) (q : Coordinates) → pos 0 <ℤ q.w →
+        IsNoCorner s q → (v : Direction) → IsOften number s v →
+        edges_along (edges_of (corners s)) (near_point number q v) v
+        ≡ edges_along (edges_of (corners s)) q v }
+    ensures against { (s : Outline) → IsPolygon s → (number : ℕ) (q : Coordinates) → pos 0 <ℤ q.w →
+        IsNoCorner s q → (v : Direction) → IsOften number s v →
+        edges_against (edges_of (corners s)) (near_point number q v) v
+        ≡ edges_against (edges_of (corners s)) q v }
 {}
 
 /// Let the planes of a polygon that go through a point hold a direction. Then how many of its edges
 /// run through the point along the direction, less how many run the opposite way, is 1 where the
 /// polygon covers a point near by to the left alone, -1 to the right alone, and else 0.
 pub fn edges_bound_what_is_covered()
-    ensures balance { (s : Outline) → IsPolygon s → (number : ℕ) (q : Coordinates) → pos 0 <ℤ q.w → (v : Direction) → pos 0 <ℤ dot v v → IsClear s q v →
-        IsOften number s (direction_beside s.plane v) → IsOften number s (direction_beside (opposite_of s.plane) v) →
+    ensures balance { (s : Outline) → IsPolygon s → (number : ℕ) (q : Coordinates) → pos 0 <ℤ q.w →
+        (v : Direction) → pos 0 <ℤ dot v v → IsClear s q v →
+        IsOften number s (direction_beside s.plane v) →
+        IsOften number s (direction_beside (opposite_of s.plane) v) →
         pos (edges_along (edges_of (corners s)) q v) -ℤ pos (edges_against (edges_of (corners s)) q v)
-        ≡ number_of (is_within s (near_point number q (direction_beside s.plane v))) -ℤ number_of (is_within s (near_point number q (direction_beside (opposite_of s.plane) v))) }
-    ensures within { (s : Outline) (p : Coordinates) → (is_within s p ≡ true) ↔ IsStrictlyWithin s p }
+        ≡ number_of (is_within s (near_point number q (direction_beside s.plane v)))
+        -ℤ number_of (is_within s (near_point number q (direction_beside (opposite_of s.plane) v))) }
+    ensures within { (s : Outline) (p : Coordinates) → (is_within s p ≡ true) ↔
+        IsStrictlyWithin s p }
 {}
 
 /// The facets of a solid of the world box are closed. Take a point strictly inside the box that is no

@@ -13,11 +13,13 @@ ghost use Rattle.closed_surface.specs.Printing.{AreRoundsOf};
 /// list of sides of the planes have any value. Then what the value falls by at all half planes
 /// together, on a way round the line, is 0: each sector is left once and entered once.
 pub fn values_round_a_line_cancel()
-    ensures { (d : Direction) (planes : List Coefficients) → AreApart d planes → (value : List Bool → ℤ) → total (fall d planes value) planes ≡ pos 0 }
+    ensures { (d : Direction) (planes : List Coefficients) → AreApart d planes →
+        (value : List Bool → ℤ) → total (fall d planes value) planes ≡ pos 0 }
 {}
 
 /// Faces that are closed in grid steps are closed as they are printed: in units, their corners by
 /// numbers of their own, each round begun at some corner.
 pub fn printed_faces_are_closed()
-    ensures { (unit : LengthUnit) (faces printed : List (List Coordinates)) → AreRoundsOf unit faces printed → AreClosed Whole faces → AreClosed unit printed }
+    ensures { (unit : LengthUnit) (faces printed : List (List Coordinates)) →
+        AreRoundsOf unit faces printed → AreClosed Whole faces → AreClosed unit printed }
 {}

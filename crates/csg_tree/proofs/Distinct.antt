@@ -2,7 +2,7 @@
 use Rattle.std.proofs.Common.{◌≡◌, ℕ, zero, suc, ◌-◌, ◌<◌, Bool, true, false, not, ◌||◌, cond, List, [], ◌∷◌, ◌++◌, length, get_or, refl, sym, ap, subst, ◌∙◌, true≢false, arith}
 use Rattle.std.specs.List.{filter, list_any}
 use Rattle.csg_tree.specs.Formulas.{Formula, nothing}
-use Rattle.csg_tree.specs.Numberings.{is_same_tree, distinct, HasNumber}
+use Rattle.csg_tree.specs.Numberings.{is_same_tree, distinct_trees, HasNumber}
 use Rattle.csg_tree.proofs.Sameness.{tree_true, tree_itself}
 
 abbrev others : Formula → Formula → Bool
@@ -38,23 +38,23 @@ filter_push p (x ∷ xs) y = by_both (p x) (p y) (filter p (xs ++ y ∷ [])) (fi
     by_both false false all front e = e
 
 -- one tree more is added where it is not among them
-pub distinct_push : (xs : List Formula) (t : Formula) → distinct (xs ++ t ∷ []) ≡ cond (among t xs) (distinct xs) (distinct xs ++ t ∷ [])
+pub distinct_push : (xs : List Formula) (t : Formula) → distinct_trees (xs ++ t ∷ []) ≡ cond (among t xs) (distinct_trees xs) (distinct_trees xs ++ t ∷ [])
 distinct_push [] t = refl
 distinct_push (x ∷ xs) t =
-    by_both (is_same_tree x t) (among t xs) refl (distinct (xs ++ t ∷ [])) (distinct_push xs t)
+    by_both (is_same_tree x t) (among t xs) refl (distinct_trees (xs ++ t ∷ [])) (distinct_push xs t)
   where
-    by_both : (b c : Bool) → is_same_tree x t ≡ b → (all : List Formula) → all ≡ cond c (distinct xs) (distinct xs ++ t ∷ []) →
-        x ∷ filter (others x) all ≡ cond (b || c) (x ∷ filter (others x) (distinct xs)) (x ∷ filter (others x) (distinct xs) ++ t ∷ [])
+    by_both : (b c : Bool) → is_same_tree x t ≡ b → (all : List Formula) → all ≡ cond c (distinct_trees xs) (distinct_trees xs ++ t ∷ []) →
+        x ∷ filter (others x) all ≡ cond (b || c) (x ∷ filter (others x) (distinct_trees xs)) (x ∷ filter (others x) (distinct_trees xs) ++ t ∷ [])
     by_both true true e all h = ap (λ (zs : List Formula). x ∷ filter (others x) zs) h
     by_both false true e all h = ap (λ (zs : List Formula). x ∷ filter (others x) zs) h
     by_both true false e all h =
         ap (λ (zs : List Formula). x ∷ filter (others x) zs) h
-        ∙ ap (λ (zs : List Formula). x ∷ zs) (filter_push (others x) (distinct xs) t
-        ∙ ap (λ (b : Bool). cond (not b) (filter (others x) (distinct xs) ++ t ∷ []) (filter (others x) (distinct xs))) e)
+        ∙ ap (λ (zs : List Formula). x ∷ zs) (filter_push (others x) (distinct_trees xs) t
+        ∙ ap (λ (b : Bool). cond (not b) (filter (others x) (distinct_trees xs) ++ t ∷ []) (filter (others x) (distinct_trees xs))) e)
     by_both false false e all h =
         ap (λ (zs : List Formula). x ∷ filter (others x) zs) h
-        ∙ ap (λ (zs : List Formula). x ∷ zs) (filter_push (others x) (distinct xs) t
-        ∙ ap (λ (b : Bool). cond (not b) (filter (others x) (distinct xs) ++ t ∷ []) (filter (others x) (distinct xs))) e)
+        ∙ ap (λ (zs : List Formula). x ∷ zs) (filter_push (others x) (distinct_trees xs) t
+        ∙ ap (λ (b : Bool). cond (not b) (filter (others x) (distinct_trees xs) ++ t ∷ []) (filter (others x) (distinct_trees xs))) e)
 
 -- the same trees are among the distinct ones
 among_filter : (x t : Formula) (ts : List Formula) → is_same_tree x t ≡ false → among t (filter (others x) ts) ≡ among t ts
@@ -70,13 +70,13 @@ among_filter x t (y ∷ ts) apart = by_test (among_filter x t ts apart) (is_same
         ap (λ (b : Bool). among t (cond (not b) (y ∷ filter (others x) ts) (filter (others x) ts))) e
         ∙ ap (λ (b : Bool). is_same_tree y t || b) rest
 
-pub among_distinct : (t : Formula) (ts : List Formula) → among t (distinct ts) ≡ among t ts
+pub among_distinct : (t : Formula) (ts : List Formula) → among t (distinct_trees ts) ≡ among t ts
 among_distinct t [] = refl
 among_distinct t (x ∷ ts) = by_test (among_distinct t ts) (is_same_tree x t) refl
   where
-    by_test : among t (distinct ts) ≡ among t ts → (b : Bool) → is_same_tree x t ≡ b → (is_same_tree x t || among t (filter (others x) (distinct ts))) ≡ (is_same_tree x t || among t ts)
-    by_test rest true e = ap (λ (b : Bool). b || among t (filter (others x) (distinct ts))) e ∙ sym (ap (λ (b : Bool). b || among t ts) e)
-    by_test rest false e = ap (λ (b : Bool). is_same_tree x t || b) (among_filter x t (distinct ts) e ∙ rest)
+    by_test : among t (distinct_trees ts) ≡ among t ts → (b : Bool) → is_same_tree x t ≡ b → (is_same_tree x t || among t (filter (others x) (distinct_trees ts))) ≡ (is_same_tree x t || among t ts)
+    by_test rest true e = ap (λ (b : Bool). b || among t (filter (others x) (distinct_trees ts))) e ∙ sym (ap (λ (b : Bool). b || among t ts) e)
+    by_test rest false e = ap (λ (b : Bool). is_same_tree x t || b) (among_filter x t (distinct_trees ts) e ∙ rest)
 
 -- a tree is among those that have a number
 pub number_among : (ts : List Formula) (t : Formula) (i : ℕ) → i < length ts → get_or ts i nothing ≡ t → among t ts ≡ true
@@ -99,20 +99,20 @@ among_number (x ∷ ts) t h = by_test (λ r. among_number ts t r) (is_same_tree 
         (suc rest.0, omega (arith, rest.1), rest.2)
 
 -- one tree more changes nothing where it has a number
-pub distinct_known : (ts trees : List Formula) (t : Formula) (n : ℕ) → ts ≡ distinct trees → HasNumber ts t n → ts ≡ distinct (trees ++ t ∷ [])
+pub distinct_known : (ts trees : List Formula) (t : Formula) (n : ℕ) → ts ≡ distinct_trees trees → HasNumber ts t n → ts ≡ distinct_trees (trees ++ t ∷ [])
 distinct_known ts trees t n e has =
     let here : among t ts ≡ true = number_among ts t (n - 1) (omega (arith, has.0.0, has.0.1)) has.1 in
     let before : among t trees ≡ true = sym (among_distinct t trees) ∙ ap (among t) (sym e) ∙ here in
-    e ∙ sym (distinct_push trees t ∙ ap (λ (b : Bool). cond b (distinct trees) (distinct trees ++ t ∷ [])) before)
+    e ∙ sym (distinct_push trees t ∙ ap (λ (b : Bool). cond b (distinct_trees trees) (distinct_trees trees ++ t ∷ [])) before)
 
 -- and is the last one where it has none
-pub distinct_new : (ts trees : List Formula) (t : Formula) → ts ≡ distinct trees → ((n : ℕ) → HasNumber ts t n → ⊥) →
-    ts ++ t ∷ [] ≡ distinct (trees ++ t ∷ [])
+pub distinct_new : (ts trees : List Formula) (t : Formula) → ts ≡ distinct_trees trees → ((n : ℕ) → HasNumber ts t n → ⊥) →
+    ts ++ t ∷ [] ≡ distinct_trees (trees ++ t ∷ [])
 distinct_new ts trees t e none = by_test (among t trees) refl
   where
-    by_test : (b : Bool) → among t trees ≡ b → ts ++ t ∷ [] ≡ distinct (trees ++ t ∷ [])
+    by_test : (b : Bool) → among t trees ≡ b → ts ++ t ∷ [] ≡ distinct_trees (trees ++ t ∷ [])
     by_test true h =
         let at = among_number ts t (ap (among t) e ∙ among_distinct t trees ∙ h) in
         absurd (none (suc at.0) ((omega arith, omega (arith, at.1)), (let p : suc at.0 - 1 ≡ at.0 = omega arith in ap (λ (k : ℕ). get_or ts k nothing) p) ∙ at.2))
     by_test false h =
-        ap (λ (xs : List Formula). xs ++ t ∷ []) e ∙ sym (distinct_push trees t ∙ ap (λ (b : Bool). cond b (distinct trees) (distinct trees ++ t ∷ [])) h)
+        ap (λ (xs : List Formula). xs ++ t ∷ []) e ∙ sym (distinct_push trees t ∙ ap (λ (b : Bool). cond b (distinct_trees trees) (distinct_trees trees ++ t ∷ [])) h)

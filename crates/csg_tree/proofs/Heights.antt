@@ -7,7 +7,7 @@ use Rattle.std.proofs.lemmas.List.{length-map, get_or_at}
 use Rattle.csg_tree.specs.declared.node.StoredNode.{StoredNode}
 use Rattle.csg_tree.specs.declared.node.StoredNode.TheVariants.{Leaf, Join}
 use Rattle.csg_tree.specs.Formulas.{Formula, nothing}
-use Rattle.csg_tree.specs.Numberings.{height, by_height, distinct, is_same_tree, tree_numbered, IsNumberIn}
+use Rattle.csg_tree.specs.Numberings.{height, by_height, distinct_trees, is_same_tree, tree_numbered, IsNumberIn}
 use Rattle.csg_tree.specs.Nodes.{tree_over, IsOver}
 use Rattle.csg_tree.specs.Levels.{numbers_from, numbers_of_height}
 use Rattle.csg_tree.specs.Interned.{IsPlaced, IsReady, StayPlaced}
@@ -115,9 +115,9 @@ filter_less p (x ∷ xs) = by_test (p x) (filter p xs) (filter_less p xs)
     by_test true ys h = omega arith
     by_test false ys h = omega arith
 
-pub distinct_less : (ts : List Formula) → length (distinct ts) ≤ length ts
+pub distinct_less : (ts : List Formula) → length (distinct_trees ts) ≤ length ts
 distinct_less [] = omega arith
-distinct_less (t ∷ ts) = omega (arith, distinct_less ts, filter_less (λ (u : Formula). not (is_same_tree t u)) (distinct ts))
+distinct_less (t ∷ ts) = omega (arith, distinct_less ts, filter_less (λ (u : Formula). not (is_same_tree t u)) (distinct_trees ts))
 
 heights_less : (n : ℕ) (t : Formula) (ts : List Formula) →
     (height t < n → length (by_height n (t ∷ ts)) ≤ length (by_height n ts) + 1)
@@ -170,7 +170,7 @@ by_height_less n (t ∷ ts) = by_place (cases_lt (height t) n) (by_height_less n
     by_place (inr h) less both = let l = both.1 h in omega (arith, l)
 
 -- so the nodes of lower trees and those of a level are no more than the parts
-pub level_less : (h : ℕ) (ts : List Formula) → length (distinct (by_height h ts)) + length (numbers_of_height h ts) ≤ length ts
+pub level_less : (h : ℕ) (ts : List Formula) → length (distinct_trees (by_height h ts)) + length (numbers_of_height h ts) ≤ length ts
 level_less h ts =
     let level : length (numbers_of_height h ts) ≡ length (filter (has_height h) ts) =
     sym (length-map (numbers_of_height h ts) (tree_numbered ts)) ∙ ap length (map_level h ts) in

@@ -10,7 +10,7 @@ use Rattle.csg_tree.specs.declared.node.StoredNode.{StoredNode}
 use Rattle.csg_tree.specs.declared.node.StoredNode.TheVariants.{Leaf, Join}
 use Rattle.csg_tree.specs.Formulas.{Formula, nothing, leaf, joined}
 use Rattle.csg_tree.specs.ProperTrees.{IsProper, HasFullLeaves, HasFullJoins, subtrees}
-use Rattle.csg_tree.specs.Numberings.{height, by_height, distinct, is_same_tree, occurrences, nodes_of, IsNumberIn}
+use Rattle.csg_tree.specs.Numberings.{height, by_height, distinct_trees, is_same_tree, occurrences, nodes_of, IsNumberIn}
 use Rattle.csg_tree.specs.Nodes.{node_of, tree_over, trees_of, AreLinked, trees_of_lent, IsNodeOf, IsOver}
 use Rattle.csg_tree.specs.Levels.{level_at, numbers_of_height}
 use Rattle.csg_tree.proofs.Linked.{length_trees, linked_at}
@@ -48,11 +48,11 @@ all_by_height : (P : Formula → Type 0) (n : ℕ) (ts : List Formula) → All P
 all_by_height P zero ts all = none P
 all_by_height P (suc n) ts all = All-append P (by_height n ts) (filter (has_height n) ts) (all_by_height P n ts all) (All-filter (has_height n) P ts all)
 
-all_distinct : (P : Formula → Type 0) (ts : List Formula) → All P ts → All P (distinct ts)
+all_distinct : (P : Formula → Type 0) (ts : List Formula) → All P ts → All P (distinct_trees ts)
 all_distinct P [] all = none P
 all_distinct P (t ∷ ts) all =
-    All-cons P t (filter (λ u. not (is_same_tree t u)) (distinct ts)) (all 0 t (omega arith))
-    (All-filter (λ u. not (is_same_tree t u)) P (distinct ts) (all_distinct P ts (λ k d within. all (suc k) d (omega arith))))
+    All-cons P t (filter (λ u. not (is_same_tree t u)) (distinct_trees ts)) (all 0 t (omega arith))
+    (All-filter (λ u. not (is_same_tree t u)) P (distinct_trees ts) (all_distinct P ts (λ k d within. all (suc k) d (omega arith))))
 
 pub nodes_proper : (f : Formula) → IsProper f → All IsProper (nodes_of f)
 nodes_proper f proper =
@@ -76,9 +76,9 @@ levels_enough {Z} levels ts known i within =
 -- so the nodes by levels are those of the tree
 pub nodes_by_levels : {Z : Type 0} (levels : List (Vec ℕ Z)) (f : Formula) →
     ((h : ℕ) → level_at levels h ≡ numbers_of_height h (occurrences f)) →
-    distinct (by_height (length levels) (occurrences f)) ≡ nodes_of f
+    distinct_trees (by_height (length levels) (occurrences f)) ≡ nodes_of f
 nodes_by_levels levels f known =
-    ap distinct (by_height_same (length levels) (suc (height f)) (occurrences f) (levels_enough levels (occurrences f) known)
+    ap distinct_trees (by_height_same (length levels) (suc (height f)) (occurrences f) (levels_enough levels (occurrences f) known)
     (λ i within. let low = all_low f i nothing within in omega (arith, low)))
 
 -- what is told of a node
@@ -104,7 +104,7 @@ node_told nodes number (told.Join op l r) linked within e =
 pub nodes_are : {Z : Type 0} (levels used : List (Vec ℕ Z)) (parts given seen : List CsgNode) (nodes : List StoredNode) (f : Formula) →
     trees_of_lent parts ≡ occurrences f → given ≡ parts →
     ((h : ℕ) → level_at levels h ≡ numbers_of_height h (trees_of_lent given)) → seen ≡ parts → used ≡ levels →
-    trees_of nodes ≡ distinct (by_height (length used) (trees_of_lent seen)) → trees_of nodes ≡ nodes_of f
+    trees_of nodes ≡ distinct_trees (by_height (length used) (trees_of_lent seen)) → trees_of nodes ≡ nodes_of f
 nodes_are levels used parts given seen nodes f e eg known es eu h =
-    h ∙ ap₂ (λ (n : ℕ) (xs : List Formula). distinct (by_height n xs)) (ap length eu) (ap trees_of_lent es ∙ e)
+    h ∙ ap₂ (λ (n : ℕ) (xs : List Formula). distinct_trees (by_height n xs)) (ap length eu) (ap trees_of_lent es ∙ e)
     ∙ nodes_by_levels levels f (λ k. known k ∙ ap (numbers_of_height k) (ap trees_of_lent eg ∙ e))

@@ -1,5 +1,5 @@
 -- Distinct nodes, each found by its key.
-use Rattle.std.specs.Prelude.{◌≡◌, ℕ, suc, ◌-◌, ◌<◌, nat_eq, Bool, false, ◌&&◌, if◌then◌else◌, List, [], ◌∷◌, length, get_or, map, Option, Some, None}
+use Rattle.std.specs.Prelude.{◌≡◌, ℕ, suc, ◌+◌, ◌-◌, ◌<◌, ◌≤◌, nat_eq, Bool, false, ◌&&◌, if◌then◌else◌, List, [], ◌∷◌, ◌++◌, length, get_or, map, Option, Some, None}
 use Rattle.std.specs.Ordering.{nat_cmp, int_cmp, ordering_then}
 use Rattle.std.specs.declared.cmp.Ordering.{Ordering}
 use Rattle.std.specs.declared.cmp.Ordering.TheVariants.{Less, Equal, Greater}
@@ -15,8 +15,8 @@ use Rattle.csg_tree.specs.declared.interner.PlaneNumbers.{PlaneNumbers}
 use Rattle.csg_tree.specs.declared.interner.NodeKey.{NodeKey}
 use Rattle.csg_tree.specs.declared.interner.NodeKey.TheVariants as keys
 use Rattle.csg_tree.specs.Formulas.{Formula}
-use Rattle.csg_tree.specs.Numberings.{is_same_op, tree_numbered, IsNumberIn, HasNumber, HaveOneNumber}
-use Rattle.csg_tree.specs.Nodes.{node_of, trees_of, AreLinked, trees_of_lent}
+use Rattle.csg_tree.specs.Numberings.{distinct_trees, is_same_op, tree_numbered, IsNumberIn, HasNumber, HaveOneNumber}
+use Rattle.csg_tree.specs.Nodes.{node_of, trees_of, AreLinked, trees_of_lent, AreLinkedLent}
 
 -- the order of keys: leaves first, by their planes in order, and then joins by operation, left and right number
 abbrev pub numbers_cmp : PlaneNumbers → PlaneNumbers → Ordering
@@ -84,16 +84,36 @@ abbrev pub IsReady : List Formula → List Formula → List ℕ → StoredNode �
 IsReady parts trees numbers (Leaf planes) = Unit {0}
 IsReady parts trees numbers (Join op left right) = IsPlaced parts trees numbers left × IsPlaced parts trees numbers right
 
+-- the part of each number of a level has the number of its tree
+abbrev pub ArePlaced : List Formula → List Formula → List ℕ → List ℕ → Type 0
+ArePlaced parts trees numbers level = (j : ℕ) → j < length level → IsPlaced parts trees numbers (get_or level j 0)
+
 -- the parts that are placed stay so
 abbrev pub StayPlaced : List Formula → List Formula → List ℕ → List Formula → List ℕ → Type 0
 StayPlaced parts trees numbers trees_now numbers_now =
     (m : ℕ) → IsNumberIn parts m → IsPlaced parts trees numbers m → IsPlaced parts trees_now numbers_now m
 
+-- the number is one of the parts, and this part's own two parts have the numbers of their trees
+abbrev pub IsPartReady : List CsgNode → List Formula → List ℕ → ℕ → Type 0
+IsPartReady parts trees numbers number = IsNumberIn parts number
+    × ((d : CsgNode) → IsReady (trees_of_lent parts) trees numbers (node_of (get_or parts (number - 1) d)))
+
 -- the part of each number of a level is ready
 abbrev pub AreReady : List CsgNode → List Formula → List ℕ → List ℕ → Type 0
-AreReady parts trees numbers level = (j : ℕ) → j < length level →
-    IsNumberIn parts (get_or level j 0)
-    × ((d : CsgNode) → IsReady (trees_of_lent parts) trees numbers (node_of (get_or parts (get_or level j 0 - 1) d)))
+AreReady parts trees numbers level = (j : ℕ) → j < length level → IsPartReady parts trees numbers (get_or level j 0)
+
+-- a numbering of parts under way: the parts are linked, there is room for the number of each of them, and the nodes so
+-- far are distinct and found by their keys
+pub record IsNumbering (parts : List CsgNode) (numbers : List ℕ) (found : BTreeMap NodeKey ℕ) (nodes : List StoredNode) : Type 0 where
+  pub linked : AreLinkedLent parts
+  pub room : length numbers ≡ length parts
+  pub interned : AreInterned found nodes
+
+-- nodes grow by some trees: those of the distinct trees of a list become those of the list with these trees behind it,
+-- and no more nodes come than there are of these trees
+pub record GrowBy (before now : List StoredNode) (more : List Formula) : Type 0 where
+  pub distinct : (trees : List Formula) → trees_of before ≡ distinct_trees trees → trees_of now ≡ distinct_trees (trees ++ more)
+  pub few : length now ≤ length before + length more
 
 -- a node with the numbers of its two trees among the nodes
 abbrev pub renumbered_node : List ℕ → StoredNode → StoredNode

@@ -41,13 +41,13 @@ is_same_tree (joined op left right) (joined by first second) =
 is_same_tree _ _ = false
 
 -- of trees that are the same, the first alone
-abbrev pub distinct : List Formula → List Formula
-distinct [] = []
-distinct (tree ∷ trees) = tree ∷ filter (λ other. not (is_same_tree tree other)) (distinct trees)
+abbrev pub distinct_trees : List Formula → List Formula
+distinct_trees [] = []
+distinct_trees (tree ∷ trees) = tree ∷ filter (λ other. not (is_same_tree tree other)) (distinct_trees trees)
 
 -- the nodes of a tree in order of number
 abbrev pub nodes_of : Formula → List Formula
-nodes_of tree = distinct (by_height (suc (height tree)) (occurrences tree))
+nodes_of tree = distinct_trees (by_height (suc (height tree)) (occurrences tree))
 
 -- the tree of a number, where the first one is 1
 abbrev pub tree_numbered : List Formula → ℕ → Formula

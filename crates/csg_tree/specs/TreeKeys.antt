@@ -12,4 +12,4 @@ name_of tree = sha256 (key_of tree)
 -- a number of a store, with the name of its tree
 pub record IsNamed (trees : List Formula) (number : ℕ) (name : List ℕ) : Type 0 where
   pub within : IsNumberIn trees number
-  pub named : name ≡ name_of (tree_numbered trees number)
+  pub name_is : name ≡ name_of (tree_numbered trees number)

@@ -53,7 +53,8 @@ fn number_in(
     found: &BTreeMap<NodeKey, u32>,
 ) -> Result<Option<u32>, NoMemory>
     requires { IsOver numbers.now (node_of node) }
-    ensures { (earlier trees : List Formula) → AreFound earlier (length earlier) found.now → AreNumbersIn earlier trees numbers.now →
+    ensures { (earlier trees : List Formula) → AreFound earlier (length earlier) found.now →
+        AreNumbersIn earlier trees numbers.now →
         IfOk result (IsNumberOf earlier (tree_over trees (node_of node.entry))) }
 {
     match among(node, numbers) {
@@ -68,7 +69,8 @@ fn number_in(
 // A node with the numbers of its two trees in an earlier store, where they have one.
 fn among<'a>(node: CsgNode<'a>, numbers: &[Option<u32>]) -> Option<CsgNode<'a>>
     requires { IsOver numbers.now (node_of node) }
-    ensures { (earlier trees : List Formula) → AreNumbered earlier → AreNumbersIn earlier trees numbers.now →
+    ensures { (earlier trees : List Formula) → AreNumbered earlier →
+        AreNumbersIn earlier trees numbers.now →
         IsNodeAmong earlier (tree_over trees (node_of node.entry)) result }
 {
     match node {

@@ -16,7 +16,9 @@ use text_place::NoMemory;
 pub fn hash_of_front(store: &CsgStore, op: Op, left: u32, right: u32) -> Sha256
     requires left { IsNumberIn store.now left }
     requires right { IsNumberIn store.now right }
-    ensures { Holds256 result (op_byte op ∷ key_of (tree_numbered store.now left) ++ front_of_second op (tree_numbered store.now right)) }
+    ensures { Holds256 result
+        (op_byte op ∷ key_of (tree_numbered store.now left)
+        ++ front_of_second op (tree_numbered store.now right)) }
 {
     let mut hasher = Sha256::new();
     hasher.update(&[byte_of(op)]);
@@ -28,7 +30,8 @@ pub fn hash_of_front(store: &CsgStore, op: Op, left: u32, right: u32) -> Sha256
 // Feeds what of a second tree belongs to the front.
 fn feed_front_of_second<D: Digest>(store: &CsgStore, op: Op, right: u32, hasher: &mut D)
     requires { IsNumberIn store.now right }
-    ensures { (m : List ℕ) → D.holds hasher.old m → D.holds hasher.new (m ++ front_of_second op (tree_numbered store.now right)) }
+    ensures { (m : List ℕ) → D.holds hasher.old m →
+        D.holds hasher.new (m ++ front_of_second op (tree_numbered store.now right)) }
 {
     if let Some(join) = second_join(store, op, right) {
         hasher.update(&[byte_of(join.op)]);
@@ -44,7 +47,8 @@ pub fn name_from_front(
     right: u32,
 ) -> Result<[u8; 32], NoMemory>
     requires { IsNumberIn store.now right }
-    ensures { (m : List ℕ) → Holds256 front.now m → IfOk result (λ name. name ≡ sha256 (m ++ rest_of_second op (tree_numbered store.now right))) }
+    ensures { (m : List ℕ) → Holds256 front.now m → IfOk result (λ name. name
+        ≡ sha256 (m ++ rest_of_second op (tree_numbered store.now right))) }
 {
     let mut hasher = front.clone()?;
     match second_join(store, op, right) {
@@ -65,11 +69,16 @@ pub struct SecondJoin {
 /// A difference's second tree, where that is a join: its operation and its first tree belong to the front.
 pub fn second_join(store: &CsgStore, op: Op, right: u32) -> Option<SecondJoin>
     requires { IsNumberIn store.now right }
-    ensures within { IfSome result (λ h. IsNumberIn store.now h.first × IsNumberIn store.now h.second) }
-    ensures some { IfSome result (λ h. (front_of_second op (tree_numbered store.now right) ≡ op_byte h.op ∷ key_of (tree_numbered store.now h.first))
-        × (rest_of_second op (tree_numbered store.now right) ≡ key_of (tree_numbered store.now h.second))) }
+    ensures within { IfSome result (λ h. IsNumberIn store.now h.first
+        × IsNumberIn store.now h.second) }
+    ensures some { IfSome result (λ h.
+        (front_of_second op (tree_numbered store.now right)
+        ≡ op_byte h.op ∷ key_of (tree_numbered store.now h.first))
+        × (rest_of_second op (tree_numbered store.now right)
+        ≡ key_of (tree_numbered store.now h.second))) }
     ensures none { IsNone result → (front_of_second op (tree_numbered store.now right) ≡ [])
-        × (rest_of_second op (tree_numbered store.now right) ≡ key_of (tree_numbered store.now right)) }
+        × (rest_of_second op (tree_numbered store.now right)
+        ≡ key_of (tree_numbered store.now right)) }
 {
     match op {
         Op::Union | Op::Intersection => None,

@@ -3,10 +3,9 @@
 ghost use Rattle.std.specs.Prelude.{◌≡◌, ℕ, List, ◌+◌, ◌^◌, ◌<◌, ◌≤◌, ◌∷◌, ◌++◌, [], cond, Some, IfOk, OnOk, length, map};
 ghost use Rattle.std.specs.BTreeMap.{get, is_at};
 ghost use Rattle.csg_tree.specs.declared.interner.NodeKey.{NodeKey};
-ghost use Rattle.csg_tree.specs.Formulas.{Formula};
-ghost use Rattle.csg_tree.specs.Numberings.{distinct, HasNumber};
+ghost use Rattle.csg_tree.specs.Numberings.{HasNumber};
 ghost use Rattle.csg_tree.specs.Nodes.{node_of, trees_of, tree_over, IsOver};
-ghost use Rattle.csg_tree.specs.Interned.{key_cmp, node_of_key, plane_of_numbers, AreInterned, TheyStay};
+ghost use Rattle.csg_tree.specs.Interned.{key_cmp, node_of_key, plane_of_numbers, AreInterned, GrowBy, TheyStay};
 
 use crate::node::{CsgNode, StoredNode};
 use crate::op::Op;
@@ -56,11 +55,12 @@ impl Interner {
         requires over { IsOver (trees_of self.old.nodes.items) (node_of node) }
         requires few { length self.old.nodes.items + 1 < 2 ^ 32 }
         ensures interned { OnOk result (AreInterned self.new.found self.new.nodes.items) }
-        ensures number { IfOk result (λ number. HasNumber (trees_of self.new.nodes.items) (tree_over (trees_of self.old.nodes.items) (node_of node.entry)) number) }
-        ensures stay { OnOk result (TheyStay (trees_of self.old.nodes.items) (trees_of self.new.nodes.items)) }
-        ensures distinct { OnOk result ((trees : List Formula) → trees_of self.old.nodes.items ≡ distinct trees →
-            trees_of self.new.nodes.items ≡ distinct (trees ++ tree_over (trees_of self.old.nodes.items) (node_of node.entry) ∷ [])) }
-        ensures few { OnOk result (length self.new.nodes.items ≤ length self.old.nodes.items + 1) }
+        ensures number { IfOk result (λ number. HasNumber (trees_of self.new.nodes.items)
+            (tree_over (trees_of self.old.nodes.items) (node_of node.entry)) number) }
+        ensures stay { OnOk result (TheyStay (trees_of self.old.nodes.items)
+            (trees_of self.new.nodes.items)) }
+        ensures grown { OnOk result (GrowBy self.old.nodes.items self.new.nodes.items
+            (tree_over (trees_of self.old.nodes.items) (node_of node.entry) ∷ [])) }
     {
         let key = key_of_node(alloc, node)?;
         match look_up(&self.found, &key) {
@@ -75,9 +75,12 @@ impl Interner {
     // Adds a node with a key that is not found, and answers its number.
     fn add(&mut self, alloc: Global, key: NodeKey, node: CsgNode<'_>) -> Result<u32, NoMemory>
         requires few { length self.old.nodes.items + 1 < 2 ^ 32 }
-        ensures nodes { OnOk result (self.new.nodes.items ≡ self.old.nodes.items ++ node_of node.entry ∷ []) }
+        ensures nodes { OnOk result (self.new.nodes.items
+            ≡ self.old.nodes.items ++ node_of node.entry ∷ []) }
         ensures number { IfOk result (λ number. number ≡ length self.old.nodes.items + 1) }
-        ensures found { OnOk result ((other : NodeKey) → get key_cmp self.new.found other ≡ cond (is_at (key_cmp key) other) (Some (length self.old.nodes.items + 1)) (get key_cmp self.old.found other)) }
+        ensures found { OnOk result ((other : NodeKey) → get key_cmp self.new.found other
+            ≡ cond (is_at (key_cmp key) other) (Some (length self.old.nodes.items + 1))
+            (get key_cmp self.old.found other)) }
     {
         let stored = StoredNode::of(alloc, node)?;
         self.nodes.push(stored)?;
@@ -96,7 +99,8 @@ pub fn look_up(found: &BTreeMap<NodeKey, u32>, key: &NodeKey) -> Option<u32>
 
 /// Lets a number be found by a key.
 pub fn put(found: &mut BTreeMap<NodeKey, u32>, key: NodeKey, number: u32) -> Result<(), NoMemory>
-    ensures { OnOk result ((other : NodeKey) → get key_cmp found.new other ≡ cond (is_at (key_cmp key) other) (Some number) (get key_cmp found.old other)) }
+    ensures { OnOk result ((other : NodeKey) → get key_cmp found.new other
+        ≡ cond (is_at (key_cmp key) other) (Some number) (get key_cmp found.old other)) }
 {
     found.insert(key, number)?;
     Ok(())

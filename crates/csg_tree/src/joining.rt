@@ -16,7 +16,8 @@ use text_place::NoMemory;
 /// intersection Nothing, Nothing minus anything is Nothing, and a tree minus Nothing is the tree.
 /// At `NoMemory` both trees are dropped.
 pub fn join(alloc: Global, op: Op, left: CsgTree, right: CsgTree) -> Result<CsgTree, NoMemory>
-    ensures { IfOk result (λ tree. formula_of tree ≡ join_of op (formula_of left) (formula_of right)) }
+    ensures { IfOk result (λ tree. formula_of tree
+        ≡ join_of op (formula_of left) (formula_of right)) }
 {
     match (op, left, right) {
         (Op::Union, CsgTree::Nothing, other) | (Op::Union, other, CsgTree::Nothing) => Ok(other),
@@ -49,8 +50,10 @@ fn join_next(
     count: usize,
 ) -> Result<CsgTree, NoMemory>
     requires { count ≤ length (into_iter_items trees.old) }
-    ensures rest { OnOk result (into_iter_items trees.new ≡ drop count (into_iter_items trees.old)) }
-    ensures joined { IfOk result (λ tree. formula_of tree ≡ balanced_of op (map formula_of (take count (into_iter_items trees.old)))) }
+    ensures rest { OnOk result (into_iter_items trees.new
+        ≡ drop count (into_iter_items trees.old)) }
+    ensures joined { IfOk result (λ tree. formula_of tree
+        ≡ balanced_of op (map formula_of (take count (into_iter_items trees.old)))) }
 {
     if count < 2 {
         return Ok(next_or_nothing(trees, count));
@@ -66,7 +69,9 @@ fn next_or_nothing(trees: &mut IntoIter<CsgTree>, count: usize) -> CsgTree
     requires one { count < 2 }
     requires within { count ≤ length (into_iter_items trees.old) }
     ensures rest { into_iter_items trees.new ≡ drop count (into_iter_items trees.old) }
-    ensures next { (by : Op) → formula_of result ≡ balanced_of by (map formula_of (take count (into_iter_items trees.old))) }
+    ensures next { (by : Op) →
+        formula_of result
+        ≡ balanced_of by (map formula_of (take count (into_iter_items trees.old))) }
 {
     if count == 0 {
         return CsgTree::Nothing;

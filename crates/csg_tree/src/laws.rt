@@ -10,18 +10,22 @@ ghost use Rattle.csg_tree.specs.ProperTrees.{IsProper, subtrees};
 
 /// The join of two trees means the operation on them.
 pub fn joins_keep_the_meaning()
-    ensures { (op : Op) (left right : Formula) (sides : Assignment) → holds (join_of op left right) sides ≡ holds (joined op left right) sides }
+    ensures { (op : Op) (left right : Formula) (sides : Assignment) →
+        holds (join_of op left right) sides ≡ holds (joined op left right) sides }
 {}
 
 /// More than one tree are joined by halves: the first half, rounded down, with the rest. What a list
 /// of trees gives as a union holds where one of them does.
 pub fn balanced_by_halves()
     ensures halves { (op : Op) (trees : List Formula) → 2 ≤ length trees →
-        balanced_of op trees ≡ join_of op (balanced_of op (take (length trees / 2) trees)) (balanced_of op (drop (length trees / 2) trees)) }
-    ensures union { (trees : List Formula) (sides : Assignment) → holds (balanced_of Union trees) sides ≡ list_any (λ tree. holds tree sides) trees }
+        balanced_of op trees ≡ join_of op (balanced_of op (take (length trees / 2) trees))
+        (balanced_of op (drop (length trees / 2) trees)) }
+    ensures union { (trees : List Formula) (sides : Assignment) →
+        holds (balanced_of Union trees) sides ≡ list_any (λ tree. holds tree sides) trees }
 {}
 
 /// The join of two proper trees is proper while it has few enough subtrees.
 pub fn joins_are_proper()
-    ensures { (op : Op) (left right : Formula) → IsProper left → IsProper right → 1 + subtrees left + subtrees right < 2 ^ 32 → IsProper (join_of op left right) }
+    ensures { (op : Op) (left right : Formula) → IsProper left → IsProper right →
+        1 + subtrees left + subtrees right < 2 ^ 32 → IsProper (join_of op left right) }
 {}

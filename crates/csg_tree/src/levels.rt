@@ -12,7 +12,8 @@ use text_place::NoMemory;
 pub fn levels_of(alloc: Global, parts: &[CsgNode<'_>]) -> Result<Vec<Vec<u32>>, NoMemory>
     requires linked { AreLinkedLent parts.now }
     requires few { length parts.now < 2 ^ 32 }
-    ensures { IfOk result (λ levels. (h : ℕ) → level_at levels.items h ≡ numbers_of_height h (trees_of_lent parts.now)) }
+    ensures { IfOk result (λ levels. (h : ℕ) →
+        level_at levels.items h ≡ numbers_of_height h (trees_of_lent parts.now)) }
 {
     let mut heights = Vec::new(alloc);
     let mut levels = Vec::new(alloc);
@@ -46,7 +47,9 @@ fn put(
     number: u32,
 ) -> Result<(), NoMemory>
     requires { height ≤ length levels.old.items }
-    ensures level { OnOk result ((h : ℕ) → level_at levels.new.items h ≡ (if nat_eq height h then level_at levels.old.items h ++ number ∷ [] else level_at levels.old.items h)) }
+    ensures level { OnOk result ((h : ℕ) → level_at levels.new.items h
+        ≡ (if nat_eq height h then level_at levels.old.items h ++ number ∷ []
+        else level_at levels.old.items h)) }
     ensures more { OnOk result (length levels.old.items ≤ length levels.new.items) }
     ensures within { OnOk result (height < length levels.new.items) }
 {
@@ -59,7 +62,9 @@ fn put(
 // Puts a number at the end of one of the levels.
 fn append(levels: &mut Vec<Vec<u32>>, height: usize, number: u32) -> Result<(), NoMemory>
     requires { height < length levels.old.items }
-    ensures level { OnOk result ((h : ℕ) → level_at levels.new.items h ≡ (if nat_eq height h then level_at levels.old.items h ++ number ∷ [] else level_at levels.old.items h)) }
+    ensures level { OnOk result ((h : ℕ) → level_at levels.new.items h
+        ≡ (if nat_eq height h then level_at levels.old.items h ++ number ∷ []
+        else level_at levels.old.items h)) }
     ensures more { length levels.new.items ≡ length levels.old.items }
 {
     levels[height].push(number)?;

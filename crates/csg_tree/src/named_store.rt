@@ -49,7 +49,8 @@ impl Model for NamedStore {
 
     ghost view = { λ s. arc_value s.store };
 
-    ghost invariant = { λ s. (s.names.items ≡ map name_of_join (arc_value s.store)) × HoldFronts (arc_value s.store) s.fronts.items };
+    ghost invariant = { λ s. (s.names.items ≡ map name_of_join (arc_value s.store))
+        × HoldFronts (arc_value s.store) s.fronts.items };
 }
 
 impl NamedStore {
@@ -109,7 +110,7 @@ impl NamedStore {
         ensures { IfOk result (λ key. key ≡ tree_numbered self.now number) }
     {
         match self.name(number) {
-            Some(name) => TreeKey::named(&self.store, number, name),
+            Some(name) => TreeKey::with_name(&self.store, number, name),
             None => TreeKey::of(&self.store, number),
         }
     }
@@ -143,9 +144,12 @@ impl NamedStore {
         second_front: Option<(Op, Option<u32>)>,
     ) -> Result<Option<Sha256>, NoMemory>
         requires left { IfSome left (IsNumberIn self.now) }
-        requires joins { (length joins.now ≡ length self.now) × All (λ n. n ≤ length self.now) joins.now }
-        ensures { (first right : Formula) → IsNumberOf self.now first left → IsFrontOfSecond self.now op right second_front →
-            IfOk result (λ front. IfSome front (λ hasher. Holds256 hasher (op_byte op ∷ key_of first ++ front_of_second op right))) }
+        requires joins { (length joins.now ≡ length self.now)
+            × All (λ n. n ≤ length self.now) joins.now }
+        ensures { (first right : Formula) → IsNumberOf self.now first left →
+            IsFrontOfSecond self.now op right second_front →
+            IfOk result (λ front. IfSome front (λ hasher. Holds256 hasher
+            (op_byte op ∷ key_of first ++ front_of_second op right))) }
     {
         let Some(left) = left else {
             return Ok(None);
@@ -171,7 +175,8 @@ impl NamedStore {
     ) -> bool
         requires { IsNumberIn self.now right }
         ensures { (other : Formula) → IsFrontOfSecond self.now op other second_front →
-            OnTrue result (front_of_second op (tree_numbered self.now right) ≡ front_of_second op other) }
+            OnTrue result (front_of_second op (tree_numbered self.now right)
+            ≡ front_of_second op other) }
     {
         match (second_join(&self.store, op, right), second_front) {
             (None, None) => true,
@@ -225,7 +230,8 @@ fn front_over(
 ) -> Result<Option<Sha256>, NoMemory>
     requires number { IsNumberIn store.now number }
     requires numbers { AreAllNumbersIn earlier.now store.now numbers.now }
-    requires joins { (length joins.now ≡ length earlier.now) × All (λ n. n ≤ length earlier.now) joins.now }
+    requires joins { (length joins.now ≡ length earlier.now)
+        × All (λ n. n ≤ length earlier.now) joins.now }
     ensures { IfOk result (HoldsFrontIfThere (tree_numbered store.now number)) }
 {
     if let Some(known) = numbers[number as usize - 1] {

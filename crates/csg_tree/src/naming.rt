@@ -27,7 +27,8 @@ pub fn name_of_node(store: &CsgStore, number: u32) -> [u8; 32]
 /// Feeds the bytes of a node's tree to a hash.
 pub fn feed_tree<D: Digest>(store: &CsgStore, number: u32, hasher: &mut D)
     requires { IsNumberIn store.now number }
-    ensures { (m : List ℕ) → D.holds hasher.old m → D.holds hasher.new (m ++ key_of (tree_numbered store.now number)) }
+    ensures { (m : List ℕ) → D.holds hasher.old m →
+        D.holds hasher.new (m ++ key_of (tree_numbered store.now number)) }
 {
     match store.node(number) {
         CsgNode::Leaf(planes) => feed_leaf(planes, hasher),
@@ -41,7 +42,8 @@ pub fn feed_tree<D: Digest>(store: &CsgStore, number: u32, hasher: &mut D)
 
 // Feeds the bytes of a leaf.
 fn feed_leaf<D: Digest>(planes: &[Plane], hasher: &mut D)
-    ensures { (m : List ℕ) → D.holds hasher.old m → D.holds hasher.new (m ++ key_of (leaf planes.now)) }
+    ensures { (m : List ℕ) → D.holds hasher.old m →
+        D.holds hasher.new (m ++ key_of (leaf planes.now)) }
 {
     hasher.update(&leaf_head(planes.len() as u64));
     feed_planes(planes, hasher);
@@ -57,7 +59,8 @@ fn leaf_head(count: u64) -> [u8; 9]
 
 // Feeds the four numbers of each plane.
 fn feed_planes<D: Digest>(planes: &[Plane], hasher: &mut D)
-    ensures { (m : List ℕ) → D.holds hasher.old m → D.holds hasher.new (m ++ flat_map plane_bytes planes.now) }
+    ensures { (m : List ℕ) → D.holds hasher.old m →
+        D.holds hasher.new (m ++ flat_map plane_bytes planes.now) }
 {
     for plane in planes {
         feed_plane(plane, hasher);
@@ -66,7 +69,8 @@ fn feed_planes<D: Digest>(planes: &[Plane], hasher: &mut D)
 
 // Feeds the four numbers of a plane, in one piece: a piece costs the hash as much as a few bytes do.
 fn feed_plane<D: Digest>(plane: &Plane, hasher: &mut D)
-    ensures { (m : List ℕ) → D.holds hasher.old m → D.holds hasher.new (m ++ plane_bytes plane.now) }
+    ensures { (m : List ℕ) → D.holds hasher.old m →
+        D.holds hasher.new (m ++ plane_bytes plane.now) }
 {
     hasher.update(&bytes_of_plane(plane));
 }

@@ -38,8 +38,8 @@ impl StoredNode {
         }
     }
 
-    /// The node, lent.
-    pub fn lent(&self) -> CsgNode<'_>
+    /// The node, with its planes lent.
+    pub fn as_node(&self) -> CsgNode<'_>
         ensures { node_of result ≡ self.now }
     {
         match self {

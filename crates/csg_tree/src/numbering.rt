@@ -1,12 +1,10 @@
 //! The nodes of parts in order of height.
 
-ghost use Rattle.std.specs.Prelude.{◌≡◌, ℕ, List, ◌+◌, ◌-◌, ◌^◌, ◌<◌, ◌≤◌, ◌∷◌, ◌++◌, [], IfOk, OnOk, length, get_or, map};
-ghost use Rattle.csg_tree.specs.declared.node.CsgNode.{CsgNode};
-ghost use Rattle.csg_tree.specs.Formulas.{Formula};
-ghost use Rattle.csg_tree.specs.Numberings.{by_height, distinct, tree_numbered, HaveOneNumber, IsNumberIn};
+ghost use Rattle.std.specs.Prelude.{◌≡◌, ℕ, ◌+◌, ◌^◌, ◌<◌, ◌∷◌, [], IfOk, OnOk, length, map};
+ghost use Rattle.csg_tree.specs.Numberings.{by_height, distinct_trees, tree_numbered, HaveOneNumber};
 ghost use Rattle.csg_tree.specs.Nodes.{node_of, trees_of, trees_of_lent, AreLinked, AreLinkedLent, IsOver};
 ghost use Rattle.csg_tree.specs.Levels.{level_at, numbers_of_height};
-ghost use Rattle.csg_tree.specs.Interned.{renumbered_node, AreInterned, AreReady, IsPlaced, IsReady, StayPlaced};
+ghost use Rattle.csg_tree.specs.Interned.{renumbered_node, AreInterned, ArePlaced, AreReady, GrowBy, IsNumbering, IsPartReady, IsPlaced, StayPlaced};
 
 use crate::interner::Interner;
 use crate::node::{CsgNode, StoredNode};
@@ -22,8 +20,10 @@ pub fn nodes_of_levels(
 ) -> Result<Vec<StoredNode>, NoMemory>
     requires linked { AreLinkedLent parts.now }
     requires few { length parts.now < 2 ^ 32 }
-    requires levels { (h : ℕ) → level_at levels.now h ≡ numbers_of_height h (trees_of_lent parts.now) }
-    ensures trees { IfOk result (λ nodes. trees_of nodes.items ≡ distinct (by_height (length levels.now) (trees_of_lent parts.now))) }
+    requires levels { (h : ℕ) →
+        level_at levels.now h ≡ numbers_of_height h (trees_of_lent parts.now) }
+    ensures trees { IfOk result (λ nodes. trees_of nodes.items
+        ≡ distinct_trees (by_height (length levels.now) (trees_of_lent parts.now))) }
     ensures linked { IfOk result (λ nodes. AreLinked nodes.items) }
     ensures once { IfOk result (λ nodes. HaveOneNumber (trees_of nodes.items)) }
 {
@@ -43,17 +43,20 @@ fn number_level(
     numbers: &mut Vec<u32>,
     interner: &mut Interner,
 ) -> Result<(), NoMemory>
-    requires linked { AreLinkedLent parts.now }
-    requires ready { AreReady parts.now (trees_of interner.old.nodes.items) numbers.old.items level.now }
-    requires room { length numbers.old.items ≡ length parts.now }
-    requires interned { AreInterned interner.old.found interner.old.nodes.items }
+    requires numbering { IsNumbering parts.now numbers.old.items interner.old.found
+        interner.old.nodes.items }
+    requires ready { AreReady parts.now (trees_of interner.old.nodes.items) numbers.old.items
+        level.now }
     requires few { length interner.old.nodes.items + length level.now < 2 ^ 32 }
     ensures room { length numbers.new.items ≡ length parts.now }
     ensures interned { OnOk result (AreInterned interner.new.found interner.new.nodes.items) }
-    ensures placed { OnOk result ((j : ℕ) → j < length level.now → IsPlaced (trees_of_lent parts.now) (trees_of interner.new.nodes.items) numbers.new.items (get_or level.now j 0)) }
-    ensures stay { OnOk result (StayPlaced (trees_of_lent parts.now) (trees_of interner.old.nodes.items) numbers.old.items (trees_of interner.new.nodes.items) numbers.new.items) }
-    ensures distinct { OnOk result ((trees : List Formula) → trees_of interner.old.nodes.items ≡ distinct trees →
-        trees_of interner.new.nodes.items ≡ distinct (trees ++ map (tree_numbered (trees_of_lent parts.now)) level.now)) }
+    ensures placed { OnOk result (ArePlaced (trees_of_lent parts.now)
+        (trees_of interner.new.nodes.items) numbers.new.items level.now) }
+    ensures stay { OnOk result (StayPlaced (trees_of_lent parts.now)
+        (trees_of interner.old.nodes.items) numbers.old.items (trees_of interner.new.nodes.items)
+        numbers.new.items) }
+    ensures grown { OnOk result (GrowBy interner.old.nodes.items interner.new.nodes.items
+        (map (tree_numbered (trees_of_lent parts.now)) level.now)) }
 {
     for number in level {
         number_part(alloc, parts, *number, numbers, interner)?;
@@ -69,19 +72,20 @@ fn number_part(
     numbers: &mut Vec<u32>,
     interner: &mut Interner,
 ) -> Result<(), NoMemory>
-    requires linked { AreLinkedLent parts.now }
-    requires within { IsNumberIn parts.now number }
-    requires ready { (d : CsgNode) → IsReady (trees_of_lent parts.now) (trees_of interner.old.nodes.items) numbers.old.items (node_of (get_or parts.now (number - 1) d)) }
-    requires room { length numbers.old.items ≡ length parts.now }
-    requires interned { AreInterned interner.old.found interner.old.nodes.items }
+    requires numbering { IsNumbering parts.now numbers.old.items interner.old.found
+        interner.old.nodes.items }
+    requires ready { IsPartReady parts.now (trees_of interner.old.nodes.items) numbers.old.items
+        number }
     requires few { length interner.old.nodes.items + 1 < 2 ^ 32 }
     ensures room { length numbers.new.items ≡ length parts.now }
     ensures interned { OnOk result (AreInterned interner.new.found interner.new.nodes.items) }
-    ensures placed { OnOk result (IsPlaced (trees_of_lent parts.now) (trees_of interner.new.nodes.items) numbers.new.items number) }
-    ensures stay { OnOk result (StayPlaced (trees_of_lent parts.now) (trees_of interner.old.nodes.items) numbers.old.items (trees_of interner.new.nodes.items) numbers.new.items) }
-    ensures distinct { OnOk result ((trees : List Formula) → trees_of interner.old.nodes.items ≡ distinct trees →
-        trees_of interner.new.nodes.items ≡ distinct (trees ++ tree_numbered (trees_of_lent parts.now) number ∷ [])) }
-    ensures few { OnOk result (length interner.new.nodes.items ≤ length interner.old.nodes.items + 1) }
+    ensures placed { OnOk result (IsPlaced (trees_of_lent parts.now)
+        (trees_of interner.new.nodes.items) numbers.new.items number) }
+    ensures stay { OnOk result (StayPlaced (trees_of_lent parts.now)
+        (trees_of interner.old.nodes.items) numbers.old.items (trees_of interner.new.nodes.items)
+        numbers.new.items) }
+    ensures grown { OnOk result (GrowBy interner.old.nodes.items interner.new.nodes.items
+        (tree_numbered (trees_of_lent parts.now) number ∷ [])) }
 {
     let index = number as usize - 1;
     let node = linked(parts[index], numbers);

@@ -16,7 +16,8 @@ use text_place::NoMemory;
 pub fn parts_of(alloc: Global, tree: &CsgTree) -> Result<Vec<CsgNode<'_>>, NoMemory>
     requires joins { HasFullJoins (formula_of tree.now) }
     requires few { subtrees (formula_of tree.now) < 2 ^ 32 }
-    ensures trees { IfOk result (λ parts. trees_of_lent parts.items ≡ occurrences (formula_of tree.now)) }
+    ensures trees { IfOk result (λ parts. trees_of_lent parts.items
+        ≡ occurrences (formula_of tree.now)) }
     ensures linked { IfOk result (λ parts. AreLinkedLent parts.items) }
     ensures few { IfOk result (λ parts. length parts.items < 2 ^ 32) }
 {
@@ -47,9 +48,11 @@ fn push_parts<'a>(tree: &'a CsgTree, parts: &mut Vec<CsgNode<'a>>) -> Result<u32
     requires joins { HasFullJoins (formula_of tree.now) }
     requires linked { AreLinkedLent parts.old.items }
     requires few { length parts.old.items + subtrees (formula_of tree.now) < 2 ^ 32 }
-    ensures trees { OnOk result (trees_of_lent parts.new.items ≡ trees_of_lent parts.old.items ++ occurrences (formula_of tree.now)) }
+    ensures trees { OnOk result (trees_of_lent parts.new.items ≡ trees_of_lent parts.old.items
+        ++ occurrences (formula_of tree.now)) }
     ensures linked { OnOk result (AreLinkedLent parts.new.items) }
-    ensures more { OnOk result (length parts.new.items ≡ length parts.old.items + subtrees (formula_of tree.now)) }
+    ensures more { OnOk result (length parts.new.items ≡ length parts.old.items
+        + subtrees (formula_of tree.now)) }
     ensures last { IfOk result (λ number. number ≡ length parts.new.items) }
 {
     match tree {
@@ -68,7 +71,8 @@ fn push_node<'a>(node: CsgNode<'a>, parts: &mut Vec<CsgNode<'a>>) -> Result<u32,
     requires over { IsOver (trees_of_lent parts.old.items) (node_of node) }
     requires linked { AreLinkedLent parts.old.items }
     requires few { length parts.old.items + 1 < 2 ^ 32 }
-    ensures trees { OnOk result (trees_of_lent parts.new.items ≡ trees_of_lent parts.old.items ++ tree_over (trees_of_lent parts.old.items) (node_of node.entry) ∷ []) }
+    ensures trees { OnOk result (trees_of_lent parts.new.items ≡ trees_of_lent parts.old.items
+        ++ tree_over (trees_of_lent parts.old.items) (node_of node.entry) ∷ []) }
     ensures linked { OnOk result (AreLinkedLent parts.new.items) }
     ensures more { OnOk result (length parts.new.items ≡ length parts.old.items + 1) }
     ensures last { IfOk result (λ number. number ≡ length parts.new.items) }

@@ -29,8 +29,10 @@ pub struct RowNames {
 impl RowNames {
     /// These names, and then others.
     pub fn and(self, more: RowNames) -> Result<RowNames, NoMemory>
-        ensures names { IfOk result (λ all. all.names.items ≡ self.names.items ++ more.names.items) }
-        ensures fronts { IfOk result (λ all. all.fronts.items ≡ self.fronts.items ++ more.fronts.items) }
+        ensures names { IfOk result (λ all. all.names.items
+            ≡ self.names.items ++ more.names.items) }
+        ensures fronts { IfOk result (λ all. all.fronts.items
+            ≡ self.fronts.items ++ more.fronts.items) }
     {
         let RowNames {
             mut names,

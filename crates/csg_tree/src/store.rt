@@ -67,6 +67,6 @@ impl CsgStore {
         ensures node { IsNodeOf self.now number result }
         ensures proper { IsProper (tree_numbered self.now number) }
     {
-        self.nodes[number as usize - 1].lent()
+        self.nodes[number as usize - 1].as_node()
     }
 }

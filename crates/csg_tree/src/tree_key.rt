@@ -46,11 +46,15 @@ impl TreeKey {
         ensures { IfOk result (λ key. key ≡ tree_numbered (arc_value store.now) number) }
     {
         let name = name_of_node(store, number);
-        TreeKey::named(store, number, name)
+        TreeKey::with_name(store, number, name)
     }
 
     /// The key of a node of a store with this name. `NoMemory` is a store that cannot be shared once more.
-    pub fn named(store: &Arc<CsgStore>, number: u32, name: [u8; 32]) -> Result<TreeKey, NoMemory>
+    pub fn with_name(
+        store: &Arc<CsgStore>,
+        number: u32,
+        name: [u8; 32],
+    ) -> Result<TreeKey, NoMemory>
         requires { IsNamed (arc_value store.now) number name }
         ensures { IfOk result (λ key. key ≡ tree_numbered (arc_value store.now) number) }
     {
@@ -89,7 +93,8 @@ impl TreeKey {
 fn are_same(store: &CsgStore, number: u32, other: &CsgStore, second: u32) -> bool
     requires first { IsNumberIn store.now number }
     requires second { IsNumberIn other.now second }
-    ensures { result ≡ is_same_tree (tree_numbered store.now number) (tree_numbered other.now second) }
+    ensures { result
+        ≡ is_same_tree (tree_numbered store.now number) (tree_numbered other.now second) }
 {
     match (store.node(number), other.node(second)) {
         (CsgNode::Leaf(planes), CsgNode::Leaf(more)) => planes == more,

@@ -79,11 +79,13 @@ fn names_by<R: Threads + Sync>(
     }
     let (low, high) = parts(row, costs, workers);
     let front = || -> Result<RowNames, NoMemory>
-        requires { IsSync R.row × (2 ≤ workers) × IsRowOf store.now low × (length costs.now ≡ length store.now + 1) }
+        requires { IsSync R.row × (2 ≤ workers) × IsRowOf store.now low
+            × (length costs.now ≡ length store.now + 1) }
         ensures { IfOk result (AreNamesOf (trees_in store.entry.now low)) }
     { names_by(rt, alloc, workers / 2, store, costs, low) };
     let back = || -> Result<RowNames, NoMemory>
-        requires { IsSync R.row × (2 ≤ workers) × IsRowOf store.now high × (length costs.now ≡ length store.now + 1) }
+        requires { IsSync R.row × (2 ≤ workers) × IsRowOf store.now high
+            × (length costs.now ≡ length store.now + 1) }
         ensures { IfOk result (AreNamesOf (trees_in store.entry.now high)) }
     { names_by(rt, alloc, workers - workers / 2, store, costs, high) };
     let (front, back) = join(rt, front, back);

@@ -38,14 +38,14 @@ refusal s Export = if s.exports == 16 then Some TooManyExports else None
 refusal s Bad = Some BadCommand
 
 -- the state after a command that is not refused
-abbrev pub accepted : State → Command → State
-accepted s (Put line text) = record s { lines = insert s.lines (line - 1) text }
-accepted s (Set line text) = record s { lines = slice_set s.lines (line - 1) text }
-accepted s (Cut from upto) = record s { lines = take (from - 1) s.lines ++ drop upto s.lines }
-accepted s Show = record s { shows = s.shows + 1 }
-accepted s Export = record s { exports = s.exports + 1 }
-accepted s Bad = s
+abbrev pub after_accepted : State → Command → State
+after_accepted s (Put line text) = record s { lines = insert s.lines (line - 1) text }
+after_accepted s (Set line text) = record s { lines = slice_set s.lines (line - 1) text }
+after_accepted s (Cut from upto) = record s { lines = take (from - 1) s.lines ++ drop upto s.lines }
+after_accepted s Show = record s { shows = s.shows + 1 }
+after_accepted s Export = record s { exports = s.exports + 1 }
+after_accepted s Bad = s
 
 -- the state after a command: a refused one leaves it as it was
 abbrev pub next : State → Command → State
-next s c = if is_some (refusal s c) then s else accepted s c
+next s c = if is_some (refusal s c) then s else after_accepted s c

@@ -2,7 +2,7 @@
 
 ghost use Rattle.std.specs.Prelude.{◌≡◌, ◌↔◌, ◌≤◌, ◌++◌, take, drop, length, Some, None, IsTrue, IfOk, IfErr};
 ghost use Rattle.script_reader.specs.declared.script.Command.TheVariants.{Put, Set, Cut, Show, Export};
-ghost use Rattle.edit_session.specs.Sessions.{start, source_of, refusal, accepted};
+ghost use Rattle.edit_session.specs.Sessions.{start, source_of, refusal, after_accepted};
 ghost use Rattle.script_reader.specs.Limits.{IsText, HasText};
 ghost use Rattle.edit_session.specs.Limits.{IsWithin};
 ghost use Rattle.edit_session.specs.Asking.{Edits, Refuses, Accepts};
@@ -36,7 +36,8 @@ impl Model for Session {
 
     ghost view = { λ s. record { lines = s.lines.items; shows = s.shows; exports = s.exports } };
 
-    ghost invariant = { λ s. IsWithin (record { lines = s.lines.items; shows = s.shows; exports = s.exports }) };
+    ghost invariant = { λ s.
+        IsWithin (record { lines = s.lines.items; shows = s.shows; exports = s.exports }) };
 }
 
 impl Session {
@@ -156,7 +157,7 @@ impl Session {
     /// Counts a show that was answered with a text.
     pub fn book_show(&mut self)
         requires { refusal self.old Show ≡ None }
-        ensures { self.new ≡ accepted self.old Show }
+        ensures { self.new ≡ after_accepted self.old Show }
     {
         self.shows += 1;
     }
@@ -164,7 +165,7 @@ impl Session {
     /// Counts an export that was answered.
     pub fn book_export(&mut self)
         requires { refusal self.old Export ≡ None }
-        ensures { self.new ≡ accepted self.old Export }
+        ensures { self.new ≡ after_accepted self.old Export }
     {
         self.exports += 1;
     }

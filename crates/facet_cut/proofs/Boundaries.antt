@@ -12,7 +12,7 @@ use Rattle.bsp_tree.specs.Trees.{Tree, inside, outside, node, walk}
 use Rattle.bsp_tree.specs.Cells.{IsIn, IsInClosed, IsAcross, IsOfCell, IsPlaneOf, IsOff}
 use Rattle.bsp_tree.proofs.Opposites.{opposite_zero, opposite_back, opposite_above, opposite_below, opposite_twice}
 use Rattle.facet_cut.specs.Facets.{facets_facing, facets_ahead, facets_between, facets_of}
-use Rattle.facet_cut.specs.Sides.{walk_by, AreJustBehind, AreJustAhead, CoversFacing, IsFacetOf, HasNone, HasOneWhere, Bound}
+use Rattle.facet_cut.specs.Sides.{walk_by, AreJustBehind, AreJustAhead, CoversFacing, IsFacetOf, HasNone, HasOneWhere, BoundSolid}
 use Rattle.facet_cut.proofs.Reversals.{within_reversed, within_back}
 use Rattle.facet_cut.proofs.Counts.{where_left, where_right, none_append}
 use Rattle.facet_cut.proofs.Pieces.{not_both, within_cell, within_covered, none_pieces, one_piece}
@@ -295,5 +295,5 @@ bound (node s b a) cell n p low high h hp on alone jb ja =
           (record { weight = hp.weight; below = (opposite_below m p v, hp.below) }) on alone_a jb ja)))
     ]
 
-pub facets_bound : (cell : List Coefficients) (t : Tree) → IsOfCell cell t → Bound cell t (facets_of t)
+pub facets_bound : (cell : List Coefficients) (t : Tree) → IsOfCell cell t → BoundSolid cell t (facets_of t)
 facets_bound cell t h n p o low high jb ja = bound t cell n p low high h o.point_in o.on o.alone jb ja

@@ -6,7 +6,7 @@ use Rattle.plane_polygon.specs.Polygons.{Outline}
 use Rattle.bsp_tree.specs.Trees.{Tree}
 use Rattle.bsp_tree.specs.Cells.{IsOfCell}
 use Rattle.facet_cut.specs.Facets.{facets_of}
-use Rattle.facet_cut.specs.Sides.{Bound, IsFacetOf}
+use Rattle.facet_cut.specs.Sides.{BoundSolid, IsFacetOf}
 use Rattle.facet_cut.proofs.FacetPolygons.{all_facets}
 use Rattle.facet_cut.proofs.Boundaries.{facets_bound}
 
@@ -17,8 +17,8 @@ module _ {Z E : Type 0} (t : Tree) (result : Result (Vec Outline Z) E) (h : IfOk
       (λ v. (cell : List Coefficients) → IsOfCell cell t → All (IsFacetOf cell t) v.items)
       (λ v e cell k. subst (All (IsFacetOf cell t)) (sym e) (all_facets t cell k)) h
 
-  pub list_bound : IfOk result (λ v. (cell : List Coefficients) → IsOfCell cell t → Bound cell t v.items)
+  pub list_bound : IfOk result (λ v. (cell : List Coefficients) → IsOfCell cell t → BoundSolid cell t v.items)
   list_bound =
       IfOk-weaker result (λ v. v.items ≡ facets_of t)
-      (λ v. (cell : List Coefficients) → IsOfCell cell t → Bound cell t v.items)
-      (λ v e cell k. subst (Bound cell t) (sym e) (facets_bound cell t k)) h
+      (λ v. (cell : List Coefficients) → IsOfCell cell t → BoundSolid cell t v.items)
+      (λ v e cell k. subst (BoundSolid cell t) (sym e) (facets_bound cell t k)) h

@@ -2,3 +2,4 @@ pub mod Facets
 pub mod Sides
 pub mod Adding
 pub mod Rows
+pub mod Between

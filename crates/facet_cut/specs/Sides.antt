@@ -62,8 +62,8 @@ HasOneWhere false P xs = HasNone P xs
 
 -- the facets bound a solid in a cell: where it is inside just behind a point on one of its planes and not
 -- just ahead, exactly one facet covers the point and faces that way, and none does otherwise
-abbrev pub Bound : List Coefficients → Tree → List Outline → Type 0
-Bound cell t facets =
+abbrev pub BoundSolid : List Coefficients → Tree → List Outline → Type 0
+BoundSolid cell t facets =
     (n : Coefficients) (p : Coordinates) → IsOnOnePlane cell t n p →
     (low high : Coefficients → Bool) → AreJustBehind n p low → AreJustAhead n p high →
     HasOneWhere (walk_by t low && not (walk_by t high)) (CoversFacing n p) facets

@@ -5,7 +5,7 @@ ghost use Rattle.plane_table.specs.Tables.{HasNoTwoAlike};
 ghost use Rattle.bsp_tree.specs.Cells.{IsOfCell};
 ghost use Rattle.bsp_tree.specs.Shapes.{tree_of};
 ghost use Rattle.facet_cut.specs.Facets.{facets_of};
-ghost use Rattle.facet_cut.specs.Sides.{Bound, IsFacetOf};
+ghost use Rattle.facet_cut.specs.Sides.{BoundSolid, IsFacetOf};
 
 use crate::walls::Walls;
 use crate::{CutStop, Facet};
@@ -23,14 +23,18 @@ pub fn facets(alloc: Global, solid: &Solid, most: u32) -> Result<Vec<Facet>, Cut
     ensures list { IfOk result (λ v. v.items ≡ facets_of (tree_of solid.now)) }
     ensures fits { IfOk result (λ v. length v.items ≤ most) }
     ensures many { IsErrOf result CutStop.TooMany → most < length (facets_of (tree_of solid.now)) }
-    ensures polygons { IfOk result (λ v. (cell : _) → IsOfCell cell (tree_of solid.now) → All (IsFacetOf cell (tree_of solid.now)) v.items) }
-    ensures bound { IfOk result (λ v. (cell : _) → IsOfCell cell (tree_of solid.now) → Bound cell (tree_of solid.now) v.items) }
+    ensures polygons { IfOk result
+        (λ v. (cell : _) → IsOfCell cell (tree_of solid.now) →
+        All (IsFacetOf cell (tree_of solid.now)) v.items) }
+    ensures bound { IfOk result
+        (λ v. (cell : _) → IsOfCell cell (tree_of solid.now) →
+        BoundSolid cell (tree_of solid.now) v.items) }
 {
-    listed(alloc, solid, most)
+    facet_list(alloc, solid, most)
 }
 
 /// The same list, of which its definition says all that is promised.
-pub fn listed(alloc: Global, solid: &Solid, most: u32) -> Result<Vec<Facet>, CutStop>
+pub fn facet_list(alloc: Global, solid: &Solid, most: u32) -> Result<Vec<Facet>, CutStop>
     ensures list { IfOk result (λ v. v.items ≡ facets_of (tree_of solid.now)) }
     ensures fits { IfOk result (λ v. length v.items ≤ most) }
     ensures many { IsErrOf result CutStop.TooMany → most < length (facets_of (tree_of solid.now)) }
@@ -51,7 +55,7 @@ pub fn table_of(alloc: Global, planes: &[Plane]) -> Result<PlaneTable, NoMemory>
     requires { HasNoTwoAlike planes.now }
     ensures { IfOk result (λ t. t ≡ planes.now) }
 {
-    let mut listed = Vec::new(alloc);
-    listed.extend_from_slice(planes)?;
-    PlaneTable::of(alloc, listed)
+    let mut copied = Vec::new(alloc);
+    copied.extend_from_slice(planes)?;
+    PlaneTable::of(alloc, copied)
 }

@@ -6,21 +6,24 @@ ghost use Rattle.plane_polygon.specs.Polygons.{corner, sides, Covers, IsPolygon,
 ghost use Rattle.bsp_tree.specs.Trees.{Tree};
 ghost use Rattle.bsp_tree.specs.Cells.{IsOfCell, IsOfWorld};
 ghost use Rattle.facet_cut.specs.Facets.{facets_of, reversed_outline};
-ghost use Rattle.facet_cut.specs.Sides.{Bound, IsFacetOf};
+ghost use Rattle.facet_cut.specs.Sides.{BoundSolid, IsFacetOf};
 
 /// A polygon seen from the other side is a polygon of the opposite plane with the same points.
 pub fn reversed_polygons_are_polygons()
     ensures polygon { (s : Outline) → IsPolygon s → IsPolygon (reversed_outline s) }
     ensures points { (s : Outline) (p : Coordinates) → Covers (reversed_outline s) p ↔ Covers s p }
-    ensures within { (s : Outline) (p : Coordinates) → IsStrictlyWithin (reversed_outline s) p ↔ IsStrictlyWithin s p }
+    ensures within { (s : Outline) (p : Coordinates) → IsStrictlyWithin (reversed_outline s) p ↔
+        IsStrictlyWithin s p }
 {}
 
 /// Each facet of a solid of a cell is a polygon of the plane of some node or of its opposite, and
 /// its points are points of the closed cell. So the corners of a facet of a solid of the world box
 /// lie in the closed world box.
 pub fn facets_are_polygons()
-    ensures facets { (cell : List Coefficients) (t : Tree) → IsOfCell cell t → All (IsFacetOf cell t) (facets_of t) }
-    ensures corners { (t : Tree) → IsOfWorld t → All (λ s. (i : ℕ) → i < sides s → IsInClosedWorld (corner s i)) (facets_of t) }
+    ensures facets { (cell : List Coefficients) (t : Tree) → IsOfCell cell t →
+        All (IsFacetOf cell t) (facets_of t) }
+    ensures corners { (t : Tree) → IsOfWorld t →
+        All (λ s. (i : ℕ) → i < sides s → IsInClosedWorld (corner s i)) (facets_of t) }
 {}
 
 /// The facets bound their solid. Take a point of the cell that lies on one plane of the solid, and
@@ -28,5 +31,6 @@ pub fn facets_are_polygons()
 /// seen from that side, ends inside and the walk just ahead ends outside, exactly one facet covers
 /// the point and faces that side. Otherwise none does.
 pub fn facets_bound_their_solid()
-    ensures { (cell : List Coefficients) (t : Tree) → IsOfCell cell t → Bound cell t (facets_of t) }
+    ensures { (cell : List Coefficients) (t : Tree) → IsOfCell cell t →
+        BoundSolid cell t (facets_of t) }
 {}

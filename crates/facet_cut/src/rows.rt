@@ -3,9 +3,10 @@
 ghost use Rattle.std.specs.Prelude.{◌≡◌, ◌<◌, ◌≤◌, ◌++◌, length, OnOk};
 ghost use Rattle.link_forest.specs.Forests.{IsLinkOf};
 ghost use Rattle.link_forest.specs.declared.link.Link.TheVariants.{To};
-ghost use Rattle.bsp_tree.specs.Shapes.{tree_over, AreFacesOver};
+ghost use Rattle.bsp_tree.specs.Shapes.{AreFacesOver};
 ghost use Rattle.facet_cut.specs.Facets.{facets_of};
 ghost use Rattle.facet_cut.specs.Adding.{Adds};
+ghost use Rattle.facet_cut.specs.Between.{solid_at};
 ghost use Rattle.facet_cut.specs.Rows.{facets_at, facets_on_top, AreNodes, IsCut};
 
 use crate::walls::Walls;
@@ -21,8 +22,10 @@ impl<'a> Walls<'a> {
         requires link { IsLinkOf self.now.forest.now.nodes at }
         requires there { AreNodes self.now.forest.now.nodes ids.old.items }
         ensures there { OnOk result (AreNodes self.now.forest.now.nodes ids.new.items) }
-        ensures facets { OnOk result (facets_at self.now.table.now self.now.forest.now.nodes ids.new.items
-            ≡ facets_at self.now.table.now self.now.forest.now.nodes ids.old.items ++ facets_of (tree_over self.now.table.now self.now.forest.now.nodes at)) }
+        ensures facets { OnOk result
+            (facets_at self.now.table.now self.now.forest.now.nodes ids.new.items
+            ≡ facets_at self.now.table.now self.now.forest.now.nodes ids.old.items
+            ++ facets_of (solid_at self.now at)) }
     {
         match at {
             Link::End(_) => Ok(()),
@@ -59,7 +62,8 @@ impl<'a> Walls<'a> {
         requires faces { AreFacesOver self.now.table.now self.now.forest.now.nodes }
         requires there { id.index < length self.now.forest.now.nodes }
         requires within { length found.old.items ≤ most }
-        ensures { Adds (facets_on_top (tree_over self.now.table.now self.now.forest.now.nodes (To id))) most found.old.items found.new.items result }
+        ensures { Adds (facets_on_top (solid_at self.now (To id))) most found.old.items
+            found.new.items result }
     {
         let (face, behind, ahead) = self.forest.at(id);
         self.push_between(alloc, behind, ahead, face, most, found)

@@ -2,12 +2,12 @@
 
 ghost use Rattle.std.specs.Prelude.{◌≤◌, length};
 ghost use Rattle.link_forest.specs.Forests.{IsLinkOf};
-ghost use Rattle.plane_table.specs.Tables.{plane_named};
-ghost use Rattle.plane_table.specs.Faces.{outline_of, IsFaceOver};
-ghost use Rattle.plane_table.specs.Cuts.{part_in, IsCrossing};
-ghost use Rattle.bsp_tree.specs.Shapes.{tree_over, AreFacesOver};
+ghost use Rattle.plane_table.specs.Faces.{IsFaceOver};
+ghost use Rattle.plane_table.specs.Cuts.{IsCrossing};
+ghost use Rattle.bsp_tree.specs.Shapes.{AreFacesOver};
 ghost use Rattle.facet_cut.specs.Facets.{facets_ahead, facets_between, facets_of, facets_facing};
 ghost use Rattle.facet_cut.specs.Adding.{Adds};
+ghost use Rattle.facet_cut.specs.Between.{half_at, outline_at, solid_at};
 
 use crate::adding::push_facing;
 use crate::{CutStop, Facet};
@@ -37,7 +37,8 @@ impl<'a> Walls<'a> {
         requires faces { AreFacesOver self.now.table.now self.now.forest.now.nodes }
         requires link { IsLinkOf self.now.forest.now.nodes at }
         requires within { length found.old.items ≤ most }
-        ensures { Adds (facets_of (tree_over self.now.table.now self.now.forest.now.nodes at)) most found.old.items found.new.items result }
+        ensures { Adds (facets_of (solid_at self.now at)) most found.old.items found.new.items
+            result }
     {
         match at {
             Link::End(_) => Ok(()),
@@ -65,7 +66,8 @@ impl<'a> Walls<'a> {
         requires ahead { IsLinkOf self.now.forest.now.nodes ahead }
         requires face { IsFaceOver self.now.table.now face.now }
         requires within { length found.old.items ≤ most }
-        ensures { Adds (facets_between (tree_over self.now.table.now self.now.forest.now.nodes behind) (tree_over self.now.table.now self.now.forest.now.nodes ahead) (outline_of self.now.table.now face.now)) most found.old.items found.new.items result }
+        ensures { Adds (facets_between (solid_at self.now behind) (solid_at self.now ahead)
+            (outline_at self.now face.now)) most found.old.items found.new.items result }
     {
         match behind {
             Link::End(is_inside) => { self.push_ahead(alloc, is_inside, ahead, face, most, found) }
@@ -108,7 +110,8 @@ impl<'a> Walls<'a> {
         requires ahead { IsLinkOf self.now.forest.now.nodes ahead }
         requires face { IsFaceOver self.now.table.now face.now }
         requires within { length found.old.items ≤ most }
-        ensures { Adds (facets_ahead is_inside (tree_over self.now.table.now self.now.forest.now.nodes ahead) (outline_of self.now.table.now face.now)) most found.old.items found.new.items result }
+        ensures { Adds (facets_ahead is_inside (solid_at self.now ahead)
+            (outline_at self.now face.now)) most found.old.items found.new.items result }
     {
         match ahead {
             Link::End(is_ahead_inside) => {
@@ -153,7 +156,8 @@ impl<'a> Walls<'a> {
         requires ahead { IsLinkOf self.now.forest.now.nodes ahead }
         requires crossing { IsCrossing self.now.table.now crossing }
         requires within { length found.old.items ≤ most }
-        ensures { Adds (facets_ahead is_inside (tree_over self.now.table.now self.now.forest.now.nodes ahead) (part_in half (outline_of self.now.table.now crossing.entry.face.now) (plane_named self.now.table.now crossing.entry.number))) most found.old.items found.new.items result }
+        ensures { Adds (facets_ahead is_inside (solid_at self.now ahead)
+            (half_at self.now half crossing.entry)) most found.old.items found.new.items result }
     {
         if is_same_leaf(Link::End(is_inside), ahead) {
             return Ok(());
@@ -174,7 +178,8 @@ impl<'a> Walls<'a> {
     ) -> Result<(), CutStop>
         requires face { IsFaceOver self.now.table.now face.now }
         requires within { length found.old.items ≤ most }
-        ensures { Adds (facets_facing is_inside is_ahead_inside (outline_of self.now.table.now face.now)) most found.old.items found.new.items result }
+        ensures { Adds (facets_facing is_inside is_ahead_inside (outline_at self.now face.now)) most
+            found.old.items found.new.items result }
     {
         if is_inside == is_ahead_inside {
             return Ok(());

@@ -5,13 +5,14 @@ ghost use Rattle.std.specs.Fork.{slice_chunk};
 ghost use Rattle.plane_polygon.specs.Polygons.{Outline};
 ghost use Rattle.link_forest.specs.Forests.{IsLinkOf};
 ghost use Rattle.bsp_tree.specs.Cells.{IsOfCell};
-ghost use Rattle.bsp_tree.specs.Shapes.{tree_of, tree_over, AreFacesOver};
+ghost use Rattle.bsp_tree.specs.Shapes.{tree_of, AreFacesOver};
 ghost use Rattle.facet_cut.specs.Facets.{facets_of};
-ghost use Rattle.facet_cut.specs.Sides.{Bound, IsFacetOf};
+ghost use Rattle.facet_cut.specs.Sides.{BoundSolid, IsFacetOf};
 ghost use Rattle.facet_cut.specs.Adding.{Adds};
+ghost use Rattle.facet_cut.specs.Between.{solid_at};
 ghost use Rattle.facet_cut.specs.Rows.{facets_at, first_rows, AreCut, AreNodes, IsCut};
 
-use crate::cutting::{listed, table_of};
+use crate::cutting::{facet_list, table_of};
 use crate::walls::Walls;
 use crate::{CutStop, Facet};
 use bsp_tree::{Link, NodeId, Solid};
@@ -38,14 +39,18 @@ pub fn facets_by<R: Threads + Sync>(
     ensures list { IfOk result (λ v. v.items ≡ facets_of (tree_of solid.now)) }
     ensures fits { IfOk result (λ v. length v.items ≤ most) }
     ensures many { IsErrOf result CutStop.TooMany → most < length (facets_of (tree_of solid.now)) }
-    ensures polygons { IfOk result (λ v. (cell : _) → IsOfCell cell (tree_of solid.now) → All (IsFacetOf cell (tree_of solid.now)) v.items) }
-    ensures bound { IfOk result (λ v. (cell : _) → IsOfCell cell (tree_of solid.now) → Bound cell (tree_of solid.now) v.items) }
+    ensures polygons { IfOk result
+        (λ v. (cell : _) → IsOfCell cell (tree_of solid.now) →
+        All (IsFacetOf cell (tree_of solid.now)) v.items) }
+    ensures bound { IfOk result
+        (λ v. (cell : _) → IsOfCell cell (tree_of solid.now) →
+        BoundSolid cell (tree_of solid.now) v.items) }
 {
-    listed_by(rt, alloc, workers, solid, most)
+    facet_list_by(rt, alloc, workers, solid, most)
 }
 
 // The same list, of which its definition says all that is promised.
-fn listed_by<R: Threads + Sync>(
+fn facet_list_by<R: Threads + Sync>(
     rt: &R,
     alloc: Global,
     workers: u64,
@@ -58,7 +63,7 @@ fn listed_by<R: Threads + Sync>(
 {
     let (planes, forest, root) = solid.parts();
     if workers < 2 || forest.len() < FEWEST_NODES {
-        return listed(alloc, solid, most);
+        return facet_list(alloc, solid, most);
     }
     let table = table_of(alloc, planes)?;
     let walls = Walls {
@@ -81,13 +86,13 @@ impl<'a> Walls<'a> {
         requires faces { AreFacesOver self.now.table.now self.now.forest.now.nodes }
         requires link { IsLinkOf self.now.forest.now.nodes root }
         requires workers { 0 < workers }
-        ensures { IsCut (facets_of (tree_over self.now.table.now self.now.forest.now.nodes root)) most result }
+        ensures { IsCut (facets_of (solid_at self.now root)) most result }
     {
         let mut ids = Vec::new(alloc);
         self.push_nodes(root, &mut ids)?;
         let size = row_size(ids.len(), workers);
         let rows = self.rows_by(rt, alloc, &ids, size, most)?;
-        joined(alloc, rows, most)
+        join_rows(alloc, rows, most)
     }
 
     // The facets on the faces of rows of so many nodes each, a worker for each row.
@@ -103,11 +108,16 @@ impl<'a> Walls<'a> {
         requires there { AreNodes self.now.forest.now.nodes ids.now }
         requires size { 0 < size }
         ensures whole { IfOk result (λ rows. length ids.now ≤ length rows.items * size) }
-        ensures rows { IfOk result (λ rows. AreCut (λ n. facets_at self.now.table.now self.now.forest.now.nodes (slice_chunk ids.now size n)) most rows.items) }
+        ensures rows { IfOk result
+            (λ rows. AreCut
+            (λ n. facets_at self.now.table.now self.now.forest.now.nodes
+            (slice_chunk ids.now size n)) most rows.items) }
     {
         let of_row = |_start: usize, row: &[NodeId]| -> Result<Vec<Facet>, CutStop>
-            requires { AreFacesOver self.now.table.now self.now.forest.now.nodes × AreNodes self.now.forest.now.nodes row.now }
-            ensures { IsCut (facets_at self.entry.now.table.now self.entry.now.forest.now.nodes row.now) most result }
+            requires { AreFacesOver self.now.table.now self.now.forest.now.nodes ×
+                AreNodes self.now.forest.now.nodes row.now }
+            ensures { IsCut (facets_at self.entry.now.table.now self.entry.now.forest.now.nodes
+                row.now) most result }
         { self.facets_on(alloc, row, most) };
         Ok(thread::map_chunks(rt, alloc, ids, size, &of_row)?)
     }
@@ -123,12 +133,13 @@ fn row_size(nodes: usize, workers: u64) -> usize
 }
 
 // The facets of all rows, one row after another.
-fn joined(
+fn join_rows(
     alloc: Global,
     rows: Vec<Result<Vec<Facet>, CutStop>>,
     most: u64,
 ) -> Result<Vec<Facet>, CutStop>
-    ensures { (row : ℕ → List Outline) → AreCut row most rows.items → IsCut (first_rows row (length rows.items)) most result }
+    ensures { (row : ℕ → List Outline) → AreCut row most rows.items →
+        IsCut (first_rows row (length rows.items)) most result }
 {
     let mut found = Vec::new(alloc);
     for row in rows {
@@ -144,7 +155,8 @@ fn push_row(
     found: &mut Vec<Facet>,
 ) -> Result<(), CutStop>
     requires { length found.old.items ≤ most }
-    ensures adds { (facets : List Outline) → IsCut facets most row → Adds facets most found.old.items found.new.items result }
+    ensures adds { (facets : List Outline) → IsCut facets most row →
+        Adds facets most found.old.items found.new.items result }
     ensures within { OnOk result (length found.new.items ≤ most) }
 {
     let mut facets = row?;

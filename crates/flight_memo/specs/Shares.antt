@@ -1,6 +1,6 @@
 -- What contracts see of a caller's share of the books of a memo and its claims.
 use Rattle.std.specs.Prelude.{◌≡◌, ℕ, List, map, min, sum_by}
-use Rattle.subtree_memo.specs.Shares.{View, fresh, joined, dropped_max}
+use Rattle.subtree_memo.specs.Shares.{View, fresh_share, joined_share, dropped_max}
 
 -- One caller's share: that of the memo's books. As many claims began and ended on it as there were misses.
 pub record FlightView : Type 0 where
@@ -8,11 +8,11 @@ pub record FlightView : Type 0 where
 
 -- a share with nothing booked
 abbrev pub fresh_flight : ℕ → ℕ → FlightView
-fresh_flight caller parts = record { share = fresh caller parts }
+fresh_flight caller parts = record { share = fresh_share caller parts }
 
 -- two shares of one caller put together
 abbrev pub joined_flights : FlightView → FlightView → FlightView
-joined_flights a b = record { share = joined a.share b.share }
+joined_flights a b = record { share = joined_share a.share b.share }
 
 -- shares of a memo on which nothing is booked, with their claims
 abbrev pub opened_flights : List View → List FlightView

@@ -7,6 +7,7 @@ use crate::claims::Ticket;
 use crate::ledgers::FlightBooks;
 use std::marker::Model;
 use std::sync::ledger::Share as Part;
+use std::sync::{Arc, Condvar};
 use subtree_memo::Share;
 
 /// A claim of one's own, which is to be spent: it is not dropped, and only `finish` and `give_back` take it. It takes along its
@@ -16,6 +17,8 @@ pub struct Claim<K, B: FlightBooks> {
     pub(crate) share: Share<B>,
     pub(crate) begun: Part<B::Begun>,
     pub(crate) ended: Part<B::Ended>,
+    /// Tells the claim's end to those who wait for it.
+    pub(crate) signal: Arc<Condvar>,
 }
 
 impl<K, B: FlightBooks> Model for Claim<K, B> {
@@ -25,8 +28,13 @@ impl<K, B: FlightBooks> Model for Claim<K, B> {
 
     ghost Value = { ClaimView K };
 
-    ghost view = { λ c. record { number = c.ticket.number; key = arc_value c.ticket.key; share = c.share } };
+    ghost view = { λ c. record {
+      number = c.ticket.number;
+      key = arc_value c.ticket.key;
+      share = c.share;
+    } };
 
-    ghost invariant = { λ c. (0 < c.share.parts) × (c.begun.parts ≡ c.share.parts) × (c.ended.parts ≡ c.share.parts)
+    ghost invariant = { λ c. (0 < c.share.parts) × (c.begun.parts ≡ c.share.parts)
+        × (c.ended.parts ≡ c.share.parts)
         × (c.begun.amount ≡ c.share.misses) × (c.ended.amount + 1 ≡ c.share.misses) };
 }

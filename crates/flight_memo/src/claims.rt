@@ -1,24 +1,26 @@
 //! Claims and their log, as plain calls on a value that is lent.
 
-ghost use Rattle.std.specs.Prelude.{◌≡◌, ◌+◌, ◌≤◌, ◌<◌, [], ◌∷◌, ◌++◌, true, false, length, filter, vec_capacity, IfOk, OnOk};
+ghost use Rattle.std.specs.Prelude.{◌≡◌, ◌+◌, ◌≤◌, ◌<◌, [], ◌∷◌, ◌++◌, length, filter};
+ghost use Rattle.std.specs.Prelude.{vec_capacity, IfOk, OnOk, IfSome, IfNone};
 ghost use Rattle.std.specs.Arc.{arc_value};
-ghost use Rattle.std.specs.Bool.{Decides};
 ghost use Rattle.std.specs.List.{list_any};
-ghost use Rattle.flight_memo.specs.Claims.{Begun, Ended, IsFree, IsSingle, IsLegalLog, live_in, begun_in, ended_in, is_live, ended_log};
+ghost use Rattle.flight_memo.specs.Claims.{Begun, IsFree, IsSingle, IsLegalLog};
+ghost use Rattle.flight_memo.specs.Claims.{live_in, begun_in, ended_in, is_live, ended_log};
 ghost use Rattle.flight_memo.specs.Fields.{events_of, is_item, is_other_item};
 
 use memo_core::Fit;
 use std::alloc::Global;
 use std::marker::Model;
-use std::sync::Arc;
+use std::sync::{Arc, Condvar};
 use text_place::NoMemory;
 
-/// A claim that is live: its number, whose it is, and of which key.
+/// A claim that is live: its number, whose it is, of which key, and by what its end is told to those who wait for it.
 #[derive(Drop)]
 pub struct LiveClaim<K> {
     pub number: u64,
     pub caller: u32,
     pub key: Arc<K>,
+    pub ended: Arc<Condvar>,
 }
 
 /// What the log says: a claim began, or one ended, and whether by `finish`, which fills its key where the memo keeps the value.
@@ -126,21 +128,24 @@ impl<F: Fit> Claims<F> {
         self.log.as_slice()
     }
 
-    /// Whether no live claim has a key.
-    pub(crate) fn is_free(&self, key: &F::Key) -> bool
-        ensures { Decides result (IsFree key.now self.now.live) }
+    /// By what the end of the live claim of a key is told, or none just where no live claim has the key. `NoMemory` is a signal
+    /// that cannot be shared once more.
+    pub(crate) fn end_of(&self, key: &F::Key) -> Result<Option<Arc<Condvar>>, NoMemory>
+        ensures held { IfOk result (λ r. IfSome r (λ ended. IsFree key.now self.now.live → ⊥)) }
+        ensures free { IfOk result (λ r. IfNone r (IsFree key.now self.now.live)) }
     {
         for claim in &self.live {
             if self.fit.same(&*claim.key, key) {
-                return false;
+                return Ok(Some(Arc::try_clone(&claim.ended)?));
             }
         }
-        true
+        Ok(None)
     }
 
     /// Makes room for one claim more, and for its end.
     pub(crate) fn room(&mut self) -> Result<(), NoMemory>
-        ensures room { OnOk result ((0 < self.new.places) × (length self.new.live + 2 ≤ self.new.spare)) }
+        ensures room { OnOk result ((0 < self.new.places)
+            × (length self.new.live + 2 ≤ self.new.spare)) }
         ensures live { self.new.live ≡ self.old.live }
         ensures log { self.new.log ≡ self.old.log }
     {
@@ -149,8 +154,13 @@ impl<F: Fit> Claims<F> {
         Ok(())
     }
 
-    /// Begins a claim of a key that no live claim has, for which there is room.
-    pub(crate) fn begin(&mut self, caller: u32, copies: Copies<F::Key>) -> Ticket<F::Key>
+    /// Begins a claim of a key that no live claim has, for which there is room. Its end is told by `ended`.
+    pub(crate) fn begin(
+        &mut self,
+        caller: u32,
+        copies: Copies<F::Key>,
+        ended: Arc<Condvar>,
+    ) -> Ticket<F::Key>
         requires free { IsFree (arc_value copies.noted) self.old.live }
         requires room { (0 < self.old.places) × (length self.old.live + 2 ≤ self.old.spare) }
         ensures log { self.new.log ≡ self.old.log ++ Begun (record {
@@ -158,7 +168,8 @@ impl<F: Fit> Claims<F> {
           caller = caller;
           key = arc_value copies.noted;
         }) ∷ [] }
-        ensures claim { (result.number ≡ begun_in self.old.log) × (arc_value result.key ≡ arc_value copies.noted) }
+        ensures claim { (result.number ≡ begun_in self.old.log)
+            × (arc_value result.key ≡ arc_value copies.noted) }
     {
         let Copies { noted, held, own } = copies;
         let number = self.begun;
@@ -171,6 +182,7 @@ impl<F: Fit> Claims<F> {
             number,
             caller,
             key: held,
+            ended,
         });
         self.begun += 1;
         Ticket { number, key: own }

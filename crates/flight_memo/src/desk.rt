@@ -1,7 +1,7 @@
-ghost use Rattle.std.specs.Prelude.{◌≡◌, ◌<◌, ◌++◌, ◌∷◌, [], IfOk, OnErr, IfSome, IfNone};
+ghost use Rattle.std.specs.Prelude.{◌≡◌, ◌<◌, ◌++◌, ◌∷◌, [], IfOk, OnErr};
 ghost use Rattle.std.specs.Arc.{arc_value};
-ghost use Rattle.flight_memo.specs.Claims.{Ended, IsFree, begun_in, ended_in};
-ghost use Rattle.flight_memo.specs.Answers.{IsClaimed, IsLogged};
+ghost use Rattle.flight_memo.specs.Claims.{Ended, begun_in, ended_in};
+ghost use Rattle.flight_memo.specs.Asking.{IsAsked};
 
 use crate::claim::Claim;
 use crate::claims::{Claims, Copies};
@@ -11,10 +11,17 @@ use crate::ledgers::FlightBooks;
 use memo_core::{Fit, Namer, Probe};
 use std::alloc::Global;
 use std::sync::ledger::{Book, Ledger, Share as Part};
-use std::sync::{Arc, Wait};
+use std::sync::{Arc, Condvar, Wait};
 use std::{mem, thread};
 use subtree_memo::Memo;
 use text_place::NoMemory;
+
+/// What comes of asking for a key once.
+pub enum Asking<K, V, B: FlightBooks> {
+    Answer(Claimed<K, V, B>),
+    /// A live claim has the key, and this tells its end.
+    Wait(Arc<Condvar>),
+}
 
 /// The claims of a memo, and beside them the books of their log's counts.
 #[derive(Drop)]
@@ -27,8 +34,8 @@ pub struct Desk<F: Fit, B: FlightBooks> {
 }
 
 impl<F: Fit, B: FlightBooks> Desk<F, B> {
-    /// Asks the memo for a key that no live claim has, and claims it where it is missed; none just where a live claim has the key.
-    /// NoMemory books and claims nothing.
+    /// Asks the memo for a key that no live claim has, and claims it where it is missed. Where a live claim has the key, its end is to
+    /// be waited for. NoMemory books and claims nothing.
     pub fn try_claim<N: Namer<F::Key>, R: Wait>(
         &mut self,
         rt: &R,
@@ -36,55 +43,64 @@ impl<F: Fit, B: FlightBooks> Desk<F, B> {
         memo: &Memo<F, N, B>,
         share: &mut FlightShare<B>,
         key: &Arc<F::Key>,
-    ) -> Result<Option<Claimed<F::Key, F::Value, B>>, NoMemory>
+    ) -> Result<Asking<F::Key, F::Value, B>, NoMemory>
         requires { 0 < share.old.share.parts }
-        ensures claimed { IfOk result (λ c. IfSome c (IsClaimed F.fits (arc_value key.now) share.old share.new)) }
-        ensures free { IfOk result (λ c. IfSome c (λ d. IsFree (arc_value key.now) self.old.claims.live)) }
-        ensures logged { IfOk result (λ c. IfSome c (IsLogged share.old.share.caller (arc_value key.now) self.old.claims.log self.new.claims.log)) }
-        ensures none { IfOk result (λ c. IfNone c ((share.new ≡ share.old) × (self.new.claims.log ≡ self.old.claims.log))) }
-        ensures held { IfOk result (λ c. IfNone c (IsFree (arc_value key.now) self.old.claims.live → ⊥)) }
-        ensures err { OnErr result ((share.new ≡ share.old) × (self.new.claims.log ≡ self.old.claims.log)) }
+        ensures asked { IfOk result (IsAsked F.fits (arc_value key.now) share.old share.new
+            self.old.claims self.new.claims) }
+        ensures err { OnErr result ((share.new ≡ share.old)
+            × (self.new.claims.log ≡ self.old.claims.log)) }
     {
-        if !self.claims.is_free(&**key) {
-            return Ok(None);
+        if let Some(ended) = self.claims.end_of(&**key)? {
+            return Ok(Asking::Wait(ended));
         }
         self.claims.room()?;
         let copies = Copies::of(key)?;
+        let signal = Arc::new(alloc, Condvar::new())?;
+        let told = Arc::try_clone(&signal)?;
         match memo.probe(rt, alloc, &mut share.share, key)? {
-            Probe::Hit(value) => Ok(Some(Claimed::Value(value))),
+            Probe::Hit(value) => Ok(Asking::Answer(Claimed::Value(value))),
             Probe::Miss => {
-                let ticket = self.claims.begin(share.share.caller(), copies);
+                let ticket = self.claims.begin(share.share.caller(), copies, told);
                 self.begun.add(&mut share.begun, 1);
-                Ok(Some(Claimed::Mine(Claim {
+                Ok(Asking::Answer(Claimed::Mine(Claim {
                     ticket,
                     share: share.share.take(),
                     begun: taken(&mut share.begun),
                     ended: taken(&mut share.ended),
+                    signal,
                 })))
             }
         }
     }
 
-    /// Ends a claim, which is live: one end is in the log then, and booked. Gives the share back that the claim took along.
-    pub fn end<R: Wait>(&mut self, rt: &R, claim: Claim<F::Key, B>, filled: bool) -> FlightShare<B>
+    /// Ends a claim, which is live: one end is in the log then, and booked. Gives the share back that the claim took along, and by
+    /// what the end is to be told.
+    pub fn end<R: Wait>(
+        &mut self,
+        rt: &R,
+        claim: Claim<F::Key, B>,
+        filled: bool,
+    ) -> (FlightShare<B>, Arc<Condvar>)
         ensures log { self.new.claims.log ≡ self.old.claims.log ++ Ended claim.number filled ∷ [] }
-        ensures share { result.share ≡ claim.share }
+        ensures share { result.0.share ≡ claim.share }
     {
         let Claim {
             ticket,
             share,
             begun,
             mut ended,
+            signal,
         } = claim;
         if !self.claims.end(ticket, filled) {
             wait_for_ever(rt);
         }
         self.ended.add(&mut ended, 1);
-        FlightShare {
+        let own = FlightShare {
             share,
             begun,
             ended,
-        }
+        };
+        (own, signal)
     }
 }
 

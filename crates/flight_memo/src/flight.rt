@@ -1,7 +1,7 @@
 ghost use Rattle.std.specs.Prelude.{◌≡◌, ◌<◌, All, map, sum_by, IfOk, OnErr};
 ghost use Rattle.std.specs.Arc.{arc_value};
 ghost use Rattle.memo_core.specs.Views.{IsSound};
-ghost use Rattle.subtree_memo.specs.Shares.{IsOf, opened, joined, fill_booked};
+ghost use Rattle.subtree_memo.specs.Shares.{IsOf, opened_shares, joined_share, fill_booked};
 ghost use Rattle.subtree_memo.specs.Tallies.{tally_of, AreSums};
 ghost use Rattle.flight_memo.specs.Claims.{IsClosed};
 ghost use Rattle.flight_memo.specs.Shares.{opened_flights};
@@ -9,12 +9,12 @@ ghost use Rattle.flight_memo.specs.Answers.{IsClaimed};
 
 use crate::claim::Claim;
 use crate::claims::Claims;
-use crate::desk::Desk;
+use crate::desk::{Asking, Desk};
 use crate::flight_share::{FlightShare, all_flights, flights_of};
 use crate::ledgers::{FlightBlanks, FlightBooks};
 use memo_core::{Fill, Fit, MemoCore, Namer};
 use std::alloc::Global;
-use std::sync::{Arc, Condvar, Mutex, Wait};
+use std::sync::{Arc, Mutex, Wait};
 use subtree_memo::{Memo, Share, Tally};
 use text_place::NoMemory;
 
@@ -30,7 +30,6 @@ pub enum Claimed<K, V, B: FlightBooks> {
 pub struct Flight<F: Fit, N: Namer<F::Key>, B: FlightBooks> {
     memo: Memo<F, N, B>,
     desk: Mutex<Desk<F, B>>,
-    ended: Condvar,
 }
 
 impl<F: Fit, N: Namer<F::Key>, B: FlightBooks> Flight<F, N, B> {
@@ -43,9 +42,10 @@ impl<F: Fit, N: Namer<F::Key>, B: FlightBooks> Flight<F, N, B> {
         shares: Vec<Share<B>>,
         blanks: FlightBlanks,
     ) -> Result<(Flight<F, N, B>, Vec<FlightShare<B>>), NoMemory>
-        requires shares { shares.items ≡ opened blanks.callers }
+        requires shares { shares.items ≡ opened_shares blanks.callers }
         requires callers { blanks.callers ≡ B.Hits.callers }
-        requires ledgers { IsOf B.Begun.name B.Begun.parts blanks.begun × IsOf B.Ended.name B.Ended.parts blanks.ended }
+        requires ledgers { IsOf B.Begun.name B.Begun.parts blanks.begun
+            × IsOf B.Ended.name B.Ended.parts blanks.ended }
         ensures { IfOk result (λ r. r.1.items ≡ opened_flights shares.items) }
     {
         let (begun, begun_parts) = blanks.begun.open::<B::Begun>();
@@ -59,14 +59,14 @@ impl<F: Fit, N: Namer<F::Key>, B: FlightBooks> Flight<F, N, B> {
         let flight = Flight {
             memo,
             desk: Mutex::new(desk),
-            ended: Condvar::new(),
         };
         Ok((flight, flights))
     }
 
-    /// Asks for a key, once no live claim has it: one probe, while none has and the claims' lock is held. The value where it was
-    /// a hit, and where it was a miss a claim of the key, which is one beginning in the log. It may wait. NoMemory books and
-    /// claims nothing.
+    /// Asks for a key by one probe. What the memo holds is a hit, for which the claims' lock is not taken. Else the probe comes once
+    /// no live claim has the key, while none has and the claims' lock is held: the value where it was a hit, and where it was a
+    /// miss a claim of the key, which is one beginning in the log. It may wait, for the end of a claim of this very key. NoMemory
+    /// books and claims nothing.
     pub fn claim<R: Wait>(
         &self,
         rt: &R,
@@ -78,18 +78,21 @@ impl<F: Fit, N: Namer<F::Key>, B: FlightBooks> Flight<F, N, B> {
         ensures claimed { IfOk result (IsClaimed F.fits (arc_value key.now) share.old share.new) }
         ensures err { OnErr result (share.new ≡ share.old) }
     {
-        let mut desk = self.desk.lock(rt);
         for _ in rt.forever() {
+            if let Some(value) = self.memo.hit(rt, alloc, &mut share.share, key)? {
+                return Ok(Claimed::Value(value));
+            }
+            let mut desk = self.desk.lock(rt);
             match desk.try_claim(rt, alloc, &self.memo, share, key)? {
-                Some(claimed) => return Ok(claimed),
-                None => desk = self.ended.wait(rt, desk),
+                Asking::Answer(claimed) => return Ok(claimed),
+                Asking::Wait(ended) => drop(ended.wait(rt, desk)),
             }
         }
         unreachable!()
     }
 
     /// Fills the key of a claim, as `Memo::fill`, and then ends the claim. The caller has its share back then, on which the fill and
-    /// the end are booked. Wakes who waits for an end.
+    /// the end are booked. Wakes who waits for this key.
     pub fn finish<R: Wait>(
         &self,
         rt: &R,
@@ -102,26 +105,26 @@ impl<F: Fit, N: Namer<F::Key>, B: FlightBooks> Flight<F, N, B> {
         requires caller { claim.share.caller ≡ share.old.share.caller }
         requires fits { F.fits claim.key (arc_value value) }
         requires weight { weight ≡ F.weighs (arc_value value) }
-        ensures { share.new.share ≡ joined share.old.share (fill_booked result claim.share) }
+        ensures { share.new.share ≡ joined_share share.old.share (fill_booked result claim.share) }
     {
         let key = claim.ticket.key();
         let answer = self
             .memo
             .fill(rt, alloc, &mut claim.share, key, value, weight);
-        let own = self.desk.lock(rt).end(rt, claim, true);
-        self.ended.notify_all();
+        let (own, ended) = self.desk.lock(rt).end(rt, claim, true);
+        ended.notify_all();
         share.absorb(own);
         answer
     }
 
-    /// Ends a claim without a fill. The caller has its share back then, on which the end is booked. Wakes who waits for an end.
-    /// Takes no memory: the log has had room for this end since the claim began. That waiters are woken is shown by cases alone.
+    /// Ends a claim without a fill. The caller has its share back then, on which the end is booked. Wakes who waits for this
+    /// key. Takes no memory: the log has had room for this end since the claim began. That waiters are woken is shown by cases alone.
     pub fn give_back<R: Wait>(&self, rt: &R, share: &mut FlightShare<B>, claim: Claim<F::Key, B>)
         requires { claim.share.caller ≡ share.old.share.caller }
-        ensures { share.new.share ≡ joined share.old.share claim.share }
+        ensures { share.new.share ≡ joined_share share.old.share claim.share }
     {
-        let own = self.desk.lock(rt).end(rt, claim, false);
-        self.ended.notify_all();
+        let (own, ended) = self.desk.lock(rt).end(rt, claim, false);
+        ended.notify_all();
         share.absorb(own);
     }
 
@@ -129,8 +132,10 @@ impl<F: Fit, N: Namer<F::Key>, B: FlightBooks> Flight<F, N, B> {
     /// on the shares. The log of the claims is legal, so that no key ever had two live claims; it has as many beginnings as there were
     /// misses, and as many ends, so that no claim is live.
     pub fn close(self, shares: Vec<FlightShare<B>>) -> (Tally, MemoCore<F, N>, Claims<F>)
-        requires whole { (0 < B.Hits.parts) × (sum_by (λ s. s.share.parts) shares.items ≡ B.Hits.parts) }
-        requires ledgers { (B.Misses.parts ≡ B.Hits.parts) × (B.Kept.parts ≡ B.Hits.parts) × (B.Heavy.parts ≡ B.Hits.parts)
+        requires whole { (0 < B.Hits.parts)
+            × (sum_by (λ s. s.share.parts) shares.items ≡ B.Hits.parts) }
+        requires ledgers { (B.Misses.parts ≡ B.Hits.parts) × (B.Kept.parts ≡ B.Hits.parts)
+            × (B.Heavy.parts ≡ B.Hits.parts)
             × (B.Begun.parts ≡ B.Hits.parts) × (B.Ended.parts ≡ B.Hits.parts) }
         ensures tally { result.0 ≡ tally_of result.1.journal result.0.dropped }
         ensures booked { AreSums (map (λ s. s.share) shares.items) result.0 }
@@ -139,7 +144,7 @@ impl<F: Fit, N: Namer<F::Key>, B: FlightBooks> Flight<F, N, B> {
         ensures limits { (result.1.budget ≡ B.Hits.budget) × (result.1.share ≡ B.Hits.share) }
         ensures callers { All (λ i. i.caller < B.Hits.callers) result.1.journal }
     {
-        let Flight { memo, desk, .. } = self;
+        let Flight { memo, desk } = self;
         let Desk {
             claims,
             mut begun,

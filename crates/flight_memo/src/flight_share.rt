@@ -1,5 +1,5 @@
 ghost use Rattle.std.specs.Prelude.{◌≡◌, ◌-◌, ◌*◌, ◌≤◌, [], length, IfOk, IfSome, IfNone};
-ghost use Rattle.subtree_memo.specs.Shares.{opened, parts_each};
+ghost use Rattle.subtree_memo.specs.Shares.{opened_shares, parts_each};
 ghost use Rattle.flight_memo.specs.Shares.{fresh_flight, joined_flights, opened_flights, IsAllOf};
 
 use crate::ledgers::{FlightBooks, PARTS_EACH};
@@ -42,7 +42,9 @@ impl<B: FlightBooks> FlightShare<B> {
     pub fn split(&mut self) -> FlightShare<B>
         requires { 2 ≤ self.old.share.parts }
         ensures new { result ≡ fresh_flight self.old.share.caller 1 }
-        ensures rest { self.new ≡ record { share = record self.old.share { parts = self.old.share.parts - 1 } } }
+        ensures rest { self.new ≡ record {
+          share = record self.old.share { parts = self.old.share.parts - 1 };
+        } }
     {
         FlightShare {
             share: self.share.split(),
@@ -81,7 +83,7 @@ pub fn flights_of<B: FlightBooks>(
     mut begun: Part<B::Begun>,
     mut ended: Part<B::Ended>,
 ) -> Result<Vec<FlightShare<B>>, NoMemory>
-    requires shares { shares.items ≡ opened (length shares.items) }
+    requires shares { shares.items ≡ opened_shares (length shares.items) }
     requires begun { (begun.parts ≡ parts_each * length shares.items) × (begun.amount ≡ 0) }
     requires ended { (ended.parts ≡ parts_each * length shares.items) × (ended.amount ≡ 0) }
     ensures { IfOk result (λ v. v.items ≡ opened_flights shares.items) }

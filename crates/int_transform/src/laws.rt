@@ -7,6 +7,8 @@ ghost use Rattle.int_transform.specs.Maps.{composition, image, map_of};
 
 /// The product of two maps does the one and then the other, and a list of steps does them in order.
 pub fn maps_are_done_in_order()
-    ensures both { (n m : Affine) (p : Coordinates) → image (composition n m) p ≡ image n (image m p) }
-    ensures first { (step : Affine) (steps : List Affine) (p : Coordinates) → image (map_of (step ∷ steps)) p ≡ image (map_of steps) (image step p) }
+    ensures both { (n m : Affine) (p : Coordinates) → image (composition n m) p
+        ≡ image n (image m p) }
+    ensures first { (step : Affine) (steps : List Affine) (p : Coordinates) →
+        image (map_of (step ∷ steps)) p ≡ image (map_of steps) (image step p) }
 {}

@@ -71,7 +71,9 @@ impl Step {
     pub fn scale(by: [i64; 3]) -> Option<Step>
         requires { HasSafeCoordinates (point_at by) }
         ensures some { IfSome result (λ step. step ≡ scale_map (point_at by)) }
-        ensures none { IsNone result ↔ (((point_at by).x ≡ pos 0) ⊎ (((point_at by).y ≡ pos 0) ⊎ ((point_at by).z ≡ pos 0))) }
+        ensures none { IsNone result
+            ↔ (((point_at by).x ≡ pos 0)
+            ⊎ (((point_at by).y ≡ pos 0) ⊎ ((point_at by).z ≡ pos 0))) }
     {
         if by[0] == 0 || by[1] == 0 || by[2] == 0 {
             return None;
@@ -84,7 +86,8 @@ impl Step {
     /// The image of a point. `None` exactly where a coordinate of it is past 2^53 - 1 in size.
     pub(crate) fn image(&self, point: [i64; 3]) -> Option<[i64; 3]>
         requires { HasSafeCoordinates (point_at point) }
-        ensures some { IfSome result (λ q. (q ≡ coordinates (image self.now (point_at point))) × HasSafeCoordinates (image self.now (point_at point))) }
+        ensures some { IfSome result (λ q. (q ≡ coordinates (image self.now (point_at point)))
+            × HasSafeCoordinates (image self.now (point_at point))) }
         ensures none { IsNone result → HasSafeCoordinates (image self.now (point_at point)) → ⊥ }
         ensures regular { determinant_of self.now ≡ pos 0 → ⊥ }
     {
@@ -114,7 +117,8 @@ impl Step {
 
 // Each coordinate times a number, and another one added.
 fn diagonal(by: [i64; 3], plus: [i64; 3]) -> Affine
-    ensures { result ≡ diagonal_of (point_at by).x (point_at by).y (point_at by).z (point_at plus).x (point_at plus).y (point_at plus).z }
+    ensures { result ≡ diagonal_of (point_at by).x (point_at by).y (point_at by).z (point_at plus).x
+        (point_at plus).y (point_at plus).z }
 {
     Affine {
         x: row([by[0], 0, 0, plus[0]]),

@@ -13,8 +13,10 @@ const LARGEST: u128 = 9_007_199_254_740_991;
 pub fn safe_value(row: &Row, point: [i64; 3]) -> Option<i64>
     requires row_is { IsSafeRow row.now }
     requires point_is { HasSafeCoordinates (point_at point) }
-    ensures some { IfSome result (λ v. (v ≡ row_at row.now (point_at point)) × (unsigned_abs v ≤ 9007199254740991)) }
-    ensures none { IsNone result → 9007199254740991 < unsigned_abs (row_at row.now (point_at point)) }
+    ensures some { IfSome result (λ v. (v ≡ row_at row.now (point_at point))
+        × (unsigned_abs v ≤ 9007199254740991)) }
+    ensures none { IsNone result →
+        9007199254740991 < unsigned_abs (row_at row.now (point_at point)) }
 {
     let [x, y, z] = point;
     let sum = sum_of(

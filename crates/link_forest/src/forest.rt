@@ -124,7 +124,8 @@ impl<T: Drop> Forest<T> {
     pub fn cut_back(&mut self, len: usize)
         ensures nodes { self.new.nodes ≡ take len self.old.nodes }
         ensures kept { Extends self.new.nodes self.old.nodes }
-        ensures again { (nodes : List (Entry T)) → Extends nodes self.old.nodes → length nodes ≡ len → self.new.nodes ≡ nodes }
+        ensures again { (nodes : List (Entry T)) → Extends nodes self.old.nodes →
+            length nodes ≡ len → self.new.nodes ≡ nodes }
         ensures spare { self.new.spare ≡ self.old.spare + (length self.old.nodes - len) }
         ensures linked { AreLinked self.new.nodes }
     {

@@ -7,7 +7,7 @@ use crate::acts::{Act, Answer, acts_of};
 use crate::limits::Limits;
 use crate::meeting::Meeting;
 use crate::pieces::{LastDigits, Piece, Pieces};
-use crate::told::{Ended, put_ended};
+use crate::told::{RunEnd, put_ended};
 use case_lines::{CaseStop, Phrase, found, put_runs};
 use flight_memo::{Claim, Claimed, Flight, FlightBlanks, FlightBooks, FlightLedgers, FlightShare};
 use memo_core::MemoCore;
@@ -190,9 +190,10 @@ fn run<
     blanks: Blanks,
     begun_and_ended: FlightBlanks,
     acts: (&[Act], &[Act]),
-) -> Result<Ended, NoMemory>
+) -> Result<RunEnd, NoMemory>
     requires empty { core.journal ≡ [] }
-    requires limits { (core.budget ≡ H.budget) × (core.share ≡ H.share) × (blanks.callers ≡ H.callers) }
+    requires limits { (core.budget ≡ H.budget) × (core.share ≡ H.share)
+        × (blanks.callers ≡ H.callers) }
     requires callers { (blanks.callers ≡ 2) × (begun_and_ended.callers ≡ 2) }
     requires memo { IsOf H.name H.parts blanks.hits × IsOf M.name M.parts blanks.misses
         × IsOf K.name K.parts blanks.kept × IsOf E.name E.parts blanks.heavy }
@@ -229,7 +230,7 @@ fn run<
     shares.push_reserved(first);
     shares.push_reserved(second);
     let (tally, core, claims) = flight.close(shares);
-    Ok(Ended {
+    Ok(RunEnd {
         first: first_told,
         second: second_told,
         tally,
@@ -245,7 +246,7 @@ fn two_callers<R: Threads + Wait + Sync>(
     alloc: Global,
     limits: Limits,
     acts: (&[Act], &[Act]),
-) -> Result<Ended, NoMemory> {
+) -> Result<RunEnd, NoMemory> {
     let core = MemoCore::new(alloc, Pieces, LastDigits, limits.budget, limits.share)?;
     let blanks = Blanks::new(2);
     let begun_and_ended = FlightBlanks::beside(&blanks);

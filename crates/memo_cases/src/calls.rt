@@ -4,7 +4,7 @@ use crate::journals::put_items;
 use crate::limits::Limits;
 use crate::pieces::{LastDigits, Piece, Pieces};
 use case_lines::{CaseStop, Interpreter, Phrase, follow_all, found, put, put_number, put_numbers};
-use memo_core::{Dropped, Fill, MemoCore, Probe};
+use memo_core::{DroppedEntries, Fill, MemoCore, Probe};
 use memo_shares::owned;
 use std::alloc::Global;
 use std::sync::Arc;
@@ -100,7 +100,7 @@ fn offer_each(
 fn put_dropped(
     alloc: Global,
     out: &mut Vec<u8>,
-    dropped: &Dropped<u32, Piece>,
+    dropped: &DroppedEntries<u32, Piece>,
 ) -> Result<(), NoMemory> {
     let mut keys = Vec::new(alloc);
     for place in 0..dropped.len() {

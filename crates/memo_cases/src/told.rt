@@ -11,7 +11,7 @@ use text_place::NoMemory;
 /// What became of two callers: what each was answered, what was counted, what the entries weigh, how many items the
 /// journal has, and how claims began and ended.
 #[derive(Drop)]
-pub struct Ended {
+pub struct RunEnd {
     pub first: Vec<Answer>,
     pub second: Vec<Answer>,
     pub tally: Tally,
@@ -45,7 +45,7 @@ fn put_log(alloc: Global, out: &mut Vec<u8>, log: &[LogItem<u32>]) -> Result<(),
 }
 
 // The tally, what the entries weigh, and how long the journal is.
-fn put_counts(alloc: Global, out: &mut Vec<u8>, ended: &Ended) -> Result<(), NoMemory> {
+fn put_counts(alloc: Global, out: &mut Vec<u8>, ended: &RunEnd) -> Result<(), NoMemory> {
     put_tally(alloc, out, &ended.tally.numbers(), ended.weight)?;
     put(out, b" items ")?;
     put_number(alloc, out, ended.items as i128)
@@ -70,7 +70,7 @@ fn put_caller(
 pub fn put_ended(
     alloc: Global,
     out: &mut Vec<u8>,
-    ended: &Ended,
+    ended: &RunEnd,
     is_told: bool,
     has_log: bool,
 ) -> Result<(), NoMemory> {

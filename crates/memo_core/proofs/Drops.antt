@@ -6,7 +6,7 @@ use Rattle.std.specs.Map.{lookup, lookup_entry, remove_entry}
 use Rattle.std.proofs.lemmas.List.{append-nil, append_assoc, map-append}
 use Rattle.std.proofs.lemmas.List.Sorted.{IsPermutation-refl, IsPermutation-sym, IsPermutation-cons, IsPermutation-middle, IsPermutation-trans, IsPermutation-append_right, IsPermutation-map}
 use Rattle.lru.specs.LruCache.{promoted}
-use Rattle.memo_core.specs.Memo.{same_name, DropsFrom, placed_where}
+use Rattle.memo_core.specs.Memo.{same_name, DropsFrom, entries_to_place_where}
 use Rattle.memo_core.specs.Plans.{pair_of}
 use Rattle.memo_core.proofs.Shelves.{same_names}
 
@@ -21,8 +21,8 @@ module _ {E : Type 0} where
     subst (IsPermutation placed) (sym (append_assoc first more standing)) (IsPermutation-trans placed (first ++ left) (first ++ (more ++ standing)) p (IsPermutation-append_right first left (more ++ standing) q)),
   )
 
-  pub drops_less : (held : Bool) (new : E) (es gone gone' fs : List E) → held ≡ true → DropsFrom es gone gone' fs → DropsFrom (placed_where held true new es) gone gone' fs
-  drops_less held new es gone gone' fs h d = subst (λ b. DropsFrom (placed_where b true new es) gone gone' fs) (sym h) d
+  pub drops_less : (held : Bool) (new : E) (es gone gone' fs : List E) → held ≡ true → DropsFrom es gone gone' fs → DropsFrom (entries_to_place_where held true new es) gone gone' fs
+  drops_less held new es gone gone' fs h d = subst (λ b. DropsFrom (entries_to_place_where b true new es) gone gone' fs) (sym h) d
 
 module _ {X : Type 0} where
   -- the pairs are that of a name, if there is one, and those without it
@@ -80,7 +80,7 @@ module _ {P E : Type 0} (f : P → E) where
     subst (IsPermutation (map f placed)) (map-append f dropped standing) (IsPermutation-map f placed (dropped ++ standing) p),
   )
 
-  pub placed_map : (held kept : Bool) (new : P) (es : List P) → map f (placed_where held kept new es) ≡ placed_where held kept (f new) (map f es)
+  pub placed_map : (held kept : Bool) (new : P) (es : List P) → map f (entries_to_place_where held kept new es) ≡ entries_to_place_where held kept (f new) (map f es)
   placed_map held kept new es = go (kept && not held) where
     go : (b : Bool) → map f (cond b (new ∷ es) es) ≡ cond b (f new ∷ map f es) (map f es)
     go true = refl

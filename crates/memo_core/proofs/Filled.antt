@@ -5,7 +5,7 @@ use Rattle.std.specs.Option.{option_map_or, unwrap_or}
 use Rattle.std.specs.List.{IsDistinct}
 use Rattle.std.specs.Map.{keys_of}
 use Rattle.std.proofs.lemmas.List.{length-map, map-append, length-append}
-use Rattle.memo_core.specs.Memo.{evicted_by, evicted_in, brought_to_front, same_name, has_key, holds, itself, Entry, Mark, Item, Said, Fill_said, item, offered_where, offered, placed_where, placed, DropsFrom, filled, fill_said, after_said, says_at, replay, entries_max}
+use Rattle.memo_core.specs.Memo.{evicted_by, evicted_in, brought_to_front, same_name, has_key, holds, itself, Entry, Mark, Item, Answer, Fill_answer, item, entries_after_offer_where, entries_after_offer, entries_to_place_where, entries_to_place, DropsFrom, entries_after_fill, fill_answer, entries_after_call, answer_at, replay, entries_max}
 use Rattle.memo_core.specs.Views.{Core, IsSound, MaySay, mark_in, marks, new_entry, after_fill}
 use Rattle.memo_core.specs.Fields.{entry_of, entries_of, item_of, items_of}
 use Rattle.memo_core.specs.Plans.{IsKept, IsShelf, slot_mark}
@@ -23,39 +23,39 @@ module _ {K V : Type 0} (same : K → K → Bool) (budget share : ℕ) (new : En
   abbrev test : Entry K V → Bool
   test = has_key same mark_in new.mark.key
 
-  offered_marks : offered same itself budget share new.mark (marks es) ≡ option_map marks (offered same mark_in budget share new es)
+  offered_marks : entries_after_offer same itself budget share new.mark (marks es) ≡ option_map marks (entries_after_offer same mark_in budget share new es)
   offered_marks =
-      ap (λ b. offered_where itself budget share b (brought_to_front (has_key same itself new.mark.key) (marks es)) new.mark (marks es)) (holds_marks same new.mark.key es)
-      ∙ ap (λ x. offered_where itself budget share (holds same mark_in new.mark.key es) x new.mark (marks es)) (brought_map mark_in (has_key same itself new.mark.key) es)
+      ap (λ b. entries_after_offer_where itself budget share b (brought_to_front (has_key same itself new.mark.key) (marks es)) new.mark (marks es)) (holds_marks same new.mark.key es)
+      ∙ ap (λ x. entries_after_offer_where itself budget share (holds same mark_in new.mark.key es) x new.mark (marks es)) (brought_map mark_in (has_key same itself new.mark.key) es)
       ∙ where_map mark_in itself budget share (holds same mark_in new.mark.key es) (brought_to_front test es) new es
 
-  pub filled_marks : filled same itself budget share new.mark (marks es) ≡ marks (filled same mark_in budget share new es)
-  filled_marks = ap (λ o. option_map_or (λ kept. kept) o (marks es)) offered_marks ∙ go (offered same mark_in budget share new es) where
+  pub filled_marks : entries_after_fill same itself budget share new.mark (marks es) ≡ marks (entries_after_fill same mark_in budget share new es)
+  filled_marks = ap (λ o. option_map_or (λ kept. kept) o (marks es)) offered_marks ∙ go (entries_after_offer same mark_in budget share new es) where
     go : (o : Option (List (Entry K V))) → option_map_or (λ kept. kept) (option_map marks o) (marks es) ≡ marks (option_map_or (λ kept. kept) o es)
     go None = refl
     go (Some x) = refl
 
-  abbrev said : Bool → ℕ → ℕ → Said
-  said held before after = Fill_said new.mark.weight true (cond held 0 (before + 1 - after))
+  abbrev said : Bool → ℕ → ℕ → Answer
+  said held before after = Fill_answer new.mark.weight true (cond held 0 (before + 1 - after))
 
-  pub said_marks : fill_said same itself budget share new.mark (marks es) ≡ fill_said same mark_in budget share new es
+  pub said_marks : fill_answer same itself budget share new.mark (marks es) ≡ fill_answer same mark_in budget share new es
   said_marks =
-      ap (λ b. option_map_or (λ kept. said b (length (marks es)) (length kept)) (offered same itself budget share new.mark (marks es)) (Fill_said new.mark.weight false 0)) (holds_marks same new.mark.key es)
-      ∙ ap (λ o. option_map_or (λ kept. said (holds same mark_in new.mark.key es) (length (marks es)) (length kept)) o (Fill_said new.mark.weight false 0)) offered_marks
-      ∙ go (offered same mark_in budget share new es) where
+      ap (λ b. option_map_or (λ kept. said b (length (marks es)) (length kept)) (entries_after_offer same itself budget share new.mark (marks es)) (Fill_answer new.mark.weight false 0)) (holds_marks same new.mark.key es)
+      ∙ ap (λ o. option_map_or (λ kept. said (holds same mark_in new.mark.key es) (length (marks es)) (length kept)) o (Fill_answer new.mark.weight false 0)) offered_marks
+      ∙ go (entries_after_offer same mark_in budget share new es) where
         go : (o : Option (List (Entry K V)))
-            → option_map_or (λ kept. said (holds same mark_in new.mark.key es) (length (marks es)) (length kept)) (option_map marks o) (Fill_said new.mark.weight false 0)
-            ≡ option_map_or (λ kept. said (holds same mark_in new.mark.key es) (length es) (length kept)) o (Fill_said new.mark.weight false 0)
+            → option_map_or (λ kept. said (holds same mark_in new.mark.key es) (length (marks es)) (length kept)) (option_map marks o) (Fill_answer new.mark.weight false 0)
+            ≡ option_map_or (λ kept. said (holds same mark_in new.mark.key es) (length es) (length kept)) o (Fill_answer new.mark.weight false 0)
         go None = refl
         go (Some x) =
             ap (λ n. said (holds same mark_in new.mark.key es) n (length (marks x))) (length-map es mark_in)
             ∙ ap (λ n. said (holds same mark_in new.mark.key es) (length es) n) (length-map x mark_in)
 
   -- the entries that a fill drops were there, or are the new one
-  pub filled_counted : evicted_by (fill_said same mark_in budget share new es) + length (filled same mark_in budget share new es) ≤ length es + 1
-  filled_counted = go (offered same mark_in budget share new es) (holds same mark_in new.mark.key es) (filled_shorter same mark_in budget share new es) where
+  pub filled_counted : evicted_by (fill_answer same mark_in budget share new es) + length (entries_after_fill same mark_in budget share new es) ≤ length es + 1
+  filled_counted = go (entries_after_offer same mark_in budget share new es) (holds same mark_in new.mark.key es) (filled_shorter same mark_in budget share new es) where
     go : (o : Option (List (Entry K V))) (b : Bool) → length (option_map_or (λ kept. kept) o es) ≤ length es + 1
-        → evicted_by (option_map_or (λ kept. said b (length es) (length kept)) o (Fill_said new.mark.weight false 0)) + length (option_map_or (λ kept. kept) o es) ≤ length es + 1
+        → evicted_by (option_map_or (λ kept. said b (length es) (length kept)) o (Fill_answer new.mark.weight false 0)) + length (option_map_or (λ kept. kept) o es) ≤ length es + 1
     go None b l = omega (arith, l)
     go (Some x) true l = omega (arith, l)
     go (Some x) false l = omega (arith, l)
@@ -64,26 +64,26 @@ module _ {K V : Type 0} (same : K → K → Bool) (name_of : K → List ℕ) (bu
   abbrev new : Entry K V
   new = new_entry name_of caller key value weight
 
-  after_case : after_said same name_of budget share caller key (fill_said same mark_in budget share new es) ms ≡ filled same itself budget share new.mark ms
-  after_case = go (offered same mark_in budget share new es) where
+  after_case : entries_after_call same name_of budget share caller key (fill_answer same mark_in budget share new es) ms ≡ entries_after_fill same itself budget share new.mark ms
+  after_case = go (entries_after_offer same mark_in budget share new es) where
     go : (o : Option (List (Entry K V)))
-        → after_said same name_of budget share caller key (option_map_or (λ kept. Fill_said weight true (cond (holds same mark_in key es) 0 (length es + 1 - length kept))) o (Fill_said weight false 0)) ms ≡ filled same itself budget share new.mark ms
+        → entries_after_call same name_of budget share caller key (option_map_or (λ kept. Fill_answer weight true (cond (holds same mark_in key es) 0 (length es + 1 - length kept))) o (Fill_answer weight false 0)) ms ≡ entries_after_fill same itself budget share new.mark ms
     go None = refl
     go (Some x) = refl
 
-  says_case : says_at same name_of budget share caller key (fill_said same mark_in budget share new es) ms ≡ fill_said same itself budget share new.mark ms
-  says_case = go (offered same mark_in budget share new es) where
+  says_case : answer_at same name_of budget share caller key (fill_answer same mark_in budget share new es) ms ≡ fill_answer same itself budget share new.mark ms
+  says_case = go (entries_after_offer same mark_in budget share new es) where
     go : (o : Option (List (Entry K V)))
-        → says_at same name_of budget share caller key (option_map_or (λ kept. Fill_said weight true (cond (holds same mark_in key es) 0 (length es + 1 - length kept))) o (Fill_said weight false 0)) ms ≡ fill_said same itself budget share new.mark ms
+        → answer_at same name_of budget share caller key (option_map_or (λ kept. Fill_answer weight true (cond (holds same mark_in key es) 0 (length es + 1 - length kept))) o (Fill_answer weight false 0)) ms ≡ fill_answer same itself budget share new.mark ms
     go None = refl
     go (Some x) = refl
 
 -- what a fill says of a key, where the value that it offers fits the key
 may_say : {K V : Type 0} (same : K → K → Bool) (name_of : K → List ℕ) (fits : K → V → Type 0) (weighs : V → ℕ) (budget share caller : ℕ) (key : K) (value : V) (weight : ℕ) (es : List (Entry K V))
-    → fits key value → weight ≡ weighs value → MaySay fits weighs key (fill_said same mark_in budget share (new_entry name_of caller key value weight) es)
-may_say {K} {V} same name_of fits weighs budget share caller key value weight es f w = go (offered same mark_in budget share (new_entry name_of caller key value weight) es) where
+    → fits key value → weight ≡ weighs value → MaySay fits weighs key (fill_answer same mark_in budget share (new_entry name_of caller key value weight) es)
+may_say {K} {V} same name_of fits weighs budget share caller key value weight es f w = go (entries_after_offer same mark_in budget share (new_entry name_of caller key value weight) es) where
   go : (o : Option (List (Entry K V)))
-      → MaySay {K = K} {V = V} fits weighs key (option_map_or (λ kept. Fill_said weight true (cond (holds same mark_in key es) 0 (length es + 1 - length kept))) o (Fill_said weight false 0))
+      → MaySay {K = K} {V = V} fits weighs key (option_map_or (λ kept. Fill_answer weight true (cond (holds same mark_in key es) 0 (length es + 1 - length kept))) o (Fill_answer weight false 0))
   go None = (value, f, w)
   go (Some kept) = (value, f, w)
 
@@ -97,7 +97,7 @@ module _ {K V : Type 0} (same : K → K → Bool) (name_of : K → List ℕ) whe
   after_fill_sound fits weighs g caller key value weight core s f w d within few =
       let new : Entry K V = new_entry name_of caller key value weight in
       let before : List (Mark K) = replay same name_of core.budget core.share [] core.journal in
-      let i : Item K = item caller key (fill_said same mark_in core.budget core.share new core.entries) in
+      let i : Item K = item caller key (fill_answer same mark_in core.budget core.share new core.entries) in
       record {
         fit = all_filled same mark_in core.budget core.share new core.entries (λ e. fits e.mark.key e.value) f s.fit;
         weighed = all_filled same mark_in core.budget core.share new core.entries (λ e. e.mark.weight ≡ weighs e.value) w s.weighed;
@@ -107,12 +107,12 @@ module _ {K V : Type 0} (same : K → K → Bool) (name_of : K → List ℕ) whe
         few = few;
         legal = legal_more same name_of core.budget core.share [] core.journal i s.legal
             (sym (says_case same name_of core.budget core.share caller key value weight core.entries before
-            ∙ ap (fill_said same itself core.budget core.share new.mark) (sym s.replayed) ∙ said_marks same core.budget core.share new core.entries));
+            ∙ ap (fill_answer same itself core.budget core.share new.mark) (sym s.replayed) ∙ said_marks same core.budget core.share new core.entries));
         replayed =
-            sym (filled_marks same core.budget core.share new core.entries) ∙ ap (filled same itself core.budget core.share new.mark) s.replayed
+            sym (filled_marks same core.budget core.share new core.entries) ∙ ap (entries_after_fill same itself core.budget core.share new.mark) s.replayed
             ∙ sym (after_case same name_of core.budget core.share caller key value weight core.entries before)
             ∙ sym (replay_more same name_of core.budget core.share [] core.journal i);
-        offers = all_more (λ j. MaySay fits weighs j.key j.said) core.journal i s.offers
+        offers = all_more (λ j. MaySay fits weighs j.key j.answer) core.journal i s.offers
             (may_say same name_of fits weighs core.budget core.share caller key value weight core.entries f w);
       }
 
@@ -129,72 +129,72 @@ module _ {K V : Type 0} (same : K → K → Bool) (name_of : K → List ℕ) (ca
   abbrev old : List (JournalItem K) → Core K V
   old js = record { entries = es; dropped = g; budget = b; share = h; journal = items_of js; spare = s }
 
-  same_where : (held : Bool) (x y : List (Entry K V)) → (held ≡ true → x ≡ y) → offered_where mark_in b h held x made es ≡ offered_where mark_in b h held y made es
-  same_where true x y e = ap (λ z. offered_where mark_in b h true z made es) (e refl)
+  same_where : (held : Bool) (x y : List (Entry K V)) → (held ≡ true → x ≡ y) → entries_after_offer_where mark_in b h held x made es ≡ entries_after_offer_where mark_in b h held y made es
+  same_where true x y e = ap (λ z. entries_after_offer_where mark_in b h true z made es) (e refl)
   same_where false x y e = refl
 
   -- what an offer to the shelf is of the entries
   pub offer_is : (held : Bool) (front : List (List ℕ × Slot K V)) (offer : List ℕ × Slot K V) (r : Option ℕ)
-      → offered_where slot_mark b h held front offer shelf.cache.entries ≡ option_map (λ _. shelf'.cache.entries) r
+      → entries_after_offer_where slot_mark b h held front offer shelf.cache.entries ≡ option_map (λ _. shelf'.cache.entries) r
       → entry_of offer ≡ made → held ≡ holds same mark_in key es → (held ≡ true → entries_of front ≡ brought_to_front (has_key same mark_in key) es)
-      → offered same mark_in b h made es ≡ option_map (λ _. fs) r
+      → entries_after_offer same mark_in b h made es ≡ option_map (λ _. fs) r
   offer_is held front offer r o n k f =
-      ap (λ x. offered_where mark_in b h x (brought_to_front (has_key same mark_in key) es) made es) (sym k)
+      ap (λ x. entries_after_offer_where mark_in b h x (brought_to_front (has_key same mark_in key) es) made es) (sym k)
       ∙ sym (same_where held (entries_of front) (brought_to_front (has_key same mark_in key) es) f)
-      ∙ ap (λ e. offered_where mark_in b h held (entries_of front) e es) (sym n)
+      ∙ ap (λ e. entries_after_offer_where mark_in b h held (entries_of front) e es) (sym n)
       ∙ where_map entry_of mark_in b h held front offer shelf.cache.entries
       ∙ ap (option_map entries_of) o ∙ go r where
         go : (x : Option ℕ) → option_map entries_of (option_map (λ _. shelf'.cache.entries) x) ≡ option_map (λ _. fs) x
         go None = refl
         go (Some n) = refl
 
-  module _ (held : Bool) (r : Option ℕ) (o : offered same mark_in b h made es ≡ option_map (λ _. fs) r) (k : held ≡ holds same mark_in key es) (stays : IfNone r (shelf' ≡ shelf))
+  module _ (held : Bool) (r : Option ℕ) (o : entries_after_offer same mark_in b h made es ≡ option_map (λ _. fs) r) (k : held ≡ holds same mark_in key es) (stays : IfNone r (shelf' ≡ shelf))
       (counts : IfSome r (λ n. n ≡ cond held 0 (length shelf.cache.entries + 1 - length shelf'.cache.entries))) where
-    pub entries_are : fs ≡ filled same mark_in b h made es
+    pub entries_are : fs ≡ entries_after_fill same mark_in b h made es
     entries_are = go r stays ∙ ap (λ x. option_map_or (λ kept. kept) x es) (sym o) where
       go : (x : Option ℕ) → IfNone x (shelf' ≡ shelf) → fs ≡ option_map_or (λ kept. kept) (option_map (λ _. fs) x) es
       go None p = ap (λ (z : Shelf K V). entries_of z.cache.entries) p
       go (Some n) p = refl
 
-    pub said_is : Fill_said weight (is_some r) (unwrap_or r 0) ≡ fill_said same mark_in b h made es
-    said_is = go r counts ∙ ap (λ x. option_map_or (λ kept. Fill_said weight true (cond (holds same mark_in key es) 0 (length es + 1 - length kept))) x (Fill_said weight false 0)) (sym o) where
+    pub said_is : Fill_answer weight (is_some r) (unwrap_or r 0) ≡ fill_answer same mark_in b h made es
+    said_is = go r counts ∙ ap (λ x. option_map_or (λ kept. Fill_answer weight true (cond (holds same mark_in key es) 0 (length es + 1 - length kept))) x (Fill_answer weight false 0)) (sym o) where
       go : (x : Option ℕ) → IfSome x (λ n. n ≡ cond held 0 (length shelf.cache.entries + 1 - length shelf'.cache.entries))
-          → Fill_said weight (is_some x) (unwrap_or x 0) ≡ option_map_or (λ kept. Fill_said weight true (cond (holds same mark_in key es) 0 (length es + 1 - length kept))) (option_map (λ _. fs) x) (Fill_said weight false 0)
+          → Fill_answer weight (is_some x) (unwrap_or x 0) ≡ option_map_or (λ kept. Fill_answer weight true (cond (holds same mark_in key es) 0 (length es + 1 - length kept))) (option_map (λ _. fs) x) (Fill_answer weight false 0)
       go None c = refl
       go (Some n) c =
-          ap (Fill_said weight true) (c ∙ ap (λ x. cond x 0 (length shelf.cache.entries + 1 - length shelf'.cache.entries)) k
+          ap (Fill_answer weight true) (c ∙ ap (λ x. cond x 0 (length shelf.cache.entries + 1 - length shelf'.cache.entries)) k
           ∙ ap (λ x. cond (holds same mark_in key es) 0 (x + 1 - length shelf'.cache.entries)) (sym (length-map shelf.cache.entries entry_of))
           ∙ ap (λ x. cond (holds same mark_in key es) 0 (length es + 1 - x)) (sym (length-map shelf'.cache.entries entry_of)))
 
-    pub keeps_is : is_some r ≡ is_some (offered same mark_in b h made es)
+    pub keeps_is : is_some r ≡ is_some (entries_after_offer same mark_in b h made es)
     keeps_is = go r ∙ ap is_some (sym o) where
       go : (x : Option ℕ) → is_some x ≡ is_some (option_map (λ _. fs) x)
       go None = refl
       go (Some n) = refl
 
     -- what comes to the slots that are gone comes to the entries that are dropped
-    pub drops_is : (new : List ℕ × Slot K V) (gone gone' : List (List ℕ × Slot K V)) → entry_of new ≡ made → DropsFrom (placed_where held (is_some r) new shelf.cache.entries) gone gone' shelf'.cache.entries
-        → DropsFrom (placed same mark_in b h made es) (entries_of gone) (entries_of gone') fs
+    pub drops_is : (new : List ℕ × Slot K V) (gone gone' : List (List ℕ × Slot K V)) → entry_of new ≡ made → DropsFrom (entries_to_place_where held (is_some r) new shelf.cache.entries) gone gone' shelf'.cache.entries
+        → DropsFrom (entries_to_place same mark_in b h made es) (entries_of gone) (entries_of gone') fs
     drops_is new gone gone' n d =
         subst (λ l. DropsFrom l (entries_of gone) (entries_of gone') fs)
         (placed_map entry_of held (is_some r) new shelf.cache.entries
-        ∙ ap (λ x. placed_where x (is_some r) (entry_of new) es) k
-        ∙ ap (λ x. placed_where (holds same mark_in key es) x (entry_of new) es) keeps_is
-        ∙ ap (λ x. placed_where (holds same mark_in key es) (is_some (offered same mark_in b h made es)) x es) n)
-        (drops_map entry_of (placed_where held (is_some r) new shelf.cache.entries) gone gone' shelf'.cache.entries d)
+        ∙ ap (λ x. entries_to_place_where x (is_some r) (entry_of new) es) k
+        ∙ ap (λ x. entries_to_place_where (holds same mark_in key es) x (entry_of new) es) keeps_is
+        ∙ ap (λ x. entries_to_place_where (holds same mark_in key es) (is_some (entries_after_offer same mark_in b h made es)) x es) n)
+        (drops_map entry_of (entries_to_place_where held (is_some r) new shelf.cache.entries) gone gone' shelf'.cache.entries d)
 
-    pub filled_is : (js ks : List (JournalItem K)) (j : JournalItem K) → ks ≡ js ++ j ∷ [] → item_of j ≡ item caller key (Fill_said weight (is_some r) (unwrap_or r 0)) → t ≡ s - 1
+    pub filled_is : (js ks : List (JournalItem K)) (j : JournalItem K) → ks ≡ js ++ j ∷ [] → item_of j ≡ item caller key (Fill_answer weight (is_some r) (unwrap_or r 0)) → t ≡ s - 1
         → ◌≡◌ {A = Core K V} (record { entries = fs; dropped = g'; budget = b; share = h; journal = items_of ks; spare = t }) (record (after_fill same name_of caller key value weight (old js)) { dropped = g' })
     filled_is js ks j k i r = core_is entries_are (ap items_of k ∙ map-append item_of js (j ∷ []) ∙ ap (λ x. items_of js ++ x ∷ []) (i ∙ ap (item caller key) said_is)) r
 
   pub fill_kept : (fits : K → V → Type 0) (weighs : V → ℕ) (d d' : ℕ) (js ks : List (JournalItem K))
       → IsKept same name_of fits weighs shelf d (old js) → fits key value → weight ≡ weighs value → IsShelf b shelf' → IsDistinct same_name (keys_of shelf'.cache.entries)
-      → d' ≡ d + evicted_by (fill_said same mark_in b h made es)
+      → d' ≡ d + evicted_by (fill_answer same mark_in b h made es)
       → ◌≡◌ {A = Core K V} (record { entries = fs; dropped = g'; budget = b; share = h; journal = items_of ks; spare = t }) (record (after_fill same name_of caller key value weight (old js)) { dropped = g' })
       → IsKept same name_of fits weighs shelf' d' (record { entries = fs; dropped = g'; budget = b; share = h; journal = items_of ks; spare = t })
   fill_kept fits weighs n n' js ks kept f g shelved d count is =
       let e : fs ≡ (after_fill same name_of caller key value weight (old js)).entries = ap (λ (x : Core K V). x.entries) is in
-      let i : Item K = item caller key (fill_said same mark_in b h made es) in record {
+      let i : Item K = item caller key (fill_answer same mark_in b h made es) in record {
         shelved = shelved;
         counted =
             let more = evicted_more (items_of js) i in

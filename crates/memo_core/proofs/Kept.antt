@@ -4,7 +4,7 @@ use Rattle.std.specs.Prelude.{Option, is_some}
 use Rattle.std.specs.List.{AllByRecursion, IsDistinct}
 use Rattle.std.specs.Map.{keys_of}
 use Rattle.lru.specs.LruCache.{promoted}
-use Rattle.memo_core.specs.Memo.{first_with, brought_to_front, same_name, has_key, holds, itself, Entry, Item, Probe_said, item, replay}
+use Rattle.memo_core.specs.Memo.{first_with, brought_to_front, same_name, has_key, holds, itself, Entry, Item, Probe_answer, item, replay}
 use Rattle.memo_core.specs.Views.{Core, IsSound, MaySay, mark_in, marks, after_probe}
 use Rattle.memo_core.specs.Fields.{entry_of, entries_of}
 use Rattle.memo_core.specs.declared.slots.Slot.{Slot}
@@ -40,12 +40,12 @@ module _ {K V : Type 0} where
           distinct = d;
           within = rw (sum_brought S (λ e. e.mark.weight) core.entries) s.within;
           few = rw (length_brought S core.entries) s.few;
-          legal = legal_more same name_of core.budget core.share [] core.journal (item caller key (Probe_said (holds same mark_in key core.entries))) s.legal (ap Probe_said (sym now));
+          legal = legal_more same name_of core.budget core.share [] core.journal (item caller key (Probe_answer (holds same mark_in key core.entries))) s.legal (ap Probe_answer (sym now));
           replayed =
               sym (brought_map mark_in (has_key same itself key) core.entries)
               ∙ ap (brought_to_front (has_key same itself key)) s.replayed
-              ∙ sym (replay_more same name_of core.budget core.share [] core.journal (item caller key (Probe_said (holds same mark_in key core.entries))));
-          offers = all_more (λ i. MaySay fits weighs i.key i.said) core.journal (item caller key (Probe_said (holds same mark_in key core.entries))) s.offers tt;
+              ∙ sym (replay_more same name_of core.budget core.share [] core.journal (item caller key (Probe_answer (holds same mark_in key core.entries))));
+          offers = all_more (λ i. MaySay fits weighs i.key i.answer) core.journal (item caller key (Probe_answer (holds same mark_in key core.entries))) s.offers tt;
         }
 
     -- the entries after the cache's promotion of a name at which the key was found

@@ -5,7 +5,7 @@ use Rattle.std.specs.Option.{option_map_or}
 use Rattle.std.proofs.lemmas.List.{length-map}
 use Rattle.std.proofs.lemmas.List.Sums.{sum_by-cons}
 use mathlib.Core.Path.{fun_ext}
-use Rattle.memo_core.specs.Memo.{Mark, first_with, without_first, without_last, owned, is_free, fits_in, room_within, room_beside, pushed, offered_where, has_name, entries_max}
+use Rattle.memo_core.specs.Memo.{Mark, first_with, without_first, without_last, owner_weight, is_free, fits_in, room_within, room_beside, entries_after_push, entries_after_offer_where, has_name, entries_max}
 use Rattle.memo_core.proofs.Lists.{cond_through, first_map, without_map}
 
 pub some_map : {A B : Type 0} (f : A → B) (o : Option A) → is_some (option_map f o) ≡ is_some o
@@ -31,7 +31,7 @@ module _ {K A B : Type 0} (f : A → B) (mark : B → Mark K) where
   abbrev mark_at : A → Mark K
   mark_at e = mark (f e)
 
-  pub owned_map : (o : ℕ) (es : List A) → owned mark o (map f es) ≡ owned mark_at o es
+  pub owned_map : (o : ℕ) (es : List A) → owner_weight mark o (map f es) ≡ owner_weight mark_at o es
   owned_map o es = sum_by_map f (λ e. cond (nat_eq (mark e).owner o) (mark e).weight 0) es
 
   free_at : (share caller : ℕ) (es : List A) (e : A) → is_free mark share caller (map f es) (f e) ≡ is_free mark_at share caller es e
@@ -74,7 +74,7 @@ module _ {K A B : Type 0} (f : A → B) (mark : B → Mark K) where
     unfree_map share caller es None = refl
     unfree_map share caller es (Some e) = ap not (free_at share caller es e)
 
-    pub pushed_map : (new : A) (es : List A) → pushed mark budget share (f new) (map f es) ≡ option_map (map f) (pushed mark_at budget share new es)
+    pub pushed_map : (new : A) (es : List A) → entries_after_push mark budget share (f new) (map f es) ≡ option_map (map f) (entries_after_push mark_at budget share new es)
     pushed_map new es =
         let N = has_name mark (mark_at new).name in
         let M = has_name mark_at (mark_at new).name in
@@ -88,9 +88,9 @@ module _ {K A B : Type 0} (f : A → B) (mark : B → Mark K) where
         ∙ sym (cond_through (option_map (map f)) stays None (option_map (λ rest. new ∷ rest) (room_beside mark_at budget share new (without_first M es))))
 
     pub where_map : (held : Bool) (front : List A) (new : A) (es : List A)
-        → offered_where mark budget share held (map f front) (f new) (map f es) ≡ option_map (map f) (offered_where mark_at budget share held front new es)
+        → entries_after_offer_where mark budget share held (map f front) (f new) (map f es) ≡ option_map (map f) (entries_after_offer_where mark_at budget share held front new es)
     where_map held front new es =
         let heavy = nat_lt budget (mark_at new).weight in
         ap (λ r. cond heavy None (cond held (Some (map f front)) r)) (pushed_map new es)
-        ∙ ap (cond heavy None) (sym (cond_through (option_map (map f)) held (Some front) (pushed mark_at budget share new es)))
-        ∙ sym (cond_through (option_map (map f)) heavy None (cond held (Some front) (pushed mark_at budget share new es)))
+        ∙ ap (cond heavy None) (sym (cond_through (option_map (map f)) held (Some front) (entries_after_push mark_at budget share new es)))
+        ∙ sym (cond_through (option_map (map f)) heavy None (cond held (Some front) (entries_after_push mark_at budget share new es)))

@@ -5,7 +5,7 @@ use Rattle.std.specs.List.{AllByRecursion, IsDistinct}
 use Rattle.std.specs.Map.{lookup, keys_of}
 use Rattle.std.proofs.lemmas.List.{map-append, length-append}
 use Rattle.lru.specs.LruCache.{promoted}
-use Rattle.memo_core.specs.Memo.{evicted_in, first_with, brought_to_front, same_name, has_key, holds, Entry, Item, Probe_said, item}
+use Rattle.memo_core.specs.Memo.{evicted_in, first_with, brought_to_front, same_name, has_key, holds, Entry, Item, Probe_answer, item}
 use Rattle.memo_core.specs.Views.{Core, IsSound, mark_in, after_probe}
 use Rattle.memo_core.specs.Fields.{entries_of, value_at, item_of, items_of}
 use Rattle.memo_core.specs.Plans.{IsKept, IsShelf}
@@ -32,6 +32,18 @@ pub some_first : {A : Type 0} {B : Type 0} (P : B → Type 0) (f : A → B) (o :
 some_first P f None q e h = subst (λ x. IfSome x P) (sym e) tt
 some_first P f (Some a) q e h = subst (λ x. IfSome x P) (sym e) h
 
+pub some_mapped : {A B : Type 0} (P : B → Type 0) (f : A → B) (o : Option A) → IfSome (option_map f o) P → IfSome o (λ a. P (f a))
+some_mapped P f None h = tt
+some_mapped P f (Some a) h = h
+
+pub none_mapped : {A B : Type 0} (f : A → B) (o : Option A) → is_some o ≡ false → None ≡ option_map f o
+none_mapped f None h = refl
+none_mapped f (Some a) h = absurd (never h)
+
+pub some_always : {A : Type 0} {P : Type 0} (o : Option A) → P → IfSome o (λ a. P)
+some_always None p = tt
+some_always (Some a) p = p
+
 module _ {K V : Type 0} (same : K → K → Bool) (name_of : K → List ℕ) (same_is : (a b : K) → same a b ≡ true → a ≡ b) (key : K) where
   pub touched : (es fs : List (List ℕ × Slot K V)) (found : Option V) (hit : Bool) → Named same name_of same_is key es → IsDistinct same_name (keys_of es)
       → found ≡ value_at same key (lookup (same_name (name_of key)) es) → hit ≡ is_some found → fs ≡ cond hit (promoted (same_name (name_of key)) es) es
@@ -49,10 +61,10 @@ module _ {K V : Type 0} (same : K → K → Bool) (name_of : K → List ℕ) (sa
 
   pub probed_is : (caller b h s t : ℕ) (g : List (Entry K V)) (es fs : List (List ℕ × Slot K V)) (js ks : List (JournalItem K)) (j : JournalItem K) (hit : Bool)
       → entries_of fs ≡ brought_to_front (has_key same mark_in key) (entries_of es) → hit ≡ holds same mark_in key (entries_of es)
-      → ks ≡ js ++ j ∷ [] → item_of j ≡ item caller key (Probe_said hit) → t ≡ s - 1
+      → ks ≡ js ++ j ∷ [] → item_of j ≡ item caller key (Probe_answer hit) → t ≡ s - 1
       → ◌≡◌ {A = Core K V} (record { entries = entries_of fs; dropped = g; budget = b; share = h; journal = items_of ks; spare = t }) (after_probe same caller key (record { entries = entries_of es; dropped = g; budget = b; share = h; journal = items_of js; spare = s }))
   probed_is caller b h s t g es fs js ks j hit e f k i r =
-      core_is e (ap items_of k ∙ map-append item_of js (j ∷ []) ∙ ap (λ x. items_of js ++ x ∷ []) (i ∙ ap (λ x. item caller key (Probe_said x)) f)) r
+      core_is e (ap items_of k ∙ map-append item_of js (j ∷ []) ∙ ap (λ x. items_of js ++ x ∷ []) (i ∙ ap (λ x. item caller key (Probe_answer x)) f)) r
 
   pub probed_kept : (fits : K → V → Type 0) (weighs : V → ℕ) (caller h s t d : ℕ) (g : List (Entry K V)) (shelf shelf' : Shelf K V) (js : List (Item K)) (ks : List (Item K)) (b : ℕ)
       → IsKept same name_of fits weighs shelf d (record { entries = entries_of shelf.cache.entries; dropped = g; budget = b; share = h; journal = js; spare = s })
@@ -64,11 +76,11 @@ module _ {K V : Type 0} (same : K → K → Bool) (name_of : K → List ℕ) (sa
       let fs = shelf'.cache.entries in record {
         shelved = shelved;
         counted =
-            kept.counted ∙ omega (arith, evicted_more js (item caller key (Probe_said (holds same mark_in key (entries_of es)))))
+            kept.counted ∙ omega (arith, evicted_more js (item caller key (Probe_answer (holds same mark_in key (entries_of es)))))
             ∙ ap (λ (x : Core K V). evicted_in x.journal) (sym is);
         filled_before =
             let longer = ap (λ (x : Core K V). length x.journal) is in
-            let more = length-append js (item caller key (Probe_said (holds same mark_in key (entries_of es))) ∷ []) in
+            let more = length-append js (item caller key (Probe_answer (holds same mark_in key (entries_of es))) ∷ []) in
             let same_length = ap length e in
             omega (arith, kept.filled_before, longer, more, same_length, length_brought (has_key same mark_in key) (entries_of es));
         sound =

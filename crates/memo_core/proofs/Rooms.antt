@@ -6,7 +6,7 @@ use Rattle.std.specs.List.{AllByRecursion}
 use Rattle.std.proofs.lemmas.List.{length-append}
 use Rattle.std.proofs.lemmas.List.Sums.{sum_by-cons, sum_by-append}
 use Rattle.std.proofs.lemmas.Bool.Decides.{nat_tests}
-use Rattle.memo_core.specs.Memo.{Mark, first_with, without_first, without_last, brought_to_front, owned, is_free, StandIn, fits_in, room_within, room_beside}
+use Rattle.memo_core.specs.Memo.{Mark, first_with, without_first, without_last, brought_to_front, owner_weight, is_free, StandIn, fits_in, room_within, room_beside}
 use Rattle.memo_core.proofs.Hits.{never}
 
 pub never_not : true ≡ false → ⊥
@@ -136,7 +136,7 @@ module _ {K E : Type 0} (mark : E → Mark K) where
   pub stand_front : (t : E → Bool) (o : ℕ) (es fs : List E) → fs ≡ brought_to_front t es → StandIn mark o es fs
   stand_front t o es fs e = subst (StandIn mark o es) (sym e) (map_all (λ x k i. k) es (stand_brought t es))
 
-  pub owned_apart : (o : ℕ) (xs : List E) (e : E) (ys : List E) → owned mark o (xs ++ e ∷ ys) ≡ cond (nat_eq (mark e).owner o) (mark e).weight 0 + owned mark o (xs ++ ys)
+  pub owned_apart : (o : ℕ) (xs : List E) (e : E) (ys : List E) → owner_weight mark o (xs ++ e ∷ ys) ≡ cond (nat_eq (mark e).owner o) (mark e).weight 0 + owner_weight mark o (xs ++ ys)
   owned_apart o xs e ys =
       let w : E → ℕ = λ x. cond (nat_eq (mark x).owner o) (mark x).weight 0 in
       let a = sum_by-append w xs (e ∷ ys) in
@@ -150,20 +150,20 @@ module _ {K E : Type 0} (mark : E → Mark K) where
   le_of : (a b : ℕ) → nat_lt a b ≡ false → b ≤ a
   le_of a b l = grind (arith, nat_tests)
 
-  pub unfree : (share caller : ℕ) (es : List E) (e : E) → nat_eq (mark e).owner caller ≡ false → nat_eq share 0 ≡ false → owned mark (mark e).owner es ≤ share → is_free mark share caller es e ≡ false
+  pub unfree : (share caller : ℕ) (es : List E) (e : E) → nat_eq (mark e).owner caller ≡ false → nat_eq share 0 ≡ false → owner_weight mark (mark e).owner es ≤ share → is_free mark share caller es e ≡ false
   unfree share caller es e a b c =
-      ap (λ x. x || (nat_eq share 0 || nat_lt share (owned mark (mark e).owner es))) a
-      ∙ ap (λ x. x || nat_lt share (owned mark (mark e).owner es)) b
-      ∙ lt_false share (owned mark (mark e).owner es) c
+      ap (λ x. x || (nat_eq share 0 || nat_lt share (owner_weight mark (mark e).owner es))) a
+      ∙ ap (λ x. x || nat_lt share (owner_weight mark (mark e).owner es)) b
+      ∙ lt_false share (owner_weight mark (mark e).owner es) c
 
-  pub unfree_parts : (share caller : ℕ) (es : List E) (e : E) → is_free mark share caller es e ≡ false → (nat_eq (mark e).owner caller ≡ false) × (nat_eq share 0 ≡ false) × (owned mark (mark e).owner es ≤ share)
+  pub unfree_parts : (share caller : ℕ) (es : List E) (e : E) → is_free mark share caller es e ≡ false → (nat_eq (mark e).owner caller ≡ false) × (nat_eq share 0 ≡ false) × (owner_weight mark (mark e).owner es ≤ share)
   unfree_parts share caller es e h =
       let a = or_false (nat_eq (mark e).owner caller) _ h in
       let b = or_false (nat_eq share 0) _ a.1 in
-      (a.0, b.0, le_of share (owned mark (mark e).owner es) b.1)
+      (a.0, b.0, le_of share (owner_weight mark (mark e).owner es) b.1)
 
   -- what isn't free stays so as others go
-  pub still_unfree : (share caller : ℕ) (es fs : List E) (x : E) → ((o : ℕ) → owned mark o fs ≤ owned mark o es) → is_free mark share caller es x ≡ false → is_free mark share caller fs x ≡ false
+  pub still_unfree : (share caller : ℕ) (es fs : List E) (x : E) → ((o : ℕ) → owner_weight mark o fs ≤ owner_weight mark o es) → is_free mark share caller es x ≡ false → is_free mark share caller fs x ≡ false
   still_unfree share caller es fs x less h =
       let p = unfree_parts share caller es x h in
       unfree share caller fs x p.0 p.1 (let l = less (mark x).owner in omega (arith, l, p.2))
@@ -211,14 +211,14 @@ module _ {K E : Type 0} (mark : E → Mark K) where
       go false false r = tt
 
     -- the entries of another owner that weigh at most the share all stay
-    pub stand_room : (o : ℕ) → nat_eq o (mark new).owner ≡ false → nat_eq share 0 ≡ false → (n : ℕ) (es : List E) → owned mark o es ≤ share
+    pub stand_room : (o : ℕ) → nat_eq o (mark new).owner ≡ false → nat_eq share 0 ≡ false → (n : ℕ) (es : List E) → owner_weight mark o es ≤ share
         → IfSome (room_within mark budget share n new es) (StandIn mark o es)
     stand_room o other some zero es l = tt
     stand_room o other some (suc n) es l =
         go (fits_in mark budget (new ∷ es)) (is_some (first_with (free es) es)) (room_within mark budget share n new (without_last (free es) es))
         (stand_room o other some n (without_last (free es) es) (let less = last_lighter (free es) (λ x. cond (nat_eq (mark x).owner o) (mark x).weight 0) es in omega (arith, l, less))) where
           mine : (e : E) → (mark e).owner ≡ o → free es e ≡ false
-          mine e i = unfree share (mark new).owner es e (ap (λ x. nat_eq x (mark new).owner) i ∙ other) some (subst (λ x. owned mark x es ≤ share) (sym i) l)
+          mine e i = unfree share (mark new).owner es e (ap (λ x. nat_eq x (mark new).owner) i ∙ other) some (subst (λ x. owner_weight mark x es ≤ share) (sym i) l)
 
           go : (b c : Bool) (r : Option (List E)) → IfSome r (StandIn mark o (without_last (free es) es)) → IfSome (cond b (Some es) (cond c r None)) (StandIn mark o es)
           go true c r s = map_all (λ x k i. k) es (all_in es)

@@ -1,6 +1,6 @@
 -- Calls of a memo that are written out, with what the journal says of each.
 use Rattle.std.proofs.Common.{◌≡◌, ℕ, Bool, true, false, List, [], ◌∷◌, replicate, take, refl, nat_eq}
-use Rattle.memo_core.specs.Memo.{Mark, Item, Probe_said, Fill_said, item, itself, filled, fill_said, replay, IsLegal, count_in, hit_by, missed_by, kept_by, heavy_by, evicted_in}
+use Rattle.memo_core.specs.Memo.{Mark, Item, Probe_answer, Fill_answer, item, itself, entries_after_fill, fill_answer, replay, IsLegal, count_in, hit_by, missed_by, kept_by, heavy_by, evicted_in}
 
 -- each key has a name of its own
 abbrev own : ℕ → List ℕ
@@ -17,10 +17,10 @@ abbrev mark_alike : ℕ → ℕ → Mark ℕ
 mark_alike key weight = record { name = alike key; key = key; weight = weight; owner = 0 }
 
 abbrev probe : ℕ → Bool → Item ℕ
-probe key hit = item 0 key (Probe_said hit)
+probe key hit = item 0 key (Probe_answer hit)
 
 abbrev fill : ℕ → ℕ → Bool → ℕ → Item ℕ
-fill key weight kept evicted = item 0 key (Fill_said weight kept evicted)
+fill key weight kept evicted = item 0 key (Fill_answer weight kept evicted)
 
 -- ---- two solids of size 60 and 70, each wanted twice
 abbrev both_fit : List (Item ℕ)
@@ -95,23 +95,23 @@ held_stays : replay nat_eq own 10 0 [] (fill 1 5 true 0 ∷ fill 2 5 true 0 ∷ 
     ≡ mark 1 5 ∷ mark 2 5 ∷ []
 held_stays = refl
 
-held_is_kept : fill_said nat_eq itself 10 0 (mark 1 9) (mark 2 5 ∷ mark 1 5 ∷ []) ≡ Fill_said 9 true 0
+held_is_kept : fill_answer nat_eq itself 10 0 (mark 1 9) (mark 2 5 ∷ mark 1 5 ∷ []) ≡ Fill_answer 9 true 0
 held_is_kept = refl
 
 -- an entry of the same name and another key goes before the ends are looked at
-same_name_goes_first : fill_said nat_eq itself 10 0 (mark_alike 3 6) (mark 4 4 ∷ mark_alike 2 6 ∷ [])
-    ≡ Fill_said 6 true 1
+same_name_goes_first : fill_answer nat_eq itself 10 0 (mark_alike 3 6) (mark 4 4 ∷ mark_alike 2 6 ∷ [])
+    ≡ Fill_answer 6 true 1
 same_name_goes_first = refl
 
-same_name_leaves : filled nat_eq itself 10 0 (mark_alike 3 6) (mark 4 4 ∷ mark_alike 2 6 ∷ [])
+same_name_leaves : entries_after_fill nat_eq itself 10 0 (mark_alike 3 6) (mark 4 4 ∷ mark_alike 2 6 ∷ [])
     ≡ mark_alike 3 6 ∷ mark 4 4 ∷ []
 same_name_leaves = refl
 
 -- ---- the number of entries
-one_is_too_many : fill_said nat_eq itself 10 0 (mark 1 0) (replicate 4096 (mark 0 0)) ≡ Fill_said 0 true 1
+one_is_too_many : fill_answer nat_eq itself 10 0 (mark 1 0) (replicate 4096 (mark 0 0)) ≡ Fill_answer 0 true 1
 one_is_too_many = refl
 
-last_one_fits : fill_said nat_eq itself 10 0 (mark 1 0) (replicate 4095 (mark 0 0)) ≡ Fill_said 0 true 0
+last_one_fits : fill_answer nat_eq itself 10 0 (mark 1 0) (replicate 4095 (mark 0 0)) ≡ Fill_answer 0 true 0
 last_one_fits = refl
 
 -- ---- shares
@@ -120,7 +120,7 @@ abbrev owned_mark : ℕ → ℕ → ℕ → Mark ℕ
 owned_mark owner key weight = record { name = own key; key = key; weight = weight; owner = owner }
 
 abbrev fill_by : ℕ → ℕ → ℕ → Bool → ℕ → Item ℕ
-fill_by caller key weight kept evicted = item caller key (Fill_said weight kept evicted)
+fill_by caller key weight kept evicted = item caller key (Fill_answer weight kept evicted)
 
 -- the keys A to F are 1 to 6
 abbrev shared : List (Item ℕ)
@@ -148,23 +148,23 @@ unshared_leaves : replay nat_eq own 100 0 [] (take 4 shared) ≡ owned_mark 2 4 
 unshared_leaves = refl
 
 -- an owner's entries are dropped from the end until they weigh the share, and no further
-down_to_the_share : fill_said nat_eq itself 100 40 (owned_mark 2 9 50) (owned_mark 1 3 30 ∷ owned_mark 1 2 10 ∷ owned_mark 1 1 60 ∷ []) ≡ Fill_said 50 true 1
+down_to_the_share : fill_answer nat_eq itself 100 40 (owned_mark 2 9 50) (owned_mark 1 3 30 ∷ owned_mark 1 2 10 ∷ owned_mark 1 1 60 ∷ []) ≡ Fill_answer 50 true 1
 down_to_the_share = refl
 
 -- one more has nothing free to take
-nothing_is_free : fill_said nat_eq itself 100 40 (owned_mark 2 9 61) (owned_mark 1 3 30 ∷ owned_mark 1 2 10 ∷ owned_mark 1 1 60 ∷ []) ≡ Fill_said 61 false 0
+nothing_is_free : fill_answer nat_eq itself 100 40 (owned_mark 2 9 61) (owned_mark 1 3 30 ∷ owned_mark 1 2 10 ∷ owned_mark 1 1 60 ∷ []) ≡ Fill_answer 61 false 0
 nothing_is_free = refl
 
 -- an entry of the same name goes only where it is free
-reserved_name_stays : fill_said nat_eq itself 100 40 (record { name = own 1; key = 2; weight = 5; owner = 2 }) (owned_mark 1 1 40 ∷ []) ≡ Fill_said 5 false 0
+reserved_name_stays : fill_answer nat_eq itself 100 40 (record { name = own 1; key = 2; weight = 5; owner = 2 }) (owned_mark 1 1 40 ∷ []) ≡ Fill_answer 5 false 0
 reserved_name_stays = refl
 
-own_name_goes : fill_said nat_eq itself 100 40 (record { name = own 1; key = 2; weight = 5; owner = 1 }) (owned_mark 1 1 40 ∷ []) ≡ Fill_said 5 true 1
+own_name_goes : fill_answer nat_eq itself 100 40 (record { name = own 1; key = 2; weight = 5; owner = 1 }) (owned_mark 1 1 40 ∷ []) ≡ Fill_answer 5 true 1
 own_name_goes = refl
 
-heavy_name_goes : fill_said nat_eq itself 100 40 (record { name = own 1; key = 2; weight = 5; owner = 2 }) (owned_mark 1 1 30 ∷ owned_mark 1 3 30 ∷ []) ≡ Fill_said 5 true 1
+heavy_name_goes : fill_answer nat_eq itself 100 40 (record { name = own 1; key = 2; weight = 5; owner = 2 }) (owned_mark 1 1 30 ∷ owned_mark 1 3 30 ∷ []) ≡ Fill_answer 5 true 1
 heavy_name_goes = refl
 
 -- a held key that another caller brings keeps its owner
-owner_stays : filled nat_eq itself 100 40 (owned_mark 2 1 7) (owned_mark 1 3 30 ∷ owned_mark 0 1 40 ∷ []) ≡ owned_mark 0 1 40 ∷ owned_mark 1 3 30 ∷ []
+owner_stays : entries_after_fill nat_eq itself 100 40 (owned_mark 2 1 7) (owned_mark 1 3 30 ∷ owned_mark 0 1 40 ∷ []) ≡ owned_mark 0 1 40 ∷ owned_mark 1 3 30 ∷ []
 owner_stays = refl

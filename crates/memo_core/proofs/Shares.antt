@@ -4,7 +4,7 @@ use Rattle.std.specs.Prelude.{Option, nat_lt}
 use Rattle.std.specs.Option.{option_map_or}
 use Rattle.std.specs.List.{AllByRecursion}
 use Rattle.std.proofs.lemmas.Bool.Decides.{nat_tests}
-use Rattle.memo_core.specs.Memo.{Mark, Item, Said, Probe_said, Fill_said, itself, mark_of, after_said, KeepsShares, first_with, without_first, brought_to_front, owned, is_free, StandIn, room_beside, pushed, filled, has_name, has_key, holds}
+use Rattle.memo_core.specs.Memo.{Mark, Item, Answer, Probe_answer, Fill_answer, itself, mark_of, entries_after_call, KeepsShares, first_with, without_first, brought_to_front, owner_weight, is_free, StandIn, room_beside, entries_after_push, entries_after_fill, has_name, has_key, holds}
 use Rattle.memo_core.proofs.Lists.{all_brought, all_without, sum_without, length_without, length_brought}
 use Rattle.memo_core.proofs.Hits.{never}
 use Rattle.memo_core.proofs.Rooms.{all_in, all_room, contains_behind, contains_head, map_all, of_all, room_shorter, stand_brought, stand_front, stand_room, unfree}
@@ -27,7 +27,7 @@ module _ {K E : Type 0} (mark : E → Mark K) (budget share : ℕ) (new : E) (es
   abbrev stays : Option E → Bool
   stays o = option_map_or (λ e. not (is_free mark share (mark new).owner es e)) o false
 
-  pub all_pushed : (P : E → Type 0) → P new → AllByRecursion P es → IfSome (pushed mark budget share new es) (AllByRecursion P)
+  pub all_pushed : (P : E → Type 0) → P new → AllByRecursion P es → IfSome (entries_after_push mark budget share new es) (AllByRecursion P)
   all_pushed P p a =
       go (stays (first_with N es)) (room_beside mark budget share new (without_first N es)) (all_room mark budget share new P (suc (length (without_first N es))) (without_first N es) (all_without N P es a)) where
         go : (b : Bool) (r : Option (List E)) → IfSome r (AllByRecursion P) → IfSome (cond b None (option_map (λ rest. new ∷ rest) r)) (AllByRecursion P)
@@ -35,7 +35,7 @@ module _ {K E : Type 0} (mark : E → Mark K) (budget share : ℕ) (new : E) (es
         go false None s = tt
         go false (Some x) s = (p, s)
 
-  pub pushed_shorter : IfSome (pushed mark budget share new es) (λ kept. length kept ≤ length es + 1)
+  pub pushed_shorter : IfSome (entries_after_push mark budget share new es) (λ kept. length kept ≤ length es + 1)
   pushed_shorter =
       go (stays (first_with N es)) (room_beside mark budget share new (without_first N es))
       (room_shorter mark budget share new (length es) (suc (length (without_first N es))) (without_first N es) (let h = length_without N es in omega (arith, h))) where
@@ -44,11 +44,11 @@ module _ {K E : Type 0} (mark : E → Mark K) (budget share : ℕ) (new : E) (es
         go false None s = tt
         go false (Some x) s = omega (arith, s)
 
-  module _ (o : ℕ) (other : nat_eq o (mark new).owner ≡ false) (some : nat_eq share 0 ≡ false) (l : owned mark o es ≤ share) where
+  module _ (o : ℕ) (other : nat_eq o (mark new).owner ≡ false) (some : nat_eq share 0 ≡ false) (l : owner_weight mark o es ≤ share) where
     mine : (e : E) → (mark e).owner ≡ o → is_free mark share (mark new).owner es e ≡ false
-    mine e i = unfree mark share (mark new).owner es e (ap (λ x. nat_eq x (mark new).owner) i ∙ other) some (subst (λ x. owned mark x es ≤ share) (sym i) l)
+    mine e i = unfree mark share (mark new).owner es e (ap (λ x. nat_eq x (mark new).owner) i ∙ other) some (subst (λ x. owner_weight mark x es ≤ share) (sym i) l)
 
-    pub stand_pushed : IfSome (pushed mark budget share new es) (StandIn mark o es)
+    pub stand_pushed : IfSome (entries_after_push mark budget share new es) (StandIn mark o es)
     stand_pushed =
         go (stays (first_with N es)) refl (room_beside mark budget share new (without_first N es))
         (stand_room mark budget share new o other some (suc (length (without_first N es))) (without_first N es) (let h = sum_without N (λ x. cond (nat_eq (mark x).owner o) (mark x).weight 0) es in omega (arith, h, l))) where
@@ -63,18 +63,18 @@ module _ {K E : Type 0} (same : K → K → Bool) (mark : E → Mark K) (budget 
   abbrev front : List E
   front = brought_to_front (has_key same mark (mark new).key) es
 
-  pub all_filled : (P : E → Type 0) → P new → AllByRecursion P es → AllByRecursion P (filled same mark budget share new es)
+  pub all_filled : (P : E → Type 0) → P new → AllByRecursion P es → AllByRecursion P (entries_after_fill same mark budget share new es)
   all_filled P p a =
-      go (nat_lt budget (mark new).weight) (holds same mark (mark new).key es) (pushed mark budget share new es) (all_pushed mark budget share new es P p a) where
+      go (nat_lt budget (mark new).weight) (holds same mark (mark new).key es) (entries_after_push mark budget share new es) (all_pushed mark budget share new es P p a) where
         go : (b c : Bool) (r : Option (List E)) → IfSome r (AllByRecursion P) → AllByRecursion P (option_map_or (λ kept. kept) (cond b None (cond c (Some front) r)) es)
         go true c r s = a
         go false true r s = all_brought (has_key same mark (mark new).key) P es a
         go false false None s = a
         go false false (Some x) s = s
 
-  pub filled_shorter : length (filled same mark budget share new es) ≤ length es + 1
+  pub filled_shorter : length (entries_after_fill same mark budget share new es) ≤ length es + 1
   filled_shorter =
-      go (nat_lt budget (mark new).weight) (holds same mark (mark new).key es) (pushed mark budget share new es) (pushed_shorter mark budget share new es) where
+      go (nat_lt budget (mark new).weight) (holds same mark (mark new).key es) (entries_after_push mark budget share new es) (pushed_shorter mark budget share new es) where
         go : (b c : Bool) (r : Option (List E)) → IfSome r (λ kept. length kept ≤ length es + 1) → length (option_map_or (λ kept. kept) (cond b None (cond c (Some front) r)) es) ≤ length es + 1
         go true c r s = omega arith
         go false true r s = omega (arith, length_brought (has_key same mark (mark new).key) es)
@@ -82,9 +82,9 @@ module _ {K E : Type 0} (same : K → K → Bool) (mark : E → Mark K) (budget 
         go false false (Some x) s = s
 
   -- another owner's entries that weigh at most the share all stand
-  pub stand_filled : 0 < share → (o : ℕ) → o ≢ (mark new).owner → owned mark o es ≤ share → StandIn mark o es (filled same mark budget share new es)
+  pub stand_filled : 0 < share → (o : ℕ) → o ≢ (mark new).owner → owner_weight mark o es ≤ share → StandIn mark o es (entries_after_fill same mark budget share new es)
   stand_filled some o other l =
-      go (nat_lt budget (mark new).weight) (holds same mark (mark new).key es) (pushed mark budget share new es)
+      go (nat_lt budget (mark new).weight) (holds same mark (mark new).key es) (entries_after_push mark budget share new es)
       (stand_pushed mark budget share new es o (grind (arith, nat_tests, other)) (grind (arith, nat_tests, some)) l) where
         go : (b c : Bool) (r : Option (List E)) → IfSome r (StandIn mark o es) → StandIn mark o es (option_map_or (λ kept. kept) (cond b None (cond c (Some front) r)) es)
         go true c r s = map_all (λ x k m. k) es (all_in es)
@@ -93,11 +93,11 @@ module _ {K E : Type 0} (same : K → K → Bool) (mark : E → Mark K) (budget 
         go false false (Some x) s = s
 
 module _ {K : Type 0} (same : K → K → Bool) (name_of : K → List ℕ) (budget share : ℕ) where
-  stand_said : 0 < share → (caller : ℕ) (key : K) (said : Said) (es : List (Mark K)) (owner : ℕ) → owner ≢ caller → owned itself owner es ≤ share → StandIn itself owner es (after_said same name_of budget share caller key said es)
-  stand_said some caller key (Probe_said hit) es owner other l = stand_front itself (has_key same itself key) owner es _ refl
-  stand_said some caller key (Fill_said weight kept evicted) es owner other l = stand_filled same itself budget share (mark_of name_of caller key weight) es some owner other l
+  stand_said : 0 < share → (caller : ℕ) (key : K) (said : Answer) (es : List (Mark K)) (owner : ℕ) → owner ≢ caller → owner_weight itself owner es ≤ share → StandIn itself owner es (entries_after_call same name_of budget share caller key said es)
+  stand_said some caller key (Probe_answer hit) es owner other l = stand_front itself (has_key same itself key) owner es _ refl
+  stand_said some caller key (Fill_answer weight kept evicted) es owner other l = stand_filled same itself budget share (mark_of name_of caller key weight) es some owner other l
 
   -- at each item of a journal
   pub keeps_shares : 0 < share → (es : List (Mark K)) (is : List (Item K)) → KeepsShares same name_of budget share es is
   keeps_shares some es [] = tt
-  keeps_shares some es (i ∷ is) = (stand_said some i.caller i.key i.said es, keeps_shares some (after_said same name_of budget share i.caller i.key i.said es) is)
+  keeps_shares some es (i ∷ is) = (stand_said some i.caller i.key i.answer es, keeps_shares some (entries_after_call same name_of budget share i.caller i.key i.answer es) is)

@@ -9,9 +9,9 @@ use Rattle.std.proofs.lemmas.List.Elements.{filter-append}
 use Rattle.std.proofs.lemmas.List.Sums.{sum_by-cons, sum_by-append}
 use Rattle.std.proofs.lemmas.Bool.Decides.{nat_tests}
 use Rattle.std.proofs.lemmas.Cmp.{nat_list_eq_equiv}
-use Rattle.memo_core.specs.Memo.{same_name, first_with, without_first, has_name, owned, is_free, fits_in, room_beside, pushed, entries_max}
+use Rattle.memo_core.specs.Memo.{same_name, first_with, without_first, has_name, owner_weight, is_free, fits_in, room_beside, entries_after_push, entries_max}
 use Rattle.memo_core.specs.Fields.{weight_at}
-use Rattle.memo_core.specs.Plans.{removed, AreOthers, slot_mark, weight_of_slots, IsPlan, HasRoom, IsPlanFor, IsWithout, left_by, frees_by}
+use Rattle.memo_core.specs.Plans.{pairs_without, AreOthers, slot_mark, weight_of_slots, IsPlan, HasRoom, IsPlanFor, IsWithout, left_by, frees_by}
 use Rattle.memo_core.specs.declared.plan.Plan.{Plan}
 use Rattle.memo_core.specs.declared.slots.Slot.{Slot}
 use Rattle.memo_core.proofs.Ways.{remove_without}
@@ -25,14 +25,14 @@ module _ {X : Type 0} where
   abbrev pub other_than : List ℕ → List ℕ × X → Bool
   other_than name e = not (same_name name e.0)
 
-  pub removed_more : (ns : List (List ℕ)) (n : List ℕ) (es : List (List ℕ × X)) → removed (ns ++ n ∷ []) es ≡ remove_entry (same_name n) (removed ns es)
+  pub removed_more : (ns : List (List ℕ)) (n : List ℕ) (es : List (List ℕ × X)) → pairs_without (ns ++ n ∷ []) es ≡ remove_entry (same_name n) (pairs_without ns es)
   removed_more [] n es = refl
   removed_more (m ∷ ns) n es = removed_more ns n (remove_entry (same_name m) es)
 
   -- others stay behind a pair in front
-  pub removed_behind : (ns : List (List ℕ)) (e : List ℕ × X) (es : List (List ℕ × X)) → AreOthers e.0 ns → removed ns (e ∷ es) ≡ e ∷ removed ns es
+  pub removed_behind : (ns : List (List ℕ)) (e : List ℕ × X) (es : List (List ℕ × X)) → AreOthers e.0 ns → pairs_without ns (e ∷ es) ≡ e ∷ pairs_without ns es
   removed_behind [] e es a = refl
-  removed_behind (n ∷ ns) e es a = ap (λ b. removed ns (cond b es (e ∷ remove_entry (same_name n) es))) a.0 ∙ removed_behind ns e (remove_entry (same_name n) es) a.1
+  removed_behind (n ∷ ns) e es a = ap (λ b. pairs_without ns (cond b es (e ∷ remove_entry (same_name n) es))) a.0 ∙ removed_behind ns e (remove_entry (same_name n) es) a.1
 
   keys_behind : (P : List ℕ → Type 0) (xs : List (List ℕ × X)) (e : List ℕ × X) (ys : List (List ℕ × X)) → AllByRecursion P (keys_of (xs ++ e ∷ ys)) → P e.0 × AllByRecursion P (keys_of (xs ++ ys))
   keys_behind P [] e ys a = (a.0, a.1)
@@ -103,7 +103,7 @@ module _ {K V : Type 0} where
 
     pub begun : (plan : Plan) → plan.names.items ≡ [] → IsDistinct same_name (keys_of es) → IsPlan slot.weight (remove_entry (same_name name) es) plan → IsWalk es [] plan
     begun plan n d p =
-        let l : left plan ≡ remove_entry (same_name name) es = ap (λ ns. removed ns (remove_entry (same_name name) es)) n in record {
+        let l : left plan ≡ remove_entry (same_name name) es = ap (λ ns. pairs_without ns (remove_entry (same_name name) es)) n in record {
           apart = l ∙ remove_filter name es d ∙ sym (append-nil _);
           distinct = subst (λ x. IsDistinct same_name (keys_of x)) (sym (l ∙ remove_filter name es d)) (distinct_filter (other_than name) es d);
           passed = tt;
@@ -174,7 +174,7 @@ module _ {K V : Type 0} where
       counted i =
           let a = ap weight_of_slots (here i) ∙ weigh_apart (filter (other_than name) ahead) e behind in
           let n = ap length (here i) in
-          let o = w.plan_is.owned_weights e.1.owner ∙ ap (owned slot_mark e.1.owner) (here i) ∙ owned_apart slot_mark e.1.owner (filter (other_than name) ahead) e behind ∙ ap (λ b. cond b e.1.weight 0 + owned slot_mark e.1.owner (filter (other_than name) ahead ++ behind)) (nat_refl e.1.owner) in
+          let o = w.plan_is.owned_weights e.1.owner ∙ ap (owner_weight slot_mark e.1.owner) (here i) ∙ owned_apart slot_mark e.1.owner (filter (other_than name) ahead) e behind ∙ ap (λ b. cond b e.1.weight 0 + owner_weight slot_mark e.1.owner (filter (other_than name) ahead ++ behind)) (nat_refl e.1.owner) in
           (omega (arith, a, w.plan_is.total), omega (arith, w.plan_is.count), omega (arith, o))
 
       -- that of the new one's name went before
@@ -206,9 +206,9 @@ module _ {K V : Type 0} where
           let xs = filter (other_than name) ahead in
           let d = remove_apart xs e behind (subst (λ x. IsDistinct same_name (keys_of x)) (here i) w.distinct) in
           let l : left plan' ≡ xs ++ behind =
-          ap (λ ns. removed ns (remove_entry (same_name name) es)) g.names ∙ removed_more plan.names.items e.0 (remove_entry (same_name name) es) ∙ ap (remove_entry (same_name e.0)) (here i) ∙ d.0 in
-          let less : (o : ℕ) → owned slot_mark o (left plan) ≡ cond (nat_eq e.1.owner o) e.1.weight 0 + owned slot_mark o (left plan') =
-          λ o. ap (owned slot_mark o) (here i) ∙ owned_apart slot_mark o xs e behind ∙ ap (λ x. cond (nat_eq e.1.owner o) e.1.weight 0 + owned slot_mark o x) (sym l) in
+          ap (λ ns. pairs_without ns (remove_entry (same_name name) es)) g.names ∙ removed_more plan.names.items e.0 (remove_entry (same_name name) es) ∙ ap (remove_entry (same_name e.0)) (here i) ∙ d.0 in
+          let less : (o : ℕ) → owner_weight slot_mark o (left plan) ≡ cond (nat_eq e.1.owner o) e.1.weight 0 + owner_weight slot_mark o (left plan') =
+          λ o. ap (owner_weight slot_mark o) (here i) ∙ owned_apart slot_mark o xs e behind ∙ ap (λ x. cond (nat_eq e.1.owner o) e.1.weight 0 + owner_weight slot_mark o x) (sym l) in
           let weighs : weight_of_slots (left plan) ≡ e.1.weight + weight_of_slots (left plan') =
           ap weight_of_slots (here i) ∙ weigh_apart xs e behind ∙ ap (λ x. e.1.weight + weight_of_slots x) (sym l) in
           let longer : length (left plan) ≡ 1 + length (left plan') = ap length (here i) ∙ omega (arith, length-append xs (e ∷ behind), length-append xs behind, ap length l) in record {
@@ -252,7 +252,7 @@ module _ {K V : Type 0} where
         → (e.1.weight ≤ plan.total) × (0 < plan.count) × (e.1.weight ≤ weight_at e.1.owner plan.owners.items)
     walk_counted rest ahead behind e plan walk r i = counted ahead behind e plan (subst (λ x. IsWalk x behind plan) r walk) i
 
-    owned_within : (o : ℕ) (xs : List (List ℕ × Slot K V)) → owned slot_mark o xs ≤ weight_of_slots xs
+    owned_within : (o : ℕ) (xs : List (List ℕ × Slot K V)) → owner_weight slot_mark o xs ≤ weight_of_slots xs
     owned_within o [] = omega arith
     owned_within o (x ∷ xs) =
         let a = sum_by-cons (λ e. cond (nat_eq (slot_mark e).owner o) (slot_mark e).weight 0) x xs in
@@ -287,7 +287,7 @@ module _ {K V : Type 0} where
         → ((o : ℕ) → weight_at o plan'.owners.items ≡ weight_at o plan.owners.items + cond (nat_eq slot.owner o) slot.weight 0)
         → IsPlanFor budget share name slot es plan'
     planned plan plan' r way n t c o =
-        let l : left plan' ≡ left plan = ap (λ ns. removed ns.items (remove_entry (same_name name) es)) n in record {
+        let l : left plan' ≡ left plan = ap (λ ns. pairs_without ns.items (remove_entry (same_name name) es)) n in record {
           pushes =
               ap (λ b. cond b None (option_map (λ rest. (name, slot) ∷ rest) (room_beside slot_mark budget share (name, slot) (without_first (has_name slot_mark name) es)))) (flip (stands first_named) way)
               ∙ ap (λ x. option_map (λ rest. (name, slot) ∷ rest) (room_beside slot_mark budget share (name, slot) x)) (sym (remove_without (same_name name) es))
@@ -299,15 +299,15 @@ module _ {K V : Type 0} where
               let a = o k in
               let b = r.plan_is.owned_weights k in
               let d = sum_by-cons (λ e. cond (nat_eq (slot_mark e).owner k) (slot_mark e).weight 0) (name, slot) (left plan') in
-              let f = ap (owned slot_mark k) l in
+              let f = ap (owner_weight slot_mark k) l in
               omega (arith, a, b, d, f);
           others = subst (λ ns. AreOthers name ns.items) (sym n) r.others;
         }
 
-    pub no_way : not (stands first_named) ≡ false → pushed slot_mark budget share (name, slot) es ≡ None
+    pub no_way : not (stands first_named) ≡ false → entries_after_push slot_mark budget share (name, slot) es ≡ None
     no_way h = ap (λ b. cond b None (option_map (λ rest. (name, slot) ∷ rest) (room_beside slot_mark budget share (name, slot) (without_first (has_name slot_mark name) es)))) (flop (stands first_named) h)
 
-    pub no_room : not (stands first_named) ≡ true → room_beside slot_mark budget share (name, slot) (remove_entry (same_name name) es) ≡ None → pushed slot_mark budget share (name, slot) es ≡ None
+    pub no_room : not (stands first_named) ≡ true → room_beside slot_mark budget share (name, slot) (remove_entry (same_name name) es) ≡ None → entries_after_push slot_mark budget share (name, slot) es ≡ None
     no_room way h =
         ap (λ b. cond b None (option_map (λ rest. (name, slot) ∷ rest) (room_beside slot_mark budget share (name, slot) (without_first (has_name slot_mark name) es)))) (flip (stands first_named) way)
         ∙ ap (λ x. option_map (λ rest. (name, slot) ∷ rest) (room_beside slot_mark budget share (name, slot) x)) (sym (remove_without (same_name name) es))

@@ -5,7 +5,7 @@ use Rattle.std.specs.Option.{option_map_or}
 use Rattle.std.specs.Map.{lookup, remove_entry}
 use Rattle.std.proofs.lemmas.Option.{same_Some}
 use Rattle.std.proofs.lemmas.Bool.Decides.{nat_tests}
-use Rattle.memo_core.specs.Memo.{first_with, without_first, same_name, is_free, owned}
+use Rattle.memo_core.specs.Memo.{first_with, without_first, same_name, is_free, owner_weight}
 use Rattle.memo_core.specs.Fields.{weight_at}
 use Rattle.memo_core.specs.Plans.{slot_mark, IsPlan, frees_by}
 use Rattle.memo_core.specs.declared.plan.Plan.{Plan}
@@ -56,7 +56,7 @@ module _ {K V : Type 0} (name : List ℕ) (es : List (List ℕ × Slot K V)) whe
   way_some share caller weight slot plan b h p f =
       let e = one_named (same_name name) es slot h in
       f ∙ ap (λ n. nat_eq slot.owner caller || (nat_eq share 0 || nat_lt share n)) (p.owned_weights slot.owner)
-      ∙ ap (λ (s : Slot K V). nat_eq s.owner caller || (nat_eq share 0 || nat_lt share (owned slot_mark s.owner es))) (sym e.2)
+      ∙ ap (λ (s : Slot K V). nat_eq s.owner caller || (nat_eq share 0 || nat_lt share (owner_weight slot_mark s.owner es))) (sym e.2)
       ∙ not_not (is_free slot_mark share caller es e.0) ∙ ap (way share caller) (sym e.1)
 
   nat_refl : (n : ℕ) → nat_eq n n ≡ true

@@ -2,7 +2,7 @@
 use Rattle.std.specs.Prelude.{ℕ, suc, ◌^◌, ◌-◌, Bool, true, false, List, [], ◌∷◌, nat_eq, map, Option, Some, None, option_map, is_some, if◌then◌else◌}
 use Rattle.std.specs.Arc.{arc_value}
 use Rattle.std.specs.Map.{lookup}
-use Rattle.memo_core.specs.Memo.{Entry, Item, Said, Probe_said, Fill_said, same_name}
+use Rattle.memo_core.specs.Memo.{Entry, Item, Answer, Probe_answer, Fill_answer, same_name}
 use Rattle.memo_core.specs.declared.slots.Slot.{Slot}
 use Rattle.memo_core.specs.declared.owners.OwnerWeight.{OwnerWeight}
 use Rattle.memo_core.specs.declared.journal.JournalItem.{JournalItem}
@@ -12,9 +12,9 @@ use Rattle.memo_core.specs.declared.memo.Probe.{Probe}
 use Rattle.memo_core.specs.declared.memo.Probe.TheVariants.{Hit, Miss}
 
 -- what an item of the journal says
-abbrev pub said_of : Did → Said
-said_of (Probed hit) = Probe_said hit
-said_of (Filled weight kept evicted) = Fill_said weight kept evicted
+abbrev pub answer_of : Did → Answer
+answer_of (Probed hit) = Probe_answer hit
+answer_of (Filled weight kept evicted) = Fill_answer weight kept evicted
 
 -- what the rows say that an owner's entries weigh: the first row counts
 abbrev pub weight_at : ℕ → List OwnerWeight → ℕ
@@ -33,7 +33,10 @@ no_bound = 2 ^ 64 - 1
 module _ {K V : Type 0} where
   -- the entry that a slot of the cache stands for
   abbrev pub entry_of : List ℕ × Slot K V → Entry K V
-  entry_of e = record { mark = record { name = e.0; key = arc_value e.1.key; weight = e.1.weight; owner = e.1.owner }; value = arc_value e.1.value }
+  entry_of e = record {
+    mark = record { name = e.0; key = arc_value e.1.key; weight = e.1.weight; owner = e.1.owner };
+    value = arc_value e.1.value;
+  }
 
   -- the entries that the cache stands for
   abbrev pub entries_of : List (List ℕ × Slot K V) → List (Entry K V)
@@ -42,7 +45,7 @@ module _ {K V : Type 0} where
 module _ {K : Type 0} where
   -- the item of the journal as contracts see it
   abbrev pub item_of : JournalItem K → Item K
-  item_of i = record { caller = i.caller; key = arc_value i.key; said = said_of i.did }
+  item_of i = record { caller = i.caller; key = arc_value i.key; answer = answer_of i.did }
 
   -- the journal as contracts see it
   abbrev pub items_of : List (JournalItem K) → List (Item K)

@@ -34,8 +34,8 @@ module _ {E : Type 0} where
 
   -- What a fill has to place: the entries that were there and, where it is kept and its key is not held,
   -- the new one.
-  abbrev pub placed_where : (held kept : Bool) → E → List E → List E
-  placed_where held kept new es = if kept && not held then new ∷ es else es
+  abbrev pub entries_to_place_where : (held kept : Bool) → E → List E → List E
+  entries_to_place_where held kept new es = if kept && not held then new ∷ es else es
 
 -- how many entries there may be
 abbrev pub entries_max : ℕ
@@ -55,19 +55,19 @@ pub record Entry (K V : Type 0) : Type 0 where
 
 -- what one call said: a probe, whether it was a hit; a fill, the weight that was offered, whether it
 -- was kept, and how many entries were dropped
-pub data Said : Type 0 where
-  Probe_said : (hit : Bool) → Said
-  Fill_said : (weight : ℕ) → (kept : Bool) → (evicted : ℕ) → Said
+pub data Answer : Type 0 where
+  Probe_answer : (hit : Bool) → Answer
+  Fill_answer : (weight : ℕ) → (kept : Bool) → (evicted : ℕ) → Answer
 
 -- an item of a journal: whose call it was, of which key, and what it said
 pub record Item (K : Type 0) : Type 0 where
   pub caller : ℕ
   pub key : K
-  pub said : Said
+  pub answer : Answer
 
 -- an item by its parts
-abbrev pub item : {K : Type 0} → ℕ → K → Said → Item K
-item caller key said = record { caller = caller; key = key; said = said }
+abbrev pub item : {K : Type 0} → ℕ → K → Answer → Item K
+item caller key answer = record { caller = caller; key = key; answer = answer }
 
 -- whether two names are equal, byte by byte
 abbrev pub same_name : List ℕ → List ℕ → Bool
@@ -89,13 +89,13 @@ module _ {K E : Type 0} (mark : E → Mark K) where
   has_name name e = same_name name (mark e).name
 
   -- what the entries of an owner weigh together
-  abbrev pub owned : ℕ → List E → ℕ
-  owned owner es = sum_by (λ e. if nat_eq (mark e).owner owner then (mark e).weight else 0) es
+  abbrev pub owner_weight : ℕ → List E → ℕ
+  owner_weight owner es = sum_by (λ e. if nat_eq (mark e).owner owner then (mark e).weight else 0) es
 
   -- Whether one of these entries is free to a caller: it is the caller's own, or nothing is reserved, or
   -- its owner's entries weigh more than the share together.
   abbrev pub is_free : ℕ → ℕ → List E → E → Bool
-  is_free share caller es e = nat_eq (mark e).owner caller || (nat_eq share 0 || nat_lt share (owned (mark e).owner es))
+  is_free share caller es e = nat_eq (mark e).owner caller || (nat_eq share 0 || nat_lt share (owner_weight (mark e).owner es))
 
   -- each entry of this owner stands in the other list too
   abbrev pub StandIn : ℕ → List E → List E → Type 0
@@ -113,7 +113,8 @@ module _ {K E : Type 0} (mark : E → Mark K) (budget share : ℕ) where
   room_within zero new es = None
   room_within (suc n) new es =
       if fits_in mark budget (new ∷ es) then Some es
-      else if is_some (first_with (is_free mark share (mark new).owner es) es) then room_within n new (without_last (is_free mark share (mark new).owner es) es)
+      else if is_some (first_with (is_free mark share (mark new).owner es) es) then
+      room_within n new (without_last (is_free mark share (mark new).owner es) es)
       else None
 
   -- the same, where all of them may be dropped
@@ -122,37 +123,43 @@ module _ {K E : Type 0} (mark : E → Mark K) (budget share : ℕ) where
 
   -- The entries after a fill of a key that is not held, or none where it is not kept: an entry of the same
   -- name goes, if it is free, and the new one stands in front of those that are left beside it.
-  abbrev pub pushed : E → List E → Option (List E)
-  pushed new es =
-      if option_map_or (λ e. not (is_free mark share (mark new).owner es e)) (first_with (has_name mark (mark new).name) es) false then None
+  abbrev pub entries_after_push : E → List E → Option (List E)
+  entries_after_push new es =
+      if option_map_or (λ e. not (is_free mark share (mark new).owner es e))
+      (first_with (has_name mark (mark new).name) es) false then None
       else option_map (λ rest. new ∷ rest) (room_beside new (without_first (has_name mark (mark new).name) es))
 
   -- The entries after a fill, or none where it is not kept: one above the budget is not; where the key is
   -- held, they are those with its entry in front; and another key is pushed.
-  abbrev pub offered_where : (held : Bool) → (in_front : List E) → E → List E → Option (List E)
-  offered_where held in_front new es =
+  abbrev pub entries_after_offer_where : (held : Bool) → (in_front : List E) → E → List E → Option (List E)
+  entries_after_offer_where held in_front new es =
       if nat_lt budget (mark new).weight then None
       else if held then Some in_front
-      else pushed new es
+      else entries_after_push new es
 
 module _ {K E : Type 0} (same : K → K → Bool) (mark : E → Mark K) (budget share : ℕ) where
   -- the entries after a fill, or none where it is not kept: a held key comes to the front as it is
-  abbrev pub offered : E → List E → Option (List E)
-  offered new es = offered_where mark budget share (holds same mark (mark new).key es) (brought_to_front (has_key same mark (mark new).key) es) new es
+  abbrev pub entries_after_offer : E → List E → Option (List E)
+  entries_after_offer new es =
+      entries_after_offer_where mark budget share (holds same mark (mark new).key es)
+      (brought_to_front (has_key same mark (mark new).key) es) new es
 
   -- the entries after a fill: one that is not kept changes nothing
-  abbrev pub filled : E → List E → List E
-  filled new es = option_map_or (λ kept. kept) (offered new es) es
+  abbrev pub entries_after_fill : E → List E → List E
+  entries_after_fill new es = option_map_or (λ kept. kept) (entries_after_offer new es) es
 
   -- what a fill says: each entry that a kept fill drops counts as evicted
-  abbrev pub fill_said : E → List E → Said
-  fill_said new es =
-      option_map_or (λ kept. Fill_said (mark new).weight true (if holds same mark (mark new).key es then 0 else length es + 1 - length kept)) (offered new es)
-      (Fill_said (mark new).weight false 0)
+  abbrev pub fill_answer : E → List E → Answer
+  fill_answer new es =
+      option_map_or
+      (λ kept. Fill_answer (mark new).weight true
+      (if holds same mark (mark new).key es then 0 else length es + 1 - length kept))
+      (entries_after_offer new es)
+      (Fill_answer (mark new).weight false 0)
 
   -- the entries that a fill has to place
-  abbrev pub placed : E → List E → List E
-  placed new es = placed_where (holds same mark (mark new).key es) (is_some (offered new es)) new es
+  abbrev pub entries_to_place : E → List E → List E
+  entries_to_place new es = entries_to_place_where (holds same mark (mark new).key es) (is_some (entries_after_offer new es)) new es
 
 -- a mark is the mark of itself
 abbrev pub itself : {K : Type 0} → Mark K → Mark K
@@ -164,62 +171,67 @@ mark_of name_of caller key weight = record { name = name_of key; key = key; weig
 
 module _ {K : Type 0} (same : K → K → Bool) (name_of : K → List ℕ) (budget share : ℕ) where
   -- the entries after a call
-  abbrev pub after_said : ℕ → K → Said → List (Mark K) → List (Mark K)
-  after_said caller key (Probe_said hit) es = brought_to_front (has_key same itself key) es
-  after_said caller key (Fill_said weight kept evicted) es = filled same itself budget share (mark_of name_of caller key weight) es
+  abbrev pub entries_after_call : ℕ → K → Answer → List (Mark K) → List (Mark K)
+  entries_after_call caller key (Probe_answer hit) es = brought_to_front (has_key same itself key) es
+  entries_after_call caller key (Fill_answer weight kept evicted) es =
+      entries_after_fill same itself budget share (mark_of name_of caller key weight) es
 
   -- what the sequential memo says at a call
-  abbrev pub says_at : ℕ → K → Said → List (Mark K) → Said
-  says_at caller key (Probe_said hit) es = Probe_said (holds same itself key es)
-  says_at caller key (Fill_said weight kept evicted) es = fill_said same itself budget share (mark_of name_of caller key weight) es
+  abbrev pub answer_at : ℕ → K → Answer → List (Mark K) → Answer
+  answer_at caller key (Probe_answer hit) es = Probe_answer (holds same itself key es)
+  answer_at caller key (Fill_answer weight kept evicted) es =
+      fill_answer same itself budget share (mark_of name_of caller key weight) es
 
   -- the entries after these items
   abbrev pub replay : List (Mark K) → List (Item K) → List (Mark K)
   replay es [] = es
-  replay es (i ∷ is) = replay (after_said i.caller i.key i.said es) is
+  replay es (i ∷ is) = replay (entries_after_call i.caller i.key i.answer es) is
 
   -- each item says what the sequential memo says there
   abbrev pub IsLegal : List (Mark K) → List (Item K) → Type 0
   IsLegal es [] = Unit {0}
-  IsLegal es (i ∷ is) = (i.said ≡ says_at i.caller i.key i.said es) × IsLegal (after_said i.caller i.key i.said es) is
+  IsLegal es (i ∷ is) =
+      (i.answer ≡ answer_at i.caller i.key i.answer es)
+      × IsLegal (entries_after_call i.caller i.key i.answer es) is
 
   -- at each item, where the entries of another caller weigh at most the share before it, all of them stand
   -- after it
   abbrev pub KeepsShares : List (Mark K) → List (Item K) → Type 0
   KeepsShares es [] = Unit {0}
   KeepsShares es (i ∷ is) =
-      ((owner : ℕ) → owner ≢ i.caller → owned itself owner es ≤ share → StandIn itself owner es (after_said i.caller i.key i.said es))
-      × KeepsShares (after_said i.caller i.key i.said es) is
+      ((owner : ℕ) → owner ≢ i.caller → owner_weight itself owner es ≤ share →
+      StandIn itself owner es (entries_after_call i.caller i.key i.answer es))
+      × KeepsShares (entries_after_call i.caller i.key i.answer es) is
 
 -- What the items of a journal count, all together, where each counts by what it said. Every count over a
 -- journal is this one: hits, misses, fills that were kept or not, and entries that were dropped.
-abbrev pub count_in : {K : Type 0} → (Said → ℕ) → List (Item K) → ℕ
-count_in by items = sum_by (λ i. by i.said) items
+abbrev pub count_in : {K : Type 0} → (Answer → ℕ) → List (Item K) → ℕ
+count_in by items = sum_by (λ i. by i.answer) items
 
 -- a probe that was a hit counts 1
-abbrev pub hit_by : Said → ℕ
-hit_by (Probe_said hit) = if hit then 1 else 0
-hit_by (Fill_said weight kept evicted) = 0
+abbrev pub hit_by : Answer → ℕ
+hit_by (Probe_answer hit) = if hit then 1 else 0
+hit_by (Fill_answer weight kept evicted) = 0
 
 -- a probe that was a miss counts 1
-abbrev pub missed_by : Said → ℕ
-missed_by (Probe_said hit) = if hit then 0 else 1
-missed_by (Fill_said weight kept evicted) = 0
+abbrev pub missed_by : Answer → ℕ
+missed_by (Probe_answer hit) = if hit then 0 else 1
+missed_by (Fill_answer weight kept evicted) = 0
 
 -- a fill that was kept counts 1
-abbrev pub kept_by : Said → ℕ
-kept_by (Probe_said hit) = 0
-kept_by (Fill_said weight kept evicted) = if kept then 1 else 0
+abbrev pub kept_by : Answer → ℕ
+kept_by (Probe_answer hit) = 0
+kept_by (Fill_answer weight kept evicted) = if kept then 1 else 0
 
 -- a fill that was not kept counts 1
-abbrev pub heavy_by : Said → ℕ
-heavy_by (Probe_said hit) = 0
-heavy_by (Fill_said weight kept evicted) = if kept then 0 else 1
+abbrev pub heavy_by : Answer → ℕ
+heavy_by (Probe_answer hit) = 0
+heavy_by (Fill_answer weight kept evicted) = if kept then 0 else 1
 
 -- a call counts the entries that it dropped
-abbrev pub evicted_by : Said → ℕ
-evicted_by (Probe_said hit) = 0
-evicted_by (Fill_said weight kept evicted) = evicted
+abbrev pub evicted_by : Answer → ℕ
+evicted_by (Probe_answer hit) = 0
+evicted_by (Fill_answer weight kept evicted) = evicted
 
 -- how many entries the calls of a journal dropped
 abbrev pub evicted_in : {K : Type 0} → List (Item K) → ℕ

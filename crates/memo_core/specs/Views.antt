@@ -1,7 +1,7 @@
 -- What contracts see of a memo, and its steps.
 use Rattle.std.specs.Prelude.{◌≡◌, ℕ, ◌-◌, ◌≤◌, Bool, List, [], ◌∷◌, ◌++◌, map, length, sum_by, is_some}
 use Rattle.std.specs.List.{AllByRecursion, IsDistinct}
-use Rattle.memo_core.specs.Memo.{Entry, Item, Mark, Said, item, same_name, Probe_said, Fill_said, brought_to_front, holds, has_key, offered, placed, DropsFrom, filled, fill_said, replay, IsLegal, entries_max, mark_of}
+use Rattle.memo_core.specs.Memo.{Entry, Item, Mark, Answer, item, same_name, Probe_answer, Fill_answer, brought_to_front, holds, has_key, entries_after_offer, entries_to_place, DropsFrom, entries_after_fill, fill_answer, replay, IsLegal, entries_max, mark_of}
 
 -- what contracts see of a memo
 pub record Core (K V : Type 0) : Type 0 where
@@ -29,9 +29,9 @@ module _ {K V : Type 0} where
   new_entry name_of caller key value weight = record { mark = mark_of name_of caller key weight; value = value }
 
   -- what a call may say of a key: a fill offers the weight of some value that fits the key
-  abbrev pub MaySay : (K → V → Type 0) → (V → ℕ) → K → Said → Type 0
-  MaySay fits weighs key (Probe_said hit) = Unit {0}
-  MaySay fits weighs key (Fill_said weight kept evicted) = (value : V) × fits key value × (weight ≡ weighs value)
+  abbrev pub MaySay : (K → V → Type 0) → (V → ℕ) → K → Answer → Type 0
+  MaySay fits weighs key (Probe_answer hit) = Unit {0}
+  MaySay fits weighs key (Fill_answer weight kept evicted) = (value : V) × fits key value × (weight ≡ weighs value)
 
   module _ (same : K → K → Bool) (name_of : K → List ℕ) where
     -- what every memo keeps: held values fit their keys and weigh what their entries say; names are
@@ -47,26 +47,30 @@ module _ {K V : Type 0} where
       pub few : length core.entries ≤ entries_max
       pub legal : IsLegal same name_of core.budget core.share [] core.journal
       pub replayed : marks core.entries ≡ replay same name_of core.budget core.share [] core.journal
-      pub offers : AllByRecursion (λ i. MaySay fits weighs i.key i.said) core.journal
+      pub offers : AllByRecursion (λ i. MaySay fits weighs i.key i.answer) core.journal
 
     -- whether a fill is kept
     abbrev pub keeps : ℕ → K → V → ℕ → Core K V → Bool
-    keeps caller key value weight core = is_some (offered same mark_in core.budget core.share (new_entry name_of caller key value weight) core.entries)
+    keeps caller key value weight core =
+        is_some (entries_after_offer same mark_in core.budget core.share (new_entry name_of caller key value weight) core.entries)
 
     -- A fill drops exactly what it finds no place for: what it has to place are, in some order, the
     -- entries that stand there after it and those that it dropped.
     abbrev pub DropsTheRest : ℕ → K → V → ℕ → Core K V → Core K V → Type 0
     DropsTheRest caller key value weight core core' =
-        DropsFrom (placed same mark_in core.budget core.share (new_entry name_of caller key value weight) core.entries) core.dropped core'.dropped core'.entries
+        DropsFrom
+        (entries_to_place same mark_in core.budget core.share (new_entry name_of caller key value weight) core.entries)
+        core.dropped core'.dropped core'.entries
 
     -- the memo after a fill that found memory, but for the entries that it dropped
     abbrev pub after_fill : ℕ → K → V → ℕ → Core K V → Core K V
     after_fill caller key value weight core = record {
-      entries = filled same mark_in core.budget core.share (new_entry name_of caller key value weight) core.entries;
+      entries = entries_after_fill same mark_in core.budget core.share (new_entry name_of caller key value weight) core.entries;
       dropped = core.dropped;
       budget = core.budget;
       share = core.share;
-      journal = core.journal ++ item caller key (fill_said same mark_in core.budget core.share (new_entry name_of caller key value weight) core.entries) ∷ [];
+      journal = core.journal ++ item caller key
+          (fill_answer same mark_in core.budget core.share (new_entry name_of caller key value weight) core.entries) ∷ [];
       spare = core.spare - 1;
     }
 
@@ -78,6 +82,6 @@ module _ {K V : Type 0} where
       dropped = core.dropped;
       budget = core.budget;
       share = core.share;
-      journal = core.journal ++ item caller key (Probe_said (holds same mark_in key core.entries)) ∷ [];
+      journal = core.journal ++ item caller key (Probe_answer (holds same mark_in key core.entries)) ∷ [];
       spare = core.spare - 1;
     }

@@ -1,7 +1,7 @@
 ghost use Rattle.std.specs.Prelude.{◌≡◌, ℕ, ◌+◌, List, [], ◌∷◌, ◌++◌, is_some};
 ghost use Rattle.std.specs.Option.{unwrap_or};
 ghost use Rattle.std.specs.Arc.{arc_value};
-ghost use Rattle.memo_core.specs.Memo.{Item, Said, item, Probe_said, Fill_said, count_in};
+ghost use Rattle.memo_core.specs.Memo.{Item, Answer, item, Probe_answer, Fill_answer, count_in};
 ghost use Rattle.memo_core.specs.Fields.{item_of};
 
 use std::sync::Arc;
@@ -30,17 +30,17 @@ pub struct JournalItem<K> {
 }
 
 /// The item of a probe.
-pub fn probed<K>(caller: u32, key: Arc<K>, hit: bool) -> JournalItem<K>
-    ensures { item_of result ≡ item caller (arc_value key) (Probe_said hit) }
+pub fn probe_item<K>(caller: u32, key: Arc<K>, hit: bool) -> JournalItem<K>
+    ensures { item_of result ≡ item caller (arc_value key) (Probe_answer hit) }
 {
     let did = Did::Probed { hit };
     JournalItem { caller, key, did }
 }
 
 /// The item of a fill that was kept and dropped so many entries, or was not kept.
-pub fn filled<K>(caller: u32, key: Arc<K>, weight: u64, offered: Option<u32>) -> JournalItem<K>
+pub fn fill_item<K>(caller: u32, key: Arc<K>, weight: u64, offered: Option<u32>) -> JournalItem<K>
     ensures { item_of result ≡ item caller (arc_value key)
-        (Fill_said weight (is_some offered) (unwrap_or offered 0)) }
+        (Fill_answer weight (is_some offered) (unwrap_or offered 0)) }
 {
     let did = Did::Filled {
         weight,
@@ -54,6 +54,6 @@ pub fn filled<K>(caller: u32, key: Arc<K>, weight: u64, offered: Option<u32>) ->
 /// counts.
 #[tactic(auto, using(crate::proofs::Journals::count_more))]
 pub fn counts_one_more<K: Drop>()
-    ensures { (by : Said → ℕ) → (items : List (Item K)) → (more : Item K) →
-        count_in by (items ++ more ∷ []) ≡ count_in by items + by more.said }
+    ensures { (by : Answer → ℕ) → (items : List (Item K)) → (more : Item K) →
+        count_in by (items ++ more ∷ []) ≡ count_in by items + by more.answer }
 {}

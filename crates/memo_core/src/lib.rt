@@ -11,7 +11,7 @@ mod owners;
 mod plan;
 mod slots;
 
-pub use dropped::Dropped;
+pub use dropped::DroppedEntries;
 pub use fit::{Fit, NAME_BYTES, Name, Namer};
 pub use journal::{Did, JournalItem, counts_one_more};
 pub use memo::{Fill, MemoCore, Probe};

@@ -2,12 +2,12 @@ ghost use Rattle.std.specs.Prelude.{◌≡◌, true, false, option_map, is_some,
 ghost use Rattle.std.specs.Arc.{arc_value};
 ghost use Rattle.memo_core.specs.Fields.{value_in, is_hit};
 
-use crate::dropped::Dropped;
+use crate::dropped::DroppedEntries;
 use crate::fit::{Fit, Namer};
-use crate::journal::{JournalItem, filled, probed};
+use crate::journal::{JournalItem, fill_item, probe_item};
 use crate::owners::weight_in;
 use crate::plan::Limits;
-use crate::slots::{Gone, Shelf, Slot, offer, touch, value_of};
+use crate::slots::{GoneSlots, Shelf, Slot, offer, touch, value_of};
 use lru::LruCache;
 use std::alloc::Global;
 use std::marker::Model;
@@ -46,7 +46,7 @@ pub struct MemoCore<F: Fit, N: Namer<F::Key>> {
     namer: N,
     limits: Limits,
     shelf: Shelf<F::Key, F::Value>,
-    gone: Gone<F::Key, F::Value>,
+    gone: GoneSlots<F::Key, F::Value>,
     evicted: u64,
     journal: Vec<JournalItem<F::Key>>,
 }
@@ -80,10 +80,13 @@ impl<F: Fit, N: Namer<F::Key>> Model for MemoCore<F, N> {
 }
 
 impl<F: Fit, N: Namer<F::Key>> MemoCore<F, N> {
-    ghost use Rattle.std.specs.Prelude.{◌≡◌, ◌≢◌, ℕ, ◌≤◌, ◌<◌, [], ◌∷◌, ◌++◌, IfOk, OnOk, OnErr, option_map, IfSome, sum_by, true, false};
+    ghost use Rattle.std.specs.Prelude.{◌≡◌, ◌≢◌, ℕ, ◌≤◌, ◌<◌, [], ◌∷◌, ◌++◌, IfOk, OnOk, OnErr};
+    ghost use Rattle.std.specs.Prelude.{option_map, IfSome, IfNone, sum_by, true};
     ghost use Rattle.std.specs.Arc.{arc_value};
-    ghost use Rattle.memo_core.specs.Views.{IsSound, after_probe, after_fill, DropsTheRest, keeps, mark_in};
-    ghost use Rattle.memo_core.specs.Memo.{first_with, has_key, item, owned, KeepsShares, StandIn, Probe_said, Fill_said, evicted_in};
+    ghost use Rattle.memo_core.specs.Views.{IsSound, after_probe, mark_in};
+    ghost use Rattle.memo_core.specs.Fills.{IsFilled, TellsIfKept, FillsBy};
+    ghost use Rattle.memo_core.specs.Memo.{first_with, has_key, item, owner_weight, KeepsShares};
+    ghost use Rattle.memo_core.specs.Memo.{StandIn, Probe_answer, evicted_in};
     ghost use Rattle.memo_core.specs.Fields.{items_of};
 
     /// A memo without entries, whose journal is empty.
@@ -132,7 +135,7 @@ impl<F: Fit, N: Namer<F::Key>> MemoCore<F, N> {
 
     /// The sum of the weights of this owner's entries.
     pub fn weight_of(&self, owner: u32) -> u64
-        ensures { result ≡ owned mark_in owner self.now.entries }
+        ensures { result ≡ owner_weight mark_in owner self.now.entries }
     {
         weight_in(self.shelf.owners.as_slice(), owner)
     }
@@ -164,7 +167,7 @@ impl<F: Fit, N: Namer<F::Key>> MemoCore<F, N> {
             (first_with (has_key F.same_key mark_in (arc_value key.now)) self.old.entries)) }
         ensures fits { IfOk result (λ p. IfSome (value_in p) (F.fits (arc_value key.now))) }
         ensures journal { IfOk result (λ p. self.new.journal ≡
-            self.old.journal ++ item caller (arc_value key.now) (Probe_said (is_hit p)) ∷ []) }
+            self.old.journal ++ item caller (arc_value key.now) (Probe_answer (is_hit p)) ∷ []) }
         ensures core { OnOk result (self.new ≡
             after_probe F.same_key caller (arc_value key.now) self.old) }
         ensures stand { (owner : ℕ) → StandIn mark_in owner self.old.entries self.new.entries }
@@ -175,9 +178,38 @@ impl<F: Fit, N: Namer<F::Key>> MemoCore<F, N> {
         let key = Arc::try_clone(key)?;
         let hit = found.is_some();
         touch(&mut self.shelf.cache, &name, &found);
-        let item = probed(caller, key, hit);
+        let item = probe_item(caller, key, hit);
         self.journal.push_reserved(item);
         Ok(answer(found))
+    }
+
+    /// The value that is held for this very key, as a probe that is a hit. Where no entry has the key, nothing
+    /// is asked and nothing changes. `NoMemory` comes as at `probe`.
+    pub fn hit(&mut self, caller: u32, key: &Arc<F::Key>) -> Result<Option<Arc<F::Value>>, NoMemory>
+        requires { 0 < self.old.spare }
+        ensures found { IfOk result (λ r. option_map arc_value r ≡
+            option_map (λ e. e.value)
+            (first_with (has_key F.same_key mark_in (arc_value key.now)) self.old.entries)) }
+        ensures fits { IfOk result (λ r. IfSome r (λ value.
+            F.fits (arc_value key.now) (arc_value value))) }
+        ensures journal { IfOk result (λ r. IfSome r (λ value. self.new.journal ≡
+            self.old.journal ++ item caller (arc_value key.now) (Probe_answer true) ∷ [])) }
+        ensures core { IfOk result (λ r. IfSome r (λ value. self.new ≡
+            after_probe F.same_key caller (arc_value key.now) self.old)) }
+        ensures none { IfOk result (λ r. IfNone r (self.new ≡ self.old)) }
+        ensures err { OnErr result (self.new ≡ self.old) }
+    {
+        let name = self.namer.name(&**key);
+        let held = value_of(&self.fit, &self.shelf.cache, &name, &**key)?;
+        let is_held = held.is_some();
+        if !is_held {
+            return Ok(None);
+        }
+        let noted = Arc::try_clone(key)?;
+        touch(&mut self.shelf.cache, &name, &held);
+        self.journal
+            .push_reserved(probe_item(caller, noted, is_held));
+        Ok(held)
     }
 
     /// Offers a value for a key. A key that is held keeps its value and its owner. Else an entry of the
@@ -196,24 +228,15 @@ impl<F: Fit, N: Namer<F::Key>> MemoCore<F, N> {
         requires room { 0 < self.old.spare }
         requires fits { F.fits (arc_value key.now) (arc_value value) }
         requires weight { weight ≡ F.weighs (arc_value value) }
-        ensures kept { result ≡ Fill.Kept → keeps F.same_key N.name_of caller
-            (arc_value key.now) (arc_value value) weight self.old ≡ true }
-        ensures heavy { result ≡ Fill.TooHeavy → keeps F.same_key N.name_of caller
-            (arc_value key.now) (arc_value value) weight self.old ≡ false }
-        ensures heavy_entries { result ≡ Fill.TooHeavy → self.new.entries ≡ self.old.entries }
-        ensures journal_kept { result ≡ Fill.Kept → (evicted : ℕ) × (self.new.journal ≡
-            self.old.journal ++ item caller (arc_value key.now) (Fill_said weight true evicted) ∷ []) }
-        ensures journal_heavy { result ≡ Fill.TooHeavy → self.new.journal ≡
-            self.old.journal ++ item caller (arc_value key.now) (Fill_said weight false 0) ∷ [] }
-        ensures core { result ≢ Fill.NoMemory → self.new ≡
-            record (after_fill F.same_key N.name_of caller (arc_value key.now) (arc_value value) weight
-            self.old) { dropped = self.new.dropped } }
-        ensures dropped { result ≢ Fill.NoMemory → DropsTheRest F.same_key N.name_of caller
-            (arc_value key.now) (arc_value value) weight self.old self.new }
+        ensures answer { TellsIfKept F.same_key N.name_of caller
+            (arc_value key.now) (arc_value value) weight result self.old self.new }
+        ensures journal { IsFilled caller (arc_value key.now) weight result
+            self.old.journal self.new.journal }
+        ensures core { FillsBy F.same_key N.name_of caller
+            (arc_value key.now) (arc_value value) weight result self.old self.new }
         ensures reserved { 0 < self.old.share → (owner : ℕ) → owner ≢ caller →
-            owned mark_in owner self.old.entries ≤ self.old.share →
+            owner_weight mark_in owner self.old.entries ≤ self.old.share →
             StandIn mark_in owner self.old.entries self.new.entries }
-        ensures none { result ≡ Fill.NoMemory → self.new ≡ self.old }
     {
         let Ok(noted) = Arc::try_clone(key) else {
             return Fill::NoMemory;
@@ -240,18 +263,18 @@ impl<F: Fit, N: Namer<F::Key>> MemoCore<F, N> {
             return Fill::NoMemory;
         };
         self.journal
-            .push_reserved(filled(caller, noted, weight, offered));
+            .push_reserved(fill_item(caller, noted, weight, offered));
         self.evicted += u64::from(offered.unwrap_or(0));
         kept_or_not(offered)
     }
 
     /// Hands out what the fills dropped since it was last taken, so that the caller frees it where no
     /// lock is held.
-    pub fn take_dropped(&mut self, alloc: Global) -> Dropped<F::Key, F::Value>
+    pub fn take_dropped(&mut self, alloc: Global) -> DroppedEntries<F::Key, F::Value>
         ensures gives { result ≡ self.old.dropped }
         ensures rest { self.new ≡ record self.old { dropped = [] } }
     {
-        Dropped::new(mem::replace(&mut self.gone, Vec::new(alloc)))
+        DroppedEntries::new(mem::replace(&mut self.gone, Vec::new(alloc)))
     }
 }
 

@@ -37,7 +37,7 @@ fn place_in(rows: &[OwnerWeight], owner: u32) -> Option<usize>
 }
 
 /// The same rows once more.
-pub fn copied(alloc: Global, rows: &[OwnerWeight]) -> Result<Vec<OwnerWeight>, NoMemory>
+pub fn copy_of(alloc: Global, rows: &[OwnerWeight]) -> Result<Vec<OwnerWeight>, NoMemory>
     ensures { IfOk result (λ v. v.items ≡ rows.now) }
 {
     let mut copy = Vec::new(alloc);
@@ -48,7 +48,8 @@ pub fn copied(alloc: Global, rows: &[OwnerWeight]) -> Result<Vec<OwnerWeight>, N
 /// An owner loses an entry of this weight.
 pub fn take_from(rows: &mut Vec<OwnerWeight>, owner: u32, weight: u64)
     requires { weight ≤ weight_at owner rows.old.items }
-    ensures { (other : ℕ) → weight_at other rows.new.items + (if nat_eq owner other then weight else 0)
+    ensures { (other : ℕ) →
+        weight_at other rows.new.items + (if nat_eq owner other then weight else 0)
         ≡ weight_at other rows.old.items }
 {
     if let Some(place) = place_in(rows.as_slice(), owner) {

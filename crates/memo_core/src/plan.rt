@@ -1,12 +1,12 @@
 ghost use Rattle.std.specs.Prelude.{◌≡◌, ℕ, ◌+◌, ◌<◌, ◌≤◌, not, IfOk, OnOk, true, false, if◌then◌else◌, nat_eq, [], None, MatchOption};
 ghost use Rattle.std.specs.Option.{option_map_or};
 ghost use Rattle.std.specs.Map.{remove_entry};
-ghost use Rattle.memo_core.specs.Memo.{same_name, first_with, has_name, is_free, room_beside, pushed};
+ghost use Rattle.memo_core.specs.Memo.{same_name, first_with, has_name, is_free, room_beside, entries_after_push};
 ghost use Rattle.memo_core.specs.Fields.{weight_at};
 ghost use Rattle.memo_core.specs.Plans.{slot_mark, IsShelf, IsPlan, IsWithout, HasRoom, IsPlanFor, frees_by};
 
 use crate::fit::Name;
-use crate::owners::{OwnerWeight, add_to, copied, take_from, weight_in};
+use crate::owners::{OwnerWeight, add_to, copy_of, take_from, weight_in};
 use crate::slots::{ENTRIES_MAX, Shelf, Slot, Slots};
 use std::alloc::Global;
 use text_place::NoMemory;
@@ -43,7 +43,8 @@ pub fn plan_for<K: Drop, V: Drop>(
     requires shelf { IsShelf limits.budget shelf.now }
     requires light { slot.now.weight ≤ limits.budget }
     ensures { IfOk result (λ r. MatchOption r
-        (pushed slot_mark limits.budget limits.share (name.now, slot.now) shelf.now.cache.entries ≡ None)
+        (entries_after_push slot_mark limits.budget limits.share (name.now, slot.now)
+        shelf.now.cache.entries ≡ None)
         (IsPlanFor limits.budget limits.share name.now slot.now shelf.now.cache.entries)) }
 {
     let mut plan = first_plan(alloc, shelf, slot)?;
@@ -69,7 +70,7 @@ fn first_plan<K: Drop, V: Drop>(
         names: Vec::new(alloc),
         total: u128::from(shelf.weight) + u128::from(slot.weight),
         count: shelf.cache.len() + 1,
-        owners: copied(alloc, shelf.owners.as_slice())?,
+        owners: copy_of(alloc, shelf.owners.as_slice())?,
     })
 }
 
@@ -130,7 +131,8 @@ fn makes_room<K: Drop, V: Drop>(
     limits: Limits,
     plan: &mut Plan,
 ) -> Result<bool, NoMemory>
-    requires plan { IsPlan slot.now.weight (remove_entry (same_name name.now) cache.now.entries) plan.old }
+    requires plan { IsPlan slot.now.weight
+        (remove_entry (same_name name.now) cache.now.entries) plan.old }
     requires names { plan.old.names.items ≡ [] }
     ensures yes { IfOk result (λ r. r ≡ true →
         HasRoom limits.budget limits.share name.now slot.now cache.now.entries plan.new) }

@@ -1,11 +1,14 @@
-ghost use Rattle.std.specs.Prelude.{◌≡◌, true, false, ◌+◌, ◌-◌, ◌≤◌, ◌<◌, option_map, length, ◌∷◌, ◌++◌, IfSome, IfNone, IfOk, OnOk, OnErr, if◌then◌else◌, is_some, vec_len, vec_capacity};
+ghost use Rattle.std.specs.Prelude.{◌≡◌, true, false, ◌+◌, ◌≤◌, ◌<◌, option_map, length, ◌∷◌, ◌++◌};
+ghost use Rattle.std.specs.Prelude.{IfOk, OnOk, OnErr, if◌then◌else◌, is_some, vec_len, vec_capacity};
 ghost use Rattle.std.specs.Arc.{arc_value};
 ghost use Rattle.std.specs.Map.{lookup, keys_of, remove_entry};
 ghost use Rattle.std.specs.List.{IsDistinct};
 ghost use Rattle.lru.specs.LruCache.{promoted};
-ghost use Rattle.memo_core.specs.Memo.{same_name, pushed, offered_where, placed_where, DropsFrom, entries_max};
-ghost use Rattle.memo_core.specs.Fields.{value_at, has_at, no_bound};
-ghost use Rattle.memo_core.specs.Plans.{removed, pair_of, slot_mark, IsShelf};
+ghost use Rattle.memo_core.specs.Memo.{same_name, entries_after_push, entries_after_offer_where};
+ghost use Rattle.memo_core.specs.Memo.{DropsFrom};
+ghost use Rattle.memo_core.specs.Fields.{value_at, has_at};
+ghost use Rattle.memo_core.specs.Plans.{pairs_without, pair_of, slot_mark, IsShelf};
+ghost use Rattle.memo_core.specs.Plans.{HasPlace, IsOfferTaken};
 
 use crate::fit::{Fit, Name};
 use crate::owners::OwnerWeight;
@@ -25,7 +28,7 @@ pub struct Slot<K, V> {
 }
 
 /// Slots that were dropped, with their names.
-pub type Gone<K, V> = Vec<(Name, Slot<K, V>)>;
+pub type GoneSlots<K, V> = Vec<(Name, Slot<K, V>)>;
 
 /// A cache of slots by name, the most recently used first.
 pub type Slots<K, V> = LruCache<Name, Slot<K, V>>;
@@ -61,26 +64,19 @@ pub fn offer<F: Fit>(
     alloc: Global,
     fit: &F,
     shelf: &mut Shelf<F::Key, F::Value>,
-    gone: &mut Gone<F::Key, F::Value>,
+    gone: &mut GoneSlots<F::Key, F::Value>,
     name: Name,
     slot: Slot<F::Key, F::Value>,
     limits: Limits,
 ) -> Result<Option<u32>, NoMemory>
     requires { IsShelf limits.budget shelf.old }
-    ensures slots { IfOk result (λ r. offered_where slot_mark limits.budget limits.share
+    ensures taken { IfOk result (λ r. IsOfferTaken
         (has_at F.same_key name (arc_value slot.key) shelf.old.cache.entries)
-        (promoted (same_name name) shelf.old.cache.entries) (name, slot) shelf.old.cache.entries
-        ≡ option_map (λ _. shelf.new.cache.entries) r) }
-    ensures evicted { IfOk result (λ r. IfSome r (λ n. n ≡
-        (if has_at F.same_key name (arc_value slot.key) shelf.old.cache.entries then 0
-        else length shelf.old.cache.entries + 1 - length shelf.new.cache.entries))) }
-    ensures dropped { IfOk result (λ r. DropsFrom (placed_where
-        (has_at F.same_key name (arc_value slot.key) shelf.old.cache.entries) (is_some r)
-        (name, slot) shelf.old.cache.entries)
-        gone.old.items gone.new.items shelf.new.cache.entries) }
-    ensures refused { IfOk result (λ r. IfNone r (shelf.new ≡ shelf.old)) }
+        (entries_after_offer_where slot_mark limits.budget limits.share
+        (has_at F.same_key name (arc_value slot.key) shelf.old.cache.entries)
+        (promoted (same_name name) shelf.old.cache.entries) (name, slot) shelf.old.cache.entries)
+        (name, slot) shelf.old gone.old.items r shelf.new gone.new.items) }
     ensures shelf { IsShelf limits.budget shelf.new }
-    ensures distinct { OnOk result (IsDistinct same_name (keys_of shelf.new.cache.entries)) }
     ensures named { IsDistinct same_name (keys_of shelf.old.cache.entries) }
     ensures err { OnErr result (shelf.new ≡ shelf.old) }
     ensures err_gone { OnErr result (gone.new.items ≡ gone.old.items) }
@@ -102,23 +98,18 @@ pub fn offer<F: Fit>(
 fn push<K: Drop, V: Drop>(
     alloc: Global,
     shelf: &mut Shelf<K, V>,
-    gone: &mut Gone<K, V>,
+    gone: &mut GoneSlots<K, V>,
     name: Name,
     slot: Slot<K, V>,
     limits: Limits,
 ) -> Result<Option<u32>, NoMemory>
     requires shelf { IsShelf limits.budget shelf.old }
     requires light { slot.weight ≤ limits.budget }
-    ensures slots { IfOk result (λ r. pushed slot_mark limits.budget limits.share (name, slot)
-        shelf.old.cache.entries ≡ option_map (λ _. shelf.new.cache.entries) r) }
-    ensures evicted { IfOk result (λ r. IfSome r (λ n. n ≡
-        length shelf.old.cache.entries + 1 - length shelf.new.cache.entries)) }
-    ensures dropped { IfOk result (λ r. DropsFrom
-        (placed_where false (is_some r) (name, slot) shelf.old.cache.entries)
-        gone.old.items gone.new.items shelf.new.cache.entries) }
-    ensures refused { IfOk result (λ r. IfNone r (shelf.new ≡ shelf.old)) }
+    ensures taken { IfOk result (λ r. IsOfferTaken false
+        (entries_after_push slot_mark limits.budget limits.share (name, slot)
+        shelf.old.cache.entries)
+        (name, slot) shelf.old gone.old.items r shelf.new gone.new.items) }
     ensures shelf { IsShelf limits.budget shelf.new }
-    ensures distinct { OnOk result (IsDistinct same_name (keys_of shelf.new.cache.entries)) }
     ensures err { OnErr result (shelf.new ≡ shelf.old) }
     ensures err_gone { OnErr result (gone.new.items ≡ gone.old.items) }
 {
@@ -138,9 +129,9 @@ fn push<K: Drop, V: Drop>(
 }
 
 // Drops the slots of these names, which are gone then.
-fn drop_named<K: Drop, V: Drop>(cache: &mut Slots<K, V>, gone: &mut Gone<K, V>, names: &[Name])
+fn drop_named<K: Drop, V: Drop>(cache: &mut Slots<K, V>, gone: &mut GoneSlots<K, V>, names: &[Name])
     requires { vec_len gone.old + length names.now ≤ vec_capacity gone.old }
-    ensures entries { cache.new.entries ≡ removed names.now cache.old.entries }
+    ensures entries { cache.new.entries ≡ pairs_without names.now cache.old.entries }
     ensures cap { cache.new.cap ≡ cache.old.cap }
     ensures dropped { DropsFrom cache.old.entries gone.old.items gone.new.items cache.new.entries }
 {
@@ -152,7 +143,8 @@ fn drop_named<K: Drop, V: Drop>(cache: &mut Slots<K, V>, gone: &mut Gone<K, V>, 
 /// Brings the slot of this name to the front, if a value was found there.
 pub fn touch<K: Drop, V: Drop>(cache: &mut Slots<K, V>, name: &Name, found: &Option<Arc<V>>)
     ensures entries { cache.new.entries ≡
-        if is_some found.now then promoted (same_name name.now) cache.old.entries else cache.old.entries }
+        if is_some found.now then promoted (same_name name.now) cache.old.entries
+        else cache.old.entries }
     ensures cap { cache.new.cap ≡ cache.old.cap }
     ensures distinct { IsDistinct same_name (keys_of cache.new.entries) }
 {
@@ -170,7 +162,8 @@ pub fn value_of<F: Fit>(
     name: &Name,
     key: &F::Key,
 ) -> Result<Option<Arc<F::Value>>, NoMemory>
-    ensures value { IfOk result (λ r. option_map arc_value r ≡ value_at F.same_key key.now (lookup (same_name name.now) cache.now.entries)) }
+    ensures value { IfOk result (λ r. option_map arc_value r ≡
+        value_at F.same_key key.now (lookup (same_name name.now) cache.now.entries)) }
     ensures distinct { IsDistinct same_name (keys_of cache.now.entries) }
 {
     // The cache says that its names are distinct where it is asked for its length.
@@ -186,7 +179,7 @@ pub fn value_of<F: Fit>(
 }
 
 // Puts the slot of this name, if there was one, among those that are gone.
-fn hand_out<K: Drop, V: Drop>(gone: &mut Gone<K, V>, name: Name, slot: Option<Slot<K, V>>)
+fn hand_out<K: Drop, V: Drop>(gone: &mut GoneSlots<K, V>, name: Name, slot: Option<Slot<K, V>>)
     requires { vec_len gone.old < vec_capacity gone.old }
     ensures items { gone.new.items ≡ gone.old.items ++ pair_of name slot }
     ensures len { vec_len gone.new ≤ vec_len gone.old + 1 }
@@ -200,14 +193,13 @@ fn hand_out<K: Drop, V: Drop>(gone: &mut Gone<K, V>, name: Name, slot: Option<Sl
 // Puts a slot in front, in place of the one of its name, which is gone then.
 fn stack<K: Drop, V: Drop>(
     cache: &mut Slots<K, V>,
-    gone: &mut Gone<K, V>,
+    gone: &mut GoneSlots<K, V>,
     name: Name,
     slot: Slot<K, V>,
 ) -> Result<(), NoMemory>
-    requires cap { cache.old.cap ≡ no_bound }
-    requires few { length cache.old.entries ≤ entries_max }
-    requires room { vec_len gone.old < vec_capacity gone.old }
-    ensures entries { OnOk result (cache.new.entries ≡ (name, slot) ∷ remove_entry (same_name name) cache.old.entries) }
+    requires { HasPlace cache.old.cap cache.old.entries (vec_len gone.old) (vec_capacity gone.old) }
+    ensures entries { OnOk result (cache.new.entries ≡
+        (name, slot) ∷ remove_entry (same_name name) cache.old.entries) }
     ensures dropped { OnOk result (DropsFrom ((name, slot) ∷ cache.old.entries)
         gone.old.items gone.new.items cache.new.entries) }
     ensures len { vec_len gone.new ≤ vec_len gone.old + 1 }

@@ -1,6 +1,6 @@
 -- What is said of a journal.
 use Rattle.std.specs.Prelude.{◌≡◌, ◌≢◌, ℕ, Bool, List, [], take, slice_get, Some}
-use Rattle.memo_core.specs.Memo.{Item, Said, Probe_said, Fill_said, says_at, replay, IsLegal}
+use Rattle.memo_core.specs.Memo.{Item, Answer, Probe_answer, Fill_answer, answer_at, replay, IsLegal}
 use Rattle.memo_shares.specs.declared.verdict.JournalVerdict.{JournalVerdict}
 use Rattle.memo_shares.specs.declared.verdict.JournalVerdict.TheVariants.{Legal, Differs}
 
@@ -9,11 +9,11 @@ abbrev pub AreWeights : {K : Type 0} → (K → ℕ → Type 0) → (ℕ → ℕ
 AreWeights {K} fits weighs = (key : K) (weight : ℕ) → fits key weight × (weighs weight ≡ weight)
 
 -- whether two calls of one caller and one key asked the same: both probed, or both offered this weight
-abbrev pub IsSameCall : Said → Said → Type 0
-IsSameCall (Probe_said hit) (Probe_said hit') = Unit {0}
-IsSameCall (Probe_said hit) (Fill_said weight kept evicted) = ⊥
-IsSameCall (Fill_said weight kept evicted) (Probe_said hit) = ⊥
-IsSameCall (Fill_said weight kept evicted) (Fill_said weight' kept' evicted') = weight ≡ weight'
+abbrev pub IsSameCall : Answer → Answer → Type 0
+IsSameCall (Probe_answer hit) (Probe_answer hit') = Unit {0}
+IsSameCall (Probe_answer hit) (Fill_answer weight kept evicted) = ⊥
+IsSameCall (Fill_answer weight kept evicted) (Probe_answer hit) = ⊥
+IsSameCall (Fill_answer weight kept evicted) (Fill_answer weight' kept' evicted') = weight ≡ weight'
 
 module _ {K : Type 0} (same : K → K → Bool) (name_of : K → List ℕ) (budget share : ℕ) where
   -- the item of this number is the first that says something else than the sequential memo
@@ -21,7 +21,8 @@ module _ {K : Type 0} (same : K → K → Bool) (name_of : K → List ℕ) (budg
     pub legal : IsLegal same name_of budget share [] (take n items)
     pub other : Item K
     pub here : slice_get items n ≡ Some other
-    pub differs : other.said ≢ says_at same name_of budget share other.caller other.key other.said (replay same name_of budget share [] (take n items))
+    pub differs : other.answer ≢
+        answer_at same name_of budget share other.caller other.key other.answer (replay same name_of budget share [] (take n items))
 
 module _ {K : Type 0} (same : K → K → Bool) (name_of : K → List ℕ) (budget share : ℕ) (items : List (Item K)) where
   -- what each verdict says

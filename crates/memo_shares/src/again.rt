@@ -1,7 +1,7 @@
 ghost use Rattle.std.specs.Prelude.{◌≡◌, ◌≢◌, [], ◌∷◌, ◌++◌, true, false, IfOk, OnOk};
 ghost use Rattle.std.specs.Arc.{arc_value};
-ghost use Rattle.memo_core.specs.Memo.{Said, item, says_at, replay};
-ghost use Rattle.memo_core.specs.Fields.{said_of, item_of};
+ghost use Rattle.memo_core.specs.Memo.{Answer, item, answer_at, replay};
+ghost use Rattle.memo_core.specs.Fields.{answer_of, item_of};
 ghost use Rattle.memo_shares.specs.Verdicts.{AreWeights, IsSameCall};
 
 use memo_core::{Did, Fill, Fit, JournalItem, MemoCore, Namer};
@@ -18,9 +18,9 @@ pub fn repeats<F: Fit<Value = u64>, N: Namer<F::Key>>(
     requires { AreWeights F.fits F.weighs }
     ensures same { IfOk result (λ b. b ≡ true → core.new.journal ≡
         core.old.journal ++ item_of noted.now ∷ []) }
-    ensures other { IfOk result (λ b. b ≡ false → said_of noted.now.did ≢
-        says_at F.same_key N.name_of core.old.budget core.old.share noted.now.caller
-        (arc_value noted.now.key) (said_of noted.now.did)
+    ensures other { IfOk result (λ b. b ≡ false → answer_of noted.now.did ≢
+        answer_at F.same_key N.name_of core.old.budget core.old.share noted.now.caller
+        (arc_value noted.now.key) (answer_of noted.now.did)
         (replay F.same_key N.name_of core.old.budget core.old.share [] core.old.journal)) }
     ensures budget { OnOk result (core.new.budget ≡ core.old.budget) }
     ensures share { OnOk result (core.new.share ≡ core.old.share) }
@@ -39,9 +39,9 @@ fn call<F: Fit<Value = u64>, N: Namer<F::Key>>(
     noted: &JournalItem<F::Key>,
 ) -> Result<(), NoMemory>
     requires { AreWeights F.fits F.weighs }
-    ensures journal { OnOk result ((said : Said) × (core.new.journal ≡
+    ensures journal { OnOk result ((said : Answer) × (core.new.journal ≡
         core.old.journal ++ item noted.now.caller (arc_value noted.now.key) said ∷ [])
-        × IsSameCall said (said_of noted.now.did)) }
+        × IsSameCall said (answer_of noted.now.did)) }
     ensures budget { OnOk result (core.new.budget ≡ core.old.budget) }
     ensures share { OnOk result (core.new.share ≡ core.old.share) }
 {
@@ -69,8 +69,8 @@ fn call<F: Fit<Value = u64>, N: Namer<F::Key>>(
 
 // Whether two calls said the same.
 fn says_same(a: Did, b: Did) -> bool
-    ensures same { result ≡ true → said_of a ≡ said_of b }
-    ensures other { result ≡ false → said_of a ≢ said_of b }
+    ensures same { result ≡ true → answer_of a ≡ answer_of b }
+    ensures other { result ≡ false → answer_of a ≢ answer_of b }
 {
     a == b
 }

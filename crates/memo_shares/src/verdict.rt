@@ -1,5 +1,5 @@
 ghost use Rattle.std.specs.Prelude.{◌≡◌, ◌<◌, ◌^◌, [], length, IfOk};
-ghost use Rattle.memo_core.specs.Memo.{owned, KeepsShares};
+ghost use Rattle.memo_core.specs.Memo.{owner_weight, KeepsShares};
 ghost use Rattle.memo_core.specs.Views.{mark_in};
 ghost use Rattle.memo_core.specs.Fields.{items_of};
 ghost use Rattle.memo_shares.specs.Verdicts.{AreWeights, IsVerdict};
@@ -21,7 +21,7 @@ pub enum JournalVerdict {
 
 /// The sum of the weights of a caller's entries.
 pub fn owned<F: Fit, N: Namer<F::Key>>(core: &MemoCore<F, N>, caller: u32) -> u64
-    ensures { result ≡ owned mark_in caller core.now.entries }
+    ensures { result ≡ owner_weight mark_in caller core.now.entries }
 {
     core.weight_of(caller)
 }

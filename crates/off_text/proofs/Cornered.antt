@@ -121,7 +121,7 @@ reduced_units unit (p ∷ ps) [] h = absurd h
 reduced_units unit (p ∷ ps) (q ∷ qs) h = (h.0, reduced_units unit ps qs h.2)
 
 turned_round : (unit : LengthUnit) (ps qs : List Coordinates) (a : ℕ) → AreInUnits unit ps qs → IsRoundOf unit ps (drop a qs ++ take a qs)
-turned_round unit ps qs a h = record { front = take a qs; back = drop a qs; places = subst (AreInUnits unit ps) (sym (take-append-drop a qs)) h; turned = refl }
+turned_round unit ps qs a h = record { front = take a qs; back = drop a qs; places = subst (AreInUnits unit ps) (sym (take-append-drop a qs)) h; order = refl }
 
 pub printed : (unit : LengthUnit) (s : Outline) (found : List Coordinates) → IsPolygon s → AreReducedFrom (corners_in_units unit s) found → ArePrinted unit s (from_least found)
 printed unit s found polygon h =

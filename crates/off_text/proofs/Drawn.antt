@@ -18,6 +18,7 @@ use Rattle.off_text.specs.Prints.{IsFaceOf, AreFacesOf, Prints}
 use Rattle.off_text.proofs.Numbers.{Known, AllKnown, place_below, known_at, grown_knows}
 use Rattle.off_text.proofs.Distinct.{grown_from_none}
 use Rattle.off_text.proofs.Gathered.{joined, known_parts}
+use Rattle.off_text.proofs.OwnVertices.{own_vertices}
 use Rattle.off_text.proofs.Scaled.{AreOnePoint, printed_is}
 use Rattle.off_text.proofs.Cornered.{ArePrinted, printed, found_are_vertices, All-from_least}
 use Rattle.off_text.proofs.Rounded.{points_on, points_left, left_from_within, within_from_left, one_plane, below_three, not_two}
@@ -156,14 +157,16 @@ all_are_known found =
 pub prints : (unit : LengthUnit) (polygons : List Outline) (vertices : List Coordinates) (faces : List (List ℕ)) (bytes : List ℕ) → AreNumbered unit polygons vertices faces → bytes ≡ off_text vertices faces → Prints unit polygons bytes
 prints unit polygons vertices faces bytes h e =
     let all = faces_drawn unit polygons h.found (vertices_of h.found) h.all_polygons h.corners (all_are_known h.found) in
+    let points = distinct_all (joined (printed_corners h.found)) (joined_all unit polygons h.found h.all_polygons h.corners) in
     record {
       vertices = vertices_of h.found;
       faces = faces_of h.found;
       read = record {
         spelled = e ∙ ap (λ (v : List Coordinates). off_text v faces) h.vertices_are ∙ ap (off_text (vertices_of h.found)) h.faces_are;
-        points = distinct_all (joined (printed_corners h.found)) (joined_all unit polygons h.found h.all_polygons h.corners);
+        points = points;
         loops = all.1;
       };
+      own_vertices = own_vertices h.found points;
       drawn = all.0;
     }
 

@@ -109,6 +109,7 @@ boundary_from unit f bytes h text beside =
       vertices = text.vertices;
       faces = text.faces;
       read = text.read;
+      own_vertices = text.own_vertices;
       bounding = faces_bound unit f text.vertices facets text.faces text.drawn (formula_facets f solid);
       covered = covered_where unit f bytes h solid text beside;
       closed = printed_closed unit (map corners facets) (map (corners_at text.vertices) text.faces) (rounds unit text.vertices facets text.faces text.drawn)

@@ -18,6 +18,7 @@ pub mod Together
 pub mod Drawn
 pub mod Covered
 pub mod Unique
+pub mod OwnVertices
 pub mod SomeCorners
 pub mod Boxed
 pub mod BesideFaces

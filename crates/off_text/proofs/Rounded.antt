@@ -33,7 +33,7 @@ below_three i k h l = omega arith
 pub not_two : (k : ℕ) → 3 ≤ k → 2 ≢ after k 0
 not_two k h = elim (after_is k 0) [ inl p ↦ absurd (omega arith) | inr p ↦ (λ e. let f : 2 ≡ suc 0 = e ∙ p.1 in omega (arith, f)) ]
 
-last_of_four : (t u v s a b c d : ℤ) → t *ℤ a -ℤ u *ℤ b +ℤ v *ℤ c -ℤ s *ℤ d ≡ pos 0 → a ≡ pos 0 → b ≡ pos 0 → c ≡ pos 0 → s *ℤ d ≡ pos 0
+pub last_of_four : (t u v s a b c d : ℤ) → t *ℤ a -ℤ u *ℤ b +ℤ v *ℤ c -ℤ s *ℤ d ≡ pos 0 → a ≡ pos 0 → b ≡ pos 0 → c ≡ pos 0 → s *ℤ d ≡ pos 0
 last_of_four t u v s a b c d e ha hb hc =
     omega (arith, sums, e, ap (λ (x : ℤ). t *ℤ x) ha ∙ *ℤ-zero t, ap (λ (x : ℤ). u *ℤ x) hb ∙ *ℤ-zero u, ap (λ (x : ℤ). v *ℤ x) hc ∙ *ℤ-zero v)
 

@@ -1,11 +1,12 @@
 -- Worked rows, computed by the definitions: the faces of a box of 1 by 2 by 3, of a centred cube of 3 in half units, and of a
 -- cube from which a cube is cut at a corner.
-use Rattle.std.proofs.Common.{◌≡◌, List, [], ◌∷◌, map, refl, ℤ, pos, negsuc}
+use Rattle.std.proofs.Common.{◌≡◌, List, [], ◌∷◌, map, refl, arith, ℤ, pos, negsuc}
 use Rattle.plane_predicate.specs.declared.unit.Unit.TheVariants.{Half}
 use Rattle.plane_predicate.specs.Space.{Coefficients, Coordinates}
 use Rattle.plane_polygon.specs.Polygons.{Outline}
 use Rattle.plane_polygon.specs.Parts.{corners}
 use Rattle.off_text.specs.Texts.{corners_in_units, vertices_of, faces_of}
+use Rattle.off_text.specs.Vertices.{AreVerticesOf}
 
 abbrev plane : ℤ → ℤ → ℤ → ℤ → Coefficients
 plane a b c d = record { a = a; b = b; c = c; d = d }
@@ -74,3 +75,10 @@ notch_vertices = refl
 
 notch_faces : faces_of (map corners notch_polygons) ≡ (0 ∷ 1 ∷ 2 ∷ 3 ∷ []) ∷ (4 ∷ 5 ∷ 6 ∷ 7 ∷ []) ∷ (8 ∷ 4 ∷ 9 ∷ 10 ∷ []) ∷ (11 ∷ 8 ∷ 10 ∷ 12 ∷ []) ∷ (0 ∷ 11 ∷ 12 ∷ 1 ∷ []) ∷ (13 ∷ 14 ∷ 6 ∷ 5 ∷ []) ∷ (3 ∷ 2 ∷ 15 ∷ 13 ∷ []) ∷ (16 ∷ 13 ∷ 5 ∷ 4 ∷ []) ∷ (11 ∷ 16 ∷ 4 ∷ 8 ∷ []) ∷ (0 ∷ 3 ∷ 13 ∷ 11 ∷ []) ∷ (12 ∷ 10 ∷ 9 ∷ 17 ∷ []) ∷ (1 ∷ 12 ∷ 15 ∷ 2 ∷ []) ∷ (18 ∷ 14 ∷ 15 ∷ 17 ∷ []) ∷ (18 ∷ 17 ∷ 9 ∷ 7 ∷ []) ∷ (18 ∷ 7 ∷ 6 ∷ 14 ∷ []) ∷ []
 notch_faces = refl
+
+-- one point with two lists of numbers, and a vertex that no face names
+one_point_twice : AreVerticesOf ((0 ∷ 1 ∷ []) ∷ []) (point (pos 1) (pos 0) (pos 0) (pos 1) ∷ point (pos 2) (pos 0) (pos 0) (pos 2) ∷ []) → ⊥
+one_point_twice h = let e = h.different 0 1 (omega arith) (omega arith) refl in omega (arith, e)
+
+of_no_face : AreVerticesOf [] (point (pos 1) (pos 0) (pos 0) (pos 1) ∷ []) → ⊥
+of_no_face h = let c = h.used 0 (omega arith) in omega (arith, c.1)

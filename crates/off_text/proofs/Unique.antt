@@ -45,7 +45,7 @@ one_number : (a k l x y : ℤ) → pos 0 <ℤ k → k ≡ l → a ≡ k *ℤ x �
 one_number a k l x y h s e f = dropped k x y h (sym e ∙ f ∙ ap (λ (m : ℤ). m *ℤ y) (sym s))
 
 -- a point has one list of numbers without a common factor
-one_point : (p q r : Coordinates) → IsPointTimes p q → IsReduced q → IsPointTimes p r → IsReduced r → q ≡ r
+pub one_point : (p q r : Coordinates) → IsPointTimes p q → IsReduced q → IsPointTimes p r → IsReduced r → q ≡ r
 one_point p q r t hq u hr =
     let same = same_above t.by u.by t.above u.above
     (same_numbers (size_at r) (size_at q) (no_factor r hr) (no_factor q hq) (unsigned_abs t.by) (unsigned_abs u.by) (size_above t.by t.above) (size_above u.by u.above) (all_sizes p q r t u)) in

@@ -1,5 +1,6 @@
 pub mod Reading
 pub mod Boundaries
+pub mod Vertices
 pub mod Texts
 pub mod Numbering
 pub mod FaceNumbers

@@ -9,6 +9,7 @@ use Rattle.closed_surface.specs.Closed.{corners_at}
 use Rattle.closed_surface.specs.Printing.{IsRoundOf}
 use Rattle.off_text.specs.Reading.{Reads}
 use Rattle.off_text.specs.Boundaries.{corner, Faces, Covers}
+use Rattle.off_text.specs.Vertices.{AreVerticesOf}
 
 -- the point is a corner of the polygon in units, by numbers of its own
 pub record IsCornerOf (unit : LengthUnit) (s : Outline) (p : Coordinates) : Type 0 where
@@ -42,9 +43,11 @@ CoverPolygons unit vertices (s ∷ polygons) (face ∷ faces) = CoversPolygon un
 CoverPolygons unit vertices [] (face ∷ faces) = ⊥
 CoverPolygons unit vertices (s ∷ polygons) [] = ⊥
 
--- the bytes are a 4OFF text whose faces are these polygons, one after another
+-- the bytes are a 4OFF text whose faces are these polygons, one after another. Its vertices are different points, each a corner
+-- of a face
 pub record Prints (unit : LengthUnit) (polygons : List Outline) (bytes : List ℕ) : Type 0 where
   pub vertices : List Coordinates
   pub faces : List (List ℕ)
   pub read : Reads bytes vertices faces
+  pub own_vertices : AreVerticesOf faces vertices
   pub drawn : AreFacesOf unit vertices polygons faces

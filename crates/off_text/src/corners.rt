@@ -16,7 +16,8 @@ use text_place::NoMemory;
 /// Puts the corners of a polygon, in units and reduced, in the place of those that were there.
 pub fn put_corners(corners: &mut Vec<Vertex>, polygon: &Polygon, unit: Unit) -> Result<(), NoMemory>
     ensures polygon { OnOk result (IsPolygon polygon.now) }
-    ensures corners { OnOk result (AreReducedFrom (corners_in_units unit polygon.now) corners.new.items) }
+    ensures corners { OnOk result
+        (AreReducedFrom (corners_in_units unit polygon.now) corners.new.items) }
 {
     polygons_keep_their_form(polygon);
     corners.clear();
@@ -33,7 +34,9 @@ fn push_meetings(
 ) -> Result<(), AllocError>
     requires none { corners.old.items ≡ [] }
     requires polygon { IsPolygon (record { plane = plane.now; edges = edges.now }) }
-    ensures { OnOk result (AreReducedFrom (corners_in_units unit (record { plane = plane.now; edges = edges.now })) corners.new.items) }
+    ensures { OnOk result
+        (AreReducedFrom
+        (corners_in_units unit (record { plane = plane.now; edges = edges.now })) corners.new.items) }
 {
     for i in 0..edges.len() {
         corners.push(corner_at(plane, edges, i, unit))?;
@@ -45,7 +48,8 @@ fn push_meetings(
 fn corner_at(plane: &Plane, edges: &[Plane], i: usize, unit: Unit) -> Vertex
     requires index { i < length edges.now }
     requires polygon { IsPolygon (record { plane = plane.now; edges = edges.now }) }
-    ensures times { IsPointTimes (in_units unit (corner (record { plane = plane.now; edges = edges.now }) i)) result }
+    ensures times { IsPointTimes
+        (in_units unit (corner (record { plane = plane.now; edges = edges.now }) i)) result }
     ensures reduced { IsReduced result }
 {
     vertex_at(plane, &edges[i], &edges[next_index(i, edges.len())], unit)

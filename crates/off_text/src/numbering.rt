@@ -34,7 +34,8 @@ pub fn push_numbers(
     corners: &[Vertex],
 ) -> Result<(), NoMemory>
     ensures vertices { OnOk result (vertices.new.keys ≡ with_points vertices.old.keys corners.now) }
-    ensures numbers { OnOk result (numbers.new.items ≡ numbers.old.items ++ numbers_among vertices.new.keys corners.now) }
+    ensures numbers { OnOk result
+        (numbers.new.items ≡ numbers.old.items ++ numbers_among vertices.new.keys corners.now) }
 {
     for corner in corners {
         let (index, _is_new) = vertices.insert_full(*corner)?;
@@ -51,9 +52,14 @@ pub fn push_face(
     start: usize,
 ) -> Result<(), NoMemory>
     requires { start ≤ length corners.now }
-    ensures vertices { OnOk result (vertices.new.keys ≡ with_points vertices.old.keys (drop start corners.now ++ take start corners.now)) }
-    ensures sides { OnOk result (faces.new.sides.items ≡ faces.old.sides.items ++ length corners.now ∷ []) }
-    ensures numbers { OnOk result (faces.new.numbers.items ≡ faces.old.numbers.items ++ numbers_among vertices.new.keys (drop start corners.now ++ take start corners.now)) }
+    ensures vertices { OnOk result
+        (vertices.new.keys
+        ≡ with_points vertices.old.keys (drop start corners.now ++ take start corners.now)) }
+    ensures sides { OnOk result
+        (faces.new.sides.items ≡ faces.old.sides.items ++ length corners.now ∷ []) }
+    ensures numbers { OnOk result
+        (faces.new.numbers.items ≡ faces.old.numbers.items
+        ++ numbers_among vertices.new.keys (drop start corners.now ++ take start corners.now)) }
 {
     let (front, back) = corners.split_at(start);
     push_number(&mut faces.sides, corners.len())?;

@@ -27,7 +27,9 @@ fn push_facet(
     facet: &Facet,
     unit: Unit,
 ) -> Result<(), NoMemory>
-    ensures { OnOk result (AddsNumbers unit facet.now part.old.vertices.keys part.new.vertices.keys part.old.faces part.new.faces) }
+    ensures { OnOk result
+        (AddsNumbers unit facet.now part.old.vertices.keys part.new.vertices.keys part.old.faces
+        part.new.faces) }
 {
     put_corners(corners, &facet.polygon, unit)?;
     let start = least_corner(corners);
@@ -44,7 +46,7 @@ fn corners_of(facets: &[Facet]) -> usize {
 }
 
 /// Numbers the corners of facets.
-pub fn numbered(alloc: Global, facets: &[Facet], unit: Unit) -> Result<Part, NoMemory>
+pub fn number_facets(alloc: Global, facets: &[Facet], unit: Unit) -> Result<Part, NoMemory>
     ensures { IfOk result (λ part. HaveNumbers unit facets.now part.vertices.keys part.faces) }
 {
     let mut part = Part {

@@ -8,9 +8,9 @@ ghost use Rattle.off_text.specs.FaceNumbers.{HaveNumbers};
 ghost use Rattle.off_text.specs.Parts.{AreCut, vertices_in, faces_and_names_in, faces_and_names, lines_in};
 
 use crate::numbering::{FaceNumbers, push_numbers};
-use crate::part::{Part, numbered};
+use crate::part::{Part, number_facets};
 use crate::vertex::Vertex;
-use crate::writing::{begun, push_lines, push_vertices};
+use crate::writing::{first_lines, push_lines, push_vertices};
 use facet_cut::Facet;
 use indexmap::IndexSet;
 use plane_predicate::Unit;
@@ -39,7 +39,7 @@ pub struct NamedPart {
 
 /// The vertices of all parts, and the parts.
 #[derive(Drop)]
-pub struct Merged {
+pub struct MergedParts {
     pub vertices: IndexSet<Vertex>,
     pub parts: Vec<NamedPart>,
 }
@@ -64,20 +64,26 @@ fn parts_by<R: Threads + Sync>(
     unit: Unit,
 ) -> Result<Vec<Part>, NoMemory>
     requires { 0 < size }
-    ensures { IfOk result (λ parts. AreCut (λ polygons part. HaveNumbers unit polygons part.vertices.keys part.faces) facets.now parts.items) }
+    ensures { IfOk result
+        (λ parts.
+        AreCut (λ polygons part. HaveNumbers unit polygons part.vertices.keys part.faces) facets.now
+        parts.items) }
 {
     let part = |_start: usize, chunk: &[Facet]| -> Result<Part, NoMemory>
         ensures { IfOk result (λ part. HaveNumbers unit chunk.now part.vertices.keys part.faces) }
-    { numbered(alloc, chunk, unit) };
+    { number_facets(alloc, chunk, unit) };
     all_made(alloc, thread::map_chunks(rt, alloc, facets, size, &part)?)
 }
 
 // Puts the vertices of parts together, one part after another, and names them.
-fn put_together(alloc: Global, parts: Vec<Part>) -> Result<Merged, NoMemory>
-    ensures vertices { IfOk result (λ merged. merged.vertices.keys ≡ with_points [] (vertices_in parts.items)) }
-    ensures parts { IfOk result (λ merged. map faces_and_names merged.parts.items ≡ map (faces_and_names_in merged.vertices.keys) parts.items) }
+fn put_together(alloc: Global, parts: Vec<Part>) -> Result<MergedParts, NoMemory>
+    ensures vertices { IfOk result
+        (λ merged. merged.vertices.keys ≡ with_points [] (vertices_in parts.items)) }
+    ensures parts { IfOk result
+        (λ merged. map faces_and_names merged.parts.items
+        ≡ map (faces_and_names_in merged.vertices.keys) parts.items) }
 {
-    let mut merged = Merged {
+    let mut merged = MergedParts {
         vertices: IndexSet::new(alloc),
         parts: Vec::new(alloc),
     };
@@ -93,15 +99,16 @@ fn put_together(alloc: Global, parts: Vec<Part>) -> Result<Merged, NoMemory>
 }
 
 /// Numbers the corners of facets in parts of a length, and puts the parts together.
-pub fn numbered_by<R: Threads + Sync>(
+pub fn number_facets_by<R: Threads + Sync>(
     rt: &R,
     alloc: Global,
     size: usize,
     facets: &[Facet],
     unit: Unit,
-) -> Result<Merged, NoMemory>
+) -> Result<MergedParts, NoMemory>
     requires { 0 < size }
-    ensures { IfOk result (λ merged. HaveLines unit facets.now merged.vertices.keys (lines_in merged.parts.items)) }
+    ensures { IfOk result
+        (λ merged. HaveLines unit facets.now merged.vertices.keys (lines_in merged.parts.items)) }
 {
     put_together(alloc, parts_by(rt, alloc, size, facets, unit)?)
 }
@@ -134,7 +141,8 @@ fn vertices_by<R: Threads + Sync>(
     vertices: &[Vertex],
 ) -> Result<Vec<Vec<u8>>, NoMemory>
     requires { 0 < size }
-    ensures { IfOk result (λ pieces. flat_map (λ piece. piece.items) pieces.items ≡ flat_map vertex_line vertices.now) }
+    ensures { IfOk result
+        (λ pieces. flat_map (λ piece. piece.items) pieces.items ≡ flat_map vertex_line vertices.now) }
 {
     let piece = |_start: usize, chunk: &[Vertex]| -> Result<Vec<u8>, NoMemory>
         ensures { IfOk result (λ lines. lines.items ≡ flat_map vertex_line chunk.now) }
@@ -151,7 +159,8 @@ fn lines_by<R: Threads + Sync>(
     alloc: Global,
     parts: &[NamedPart],
 ) -> Result<Vec<Vec<u8>>, NoMemory>
-    ensures { IfOk result (λ pieces. flat_map (λ piece. piece.items) pieces.items ≡ lines_in parts.now) }
+    ensures { IfOk result
+        (λ pieces. flat_map (λ piece. piece.items) pieces.items ≡ lines_in parts.now) }
 {
     let piece = |_start: usize, chunk: &[NamedPart]| -> Result<Vec<u8>, NoMemory>
         ensures { IfOk result (λ lines. lines.items ≡ lines_in chunk.now) }
@@ -161,7 +170,8 @@ fn lines_by<R: Threads + Sync>(
 
 // Appends pieces of a text.
 fn push_pieces(text: &mut Vec<u8>, pieces: &[Vec<u8>]) -> Result<(), NoMemory>
-    ensures { OnOk result (text.new.items ≡ text.old.items ++ flat_map (λ piece. piece.items) pieces.now) }
+    ensures { OnOk result
+        (text.new.items ≡ text.old.items ++ flat_map (λ piece. piece.items) pieces.now) }
 {
     for piece in pieces {
         text.extend_from_slice(piece)?;
@@ -170,7 +180,7 @@ fn push_pieces(text: &mut Vec<u8>, pieces: &[Vec<u8>]) -> Result<(), NoMemory>
 }
 
 /// The text of these vertices and of this many faces, whose lines the parts have.
-pub fn written_by<R: Threads + Sync>(
+pub fn write_text_by<R: Threads + Sync>(
     rt: &R,
     alloc: Global,
     workers: u64,
@@ -178,12 +188,14 @@ pub fn written_by<R: Threads + Sync>(
     faces: usize,
     parts: &[NamedPart],
 ) -> Result<Vec<u8>, NoMemory>
-    ensures { IfOk result (λ text. text.items ≡ codes "4OFF\n" ++ numeral (length vertices.now) ++ 32 ∷ numeral faces ++ codes " 0\n" ++ flat_map vertex_line vertices.now ++ lines_in parts.now) }
+    ensures { IfOk result
+        (λ text. text.items ≡ codes "4OFF\n" ++ numeral (length vertices.now) ++ 32 ∷ numeral faces
+        ++ codes " 0\n" ++ flat_map vertex_line vertices.now ++ lines_in parts.now) }
 {
     let size = part_length(vertices.len(), workers);
     let points = vertices_by(rt, alloc, size, vertices)?;
     let lines = lines_by(rt, alloc, parts)?;
-    let mut text = begun(alloc, vertices.len(), faces)?;
+    let mut text = first_lines(alloc, vertices.len(), faces)?;
     push_pieces(&mut text, &points)?;
     push_pieces(&mut text, &lines)?;
     Ok(text)

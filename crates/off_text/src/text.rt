@@ -10,9 +10,9 @@ ghost use Rattle.off_text.specs.Bounding.{IsBoundary};
 ghost use Rattle.off_text.specs.Prints.{Prints};
 ghost use Rattle.off_text.specs.declared.text.OffStop.{OffStop};
 
-use crate::part::numbered;
-use crate::parts::{numbered_by, part_length, written_by};
-use crate::writing::written;
+use crate::part::number_facets;
+use crate::parts::{number_facets_by, part_length, write_text_by};
+use crate::writing::write_text;
 use facet_cut::Facet;
 use plane_predicate::Unit;
 use std::alloc::Global;
@@ -69,22 +69,26 @@ fn has_too_many_corners(facets: &[Facet]) -> bool
 /// `TooManyVertices` exactly where there are more than 60,000 vertices.
 pub fn off_bytes(alloc: Global, facets: &[Facet], unit: Unit) -> Result<Vec<u8>, OffStop>
     ensures text { IfOk result (λ text. IsTextOf unit facets.now text.items) }
-    ensures corners { IsErrOf result OffStop.TooManyCorners ↔ (most_corners < corner_count facets.now) }
+    ensures corners { IsErrOf result OffStop.TooManyCorners ↔
+        (most_corners < corner_count facets.now) }
     ensures few { OnOk result (HasVertices unit (λ count. count ≤ most_vertices) facets.now) }
-    ensures many { IsErrOf result OffStop.TooManyVertices → HasVertices unit (λ count. most_vertices < count) facets.now }
+    ensures many { IsErrOf result OffStop.TooManyVertices →
+        HasVertices unit (λ count. most_vertices < count) facets.now }
     // The text is read back as the facets, one face after another.
     ensures prints { IfOk result (λ text. Prints unit facets.now text.items) }
     // Where the facets are those of the solid of a proper tree, the text is the boundary of the tree.
-    ensures boundary { IfOk result (λ text. (f : Formula) → IsProper f → facets.now ≡ facets_of (solid_of f) → IsBoundary unit text.items f) }
+    ensures boundary { IfOk result
+        (λ text. (f : Formula) → IsProper f → facets.now ≡ facets_of (solid_of f) →
+        IsBoundary unit text.items f) }
 {
     if has_too_many_corners(facets) {
         return Err(OffStop::TooManyCorners);
     }
-    let part = numbered(alloc, facets, unit)?;
+    let part = number_facets(alloc, facets, unit)?;
     if part.vertices.len() > VERTICES {
         return Err(OffStop::TooManyVertices);
     }
-    Ok(written(alloc, part.vertices.as_slice(), facets.len(), &part.faces)?)
+    Ok(write_text(alloc, part.vertices.as_slice(), facets.len(), &part.faces)?)
 }
 
 /// The text that `off_bytes` gives, and its limits, by at most so many workers. Each of them numbers
@@ -98,23 +102,27 @@ pub fn off_bytes_by<R: Threads + Sync>(
     unit: Unit,
 ) -> Result<Vec<u8>, OffStop>
     ensures text { IfOk result (λ text. IsTextOf unit facets.now text.items) }
-    ensures corners { IsErrOf result OffStop.TooManyCorners ↔ (most_corners < corner_count facets.now) }
+    ensures corners { IsErrOf result OffStop.TooManyCorners ↔
+        (most_corners < corner_count facets.now) }
     ensures few { OnOk result (HasVertices unit (λ count. count ≤ most_vertices) facets.now) }
-    ensures many { IsErrOf result OffStop.TooManyVertices → HasVertices unit (λ count. most_vertices < count) facets.now }
+    ensures many { IsErrOf result OffStop.TooManyVertices →
+        HasVertices unit (λ count. most_vertices < count) facets.now }
     // The text is read back as the facets, one face after another.
     ensures prints { IfOk result (λ text. Prints unit facets.now text.items) }
     // Where the facets are those of the solid of a proper tree, the text is the boundary of the tree.
-    ensures boundary { IfOk result (λ text. (f : Formula) → IsProper f → facets.now ≡ facets_of (solid_of f) → IsBoundary unit text.items f) }
+    ensures boundary { IfOk result
+        (λ text. (f : Formula) → IsProper f → facets.now ≡ facets_of (solid_of f) →
+        IsBoundary unit text.items f) }
 {
     let size = part_length(facets.len(), workers);
     if facets.len() <= size || has_too_many_corners(facets) {
         return off_bytes(alloc, facets, unit);
     }
-    let merged = numbered_by(rt, alloc, size, facets, unit)?;
+    let merged = number_facets_by(rt, alloc, size, facets, unit)?;
     if merged.vertices.len() > VERTICES {
         return Err(OffStop::TooManyVertices);
     }
-    Ok(written_by(
+    Ok(write_text_by(
         rt,
         alloc,
         workers,

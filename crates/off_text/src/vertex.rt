@@ -56,9 +56,9 @@ fn in_halves(corner: &Point) -> Vertex
 {
     if has_even_coordinates(corner) {
         Vertex {
-            x: halved(corner.x),
-            y: halved(corner.y),
-            z: halved(corner.z),
+            x: half_of(corner.x),
+            y: half_of(corner.y),
+            z: half_of(corner.z),
             w: corner.w,
         }
     } else {
@@ -86,7 +86,7 @@ fn has_even_coordinates(corner: &Point) -> bool
 }
 
 // Half of an even number.
-fn halved(x: i128) -> i128
+fn half_of(x: i128) -> i128
     requires { is_even x ≡ true }
     ensures { x ≡ pos 2 *ℤ result }
 {

@@ -54,7 +54,8 @@ fn new_number(number: u32, names: &[u32]) -> u32
 
 // Appends the line of a face with these numbers, whose vertices have these names.
 fn push_line(alloc: Global, out: &mut Vec<u8>, face: &[u32], names: &[u32]) -> Result<(), NoMemory>
-    ensures { OnOk result (out.new.items ≡ out.old.items ++ face_line (map (new_number names.now) face.now)) }
+    ensures { OnOk result
+        (out.new.items ≡ out.old.items ++ face_line (map (new_number names.now) face.now)) }
 {
     push_count(alloc, out, face.len())?;
     for number in face {
@@ -84,8 +85,10 @@ pub fn push_lines(
 }
 
 /// The first two lines: the counts, with a 0 for the edges.
-pub fn begun(alloc: Global, vertices: usize, faces: usize) -> Result<Vec<u8>, NoMemory>
-    ensures { IfOk result (λ text. text.items ≡ codes "4OFF\n" ++ numeral vertices ++ 32 ∷ numeral faces ++ codes " 0\n") }
+pub fn first_lines(alloc: Global, vertices: usize, faces: usize) -> Result<Vec<u8>, NoMemory>
+    ensures { IfOk result
+        (λ text. text.items ≡ codes "4OFF\n" ++ numeral vertices ++ 32 ∷ numeral faces
+        ++ codes " 0\n") }
 {
     let mut text = Vec::from_slice(alloc, b"4OFF\n")?;
     push_count(alloc, &mut text, vertices)?;
@@ -96,15 +99,17 @@ pub fn begun(alloc: Global, vertices: usize, faces: usize) -> Result<Vec<u8>, No
 }
 
 /// The text of these vertices and of these faces, of which there are so many.
-pub fn written(
+pub fn write_text(
     alloc: Global,
     vertices: &[Vertex],
     count: usize,
     faces: &FaceNumbers,
 ) -> Result<Vec<u8>, NoMemory>
-    ensures { IfOk result (λ text. text.items ≡ codes "4OFF\n" ++ numeral (length vertices.now) ++ 32 ∷ numeral count ++ codes " 0\n" ++ flat_map vertex_line vertices.now ++ lines_of [] faces.now) }
+    ensures { IfOk result
+        (λ text. text.items ≡ codes "4OFF\n" ++ numeral (length vertices.now) ++ 32 ∷ numeral count
+        ++ codes " 0\n" ++ flat_map vertex_line vertices.now ++ lines_of [] faces.now) }
 {
-    let mut text = begun(alloc, vertices.len(), count)?;
+    let mut text = first_lines(alloc, vertices.len(), count)?;
     push_vertices(alloc, &mut text, vertices)?;
     push_lines(alloc, &mut text, faces, &[])?;
     Ok(text)

@@ -1,5 +1,8 @@
 use Rattle.std.specs.Prelude.{◌≡◌, ℕ, ◌+◌, ◌<◌, ◌≤◌, List, ◌++◌, length, Option}
 use Rattle.std.specs.Io.KnownBytes.{Appends, Consumes}
+use Rattle.outside_io.specs.Counts.{Rose}
+use Rattle.outside_io.specs.declared.whole.ReadEnd.{ReadEnd}
+use Rattle.outside_io.specs.declared.whole.ReadEnd.TheVariants.{Failed, TooLarge, NoMemory}
 
 -- the first bytes that were left were taken, at most `most` of them and maybe none
 abbrev pub ConsumesAtMost : Option (List ℕ) → Option (List ℕ) → ℕ → Type 0
@@ -9,6 +12,14 @@ ConsumesAtMost old new most = (bytes : List ℕ) × (length bytes ≤ most) × C
 abbrev pub ConsumesPast : Option (List ℕ) → Option (List ℕ) → ℕ → ℕ → Type 0
 ConsumesPast old new most piece =
     (bytes : List ℕ) × (most < length bytes) × (length bytes ≤ most + piece) × Consumes old new bytes
+
+-- what was taken from a source, from the bytes that were left to those that are left now, where reading to its end gives
+-- no bytes: at most `most` before a read that failed, which the count of faults shows; more than `most`, and at most
+-- `piece` more than that, where that is too many; and at most `most` where memory ran out
+abbrev pub EndsEarly : Option (List ℕ) → Option (List ℕ) → ℕ → ℕ → ℕ → ℕ → ReadEnd → Type 0
+EndsEarly old new faults faults_now most piece Failed = Rose faults faults_now × ConsumesAtMost old new most
+EndsEarly old new faults faults_now most piece TooLarge = ConsumesPast old new most piece
+EndsEarly old new faults faults_now most piece NoMemory = ConsumesAtMost old new most
 
 -- a proper prefix of the bytes was appended: a front of them, maybe empty, and not the whole
 abbrev pub AppendsProperPrefix : Option (List ℕ) → Option (List ℕ) → List ℕ → Type 0

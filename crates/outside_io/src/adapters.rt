@@ -46,7 +46,8 @@ impl<R: Read> Source for ReadSource<R> {
         ensures bytes { ReadConsumes None None result into.new }
 
         // What the read did to a reader that says which bytes it has left.
-        ensures of_reader { ReadConsumes (R.remaining self.old.reader) (R.remaining self.new.reader) result into.new }
+        ensures of_reader { ReadConsumes (R.remaining self.old.reader) (R.remaining self.new.reader)
+            result into.new }
 
         // Failures, and they alone, are counted.
         ensures cause { HasCause self.old.faults self.new.faults result }
@@ -103,7 +104,8 @@ impl<W: Write> Sink for WriteSink<W> {
         ensures bytes { WriteAppends None None result from.now }
 
         // What the write did to a writer that says which bytes it holds.
-        ensures of_writer { WriteAppends (W.contents self.old.writer) (W.contents self.new.writer) result from.now }
+        ensures of_writer { WriteAppends (W.contents self.old.writer) (W.contents self.new.writer)
+            result from.now }
 
         // Failures, and they alone, are counted.
         ensures cause { HasCause self.old.faults self.new.faults result }

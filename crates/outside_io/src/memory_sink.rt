@@ -25,9 +25,20 @@ impl Model for MemorySink {
 
     ghost Value = { MemoryOutput };
 
-    ghost view = { λ s. record { held = s.held.items; failing = s.plan.failing.items; piece = s.piece; room = s.room; calls = s.plan.calls; faults = s.plan.faults } };
+    ghost view = { λ s. record {
+      held = s.held.items;
+      failing = s.plan.failing.items;
+      piece = s.piece;
+      room = s.room;
+      calls = s.plan.calls;
+      faults = s.plan.faults;
+    } };
 
-    ghost invariant = { λ s. record { has_piece : 0 < s.piece; fits : vec_len s.held ≤ s.room; has_memory : s.room ≤ vec_capacity s.held } };
+    ghost invariant = { λ s. record {
+      has_piece : 0 < s.piece;
+      fits : vec_len s.held ≤ s.room;
+      has_memory : s.room ≤ vec_capacity s.held;
+    } };
 }
 
 impl MemorySink {
@@ -38,7 +49,15 @@ impl MemorySink {
     /// Takes the memory for `room` bytes here, and none later.
     pub fn new(alloc: Global, room: usize, failing: Vec<u64>, piece: u32) -> Result<Self, NoMemory>
         requires { 0 < piece }
-        ensures { IfOk result (λ sink. sink ≡ record { held = []; failing = failing.items; piece = piece; room = room; calls = 0; faults = 0 }) }
+        ensures { IfOk result
+            (λ sink. sink ≡ record {
+              held = [];
+              failing = failing.items;
+              piece = piece;
+              room = room;
+              calls = 0;
+              faults = 0;
+            }) }
     {
         Ok(MemorySink {
             held: Vec::with_capacity(alloc, room)?,
@@ -76,10 +95,20 @@ impl Sink for MemorySink {
 
         // How many bytes it takes, and what it holds then.
         ensures count { IfOk result (λ n. n ≡ write_count self.old (length from.now)) }
-        ensures ok { IfOk result (λ n. self.new ≡ record self.old { held = self.old.held ++ take n from.now; calls = next_count self.old.calls }) }
+        ensures ok { IfOk result
+            (λ n. self.new
+            ≡ record self.old {
+              held = self.old.held ++ take n from.now;
+              calls = next_count self.old.calls;
+            }) }
 
         // A failure only counts the call and the fault.
-        ensures err { OnErr result (self.new ≡ record self.old { calls = next_count self.old.calls; faults = next_count self.old.faults }) }
+        ensures err { OnErr result
+            (self.new
+            ≡ record self.old {
+              calls = next_count self.old.calls;
+              faults = next_count self.old.faults;
+            }) }
     {
         let is_named = self.plan.begin_call();
         let room_left = self.room - self.held.len();

@@ -1,8 +1,8 @@
 ghost use Rattle.std.specs.Prelude.{◌≡◌, ◌<◌, ◌≤◌, ◌↔◌, ◌++◌, length, min, take, drop, Some, IsErr, IfOk, OnErr};
 ghost use Rattle.std.specs.Io.{ReadsAtMost};
 ghost use Rattle.std.specs.Io.KnownBytes.{ReadConsumes};
-ghost use Rattle.outside_io.specs.Counts.{next_count, HasCause, IsNextFailing};
-ghost use Rattle.outside_io.specs.MemoryInput.{read_count};
+ghost use Rattle.outside_io.specs.Counts.{HasCause, IsNextFailing};
+ghost use Rattle.outside_io.specs.MemoryInput.{CountsFault, GivesBytes};
 
 use crate::call_plan::CallPlan;
 use crate::traits::{Failed, Source};
@@ -23,7 +23,13 @@ impl Model for MemorySource {
 
     ghost Value = { MemoryInput };
 
-    ghost view = { λ s. record { left = drop s.position s.bytes.items; failing = s.plan.failing.items; piece = s.piece; calls = s.plan.calls; faults = s.plan.faults } };
+    ghost view = { λ s. record {
+      left = drop s.position s.bytes.items;
+      failing = s.plan.failing.items;
+      piece = s.piece;
+      calls = s.plan.calls;
+      faults = s.plan.faults;
+    } };
 
     ghost invariant = { λ s. (0 < s.piece) × (s.position ≤ vec_len s.bytes) };
 }
@@ -33,7 +39,13 @@ impl MemorySource {
     /// from 1 up to 2^64 - 1, fails exactly where `k` is in `failing`. No fault is counted yet.
     pub fn new(bytes: Vec<u8>, failing: Vec<u64>, piece: u32) -> Self
         requires { 0 < piece }
-        ensures { result ≡ record { left = bytes.items; failing = failing.items; piece = piece; calls = 0; faults = 0 } }
+        ensures { result ≡ record {
+          left = bytes.items;
+          failing = failing.items;
+          piece = piece;
+          calls = 0;
+          faults = 0;
+        } }
     {
         MemorySource {
             bytes,
@@ -62,13 +74,10 @@ impl Source for MemorySource {
         ensures fails { IsErr result ↔ IsNextFailing self.old.failing self.old.calls }
 
         // How many bytes it gives, where they stand in `into`, and what is left.
-        ensures count { IfOk result (λ n. n ≡ read_count self.old (length into.old)) }
-        ensures given { IfOk result (λ n. into.new ≡ take n self.old.left ++ drop n into.old) }
-        ensures ok { IfOk result (λ n. self.new ≡ record self.old { left = drop n self.old.left; calls = next_count self.old.calls }) }
+        ensures ok { IfOk result (GivesBytes self.old self.new into.old into.new) }
 
         // A failure only counts the call and the fault.
-        ensures kept { OnErr result (into.new ≡ into.old) }
-        ensures err { OnErr result (self.new ≡ record self.old { calls = next_count self.old.calls; faults = next_count self.old.faults }) }
+        ensures err { OnErr result (CountsFault self.old self.new into.old into.new) }
     {
         if self.plan.begin_call() {
             self.plan.count_fault();

@@ -1,7 +1,7 @@
-ghost use Rattle.std.specs.Prelude.{◌≡◌, ◌≤◌, ◌⊎◌, length, IfOk, OnOk, OnErr, IsErrOf};
+ghost use Rattle.std.specs.Prelude.{◌≡◌, ◌≤◌, ◌⊎◌, length, IfOk, IfErr, OnOk, OnErr, IsErrOf};
 ghost use Rattle.std.specs.Io.KnownBytes.{Appends, Consumes, IsAtEnd};
-ghost use Rattle.outside_io.specs.Counts.{Rose, HasCause};
-ghost use Rattle.outside_io.specs.Moves.{ConsumesAtMost, ConsumesPast, AppendsProperPrefix};
+ghost use Rattle.outside_io.specs.Counts.{HasCause};
+ghost use Rattle.outside_io.specs.Moves.{EndsEarly, AppendsProperPrefix};
 
 use crate::traits::{Failed, Sink, Source};
 use std::alloc::Global;
@@ -30,16 +30,14 @@ pub fn read_to_end<S: Source>(
     source: &mut S,
     most: usize,
 ) -> Result<Vec<u8>, ReadEnd>
-    ensures all { IfOk result (λ bytes. Consumes (S.left source.old) (S.left source.new) bytes.items) }
+    ensures all { IfOk result (λ bytes. Consumes (S.left source.old)
+        (S.left source.new) bytes.items) }
     ensures end { OnOk result (IsAtEnd (S.left source.new)) }
     ensures fits { IfOk result (λ bytes. length bytes.items ≤ most) }
 
-    ensures large { IsErrOf result ReadEnd.TooLarge → ConsumesPast (S.left source.old) (S.left source.new) most PIECE_BYTES }
-
-    ensures cause { IsErrOf result ReadEnd.Failed → Rose (S.faults source.old) (S.faults source.new) }
-    ensures failed { IsErrOf result ReadEnd.Failed → ConsumesAtMost (S.left source.old) (S.left source.new) most }
-
-    ensures no_memory { IsErrOf result ReadEnd.NoMemory → ConsumesAtMost (S.left source.old) (S.left source.new) most }
+    // Why it gives none, and what was read until then.
+    ensures early { IfErr result (EndsEarly (S.left source.old) (S.left source.new)
+        (S.faults source.old) (S.faults source.new) most PIECE_BYTES) }
 
     // The count of faults rises at a failed read alone.
     ensures later { S.faults source.old ≤ S.faults source.new }

@@ -1,4 +1,4 @@
-//! Work on two slices at once, place by place, in threads of their own where threads can be made.
+//! Work on two slices, place by place, for which threads may be started: each place is worked on once.
 #![tactic(auto)]
 
 ghost use Rattle.std.specs.Prelude.{◌<◌, length};

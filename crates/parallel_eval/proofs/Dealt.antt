@@ -3,7 +3,7 @@ use Rattle.std.proofs.Common.{◌≡◌, ℕ, suc, ◌+◌, ◌-◌, ◌*◌, �
 use Rattle.std.proofs.Math.Nat.{suc-mul}
 use Rattle.std.proofs.lemmas.List.Elements.{All-head, All-tail, All-push}
 use Rattle.pair_work.specs.Pairs.{EachReady}
-use Rattle.subtree_memo.specs.Shares.{View, fresh}
+use Rattle.subtree_memo.specs.Shares.{View, fresh_share}
 use Rattle.subtree_memo.specs.declared.ledgers.MemoLedger.{Ghosts}
 use Rattle.parallel_eval.specs.declared.lane.Lane.{Lane}
 use Rattle.parallel_eval.specs.Joins.{AreAnswered, AreBegun}
@@ -27,7 +27,7 @@ module _ {D B S T H M K E : Type 0} {g : Ghosts H} (count : D → ℕ) where
   each_ready W w start many before last caller most [] (l ∷ ls) e low high few enough same = absurd (omega arith)
   each_ready W w start many before last caller most (b ∷ bs) [] e low high few enough same = absurd (omega arith)
   each_ready W w start many before last caller most (b ∷ bs) (l ∷ ls) e low high few enough same =
-      let share : l.share.share ≡ fresh caller 1 = e.0 in
+      let share : l.share.share ≡ fresh_share caller 1 = e.0 in
       let parts : l.share.share.parts ≡ 1 = ap (λ s. s.parts) share in
       let none : l.share.share.dropped ≡ 0 = ap (λ s. s.dropped) share in
       let first : l.before ≡ before = e.1 in

@@ -2,7 +2,7 @@
 use Rattle.std.proofs.Common.{◌≡◌, ℕ, ◌+◌, ◌-◌, ◌≤◌, ◌<◌, List, [], ◌∷◌, ◌++◌, length, take, drop, get_or, refl, ap, sym, subst, ◌∙◌, arith}
 use Rattle.std.proofs.lemmas.List.{take_rest}
 use Rattle.csg_tree.specs.Formulas.{Formula}
-use Rattle.subtree_memo.specs.Shares.{View, fresh, joined}
+use Rattle.subtree_memo.specs.Shares.{View, fresh_share, joined_share}
 use Rattle.subtree_memo.specs.declared.ledgers.MemoLedger.{Ghosts}
 use Rattle.parallel_eval.specs.declared.growth.NodeOutcome.{NodeOutcome}
 use Rattle.parallel_eval.specs.declared.lane.Lane.{Lane}
@@ -20,16 +20,16 @@ made_but_last (first ∷ outcomes) outcome all = let h = made_but_last outcomes 
 
 module _ {B S T H M K E : Type 0} {g : Ghosts H} where
   pub fresh_more : (caller before next last : ℕ) (lanes : List (Lane B S T H M K E g)) (lane : Lane B S T H M K E g) → AreFreshLanes caller before next lanes →
-      lane.share.share ≡ fresh caller 1 → lane.before ≡ next → next ≤ lane.last → lane.made.items ≡ [] → lane.last ≡ last →
+      lane.share.share ≡ fresh_share caller 1 → lane.before ≡ next → next ≤ lane.last → lane.made.items ≡ [] → lane.last ≡ last →
       AreFreshLanes caller before last (lanes ++ lane ∷ [])
   fresh_more caller before next last [] lane e share first order empty end =
       (share, first ∙ sym e, omega arith, empty, end)
   fresh_more caller before next last (l ∷ lanes) lane e share first order empty end =
       (e.0, e.1, e.2, e.3, fresh_more caller l.last next last lanes lane e.4 share first order empty end)
 
-  pub with_more : (share : View) (lanes : List (Lane B S T H M K E g)) (lane : Lane B S T H M K E g) → with_lanes share (lanes ++ lane ∷ []) ≡ with_lanes (joined share lane.share.share) lanes
+  pub with_more : (share : View) (lanes : List (Lane B S T H M K E g)) (lane : Lane B S T H M K E g) → with_lanes share (lanes ++ lane ∷ []) ≡ with_lanes (joined_share share lane.share.share) lanes
   with_more share [] lane = refl
-  with_more share (l ∷ lanes) lane = ap (λ s. joined s l.share.share) (with_more share lanes lane)
+  with_more share (l ∷ lanes) lane = ap (λ s. joined_share s l.share.share) (with_more share lanes lane)
 
   pub caller_but_last : (caller : ℕ) (lanes : List (Lane B S T H M K E g)) (lane : Lane B S T H M K E g) → AreOfCaller caller (lanes ++ lane ∷ []) → AreOfCaller caller lanes × (lane.share.share.caller ≡ caller)
   caller_but_last caller [] lane all = (tt, all.0)

@@ -4,7 +4,7 @@ use Rattle.std.proofs.lemmas.List.Elements.{All-nil, All-cons, All-head, All-tai
 use Rattle.std.proofs.lemmas.List.Sums.{sum_by-cons}
 use Rattle.csg_tree.specs.Formulas.{Formula}
 use Rattle.pair_work.specs.Pairs.{EachWorked}
-use Rattle.subtree_memo.specs.Shares.{View, fresh, joined, dropped_max}
+use Rattle.subtree_memo.specs.Shares.{View, fresh_share, joined_share, dropped_max}
 use Rattle.subtree_memo.specs.declared.ledgers.MemoLedger.{Ghosts}
 use Rattle.parallel_eval.specs.declared.lane.Lane.{Lane}
 use Rattle.parallel_eval.specs.Joins.{AreAnswered, AreBegun}
@@ -12,9 +12,9 @@ use Rattle.parallel_eval.specs.Runs.{joins_to, AreAtMost, AreNodeOutcomes, IsCom
 use Rattle.parallel_eval.proofs.Books.{none_begun, none_answered, few_dropped, few_builds}
 
 -- what was counted on a fresh share counts the same on one that it is put to
-joined_begun : (a b caller m n : ℕ) (v w : View) → AreBegun a b (fresh caller 1) w m n → v.dropped + b ≤ dropped_max + a → AreBegun a b v (joined v w) m n
+joined_begun : (a b caller m n : ℕ) (v w : View) → AreBegun a b (fresh_share caller 1) w m n → v.dropped + b ≤ dropped_max + a → AreBegun a b v (joined_share v w) m n
 joined_begun a b caller m n v w h room =
-    let more = few_dropped a b m n (fresh caller 1) w h in
+    let more = few_dropped a b m n (fresh_share caller 1) w h in
     let few : w.dropped + a ≤ b = omega (arith, more) in record {
       order = h.order;
       hits = omega arith;
@@ -27,9 +27,9 @@ joined_begun a b caller m n v w h room =
       offered = omega (arith, h.offered);
     }
 
-joined_answered : (a b caller m n : ℕ) (v w : View) → AreBegun a b (fresh caller 1) w m n → AreAnswered a b (fresh caller 1) w m n → v.dropped + b ≤ dropped_max + a → AreAnswered a b v (joined v w) m n
+joined_answered : (a b caller m n : ℕ) (v w : View) → AreBegun a b (fresh_share caller 1) w m n → AreAnswered a b (fresh_share caller 1) w m n → v.dropped + b ≤ dropped_max + a → AreAnswered a b v (joined_share v w) m n
 joined_answered a b caller m n v w h k room =
-    let more = few_dropped a b m n (fresh caller 1) w h in
+    let more = few_dropped a b m n (fresh_share caller 1) w h in
     let few : w.dropped + a ≤ b = omega (arith, more) in record {
       probes = omega (arith, k.probes);
       builds = omega (arith, k.builds);
@@ -62,16 +62,16 @@ module _ {D B S T H M K E : Type 0} {g : Ghosts H} (count : D → ℕ) (trees : 
   Done b l c m = IsLaneDone trees l m (count b) (count c)
 
   -- a lane's own numbers, at the number where the lanes begin
-  one_begun : (before caller : ℕ) (b c : D) (l m : Lane B S T H M K E g) → l.share.share ≡ fresh caller 1 → l.before ≡ before → Done b l c m →
-      AreBegun (joins_to trees before) (joins_to trees l.last) (fresh caller 1) m.share.share (count b) (count c)
+  one_begun : (before caller : ℕ) (b c : D) (l m : Lane B S T H M K E g) → l.share.share ≡ fresh_share caller 1 → l.before ≡ before → Done b l c m →
+      AreBegun (joins_to trees before) (joins_to trees l.last) (fresh_share caller 1) m.share.share (count b) (count c)
   one_begun before caller b c l m s e h =
-      subst (λ x. AreBegun (joins_to trees x) (joins_to trees l.last) (fresh caller 1) m.share.share (count b) (count c)) e
+      subst (λ x. AreBegun (joins_to trees x) (joins_to trees l.last) (fresh_share caller 1) m.share.share (count b) (count c)) e
       (subst (λ x. AreBegun (joins_to trees l.before) (joins_to trees l.last) x m.share.share (count b) (count c)) s h.asked.begun)
 
-  one_answered : (before caller : ℕ) (b c : D) (l m : Lane B S T H M K E g) → l.share.share ≡ fresh caller 1 → l.before ≡ before → Done b l c m →
-      IsComplete m.before m.last m.made.items → AreAnswered (joins_to trees before) (joins_to trees l.last) (fresh caller 1) m.share.share (count b) (count c)
+  one_answered : (before caller : ℕ) (b c : D) (l m : Lane B S T H M K E g) → l.share.share ≡ fresh_share caller 1 → l.before ≡ before → Done b l c m →
+      IsComplete m.before m.last m.made.items → AreAnswered (joins_to trees before) (joins_to trees l.last) (fresh_share caller 1) m.share.share (count b) (count c)
   one_answered before caller b c l m s e h all =
-      subst (λ x. AreAnswered (joins_to trees x) (joins_to trees l.last) (fresh caller 1) m.share.share (count b) (count c)) e
+      subst (λ x. AreAnswered (joins_to trees x) (joins_to trees l.last) (fresh_share caller 1) m.share.share (count b) (count c)) e
       (subst (λ x. AreAnswered (joins_to trees l.before) (joins_to trees l.last) x m.share.share (count b) (count c)) s
       (h.asked.answered (subst (λ x. IsComplete x l.last m.made.items) h.before (subst (λ x. IsComplete m.before x m.made.items) h.last all))))
 
@@ -88,7 +88,7 @@ module _ {D B S T H M K E : Type 0} {g : Ghosts H} (count : D → ℕ) (trees : 
       let here = joined_begun (joins_to trees before) (joins_to trees l.last) caller (count b) (count c) (with_lanes v ms) m.share.share one (omega arith) in
       subst (λ x. AreBegun (joins_to trees before) (joins_to trees last) v (with_lanes v (m ∷ ms)) x (sum_by count (c ∷ cs))) (sym (sum_by-cons count b bs))
       (subst (λ x. AreBegun (joins_to trees before) (joins_to trees last) v (with_lanes v (m ∷ ms)) (count b + sum_by count bs) x) (sym (sum_by-cons count c cs))
-      (both_begun (joins_to trees before) (joins_to trees l.last) (joins_to trees last) (count b) (count c) (sum_by count bs) (sum_by count cs) v (with_lanes v ms) (joined (with_lanes v ms) m.share.share) others here))
+      (both_begun (joins_to trees before) (joins_to trees l.last) (joins_to trees last) (count b) (count c) (sum_by count bs) (sum_by count cs) v (with_lanes v ms) (joined_share (with_lanes v ms) m.share.share) others here))
   lanes_begun before last caller v bs ls cs ms e h room = absurd h
 
   pub lanes_answered : (before last caller : ℕ) (v : View) (bs : List D) (ls : List (Lane B S T H M K E g)) (cs : List D) (ms : List (Lane B S T H M K E g)) →
@@ -105,7 +105,7 @@ module _ {D B S T H M K E : Type 0} {g : Ghosts H} (count : D → ℕ) (trees : 
       (one_answered before caller b c l m e.0 e.1 h.0 all.0) (omega arith) in
       subst (λ x. AreAnswered (joins_to trees before) (joins_to trees last) v (with_lanes v (m ∷ ms)) x (sum_by count (c ∷ cs))) (sym (sum_by-cons count b bs))
       (subst (λ x. AreAnswered (joins_to trees before) (joins_to trees last) v (with_lanes v (m ∷ ms)) (count b + sum_by count bs) x) (sym (sum_by-cons count c cs))
-      (both_answered (joins_to trees before) (joins_to trees l.last) (joins_to trees last) (count b) (count c) (sum_by count bs) (sum_by count cs) v (with_lanes v ms) (joined (with_lanes v ms) m.share.share)
+      (both_answered (joins_to trees before) (joins_to trees l.last) (joins_to trees last) (count b) (count c) (sum_by count bs) (sum_by count cs) v (with_lanes v ms) (joined_share (with_lanes v ms) m.share.share)
       (lanes_answered l.last last caller v bs ls cs ms e.4 h.1 (omega arith) all.1) here))
   lanes_answered before last caller v bs ls cs ms e h room all = absurd h
 
@@ -151,7 +151,7 @@ module _ {D B S T H M K E : Type 0} {g : Ghosts H} (count : D → ℕ) (trees : 
   lanes_at_most before last caller most most' [] [] [] [] e h all room = All-nil (λ x. count x ≤ most')
   lanes_at_most before last caller most most' (b ∷ bs) (l ∷ ls) (c ∷ cs) (m ∷ ms) e h all room =
       let one = one_begun before caller b c l m e.0 e.1 h.0 in
-      let few : count c + joins_to trees before ≤ count b + joins_to trees l.last = few_builds (joins_to trees before) (joins_to trees l.last) (count b) (count c) (fresh caller 1) m.share.share one in
+      let few : count c + joins_to trees before ≤ count b + joins_to trees l.last = few_builds (joins_to trees before) (joins_to trees l.last) (count b) (count c) (fresh_share caller 1) m.share.share one in
       let first : count b ≤ most = All-head (λ x. count x ≤ most) b bs all in
       let order : joins_to trees before ≤ joins_to trees l.last = one.order in
       let behind : joins_to trees l.last ≤ joins_to trees last = lanes_order l.last last caller bs ls cs ms e.4 h.1 in

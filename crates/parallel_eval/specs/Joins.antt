@@ -14,7 +14,9 @@ use Rattle.subtree_memo.specs.Shares.{View, probes_of, offered_of, dropped_max}
 
 -- a tree is the join of two others, which have these solids
 abbrev pub IsJoinOf : Op → Tree → Tree → Formula → Type 0
-IsJoinOf op left right tree = (first : Formula) × (second : Formula) × (tree ≡ joined op first second) × (left ≡ solid_of first) × (right ≡ solid_of second)
+IsJoinOf op left right tree =
+    (first : Formula) × (second : Formula) × (tree ≡ joined op first second)
+    × (left ≡ solid_of first) × (right ≡ solid_of second)
 
 -- What is given where a solid is wanted: the solid where its size is within the limit of one, and else that it
 -- is too big. Want of memory is free.
@@ -27,7 +29,8 @@ module _ {Z : Type 0} where
 -- what is given where a solid is built for two holders
 module _ {Z : Type 0} where
   abbrev pub AreBuilt : Tree → Result (Arc SolidParts Z × Arc SolidParts Z) BuildStop → Type 0
-  AreBuilt wanted (Ok made) = (tree_of (arc_value made.0) ≡ wanted) × (arc_value made.1 ≡ arc_value made.0) × (size wanted ≤ most_of_one)
+  AreBuilt wanted (Ok made) =
+      (tree_of (arc_value made.0) ≡ wanted) × (arc_value made.1 ≡ arc_value made.0) × (size wanted ≤ most_of_one)
   AreBuilt wanted (Err TooBig) = most_of_one < size wanted
   AreBuilt wanted (Err NoMemory) = Unit {0}
 

@@ -1,4 +1,4 @@
--- The solids of a store by many builders at once.
+-- The solids of a store, whose nodes are divided among builders.
 pub mod Runs
 -- The solid of a join, by a memo that threads share.
 pub mod Joins

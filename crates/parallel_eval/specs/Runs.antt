@@ -13,7 +13,7 @@ use Rattle.bsp_tree.specs.Shapes.{SolidParts}
 use Rattle.bsp_tree.specs.Shapes.{tree_of}
 use Rattle.bsp_boolean.specs.Solids.{solid_of}
 use Rattle.bsp_boolean.specs.TreeSolids.{most_of_one, solid_size, total_size, joins, AreWithin}
-use Rattle.subtree_memo.specs.Shares.{View, fresh, joined}
+use Rattle.subtree_memo.specs.Shares.{View, fresh_share, joined_share}
 use Rattle.subtree_memo.specs.declared.ledgers.MemoLedger.{Ghosts}
 use Rattle.parallel_eval.specs.Known.{shared_solids}
 use Rattle.parallel_eval.specs.Joins.{AreAsked}
@@ -68,7 +68,8 @@ AreRunNodes trees start before [] = Unit {0}
 AreRunNodes trees start before (node ∷ nodes) = IsRunNode trees start (before + 1) node × AreRunNodes trees start (before + 1) nodes
 
 -- a run: nodes behind the first ones, which have their solids
-pub record IsRunWork {Z : Type 0} (trees : List Formula) (start : ℕ) (solids : List (Arc SolidParts Z)) (nodes : List CsgNode) : Type 0 where
+pub record IsRunWork {Z : Type 0} (trees : List Formula) (start : ℕ)
+    (solids : List (Arc SolidParts Z)) (nodes : List CsgNode) : Type 0 where
   pub over : shared_solids solids ≡ map solid_of (take start trees)
   pub many : length solids ≡ start
   pub some : 0 < length nodes
@@ -85,7 +86,8 @@ IsNodeOutcome trees number TooBig = most_of_one < solid_size (tree_numbered tree
 -- what came of the nodes behind the first ones, in order of number
 abbrev pub AreNodeOutcomes : List Formula → ℕ → List NodeOutcome → Type 0
 AreNodeOutcomes trees before [] = Unit {0}
-AreNodeOutcomes trees before (outcome ∷ outcomes) = IsNodeOutcome trees (before + 1) outcome × AreNodeOutcomes trees (before + 1) outcomes
+AreNodeOutcomes trees before (outcome ∷ outcomes) =
+    IsNodeOutcome trees (before + 1) outcome × AreNodeOutcomes trees (before + 1) outcomes
 
 -- a solid was made
 abbrev pub IsMade : NodeOutcome → Type 0
@@ -118,7 +120,8 @@ module _ {B S T H M K E : Type 0} {g : Ghosts H} where
   -- lanes of which nothing is done, with the nodes from one number to another
   abbrev pub AreFreshLanes : ℕ → ℕ → ℕ → List (Lane B S T H M K E g) → Type 0
   AreFreshLanes caller before last [] = before ≡ last
-  AreFreshLanes caller before last (lane ∷ lanes) = (lane.share.share ≡ fresh caller 1) × (lane.before ≡ before) × (before ≤ lane.last)
+  AreFreshLanes caller before last (lane ∷ lanes) =
+      (lane.share.share ≡ fresh_share caller 1) × (lane.before ≡ before) × (before ≤ lane.last)
       × (lane.made.items ≡ []) × AreFreshLanes caller lane.last last lanes
 
   -- no lane has two nodes more than another: each has so many, or one more
@@ -130,7 +133,8 @@ module _ {B S T H M K E : Type 0} {g : Ghosts H} where
     pub before : lane'.before ≡ lane.before
     pub last : lane'.last ≡ lane.last
     pub outcomes : AreNodeOutcomes trees lane.before lane'.made.items
-    pub asked : AreAsked (IsComplete lane.before lane.last lane'.made.items) (joins_to trees lane.before) (joins_to trees lane.last) lane.share.share lane'.share.share count count'
+    pub asked : AreAsked (IsComplete lane.before lane.last lane'.made.items)
+        (joins_to trees lane.before) (joins_to trees lane.last) lane.share.share lane'.share.share count count'
 
   -- a lane is worked on up to the number k, of which each node has an outcome
   pub record IsLaneAt (trees : List Formula) (k : ℕ) (lane lane' : Lane B S T H M K E g) (count count' : ℕ) : Type 0 where
@@ -138,12 +142,14 @@ module _ {B S T H M K E : Type 0} {g : Ghosts H} where
     pub last : lane'.last ≡ lane.last
     pub outcomes : AreNodeOutcomes trees lane.before lane'.made.items
     pub many : lane.before + length lane'.made.items ≡ k
-    pub asked : AreAsked (AreMade lane'.made.items) (joins_to trees lane.before) (joins_to trees k) lane.share.share lane'.share.share count count'
+    pub asked : AreAsked (AreMade lane'.made.items)
+        (joins_to trees lane.before) (joins_to trees k) lane.share.share lane'.share.share count count'
 
   -- lanes with what came of their nodes, which are those from one number to another
   abbrev pub AreLanes : List Formula → ℕ → ℕ → List (Lane B S T H M K E g) → Type 0
   AreLanes trees before last [] = before ≡ last
-  AreLanes trees before last (lane ∷ lanes) = (lane.before ≡ before) × AreNodeOutcomes trees before lane.made.items × AreLanes trees lane.last last lanes
+  AreLanes trees before last (lane ∷ lanes) =
+      (lane.before ≡ before) × AreNodeOutcomes trees before lane.made.items × AreLanes trees lane.last last lanes
 
   -- each node of each lane has a solid
   abbrev pub AreComplete : List (Lane B S T H M K E g) → Type 0
@@ -158,4 +164,4 @@ module _ {B S T H M K E : Type 0} {g : Ghosts H} where
   -- a share with those of the lanes
   abbrev pub with_lanes : View → List (Lane B S T H M K E g) → View
   with_lanes share [] = share
-  with_lanes share (lane ∷ lanes) = joined (with_lanes share lanes) lane.share.share
+  with_lanes share (lane ∷ lanes) = joined_share (with_lanes share lanes) lane.share.share

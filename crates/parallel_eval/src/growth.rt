@@ -66,7 +66,8 @@ impl<'a> Growth<'a> {
     ) -> Result<(), TreeStop>
         requires grown { IsGrown self.old.store.now before self.old }
         requires outcomes { AreNodeOutcomes self.old.store.now before outcomes.now }
-        requires within { (before + length outcomes.now ≤ last) × (last ≤ length self.old.store.now) }
+        requires within { (before + length outcomes.now ≤ last)
+            × (last ≤ length self.old.store.now) }
         ensures grown { OnOk result (IsGrown self.old.store.now last self.new) }
         ensures complete { OnOk result (IsComplete before last outcomes.now) }
         ensures stop { IfErr result (IsTreeStop self.old.store.now) }

@@ -53,7 +53,8 @@ impl<'a, N: Namer<TreeKey>, B: FlightBooks, G: Gate, R: Wait> Builds<'a, N, B, G
             (arc_value node.key.now) }
         requires room { HasRoom share.old.share (D.builds builder.old) }
         ensures solid { Gives (solid_of (arc_value node.entry.key.now)) result }
-        ensures asked { AreAsked (IsOk result) 0 1 share.old.share share.new.share (D.builds builder.old) (D.builds builder.new) }
+        ensures asked { AreAsked (IsOk result) 0 1 share.old.share share.new.share
+            (D.builds builder.old) (D.builds builder.new) }
     {
         let claim = match self.flight.claim(self.rt, self.alloc, share, node.key)? {
             Claimed::Value(solid) => return within(solid),
@@ -80,7 +81,8 @@ impl<'a, N: Namer<TreeKey>, B: FlightBooks, G: Gate, R: Wait> Builds<'a, N, B, G
         builder: &mut D,
     ) -> Result<(Arc<Solid>, Arc<Solid>), BuildStop>
         requires { D.builds builder.old < 2 ^ 48 }
-        ensures built { AreBuilt (merge_of node.entry.op (tree_of node.entry.left.now) (tree_of node.entry.right.now)) result }
+        ensures built { AreBuilt (merge_of node.entry.op (tree_of node.entry.left.now)
+            (tree_of node.entry.right.now)) result }
         ensures counted { OnOk result (D.builds builder.new ≡ D.builds builder.old + 1) }
         ensures bounded { D.builds builder.new ≤ D.builds builder.old + 1 }
     {
@@ -96,7 +98,8 @@ impl<'a, N: Namer<TreeKey>, B: FlightBooks, G: Gate, R: Wait> Builds<'a, N, B, G
         builder: &mut D,
     ) -> Result<Solid, BuildStop>
         requires { D.builds builder.old < 2 ^ 48 }
-        ensures built { IsBuilt (merge_of node.entry.op (tree_of node.entry.left.now) (tree_of node.entry.right.now))
+        ensures built { IsBuilt (merge_of node.entry.op (tree_of node.entry.left.now)
+            (tree_of node.entry.right.now))
             most_of_one result }
         ensures counted { OnOk result (D.builds builder.new ≡ D.builds builder.old + 1) }
         ensures bounded { D.builds builder.new ≤ D.builds builder.old + 1 }

@@ -39,7 +39,8 @@ impl<'a, 'b, N: Namer<TreeKey>, B: FlightBooks, G: Gate, R: Wait, D: Builder> Pa
     ghost ready = { λ w b lane. IsRunWork w.store.now w.start w.solids.now w.nodes.now
         × IsLaneReady w.start (length w.nodes.now) (D.builds b) lane };
 
-    ghost worked = { λ w b lane c lane'. IsLaneDone w.store.now lane lane' (D.builds b) (D.builds c) };
+    ghost worked = { λ w b lane c lane'. IsLaneDone w.store.now lane lane' (D.builds b)
+        (D.builds c) };
 
     fn work(&self, builder: &mut D, lane: &mut Lane<B>) {
         self.do_lane(builder, lane)
@@ -50,9 +51,12 @@ impl<'a, 'b, N: Namer<TreeKey>, B: FlightBooks, G: Gate, R: Wait> RunWork<'a, 'b
     // Does the nodes of a lane, one after another. It goes on behind one that is too big, since a lower
     // number may be so in another lane, and ends where memory runs out.
     fn do_lane<D: Builder>(&self, builder: &mut D, lane: &mut Lane<B>)
-        requires run { IsRunWork self.now.store.now self.now.start self.now.solids.now self.now.nodes.now }
-        requires lane { IsLaneReady self.now.start (length self.now.nodes.now) (D.builds builder.old) lane.old }
-        ensures { IsLaneDone self.now.store.now lane.old lane.new (D.builds builder.old) (D.builds builder.new) }
+        requires run { IsRunWork self.now.store.now self.now.start self.now.solids.now
+            self.now.nodes.now }
+        requires lane { IsLaneReady self.now.start (length self.now.nodes.now)
+            (D.builds builder.old) lane.old }
+        ensures { IsLaneDone self.now.store.now lane.old lane.new (D.builds builder.old)
+            (D.builds builder.new) }
     {
         one_tree_more();
         for before in lane.before..lane.last {
@@ -72,8 +76,10 @@ impl<'a, 'b, N: Namer<TreeKey>, B: FlightBooks, G: Gate, R: Wait> RunWork<'a, 'b
         share: &mut FlightShare<B>,
         builder: &mut D,
     ) -> Result<NodeOutcome, NoMemory>
-        requires run { IsRunWork self.now.store.now self.now.start self.now.solids.now self.now.nodes.now }
-        requires number { (self.now.start < number) × (number ≤ self.now.start + length self.now.nodes.now) }
+        requires run { IsRunWork self.now.store.now self.now.start self.now.solids.now
+            self.now.nodes.now }
+        requires number { (self.now.start < number)
+            × (number ≤ self.now.start + length self.now.nodes.now) }
         requires room { HasRoom share.old.share (D.builds builder.old) }
         ensures outcome { IfOk result (IsNodeOutcome self.now.store.now number) }
         ensures asked { AreAsked (HasMade result) (joins_to self.now.store.now (number - 1))
@@ -94,8 +100,10 @@ impl<'a, 'b, N: Namer<TreeKey>, B: FlightBooks, G: Gate, R: Wait> RunWork<'a, 'b
         share: &mut FlightShare<B>,
         builder: &mut D,
     ) -> Result<Arc<Solid>, BuildStop>
-        requires run { IsRunWork self.now.store.now self.now.start self.now.solids.now self.now.nodes.now }
-        requires number { (self.now.start < number) × (number ≤ self.now.start + length self.now.nodes.now) }
+        requires run { IsRunWork self.now.store.now self.now.start self.now.solids.now
+            self.now.nodes.now }
+        requires number { (self.now.start < number)
+            × (number ≤ self.now.start + length self.now.nodes.now) }
         requires room { HasRoom share.old.share (D.builds builder.old) }
         ensures solid { Gives (solid_of (tree_numbered self.now.store.now number)) result }
         ensures asked { AreAsked (IsOk result) (joins_to self.now.store.now (number - 1))
@@ -123,8 +131,10 @@ impl<'a, 'b, N: Namer<TreeKey>, B: FlightBooks, G: Gate, R: Wait> RunWork<'a, 'b
 
     // A node of the run.
     fn node(&self, number: u32) -> CsgNode<'b>
-        requires run { IsRunWork self.now.store.now self.now.start self.now.solids.now self.now.nodes.now }
-        requires number { (self.now.start < number) × (number ≤ self.now.start + length self.now.nodes.now) }
+        requires run { IsRunWork self.now.store.now self.now.start self.now.solids.now
+            self.now.nodes.now }
+        requires number { (self.now.start < number)
+            × (number ≤ self.now.start + length self.now.nodes.now) }
         ensures { IsRunNode self.now.store.now self.now.start number result }
     {
         self.nodes[(number - 1 - self.start) as usize]
@@ -132,7 +142,8 @@ impl<'a, 'b, N: Namer<TreeKey>, B: FlightBooks, G: Gate, R: Wait> RunWork<'a, 'b
 
     // The solid of a node before the run.
     fn solid(&self, number: u32) -> &Solid
-        requires run { IsRunWork self.now.store.now self.now.start self.now.solids.now self.now.nodes.now }
+        requires run { IsRunWork self.now.store.now self.now.start self.now.solids.now
+            self.now.nodes.now }
         requires number { (1 ≤ number) × (number ≤ self.now.start) }
         ensures { tree_of result.now ≡ solid_of (tree_numbered self.now.store.now number) }
     {

@@ -14,11 +14,11 @@ use crate::growth::Growth;
 use crate::lane::Lane;
 use crate::lanes::RunWork;
 use crate::node_runs::run_nodes;
-use crate::{Builds, Gate, KnownStore, SolidFit};
+use crate::{Builds, Gate, KnownStore};
 use bsp_boolean::{Builder, TreeStop as EvalStop, one_tree_more};
 use bsp_tree::Solid;
 use csg_tree::TreeKey;
-use flight_memo::{Flight, FlightBooks, FlightLedgers, FlightShare};
+use flight_memo::{FlightBooks, FlightLedgers, FlightShare};
 use memo_core::Namer;
 use pair_work::work_each;
 use std::alloc::Global;
@@ -43,7 +43,9 @@ fn deal<B: FlightBooks>(
     ensures lanes { IfOk result (λ v. AreFreshLanes share.old.share.caller before last v.items) }
     ensures even { IfOk result (λ v. AreEven v.items) }
     ensures many { IfOk result (λ v. length v.items ≤ builders) }
-    ensures rest { IfOk result (λ v. share.new ≡ record share.old { share = record share.old.share { parts = share.old.share.parts - length v.items } }) }
+    ensures rest { IfOk result (λ v. share.new ≡ record share.old {
+      share = record share.old.share { parts = share.old.share.parts - length v.items };
+    }) }
     ensures err { OnErr result (share.new ≡ share.old) }
 {
     let nodes = last - before;
@@ -117,16 +119,21 @@ fn work_lanes<
     share: &mut FlightShare<FlightLedgers<H, M, K, E, S, T>>,
     builders: &mut [D],
 ) -> Result<Vec<Lane<FlightLedgers<H, M, K, E, S, T>>>, NoMemory>
-    requires run { IsRunWork work.now.store.now work.now.start work.now.solids.now work.now.nodes.now }
-    requires ready { AreReady D.builds (joins_to work.now.store.now work.now.start) share.old.share builders.old }
+    requires run { IsRunWork work.now.store.now work.now.start work.now.solids.now
+        work.now.nodes.now }
+    requires ready { AreReady D.builds (joins_to work.now.store.now work.now.start) share.old.share
+        builders.old }
     ensures lanes { IfOk result (λ v. AreLanes work.now.store.now work.now.start
         (work.now.start + length work.now.nodes.now) v.items) }
     ensures caller { IfOk result (λ v. AreOfCaller share.new.share.caller v.items) }
-    ensures asked { IfOk result (λ v. AreAsked (AreComplete v.items) (joins_to work.now.store.now work.now.start)
+    ensures asked { IfOk result (λ v. AreAsked (AreComplete v.items)
+        (joins_to work.now.store.now work.now.start)
         (joins_to work.now.store.now (work.now.start + length work.now.nodes.now))
-        share.old.share (with_lanes share.new.share v.items) (sum_by D.builds builders.old) (sum_by D.builds builders.new)) }
+        share.old.share (with_lanes share.new.share v.items) (sum_by D.builds builders.old)
+        (sum_by D.builds builders.new)) }
     ensures counts { OnOk result (AreAtMost D.builds
-        (2 ^ 46 + joins_to work.now.store.now (work.now.start + length work.now.nodes.now)) builders.new) }
+        (2 ^ 46 + joins_to work.now.store.now (work.now.start + length work.now.nodes.now))
+        builders.new) }
     ensures many { length builders.new ≡ length builders.old }
     ensures err { OnErr result ((share.new ≡ share.old) × (builders.new ≡ builders.old)) }
 {
@@ -162,13 +169,16 @@ fn run<
     requires growing { IsGrowing store.now before growth.old × (before < length store.now) }
     requires ready { AreReady D.builds (joins_to store.now before) share.old.share builders.old }
     ensures growing { IfOk result (λ last. IsGrowing store.now last growth.new × (before < last)) }
-    ensures ready { IfOk result (λ last. AreReady D.builds (joins_to store.now last) share.new.share builders.new) }
+    ensures ready { IfOk result (λ last. AreReady D.builds (joins_to store.now last) share.new.share
+        builders.new) }
     ensures asked { IfOk result (λ last. AreAsked (IsOk result) (joins_to store.now before)
         (joins_to store.now last)
-        share.old.share share.new.share (sum_by D.builds builders.old) (sum_by D.builds builders.new)) }
+        share.old.share share.new.share (sum_by D.builds builders.old)
+        (sum_by D.builds builders.new)) }
     ensures stopped { OnErr result (AreAsked (IsOk result) (joins_to store.now before)
         (joins store.now)
-        share.old.share share.new.share (sum_by D.builds builders.old) (sum_by D.builds builders.new)) }
+        share.old.share share.new.share (sum_by D.builds builders.old)
+        (sum_by D.builds builders.new)) }
     ensures stop { IfErr result (IsTreeStop store.now) }
 {
     let nodes = run_nodes(builds.alloc, store.store(), before)?;
@@ -205,13 +215,10 @@ fn solids_of<
     G: Gate + Sync,
     R: Threads + Wait + Sync,
 >(
-    rt: &R,
-    alloc: Global,
+    builds: &Builds<'_, N, FlightLedgers<H, M, K, E, S, T>, G, R>,
     store: &KnownStore,
-    flight: &Flight<SolidFit, N, FlightLedgers<H, M, K, E, S, T>>,
     share: &mut FlightShare<FlightLedgers<H, M, K, E, S, T>>,
     builders: &mut [D],
-    gate: &G,
 ) -> Result<Vec<Arc<Solid>>, EvalStop>
     requires some { 0 < length store.now }
     requires ready { AreReady D.builds 0 share.old.share builders.old }
@@ -219,32 +226,27 @@ fn solids_of<
     ensures within { OnOk result (AreWithin store.now) }
     ensures stop { IfErr result (IsTreeStop store.now) }
     ensures asked { AreAsked (IsOk result) 0 (joins store.now)
-        share.old.share share.new.share (sum_by D.builds builders.old) (sum_by D.builds builders.new) }
+        share.old.share share.new.share (sum_by D.builds builders.old)
+        (sum_by D.builds builders.new) }
     ensures few { joins store.now < 2 ^ 32 }
 {
     one_tree_more();
-    let builds = Builds {
-        rt,
-        alloc,
-        flight,
-        gate,
-    };
     let nodes = store.store();
     let mut growth = Growth {
         store: nodes,
-        solids: Vec::new(alloc),
+        solids: Vec::new(builds.alloc),
         sum: 0,
     };
     let mut done = 0;
     while done < nodes.len() {
-        done = run(&builds, store, done, &mut growth, share, builders)?;
+        done = run(builds, store, done, &mut growth, share, builders)?;
     }
     Ok(growth.solids)
 }
 
 /// The solid of the last node of a store, for 1 to 64 builders. Nodes are done in order of number, in runs
 /// of at most 64 of which none is over another; the nodes of a run are divided evenly among the builders,
-/// which work at the same time. Each join is claimed; where it was missed, it is built and
+/// which may work at the same time: no contract says that they do. Each join is claimed; where it was missed, it is built and
 /// offered. A leaf whose solid the store does not know is made without the memo; afterwards the store knows
 /// the solids of its leaves, as far as 2 MiB go. `TooBig` and `SumTooBig` come exactly at the first node that
 /// passes a limit.
@@ -260,25 +262,24 @@ pub fn solid_of<
     G: Gate + Sync,
     R: Threads + Wait + Sync,
 >(
-    rt: &R,
-    alloc: Global,
+    builds: &Builds<'_, N, FlightLedgers<H, M, K, E, S, T>, G, R>,
     store: &mut KnownStore,
-    flight: &Flight<SolidFit, N, FlightLedgers<H, M, K, E, S, T>>,
     share: &mut FlightShare<FlightLedgers<H, M, K, E, S, T>>,
     builders: &mut [D],
-    gate: &G,
 ) -> Result<Arc<Solid>, EvalStop>
     requires some { 0 < length store.old }
     requires ready { AreReady D.builds 0 share.old.share builders.old }
-    ensures solid { IfOk result (λ s. tree_of (arc_value s) ≡ solids.solid_of (tree_numbered store.old (length store.old))) }
+    ensures solid { IfOk result (λ s. tree_of (arc_value s) ≡
+        solids.solid_of (tree_numbered store.old (length store.old))) }
     ensures within { OnOk result (AreWithin store.old) }
     ensures stop { IfErr result (IsTreeStop store.old) }
     ensures asked { AreAsked (IsOk result) 0 (joins store.old)
-        share.old.share share.new.share (sum_by D.builds builders.old) (sum_by D.builds builders.new) }
+        share.old.share share.new.share (sum_by D.builds builders.old)
+        (sum_by D.builds builders.new) }
     ensures few { joins store.old < 2 ^ 32 }
     ensures store { store.new ≡ store.old }
 {
-    let mut solids = solids_of(rt, alloc, store, flight, share, builders, gate)?;
-    store.keep(alloc, &solids);
+    let mut solids = solids_of(builds, store, share, builders)?;
+    store.keep(builds.alloc, &solids);
     Ok(solids.pop().unwrap())
 }

@@ -16,7 +16,8 @@ use text_place::NoMemory;
 pub fn box_polygon(alloc: Global, plane: &Plane) -> Result<Polygon, NoMemory>
     requires { ComesInReach plane.now }
     ensures outline { IfOk result (λ s. s ≡ box_outline plane.now) }
-    ensures points { IfOk result (λ s. (p : Coordinates) → Covers s p ↔ ((value plane.now p ≡ pos 0) × IsInClosedWorld p)) }
+    ensures points { IfOk result (λ s. (p : Coordinates) →
+        Covers s p ↔ ((value plane.now p ≡ pos 0) × IsInClosedWorld p)) }
 {
     if plane.c != 0 {
         over_z(alloc, plane)
@@ -73,8 +74,16 @@ fn four_edges(
     third: &Plane,
     fourth: &Plane,
 ) -> Result<Polygon, NoMemory>
-    requires { IsPolygon (record { plane = plane.now; edges = turned part first.now second.now third.now fourth.now }) }
-    ensures { IfOk result (λ s. s ≡ record { plane = plane.now; edges = turned part first.now second.now third.now fourth.now }) }
+    requires { IsPolygon
+        (record {
+          plane = plane.now;
+          edges = turned part first.now second.now third.now fourth.now;
+        }) }
+    ensures { IfOk result (λ s. s
+        ≡ record {
+          plane = plane.now;
+          edges = turned part first.now second.now third.now fourth.now;
+        }) }
 {
     if part < 0 {
         Polygon::of(alloc, plane, &[*first, *fourth, *third, *second])

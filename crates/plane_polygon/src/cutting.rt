@@ -16,9 +16,12 @@ use text_place::NoMemory;
 /// polygon's points that are not ahead of the plane, and those that are not behind it.
 pub fn cut(alloc: Global, polygon: &Polygon, plane: &Plane) -> Result<(Polygon, Polygon), NoMemory>
     requires { class_of polygon.now plane.now ≡ Across }
-    ensures parts { IfOk result (λ r. (r.0 ≡ part_behind polygon.now plane.now) × (r.1 ≡ part_ahead polygon.now plane.now)) }
-    ensures behind { IfOk result (λ r. (p : Coordinates) → Covers r.0 p ↔ (Covers polygon.now p × (value plane.now p ≤ℤ pos 0))) }
-    ensures ahead { IfOk result (λ r. (p : Coordinates) → Covers r.1 p ↔ (Covers polygon.now p × (pos 0 ≤ℤ value plane.now p))) }
+    ensures parts { IfOk result (λ r. (r.0 ≡ part_behind polygon.now plane.now)
+        × (r.1 ≡ part_ahead polygon.now plane.now)) }
+    ensures behind { IfOk result (λ r. (p : Coordinates) → Covers r.0 p
+        ↔ (Covers polygon.now p × (value plane.now p ≤ℤ pos 0))) }
+    ensures ahead { IfOk result (λ r. (p : Coordinates) → Covers r.1 p
+        ↔ (Covers polygon.now p × (pos 0 ≤ℤ value plane.now p))) }
 {
     let parts = part_edges(alloc, &polygon.plane, &polygon.edges, plane)?;
     Ok((
@@ -48,8 +51,10 @@ fn part_edges(
     m: &Plane,
 ) -> Result<PartEdges, AllocError>
     requires { IsPolygon (record { plane = plane.now; edges = edges.now }) }
-    ensures behind { IfOk result (λ r. r.behind.items ≡ (part_behind (record { plane = plane.now; edges = edges.now }) m.now).edges) }
-    ensures ahead { IfOk result (λ r. r.ahead.items ≡ (part_ahead (record { plane = plane.now; edges = edges.now }) m.now).edges) }
+    ensures behind { IfOk result (λ r. r.behind.items
+        ≡ (part_behind (record { plane = plane.now; edges = edges.now }) m.now).edges) }
+    ensures ahead { IfOk result (λ r. r.ahead.items
+        ≡ (part_ahead (record { plane = plane.now; edges = edges.now }) m.now).edges) }
 {
     let turned = opposite(m);
     let mut behind = Vec::new(alloc);
@@ -79,7 +84,8 @@ fn push_kept(
     edge: &Plane,
     m: &Plane,
 ) -> Result<(), AllocError>
-    ensures { OnOk result (found.new.items ≡ found.old.items ++ edges_kept_by from to edge.now m.now) }
+    ensures { OnOk result (found.new.items
+        ≡ found.old.items ++ edges_kept_by from to edge.now m.now) }
 {
     if from || to {
         found.push(*edge)?;

@@ -31,27 +31,35 @@ pub fn points_lie_in_the_fan()
 /// The two parts of a polygon that a plane is across are polygons, and have exactly the points
 /// that are not ahead of the plane, and those that are not behind it.
 pub fn parts_are_polygons()
-    ensures behind { (s : Outline) (m : Coefficients) → IsPolygon s → class_of s m ≡ Across → IsPolygon (part_behind s m) }
-    ensures ahead { (s : Outline) (m : Coefficients) → IsPolygon s → class_of s m ≡ Across → IsPolygon (part_ahead s m) }
-    ensures behind_points { (s : Outline) (m : Coefficients) → IsPolygon s → class_of s m ≡ Across → (p : Coordinates) → Covers (part_behind s m) p ↔ (Covers s p × (value m p ≤ℤ pos 0)) }
-    ensures ahead_points { (s : Outline) (m : Coefficients) → IsPolygon s → class_of s m ≡ Across → (p : Coordinates) → Covers (part_ahead s m) p ↔ (Covers s p × (pos 0 ≤ℤ value m p)) }
+    ensures behind { (s : Outline) (m : Coefficients) → IsPolygon s → class_of s m ≡ Across →
+        IsPolygon (part_behind s m) }
+    ensures ahead { (s : Outline) (m : Coefficients) → IsPolygon s → class_of s m ≡ Across →
+        IsPolygon (part_ahead s m) }
+    ensures behind_points { (s : Outline) (m : Coefficients) → IsPolygon s → class_of s m ≡ Across →
+        (p : Coordinates) → Covers (part_behind s m) p ↔ (Covers s p × (value m p ≤ℤ pos 0)) }
+    ensures ahead_points { (s : Outline) (m : Coefficients) → IsPolygon s → class_of s m ≡ Across →
+        (p : Coordinates) → Covers (part_ahead s m) p ↔ (Covers s p × (pos 0 ≤ℤ value m p)) }
 {}
 
 /// The corners go counterclockwise, seen from ahead: each other corner lies strictly left of the
 /// way from a corner to the next.
 pub fn corners_go_counterclockwise()
-    ensures { (s : Outline) → IsPolygon s → (i j : ℕ) → i < sides s → j < sides s → j ≢ i → j ≢ after (sides s) i → pos 0 <ℤ turn s.plane (corner s i) (corner s (after (sides s) i)) (corner s j) }
+    ensures { (s : Outline) → IsPolygon s → (i j : ℕ) → i < sides s → j < sides s → j ≢ i →
+        j ≢ after (sides s) i →
+        pos 0 <ℤ turn s.plane (corner s i) (corner s (after (sides s) i)) (corner s j) }
 {}
 
 /// A point is strictly behind all edges exactly where it is strictly left of each way from a
 /// corner to the next, seen from ahead.
 pub fn within_is_left()
-    ensures { (s : Outline) → IsPolygon s → (p : Coordinates) → IsStrictlyWithin s p ↔ IsStrictlyLeft s p }
+    ensures { (s : Outline) → IsPolygon s → (p : Coordinates) → IsStrictlyWithin s p
+        ↔ IsStrictlyLeft s p }
 {}
 
 /// The box polygon of a plane that comes in reach is a polygon, and has exactly the plane's points
 /// in the closed world box.
 pub fn box_polygons_are_polygons()
     ensures polygon { (m : Coefficients) → IsPlane m → ComesInReach m → IsPolygon (box_outline m) }
-    ensures points { (m : Coefficients) → IsPlane m → ComesInReach m → (p : Coordinates) → Covers (box_outline m) p ↔ ((value m p ≡ pos 0) × IsInClosedWorld p) }
+    ensures points { (m : Coefficients) → IsPlane m → ComesInReach m → (p : Coordinates) →
+        Covers (box_outline m) p ↔ ((value m p ≡ pos 0) × IsInClosedWorld p) }
 {}

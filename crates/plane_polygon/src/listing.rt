@@ -23,7 +23,8 @@ pub fn corners(alloc: Global, polygon: &Polygon) -> Result<Vec<Point>, NoMemory>
 // The same, of a plane and edges that meet what a polygon keeps.
 fn corners_of(alloc: Global, plane: &Plane, edges: &[Plane]) -> Result<Vec<Point>, AllocError>
     requires { IsPolygon (record { plane = plane.now; edges = edges.now }) }
-    ensures { IfOk result (λ v. AreReducedFrom (corners (record { plane = plane.now; edges = edges.now })) v.items) }
+    ensures { IfOk result (λ v. AreReducedFrom
+        (corners (record { plane = plane.now; edges = edges.now })) v.items) }
 {
     let mut found = Vec::new(alloc);
     for i in 0..edges.len() {
@@ -36,7 +37,8 @@ fn corners_of(alloc: Global, plane: &Plane, edges: &[Plane]) -> Result<Vec<Point
 fn corner_point(plane: &Plane, edges: &[Plane], i: usize) -> Point
     requires index { i < length edges.now }
     requires polygon { IsPolygon (record { plane = plane.now; edges = edges.now }) }
-    ensures times { IsPointTimes (corner (record { plane = plane.now; edges = edges.now }) i) result }
+    ensures times { IsPointTimes (corner (record { plane = plane.now; edges = edges.now }) i)
+        result }
     ensures reduced { IsReduced result }
 {
     let found = meeting_of(plane, &edges[i], &edges[next_index(i, edges.len())]);

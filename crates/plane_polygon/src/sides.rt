@@ -43,7 +43,8 @@ fn parallel_to_one(p: &Plane, q: &Plane, r: &Plane, m: &Plane) -> Option<Side>
 pub fn corner_side(plane: &Plane, edges: &[Plane], i: usize, m: &Plane) -> Side
     requires index { i < length edges.now }
     requires polygon { IsPolygon (record { plane = plane.now; edges = edges.now }) }
-    ensures { result ≡ side_of (value m.now (corner (record { plane = plane.now; edges = edges.now }) i)) }
+    ensures { result
+        ≡ side_of (value m.now (corner (record { plane = plane.now; edges = edges.now }) i)) }
 {
     let ends = &edges[i];
     let begins = &edges[next_index(i, edges.len())];
@@ -57,8 +58,12 @@ pub fn corner_side(plane: &Plane, edges: &[Plane], i: usize, m: &Plane) -> Side
 pub fn next_side(plane: &Plane, edges: &[Plane], i: usize, m: &Plane, last: Side) -> Side
     requires index { i < length edges.now }
     requires polygon { IsPolygon (record { plane = plane.now; edges = edges.now }) }
-    requires last { last ≡ side_of (value m.now (corner (record { plane = plane.now; edges = edges.now }) (length edges.now - 1))) }
-    ensures { result ≡ side_of (value m.now (corner (record { plane = plane.now; edges = edges.now }) i)) }
+    requires last { last
+        ≡ side_of
+        (value m.now
+        (corner (record { plane = plane.now; edges = edges.now }) (length edges.now - 1))) }
+    ensures { result
+        ≡ side_of (value m.now (corner (record { plane = plane.now; edges = edges.now }) i)) }
 {
     if i + 1 == edges.len() {
         last

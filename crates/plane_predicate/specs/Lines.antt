@@ -32,6 +32,12 @@ pub record HasSpotSizes (v : Coordinates) : Type 0 where
   pub z_size : unsigned_abs v.z ≤ 2 * (small_direction * small_offset)
   pub w_size : unsigned_abs v.w ≤ 2 * (small_direction * small_direction)
 
+-- the sizes of the direction of a line in which two small planes meet, by its three parts
+pub record HasDirectionSizes (a b c : ℤ) : Type 0 where
+  pub a_size : unsigned_abs a ≤ 2 * (small_direction * small_direction)
+  pub b_size : unsigned_abs b ≤ 2 * (small_direction * small_direction)
+  pub c_size : unsigned_abs c ≤ 2 * (small_direction * small_direction)
+
 -- the sizes of a line in which two small planes meet
 pub record HasAxisSizes (line : Axis) : Type 0 where
   pub a_size : unsigned_abs line.a ≤ 2 * (small_direction * small_direction)

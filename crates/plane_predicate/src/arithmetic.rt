@@ -32,9 +32,11 @@ pub fn minus(a: i128, b: i128) -> i128
 
 /// `a x + b y + c z`
 pub fn dot(a: i128, b: i128, c: i128, x: i128, y: i128, z: i128) -> i128
-    requires { unsigned_abs a * unsigned_abs x + unsigned_abs b * unsigned_abs y + unsigned_abs c * unsigned_abs z < 2 ^ 127 }
+    requires { unsigned_abs a * unsigned_abs x + unsigned_abs b * unsigned_abs y
+        + unsigned_abs c * unsigned_abs z < 2 ^ 127 }
     ensures value { result ≡ a *ℤ x +ℤ b *ℤ y +ℤ c *ℤ z }
-    ensures size { unsigned_abs result ≤ unsigned_abs a * unsigned_abs x + unsigned_abs b * unsigned_abs y + unsigned_abs c * unsigned_abs z }
+    ensures size { unsigned_abs result ≤ unsigned_abs a * unsigned_abs x
+        + unsigned_abs b * unsigned_abs y + unsigned_abs c * unsigned_abs z }
 {
     plus(plus(times(a, x), times(b, y)), times(c, z))
 }
@@ -60,7 +62,8 @@ pub fn minors_dot(a: i64, b: i64, c: i64, x: i64, y: i64, z: i64) -> i128
     requires y_size { unsigned_abs y ≤ 2 * (most_direction * most_direction) }
     requires z_size { unsigned_abs z ≤ 2 * (most_direction * most_direction) }
     ensures value { result ≡ a *ℤ x +ℤ b *ℤ y +ℤ c *ℤ z }
-    ensures size { unsigned_abs result ≤ unsigned_abs a * unsigned_abs x + unsigned_abs b * unsigned_abs y + unsigned_abs c * unsigned_abs z }
+    ensures size { unsigned_abs result ≤ unsigned_abs a * unsigned_abs x
+        + unsigned_abs b * unsigned_abs y + unsigned_abs c * unsigned_abs z }
 {
     dot(
         i128::from(a),

@@ -11,8 +11,10 @@ ghost use Rattle.plane_predicate.specs.Units.{steps_of};
 /// opposite, and it is enough for that if all points of the one are on the other.
 #[tactic(auto, using(crate::proofs::SamePlanes::same_points, crate::proofs::SamePlanes::equal_or_opposite))]
 pub fn planes_with_the_same_points()
-    ensures same { (m n : Coefficients) → IsPlane m → IsPlane n → HaveSamePoints m n ↔ ((m ≡ n) ⊎ (m ≡ opposite_of n)) }
-    ensures within { (m n : Coefficients) → IsPlane m → IsPlane n → HasItsPointsOn m n → (m ≡ n) ⊎ (m ≡ opposite_of n) }
+    ensures same { (m n : Coefficients) → IsPlane m → IsPlane n → HaveSamePoints m n
+        ↔ ((m ≡ n) ⊎ (m ≡ opposite_of n)) }
+    ensures within { (m n : Coefficients) → IsPlane m → IsPlane n → HasItsPointsOn m n →
+        (m ≡ n) ⊎ (m ≡ opposite_of n) }
 {}
 
 /// A point in units is the point in grid steps with its weight multiplied, and a point in grid steps
@@ -20,10 +22,16 @@ pub fn planes_with_the_same_points()
 /// point in units is `u (a x + b y + c z) - d w`, where u is how many grid steps a unit has, and a
 /// turn keeps its sign. A whole unit is a grid step.
 pub fn points_in_units_and_grid_steps()
-    ensures steps { (unit : LengthUnit) (p : Coordinates) → IsPointTimes (in_steps unit (in_units unit p)) p }
-    ensures units { (unit : LengthUnit) (p : Coordinates) → IsPointTimes (in_units unit (in_steps unit p)) p }
-    ensures value { (unit : LengthUnit) (m : Coefficients) (p : Coordinates) → value m (in_steps unit p) ≡ steps_of unit *ℤ (m.a *ℤ p.x +ℤ m.b *ℤ p.y +ℤ m.c *ℤ p.z) -ℤ m.d *ℤ p.w }
-    ensures turn { (unit : LengthUnit) (n : Coefficients) (p q r : Coordinates) → turn n (in_steps unit p) (in_steps unit q) (in_steps unit r) ≡ steps_of unit *ℤ steps_of unit *ℤ turn n p q r }
+    ensures steps { (unit : LengthUnit) (p : Coordinates) →
+        IsPointTimes (in_steps unit (in_units unit p)) p }
+    ensures units { (unit : LengthUnit) (p : Coordinates) →
+        IsPointTimes (in_units unit (in_steps unit p)) p }
+    ensures value { (unit : LengthUnit) (m : Coefficients) (p : Coordinates) →
+        value m (in_steps unit p) ≡ steps_of unit *ℤ (m.a *ℤ p.x +ℤ m.b *ℤ p.y +ℤ m.c *ℤ p.z)
+        -ℤ m.d *ℤ p.w }
+    ensures turn { (unit : LengthUnit) (n : Coefficients) (p q r : Coordinates) →
+        turn n (in_steps unit p) (in_steps unit q) (in_steps unit r)
+        ≡ steps_of unit *ℤ steps_of unit *ℤ turn n p q r }
     ensures whole_units { (p : Coordinates) → in_units Whole p ≡ p }
     ensures whole_steps { (p : Coordinates) → in_steps Whole p ≡ p }
 {}

@@ -2,7 +2,7 @@
 
 ghost use Rattle.std.specs.Prelude.{◌≡◌, ◌≢◌, ◌≤◌, ◌*◌, pos, unsigned_abs, IfSome};
 ghost use Rattle.plane_predicate.specs.Space.{minor, signed_by};
-ghost use Rattle.plane_predicate.specs.Lines.{small_direction, small_offset, IsAxisOf, IsOnBoth, IsSmall};
+ghost use Rattle.plane_predicate.specs.Lines.{small_direction, small_offset, HasDirectionSizes, IsAxisOf, IsOnBoth, IsSmall};
 
 use crate::Plane;
 use crate::small_arithmetic::{cross_part, offset_part};
@@ -25,11 +25,29 @@ impl Model for Line {
 
     ghost Value = { Axis };
 
-    ghost view = { λ l. record { a = l.a; b = l.b; c = l.c; point = record { x = l.x; y = l.y; z = l.z; w = l.w } } };
+    ghost view = { λ l. record {
+      a = l.a;
+      b = l.b;
+      c = l.c;
+      point = record { x = l.x; y = l.y; z = l.z; w = l.w };
+    } };
 
-    ghost inverse = { λ v. record { a = v.a; b = v.b; c = v.c; x = v.point.x; y = v.point.y; z = v.point.z; w = v.point.w } };
+    ghost inverse = { λ v. record {
+      a = v.a;
+      b = v.b;
+      c = v.c;
+      x = v.point.x;
+      y = v.point.y;
+      z = v.point.z;
+      w = v.point.w;
+    } };
 
-    ghost invariant = { λ l. HasAxisSizes (record { a = l.a; b = l.b; c = l.c; point = record { x = l.x; y = l.y; z = l.z; w = l.w } }) };
+    ghost invariant = { λ l. HasAxisSizes (record {
+      a = l.a;
+      b = l.b;
+      c = l.c;
+      point = record { x = l.x; y = l.y; z = l.z; w = l.w };
+    }) };
 }
 
 // The point `(x / w, y / w, z / w)` of a line.
@@ -79,11 +97,9 @@ pub fn line_of(p: &Plane, m: &Plane) -> Option<Line>
 fn spot_on(p: &Plane, m: &Plane, a: i64, b: i64, c: i64) -> Option<Spot>
     requires first { IsSmall p.now }
     requires second { IsSmall m.now }
-    requires a_size { unsigned_abs a ≤ 2 * (small_direction * small_direction) }
+    requires sizes { HasDirectionSizes a b c }
     requires a { a ≡ minor p.now.b p.now.c m.now.b m.now.c }
-    requires b_size { unsigned_abs b ≤ 2 * (small_direction * small_direction) }
     requires b { b ≡ minor p.now.c p.now.a m.now.c m.now.a }
-    requires c_size { unsigned_abs c ≤ 2 * (small_direction * small_direction) }
     requires c { c ≡ minor p.now.a p.now.b m.now.a m.now.b }
     ensures { IfSome result (IsOnBoth p.now m.now) }
 {

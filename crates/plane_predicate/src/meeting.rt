@@ -26,7 +26,8 @@ pub fn opposite(p: &Plane) -> Plane
 /// dependent.
 pub fn meet(p: &Plane, q: &Plane, r: &Plane) -> Option<Point>
     ensures found { IfSome result (λ v. v ≡ meeting p.now q.now r.now) }
-    ensures on { IfSome result (λ v. (value p.now v ≡ pos 0) × (value q.now v ≡ pos 0) × (value r.now v ≡ pos 0)) }
+    ensures on { IfSome result (λ v. (value p.now v ≡ pos 0) × (value q.now v ≡ pos 0)
+        × (value r.now v ≡ pos 0)) }
     ensures none { IsNone result ↔ (cramer p.now q.now r.now).w ≡ pos 0 }
 {
     let at = cramer_of(p, q, r);

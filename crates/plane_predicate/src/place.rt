@@ -33,7 +33,8 @@ pub fn place_on(line: &Line, m: &Plane) -> Place
 /// The side of a plane on which another one meets two more, by the places of these two on the line in
 /// which the first two meet. It is that of what Cramer's rule gives, whatever the sign of its `w`.
 pub fn side_between(ends: Place, begins: Place) -> Side
-    ensures { (p m q r : Coefficients) (line : Axis) → IsAxisOf p m line → IsPlaceOf q line ends → IsPlaceOf r line begins → result ≡ side_of (value m (cramer p q r)) }
+    ensures { (p m q r : Coefficients) (line : Axis) → IsAxisOf p m line → IsPlaceOf q line ends →
+        IsPlaceOf r line begins → result ≡ side_of (value m (cramer p q r)) }
 {
     side_past(
         product(begins.at, ends.along),

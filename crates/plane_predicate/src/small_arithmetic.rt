@@ -33,9 +33,11 @@ pub fn minus(a: i64, b: i64) -> i64
 
 /// `a x + b y + c z`
 pub fn dot(a: i64, b: i64, c: i64, x: i64, y: i64, z: i64) -> i64
-    requires { unsigned_abs a * unsigned_abs x + unsigned_abs b * unsigned_abs y + unsigned_abs c * unsigned_abs z < 2 ^ 63 }
+    requires { unsigned_abs a * unsigned_abs x + unsigned_abs b * unsigned_abs y
+        + unsigned_abs c * unsigned_abs z < 2 ^ 63 }
     ensures value { result ≡ a *ℤ x +ℤ b *ℤ y +ℤ c *ℤ z }
-    ensures size { unsigned_abs result ≤ unsigned_abs a * unsigned_abs x + unsigned_abs b * unsigned_abs y + unsigned_abs c * unsigned_abs z }
+    ensures size { unsigned_abs result ≤ unsigned_abs a * unsigned_abs x
+        + unsigned_abs b * unsigned_abs y + unsigned_abs c * unsigned_abs z }
 {
     plus(plus(times(a, x), times(b, y)), times(c, z))
 }

@@ -12,8 +12,10 @@ pub fn plane_through(p: [i64; 3], q: [i64; 3], r: [i64; 3]) -> Option<Plane>
     requires p_reach { IsInReach (point_at p) }
     requires q_reach { IsInReach (point_at q) }
     requires r_reach { IsInReach (point_at r) }
-    ensures on { IfSome result (λ m. (value m (point_at p) ≡ pos 0) × (value m (point_at q) ≡ pos 0) × (value m (point_at r) ≡ pos 0)) }
-    ensures direction { IfSome result (λ m. IsPlaneTimes (through (point_at p) (point_at q) (point_at r)) m) }
+    ensures on { IfSome result (λ m. (value m (point_at p) ≡ pos 0) × (value m (point_at q) ≡ pos 0)
+        × (value m (point_at r) ≡ pos 0)) }
+    ensures direction { IfSome result
+        (λ m. IsPlaneTimes (through (point_at p) (point_at q) (point_at r)) m) }
     ensures none { IsNone result ↔ AreCollinear (point_at p) (point_at q) (point_at r) }
 {
     let a = minor_between(p[1], p[2], q[1], q[2], r[1], r[2]);

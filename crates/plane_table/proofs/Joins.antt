@@ -8,7 +8,7 @@ use Rattle.std.proofs.lemmas.List.Elements.{All-append, All-head, All-tail, All-
 use Rattle.plane_predicate.specs.Space.{Coefficients, opposite_of}
 use Rattle.plane_polygon.specs.Polygons.{nowhere, Outline, IsPolygon}
 use Rattle.plane_table.specs.declared.faces.Face.{Face}
-use Rattle.plane_table.specs.Tables.{plane_named, turned_by_number, opposite_number, AreApart, HasNoTwoAlike, IsNumberIn}
+use Rattle.plane_table.specs.Tables.{plane_named, oriented_by_number, opposite_number, AreApart, HasNoTwoAlike, IsNumberIn}
 use Rattle.plane_table.specs.Faces.{outline_of, IsFaceOver}
 use Rattle.plane_table.specs.Joins.{Finds, AreFirstNumbersOf, AreNumbersOf, AreNumbersOfUsed, KeepsNumbers, IsNumbered, IsFound, IsKept, IsMarked, number_among}
 use Rattle.plane_table.proofs.Numbers.{even, odd, parity, get_map, named_more, named_last, named_opposite, opposite_in}
@@ -50,11 +50,11 @@ apart_more planes m h k =
     }
 
 -- ---- a plane at some index
-pub found_at : (planes : List Coefficients) (i n : ℕ) (other plane : Coefficients) → i < length planes → other ≡ get_or planes i other → n / 2 ≡ i → plane ≡ turned_by_number n other →
+pub found_at : (planes : List Coefficients) (i n : ℕ) (other plane : Coefficients) → i < length planes → other ≡ get_or planes i other → n / 2 ≡ i → plane ≡ oriented_by_number n other →
     IsNumberIn planes n × (plane_named planes n ≡ plane)
 found_at planes i n other plane h r e t =
     let k : n / 2 < length planes = omega arith in
-    (omega arith, ap (λ (j : ℕ). turned_by_number n (get_or planes j nowhere)) e ∙ ap (turned_by_number n) (sym (get_or_read planes i other h r nowhere)) ∙ sym t)
+    (omega arith, ap (λ (j : ℕ). oriented_by_number n (get_or planes j nowhere)) e ∙ ap (oriented_by_number n) (sym (get_or_read planes i other h r nowhere)) ∙ sym t)
 
 pub numbered_old : (plane : Coefficients) (planes : List Coefficients) (n : ℕ) → HasNoTwoAlike planes → IsNumberIn planes n × (plane_named planes n ≡ plane) → IsNumbered plane planes planes n
 numbered_old plane planes n h k = record { apart = h; keeps = keeps_itself planes; in_range = k.0; same = k.1 }
@@ -117,7 +117,7 @@ put_first planes new numbers more from m n f l r e k p =
     rw (p, e, k) last
 
 pub alike_first : (planes : List Coefficients) (numbers more : List ℕ) (from : List Coefficients) (m other : Coefficients) (i n : ℕ) → AreFirstNumbersOf planes numbers from → length numbers < length from →
-    m ≡ get_or from (length numbers) m → i < length planes → other ≡ get_or planes i other → n / 2 ≡ i → m ≡ turned_by_number n other → more ≡ numbers ++ n ∷ [] → AreFirstNumbersOf planes more from
+    m ≡ get_or from (length numbers) m → i < length planes → other ≡ get_or planes i other → n / 2 ≡ i → m ≡ oriented_by_number n other → more ≡ numbers ++ n ∷ [] → AreFirstNumbersOf planes more from
 alike_first planes numbers more from m other i n f l r h o e t p =
     let k = found_at planes i n other m h o e t in
     let last = first_more planes planes numbers from n f (keeps_itself planes) l k.0 (k.1 ∙ get_or_read from (length numbers) m l r nowhere) in

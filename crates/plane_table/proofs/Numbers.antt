@@ -4,7 +4,7 @@ use Rattle.std.proofs.lemmas.Bool.{cases_eq}
 use Rattle.std.proofs.lemmas.List.{get_or_append_left, get_or_push}
 use Rattle.plane_predicate.specs.Space.{Coefficients, opposite_of}
 use Rattle.plane_polygon.specs.Polygons.{nowhere}
-use Rattle.plane_table.specs.Tables.{plane_named, turned_by_number, opposite_number, IsNumberIn}
+use Rattle.plane_table.specs.Tables.{plane_named, oriented_by_number, opposite_number, IsNumberIn}
 
 -- ---- opposites
 neg_neg : (x : ℤ) → neg_ℤ (neg_ℤ x) ≡ x
@@ -19,18 +19,18 @@ pub turned_back : (m n : Coefficients) → m ≡ opposite_of n → n ≡ opposit
 turned_back m n e = sym (opposite_opposite n) ∙ ap opposite_of (sym e)
 
 -- ---- even and odd numbers
-pub even : (n : ℕ) → n % 2 ≡ 0 → (m : Coefficients) → turned_by_number n m ≡ m
-unfolding turned_by_number
+pub even : (n : ℕ) → n % 2 ≡ 0 → (m : Coefficients) → oriented_by_number n m ≡ m
+unfolding oriented_by_number
 even n e m = ap (λ (k : ℕ). cond (eqb k 0) m (opposite_of m)) e
 
-pub odd : (n : ℕ) → n % 2 ≡ 1 → (m : Coefficients) → turned_by_number n m ≡ opposite_of m
-unfolding turned_by_number
+pub odd : (n : ℕ) → n % 2 ≡ 1 → (m : Coefficients) → oriented_by_number n m ≡ opposite_of m
+unfolding oriented_by_number
 odd n e m = ap (λ (k : ℕ). cond (eqb k 0) m (opposite_of m)) e
 
-pub at_even : (i : ℕ) (m : Coefficients) → turned_by_number (2 * i) m ≡ m
+pub at_even : (i : ℕ) (m : Coefficients) → oriented_by_number (2 * i) m ≡ m
 at_even i m = even (2 * i) (omega arith) m
 
-pub at_odd : (i : ℕ) (m : Coefficients) → turned_by_number (2 * i + 1) m ≡ opposite_of m
+pub at_odd : (i : ℕ) (m : Coefficients) → oriented_by_number (2 * i + 1) m ≡ opposite_of m
 at_odd i m = odd (2 * i + 1) (omega arith) m
 
 pub opposite_even : (n : ℕ) → n % 2 ≡ 0 → opposite_number n ≡ n + 1
@@ -47,7 +47,7 @@ parity n = elim (cases_eq (n % 2) 0) [ inl e ↦ inl e | inr e ↦ inr (omega ar
 -- the number beside n, with the same plane
 pub record Beside (n : ℕ) : Type 0 where
   pub half : opposite_number n / 2 ≡ n / 2
-  pub turns : (m : Coefficients) → turned_by_number (opposite_number n) m ≡ opposite_of (turned_by_number n m)
+  pub turns : (m : Coefficients) → oriented_by_number (opposite_number n) m ≡ opposite_of (oriented_by_number n m)
   pub differs : opposite_number n ≢ n
 
 pub beside : (n : ℕ) → Beside n
@@ -56,14 +56,14 @@ beside n = elim (parity n) [
       let h : (n + 1) % 2 ≡ 1 = omega arith in
       record {
         half = ap (λ (k : ℕ). k / 2) o ∙ omega arith;
-        turns = λ m. ap (λ (k : ℕ). turned_by_number k m) o ∙ odd (n + 1) h m ∙ ap opposite_of (sym (even n e m));
+        turns = λ m. ap (λ (k : ℕ). oriented_by_number k m) o ∙ odd (n + 1) h m ∙ ap opposite_of (sym (even n e m));
         differs = λ d. omega (arith, o, d);
       })
   | inr e ↦ (let o = opposite_odd n e in
       let h : (n - 1) % 2 ≡ 0 = omega arith in
       record {
         half = ap (λ (k : ℕ). k / 2) o ∙ omega arith;
-        turns = λ m. ap (λ (k : ℕ). turned_by_number k m) o ∙ even (n - 1) h m ∙ sym (opposite_opposite m) ∙ ap opposite_of (sym (odd n e m));
+        turns = λ m. ap (λ (k : ℕ). oriented_by_number k m) o ∙ even (n - 1) h m ∙ sym (opposite_opposite m) ∙ ap opposite_of (sym (odd n e m));
         differs = λ d. omega (arith, o, d);
       })
 ]
@@ -71,14 +71,14 @@ beside n = elim (parity n) [
 pub named_opposite : (planes : List Coefficients) (n : ℕ) → plane_named planes (opposite_number n) ≡ opposite_of (plane_named planes n)
 named_opposite planes n =
     (beside n).turns (get_or planes (opposite_number n / 2) nowhere)
-    ∙ ap (λ (k : ℕ). opposite_of (turned_by_number n (get_or planes k nowhere))) (beside n).half
+    ∙ ap (λ (k : ℕ). opposite_of (oriented_by_number n (get_or planes k nowhere))) (beside n).half
 
 pub opposite_in : (planes : List Coefficients) (n : ℕ) → IsNumberIn planes n → IsNumberIn planes (opposite_number n)
 opposite_in planes n h = let e = (beside n).half in omega arith
 
 -- ---- lists that grow
 pub named_more : (planes : List Coefficients) (m : Coefficients) (n : ℕ) → IsNumberIn planes n → plane_named (planes ++ m ∷ []) n ≡ plane_named planes n
-named_more planes m n h = ap (turned_by_number n) (get_or_append_left planes (m ∷ []) nowhere (n / 2) (omega arith))
+named_more planes m n h = ap (oriented_by_number n) (get_or_append_left planes (m ∷ []) nowhere (n / 2) (omega arith))
 
 pub named_last : (planes : List Coefficients) (m : Coefficients) → plane_named (planes ++ m ∷ []) (2 * length planes) ≡ m
 named_last planes m =

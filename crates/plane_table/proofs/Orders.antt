@@ -10,7 +10,7 @@ use Rattle.std.proofs.lemmas.Int.{ints}
 use Rattle.plane_predicate.specs.Space.{Coefficients, opposite_of}
 use Rattle.plane_polygon.specs.Polygons.{nowhere}
 use Rattle.plane_table.specs.Tables.{AreApart, HasNoTwoAlike}
-use Rattle.plane_table.specs.Orders.{is_low, normalized, by_numbers, plane_order, ComesNext, IsAscending}
+use Rattle.plane_table.specs.Orders.{is_low, normal_form, by_numbers, plane_order, ComesNext, IsAscending}
 use Rattle.plane_table.proofs.Numbers.{opposite_opposite}
 use Rattle.plane_table.proofs.Planes.{four_same}
 
@@ -52,20 +52,20 @@ low_turned m =
       | inr e ↦ inr e
     ]
 
-normalized_low : (m : Coefficients) → is_low m ≡ true → normalized m ≡ opposite_of m
-unfolding normalized
-normalized_low m e = ap (λ (b : Bool). cond b (opposite_of m) m) e
+normal_form_low : (m : Coefficients) → is_low m ≡ true → normal_form m ≡ opposite_of m
+unfolding normal_form
+normal_form_low m e = ap (λ (b : Bool). cond b (opposite_of m) m) e
 
-normalized_high : (m : Coefficients) → is_low m ≡ false → normalized m ≡ m
-unfolding normalized
-normalized_high m e = ap (λ (b : Bool). cond b (opposite_of m) m) e
+normal_form_high : (m : Coefficients) → is_low m ≡ false → normal_form m ≡ m
+unfolding normal_form
+normal_form_high m e = ap (λ (b : Bool). cond b (opposite_of m) m) e
 
-normalized_opposite : (m : Coefficients) → normalized (opposite_of m) ≡ normalized m
-normalized_opposite m = elim (low_turned m) [
-  | inl e ↦ ap normalized (sym e)
-  | inr e ↦ elim (is_low m) as (λ b. is_low m ≡ b → normalized (opposite_of m) ≡ normalized m) [
-    | true ↦ λ h. normalized_high (opposite_of m) (e ∙ ap not h) ∙ sym (normalized_low m h)
-    | false ↦ λ h. normalized_low (opposite_of m) (e ∙ ap not h) ∙ opposite_opposite m ∙ sym (normalized_high m h)
+normal_form_opposite : (m : Coefficients) → normal_form (opposite_of m) ≡ normal_form m
+normal_form_opposite m = elim (low_turned m) [
+  | inl e ↦ ap normal_form (sym e)
+  | inr e ↦ elim (is_low m) as (λ b. is_low m ≡ b → normal_form (opposite_of m) ≡ normal_form m) [
+    | true ↦ λ h. normal_form_high (opposite_of m) (e ∙ ap not h) ∙ sym (normal_form_low m h)
+    | false ↦ λ h. normal_form_low (opposite_of m) (e ∙ ap not h) ∙ opposite_opposite m ∙ sym (normal_form_high m h)
   ] refl
 ]
 
@@ -77,7 +77,7 @@ by_numbers_total =
     (then_total (on_total (λ (m : Coefficients). m.c) int_cmp_total) (on_total (λ (m : Coefficients). m.d) int_cmp_total)))
 
 pub total : IsTotalOrder plane_order
-total = on_total normalized by_numbers_total
+total = on_total normal_form by_numbers_total
 
 itself : (m : Coefficients) → plane_order m m ≡ Less → ⊥
 itself m e = let h : plane_order m m ≡ Equal = tied_itself total m in cc
@@ -85,7 +85,7 @@ itself m e = let h : plane_order m m ≡ Equal = tied_itself total m in cc
 less_apart : (m n : Coefficients) → plane_order m n ≡ Less → AreApart m n
 less_apart m n e = record {
   differ = λ h. itself n (ap (λ (p : Coefficients). plane_order p n) (sym h) ∙ e);
-  not_opposite = λ h. itself n (ap (λ (p : Coefficients). by_numbers p (normalized n)) (sym (ap normalized h ∙ normalized_opposite n)) ∙ e);
+  not_opposite = λ h. itself n (ap (λ (p : Coefficients). by_numbers p (normal_form n)) (sym (ap normal_form h ∙ normal_form_opposite n)) ∙ e);
 }
 
 pub apart_back : (m n : Coefficients) → AreApart m n → AreApart n m

@@ -5,7 +5,7 @@ use Rattle.std.proofs.lemmas.List.{get_or_append_left, get_or_push, get_or_read,
 use Rattle.plane_predicate.specs.Space.{Coefficients, opposite_of}
 use Rattle.plane_polygon.specs.Polygons.{nowhere}
 use Rattle.plane_polygon.specs.Parallels.{IsAlike}
-use Rattle.plane_table.specs.declared.directions.Oriented.{Oriented}
+use Rattle.plane_table.specs.declared.directions.OrientedPlane.{OrientedPlane}
 use Rattle.plane_table.specs.Tables.{plane_named, no_entry, opposite_number, AreFirstOriented, AreOriented, IsNumberIn, IsOrientedAs}
 use Rattle.plane_table.proofs.Numbers.{at_even, at_odd, named_opposite, opposite_opposite}
 
@@ -33,13 +33,13 @@ pub own_number : (planes : List Coefficients) (i : ℕ) → IsAlike (plane_named
 own_number planes i = subst (IsAlike (plane_named planes (2 * i))) (named_even planes i) (alike_itself (plane_named planes (2 * i)))
 
 -- ---- entries
-pub entry_at : (planes : List Coefficients) (entries : List Oriented) (n : ℕ) (entry : Oriented) → AreOriented planes entries → IsNumberIn planes n → entry ≡ get_or entries n entry → IsOrientedAs planes n entry
+pub entry_at : (planes : List Coefficients) (entries : List OrientedPlane) (n : ℕ) (entry : OrientedPlane) → AreOriented planes entries → IsNumberIn planes n → entry ≡ get_or entries n entry → IsOrientedAs planes n entry
 entry_at planes entries n entry h k e =
     let l : n < length entries = omega (arith, h.count) in
     subst (IsOrientedAs planes n) (sym (get_or_read entries n entry l e no_entry)) (h.each n l)
 
 -- what has the direction of an entry's plane
-pub entry_alike : (planes : List Coefficients) (entries : List Oriented) (first n : ℕ) (entry : Oriented) (m : Coefficients) →
+pub entry_alike : (planes : List Coefficients) (entries : List OrientedPlane) (first n : ℕ) (entry : OrientedPlane) (m : Coefficients) →
     AreFirstOriented planes entries first → n < length entries → entry ≡ get_or entries n entry → IsAlike entry.plane m → IsAlike (plane_named planes entry.direction) m
 entry_alike planes entries first n entry m h l e k =
     let same = h.each n l in
@@ -48,12 +48,12 @@ entry_alike planes entries first n entry m h l e k =
     alike_on (plane_named planes entry.direction) (plane_named planes n) m own.alike (subst (λ (p : Coefficients). IsAlike p m) own.plane k)
 
 -- one more plane and its opposite
-pub oriented_more : (planes : List Coefficients) (entries : List Oriented) (i : ℕ) (one other : Oriented) → AreFirstOriented planes entries i →
+pub oriented_more : (planes : List Coefficients) (entries : List OrientedPlane) (i : ℕ) (one other : OrientedPlane) → AreFirstOriented planes entries i →
     one.plane ≡ get_or planes i nowhere → IsAlike (plane_named planes one.direction) (get_or planes i nowhere) →
     other.plane ≡ opposite_of (get_or planes i nowhere) → other.direction ≡ opposite_number one.direction →
     AreFirstOriented planes ((entries ++ one ∷ []) ++ other ∷ []) (i + 1)
 oriented_more planes entries i one other h p a q o =
-    let longer : List Oriented = entries ++ one ∷ [] in
+    let longer : List OrientedPlane = entries ++ one ∷ [] in
     let m = length-append entries (one ∷ []) in
     let n = length-append longer (other ∷ []) in
     record {

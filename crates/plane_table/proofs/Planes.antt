@@ -5,7 +5,7 @@ use Rattle.std.proofs.lemmas.Bool.{cases_eq, eq-eqb, ne_eqb}
 use Rattle.std.proofs.lemmas.Int.{ints}
 use Rattle.plane_predicate.specs.Space.{Coefficients, opposite_of, is_same, IsPlane}
 use Rattle.plane_polygon.specs.Polygons.{nowhere}
-use Rattle.plane_table.specs.Tables.{plane_named, turned_by_number, opposite_number, AreApart, HasNoTwoAlike, IsNumberIn}
+use Rattle.plane_table.specs.Tables.{plane_named, oriented_by_number, opposite_number, AreApart, HasNoTwoAlike, IsNumberIn}
 use Rattle.plane_table.proofs.Numbers.{even, odd, parity, opposite_even, opposite_odd, opposite_opposite, named_opposite, opposite_in}
 
 -- ---- the same four numbers
@@ -51,14 +51,14 @@ no_own_opposite m h e =
     let c = own_opposite m.c (ap (λ (n : Coefficients). n.c) e) in
     omega (arith, h.directed)
 
-turned_plane : (n : ℕ) (m : Coefficients) → turned_by_number n m ≡ opposite_of (turned_by_number n m) → m ≡ opposite_of m
+turned_plane : (n : ℕ) (m : Coefficients) → oriented_by_number n m ≡ opposite_of (oriented_by_number n m) → m ≡ opposite_of m
 turned_plane n m e = elim (parity n) [
   | inl p ↦ sym (even n p m) ∙ e ∙ ap opposite_of (even n p m)
   | inr p ↦ sym (opposite_opposite m) ∙ ap opposite_of (sym (odd n p m) ∙ e ∙ ap opposite_of (odd n p m) ∙ opposite_opposite m)
 ]
 
 -- ---- numbers of planes apart
-apart_turned : (p q : Coefficients) → AreApart p q → (m n : ℕ) → turned_by_number m p ≢ turned_by_number n q
+apart_turned : (p q : Coefficients) → AreApart p q → (m n : ℕ) → oriented_by_number m p ≢ oriented_by_number n q
 apart_turned p q h m n e = elim (parity m) [
   | inl x ↦ elim (parity n) [
     | inl y ↦ h.differ (sym (even m x p) ∙ e ∙ even n y q)

@@ -13,8 +13,8 @@ is_low m =
     (int_lt m.c (pos 0) || (int_eq m.c (pos 0) && int_lt m.d (pos 0))))))
 
 -- a plane or its opposite, so that the first number that isn't 0 is above 0
-unfoldable pub normalized : Coefficients → Coefficients
-normalized m = if is_low m then opposite_of m else m
+unfoldable pub normal_form : Coefficients → Coefficients
+normal_form m = if is_low m then opposite_of m else m
 
 -- the order of four numbers, by their first difference
 abbrev pub by_numbers : Coefficients → Coefficients → Ordering
@@ -23,7 +23,7 @@ by_numbers m n =
 
 -- the same for a plane and its opposite
 abbrev pub plane_order : Coefficients → Coefficients → Ordering
-plane_order m n = by_numbers (normalized m) (normalized n)
+plane_order m n = by_numbers (normal_form m) (normal_form n)
 
 -- each plane comes before the next
 pub record IsAscending (planes : List Coefficients) : Type 0 where

@@ -39,7 +39,10 @@ pub fn cut(
     half: Half,
 ) -> Result<Face, NoMemory>
     requires { IsCrossing table.now crossing }
-    ensures outline { IfOk result (λ r. outline_of table.now r ≡ part_in half (outline_of table.now crossing.entry.face.now) (plane_named table.now crossing.entry.number)) }
+    ensures outline { IfOk result
+        (λ r. outline_of table.now r
+        ≡ part_in half (outline_of table.now crossing.entry.face.now)
+        (plane_named table.now crossing.entry.number)) }
     ensures face { IfOk result (IsFaceOver table.now) }
 {
     parts_are_polygons();
@@ -71,7 +74,9 @@ fn part_edges(
 ) -> Result<Edges, NoMemory>
     requires some { 0 < length edges.now }
     requires same { length corners.now ≡ length edges.now }
-    ensures { IfOk result (λ r. r ≡ flat_map (numbers_kept_at half edges.now number corners.now) (up_to (length edges.now))) }
+    ensures { IfOk result
+        (λ r. r ≡ flat_map (numbers_kept_at half edges.now number corners.now)
+        (up_to (length edges.now))) }
 {
     let number = side_number(number, half);
     let mut kept = Edges::new(alloc);

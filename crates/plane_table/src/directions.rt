@@ -14,7 +14,7 @@ use text_place::NoMemory;
 
 /// A plane with the number of one that has the same direction.
 #[derive(Clone, Copy)]
-pub struct Oriented {
+pub struct OrientedPlane {
     /// The plane.
     pub plane: Plane,
     /// The number of a plane with its direction. For speed, that is the first of those that follow one
@@ -24,7 +24,7 @@ pub struct Oriented {
 
 /// The planes of a list and their opposites, by number. `NoMemory` where the list has more planes than
 /// there are numbers.
-pub fn by_number(alloc: Global, planes: &[Plane]) -> Result<Vec<Oriented>, NoMemory>
+pub fn by_number(alloc: Global, planes: &[Plane]) -> Result<Vec<OrientedPlane>, NoMemory>
     ensures { IfOk result (λ v. AreOriented planes.now v.items) }
 {
     if planes.len() > MOST_PLANES {
@@ -33,11 +33,11 @@ pub fn by_number(alloc: Global, planes: &[Plane]) -> Result<Vec<Oriented>, NoMem
     let mut found = Vec::with_capacity(alloc, 2 * planes.len())?;
     for i in 0..planes.len() {
         let direction = direction_of(planes, &found, i);
-        found.push(Oriented {
+        found.push(OrientedPlane {
             plane: planes[i],
             direction,
         })?;
-        found.push(Oriented {
+        found.push(OrientedPlane {
             plane: opposite(&planes[i]),
             direction: opposite_number(direction),
         })?;
@@ -47,7 +47,7 @@ pub fn by_number(alloc: Global, planes: &[Plane]) -> Result<Vec<Oriented>, NoMem
 
 // The direction of plane `i`: that of the plane before it or of its opposite, where it has it too, else
 // its own number.
-fn direction_of(planes: &[Plane], found: &[Oriented], i: usize) -> u32
+fn direction_of(planes: &[Plane], found: &[OrientedPlane], i: usize) -> u32
     requires index { i < length planes.now }
     requires range { i < 2 ^ 31 }
     requires known { AreFirstOriented planes.now found.now i }

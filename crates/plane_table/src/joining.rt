@@ -12,7 +12,7 @@ use text_place::NoMemory;
 
 /// Two lists of planes in one, no two planes of which are equal or opposite.
 #[derive(Drop)]
-pub struct Joined {
+pub struct JoinedPlanes {
     /// The list of planes.
     pub planes: Vec<Plane>,
     /// For each plane of the left list its number over the joined one.
@@ -23,21 +23,21 @@ pub struct Joined {
 
 /// Joins two lists of planes. Where both are in ascending order, both are walked once, and the joined
 /// one is ascending too. Lists in another order are searched, and then ordered.
-pub fn join(alloc: Global, left: &[Plane], right: &[Plane]) -> Result<Joined, NoMemory>
+pub fn join(alloc: Global, left: &[Plane], right: &[Plane]) -> Result<JoinedPlanes, NoMemory>
     ensures apart { IfOk result (λ r. HasNoTwoAlike r.planes.items) }
     ensures left { IfOk result (λ r. AreNumbersOf r.planes.items r.left.items left.now) }
     ensures right { IfOk result (λ r. AreNumbersOf r.planes.items r.right.items right.now) }
 {
-    let joined = walked(alloc, left, right)?;
+    let joined = join_by_walking(alloc, left, right)?;
     if is_ascending(&joined.planes) {
         Ok(joined)
     } else {
-        searched(alloc, left, right)
+        join_by_searching(alloc, left, right)
     }
 }
 
 // Joins two lists in one walk of both. Where both are ascending, so is the joined one.
-fn walked(alloc: Global, left: &[Plane], right: &[Plane]) -> Result<Joined, NoMemory>
+fn join_by_walking(alloc: Global, left: &[Plane], right: &[Plane]) -> Result<JoinedPlanes, NoMemory>
     ensures left { IfOk result (λ r. AreNumbersOf r.planes.items r.left.items left.now) }
     ensures right { IfOk result (λ r. AreNumbersOf r.planes.items r.right.items right.now) }
 {
@@ -47,7 +47,7 @@ fn walked(alloc: Global, left: &[Plane], right: &[Plane]) -> Result<Joined, NoMe
     while of_left.len() < left.len() || of_right.len() < right.len() {
         put_next(left, right, &mut planes, &mut of_left, &mut of_right)?;
     }
-    Ok(Joined {
+    Ok(JoinedPlanes {
         planes,
         left: of_left,
         right: of_right,
@@ -63,12 +63,15 @@ fn put_next(
     of_left: &mut Vec<u32>,
     of_right: &mut Vec<u32>,
 ) -> Result<(), NoMemory>
-    requires some { (length of_left.old.items < length left.now) ⊎ (length of_right.old.items < length right.now) }
+    requires some { (length of_left.old.items < length left.now) ⊎
+        (length of_right.old.items < length right.now) }
     requires left { AreFirstNumbersOf planes.old.items of_left.old.items left.now }
     requires right { AreFirstNumbersOf planes.old.items of_right.old.items right.now }
     ensures left { OnOk result (AreFirstNumbersOf planes.new.items of_left.new.items left.now) }
     ensures right { OnOk result (AreFirstNumbersOf planes.new.items of_right.new.items right.now) }
-    ensures more { OnOk result (length of_left.old.items + length of_right.old.items < length of_left.new.items + length of_right.new.items) }
+    ensures more { OnOk result
+        (length of_left.old.items + length of_right.old.items
+        < length of_left.new.items + length of_right.new.items) }
 {
     if is_left_next(left, of_left.len(), right, of_right.len()) {
         put(left, planes, of_left)?;
@@ -83,7 +86,8 @@ fn put_next(
 // opposite to it; one of the lists has a next plane.
 fn is_left_next(left: &[Plane], i: usize, right: &[Plane], j: usize) -> bool
     ensures left { IsTrue result → i < length left.now }
-    ensures right { IsFalse result → (i < length left.now) ⊎ (j < length right.now) → j < length right.now }
+    ensures right { IsFalse result → (i < length left.now) ⊎ (j < length right.now) →
+        j < length right.now }
 {
     if i < left.len() && j < right.len() {
         return !compare(&right[j], &left[i]).is_lt();
@@ -126,7 +130,11 @@ fn put_alike(from: &[Plane], planes: &[Plane], numbers: &mut Vec<u32>) -> Result
 
 // Joins two lists in any order by a search for each plane.
 #[tactic(auto, using(crate::proofs::Joins::numbers_on))]
-fn searched(alloc: Global, left: &[Plane], right: &[Plane]) -> Result<Joined, NoMemory>
+fn join_by_searching(
+    alloc: Global,
+    left: &[Plane],
+    right: &[Plane],
+) -> Result<JoinedPlanes, NoMemory>
     ensures apart { IfOk result (λ r. HasNoTwoAlike r.planes.items) }
     ensures left { IfOk result (λ r. AreNumbersOf r.planes.items r.left.items left.now) }
     ensures right { IfOk result (λ r. AreNumbersOf r.planes.items r.right.items right.now) }
@@ -135,7 +143,7 @@ fn searched(alloc: Global, left: &[Plane], right: &[Plane]) -> Result<Joined, No
     let all = numbers_of(alloc, some.planes, right)?;
     let of_left = numbers_of(alloc, in_order(alloc, all.planes)?, left)?;
     let of_right = numbers_of(alloc, of_left.planes, right)?;
-    Ok(Joined {
+    Ok(JoinedPlanes {
         planes: of_right.planes,
         left: of_left.numbers,
         right: of_right.numbers,

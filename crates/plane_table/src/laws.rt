@@ -10,6 +10,10 @@ ghost use Rattle.plane_table.specs.Joins.{AreNumbersOf, AreNumbersOfUsed, IsFoun
 /// Where all planes of a list have their numbers over another, so have those that a face names. The
 /// same where the planes that are used have their numbers, and the face's planes are marked as used.
 pub fn faces_are_found()
-    ensures all { (planes : List Coefficients) (numbers : List ℕ) (from : List Coefficients) (face : Face) → AreNumbersOf planes numbers from → IsFaceOver from face → IsFound planes numbers from face }
-    ensures used { (planes : List Coefficients) (numbers : List ℕ) (from : List Coefficients) (used : List Bool) (face : Face) → AreNumbersOfUsed planes numbers from used → IsFaceOver from face → IsMarked used face → IsFound planes numbers from face }
+    ensures all { (planes : List Coefficients) (numbers : List ℕ) (from : List Coefficients)
+        (face : Face) → AreNumbersOf planes numbers from → IsFaceOver from face →
+        IsFound planes numbers from face }
+    ensures used { (planes : List Coefficients) (numbers : List ℕ) (from : List Coefficients)
+        (used : List Bool) (face : Face) → AreNumbersOfUsed planes numbers from used →
+        IsFaceOver from face → IsMarked used face → IsFound planes numbers from face }
 {}

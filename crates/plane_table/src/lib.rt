@@ -17,9 +17,11 @@ mod table;
 pub use cutting::{Crossing, Half, cut};
 pub use edges::Edges;
 pub use faces::{Face, polygon_of};
-pub use joining::{Joined, join};
+pub use joining::{JoinedPlanes, join};
 pub use laws::faces_are_found;
-pub use numbering::{HalfFaces, Numbered, OwnFace, face_of, half_face, half_faces, numbers_of};
+pub use numbering::{
+    HalfFaces, NumberedPlanes, OwnFace, face_of, half_face, half_faces, numbers_of,
+};
 pub use renumbering::{keep_used, mark_used, renumber};
 pub use sorting::{CornerSide, CornerSides, sides, sides_where_across};
 pub use table::{PlaneTable, opposite_number};

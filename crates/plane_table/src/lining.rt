@@ -26,7 +26,9 @@ pub fn sides_by_line(
 ) -> Result<Option<CornerSides>, NoMemory>
     requires face { IsFaceOver table.now face.now }
     requires number { IsNumberIn table.now number }
-    ensures { IfOk result (λ r. IfSome r (AreSidesWhereAcross (outline_of table.now face.now) (plane_named table.now number))) }
+    ensures { IfOk result
+        (λ r. IfSome r
+        (AreSidesWhereAcross (outline_of table.now face.now) (plane_named table.now number))) }
 {
     if !table.is_small() {
         return Ok(None);
@@ -46,7 +48,8 @@ pub fn sides_by_line(
 fn class_along(table: &PlaneTable, face: &Face, line: &Line) -> Class
     requires small { AreNumbersSmall table.now }
     requires face { IsFaceOver table.now face.now }
-    ensures { (m : Coefficients) → IsAxisOf (plane_named table.now face.now.plane) m line.now → result ≡ class_of (outline_of table.now face.now) m }
+    ensures { (m : Coefficients) → IsAxisOf (plane_named table.now face.now.plane) m line.now →
+        result ≡ class_of (outline_of table.now face.now) m }
 {
     let edges = face.edges.items();
     let mut some_behind = false;
@@ -76,7 +79,9 @@ fn corners_along(
 ) -> Result<CornerList, NoMemory>
     requires small { AreNumbersSmall table.now }
     requires face { IsFaceOver table.now face.now }
-    ensures { IfOk result (λ r. (m : Coefficients) → IsAxisOf (plane_named table.now face.now.plane) m line.now → r.items ≡ map (side_against m) (corners (outline_of table.now face.now))) }
+    ensures { IfOk result
+        (λ r. (m : Coefficients) → IsAxisOf (plane_named table.now face.now.plane) m line.now →
+        r.items ≡ map (side_against m) (corners (outline_of table.now face.now))) }
 {
     let edges = face.edges.items();
     let mut found = SmallVec::with_capacity(alloc, edges.len())?;

@@ -4,7 +4,7 @@ ghost use Rattle.std.specs.Prelude.{◌≡◌, ◌<◌, ◌*◌, ◌/◌, ◌^�
 ghost use Rattle.plane_predicate.specs.Space.{ComesInReach};
 ghost use Rattle.plane_polygon.specs.Boxes.{box_outline};
 ghost use Rattle.plane_polygon.specs.Polygons.{nowhere};
-ghost use Rattle.plane_table.specs.Tables.{plane_named, turned_by_number, AreApart, HasNoTwoAlike, IsNumberIn};
+ghost use Rattle.plane_table.specs.Tables.{plane_named, oriented_by_number, AreApart, HasNoTwoAlike, IsNumberIn};
 ghost use Rattle.plane_table.specs.Joins.{AreHalfFacesOf, AreNumbersOf, IsFaceOf, IsNumbered, KeepsNumbers};
 
 use crate::ordering::in_order;
@@ -101,13 +101,17 @@ fn own_face(alloc: Global, known: Vec<Plane>, polygon: &Polygon) -> Result<OwnFa
 
 /// A list of planes, no two of which are equal or opposite, with the numbers of other planes over it.
 #[derive(Drop)]
-pub struct Numbered {
+pub struct NumberedPlanes {
     pub planes: Vec<Plane>,
     pub numbers: Vec<u32>,
 }
 
 /// The numbers of planes over a list to which those that it lacks are added.
-pub fn numbers_of(alloc: Global, known: Vec<Plane>, from: &[Plane]) -> Result<Numbered, NoMemory>
+pub fn numbers_of(
+    alloc: Global,
+    known: Vec<Plane>,
+    from: &[Plane],
+) -> Result<NumberedPlanes, NoMemory>
     requires { HasNoTwoAlike known.items }
     ensures apart { IfOk result (λ r. HasNoTwoAlike r.planes.items) }
     ensures keeps { IfOk result (λ r. KeepsNumbers known.items r.planes.items) }
@@ -118,7 +122,7 @@ pub fn numbers_of(alloc: Global, known: Vec<Plane>, from: &[Plane]) -> Result<Nu
     for plane in from {
         numbers.push(number_of(plane, &mut planes)?)?;
     }
-    Ok(Numbered { planes, numbers })
+    Ok(NumberedPlanes { planes, numbers })
 }
 
 // The number of a plane over a list, to which it is added where neither it nor its opposite stands
@@ -153,8 +157,10 @@ pub fn add(plane: &Plane, planes: &mut Vec<Plane>) -> Result<u32, NoMemory>
 // The number that a plane has over a list, if it or its opposite stands there.
 fn find(plane: &Plane, planes: &[Plane]) -> Option<u32>
     requires { length planes.now < 2 ^ 31 }
-    ensures some { IfSome result (λ n. IsNumberIn planes.now n × (plane_named planes.now n ≡ plane.now)) }
-    ensures none { IfNone result ((i : ℕ) → i < length planes.now → AreApart (get_or planes.now i nowhere) plane.now) }
+    ensures some { IfSome result
+        (λ n. IsNumberIn planes.now n × (plane_named planes.now n ≡ plane.now)) }
+    ensures none { IfNone result
+        ((i : ℕ) → i < length planes.now → AreApart (get_or planes.now i nowhere) plane.now) }
 {
     for i in 0..planes.len() {
         if let Some(number) = number_at(plane, &planes[i], i) {
@@ -167,7 +173,8 @@ fn find(plane: &Plane, planes: &[Plane]) -> Option<u32>
 /// The number that a plane has where the plane of some index is equal or opposite to it.
 pub fn number_at(plane: &Plane, other: &Plane, index: usize) -> Option<u32>
     requires { index < 2 ^ 31 }
-    ensures some { IfSome result (λ n. (n / 2 ≡ index) × (plane.now ≡ turned_by_number n other.now)) }
+    ensures some { IfSome result
+        (λ n. (n / 2 ≡ index) × (plane.now ≡ oriented_by_number n other.now)) }
     ensures none { IfNone result (AreApart other.now plane.now) }
 {
     let number = 2 * index as u32;

@@ -2,7 +2,7 @@
 
 ghost use Rattle.std.specs.Prelude.{◌≡◌, ◌↔◌, IfOk, IsTrue};
 ghost use Rattle.plane_table.specs.Tables.{HasNoTwoAlike};
-ghost use Rattle.plane_table.specs.Orders.{by_numbers, plane_order, is_low, normalized, ComesNext, IsAscending};
+ghost use Rattle.plane_table.specs.Orders.{by_numbers, plane_order, is_low, normal_form, ComesNext, IsAscending};
 
 use plane_predicate::{Plane, opposite};
 use std::alloc::Global;
@@ -60,7 +60,7 @@ pub fn is_ascending(planes: &[Plane]) -> bool
 pub fn compare(m: &Plane, n: &Plane) -> Ordering
     ensures { result ≡ plane_order m.now n.now }
 {
-    by_numbers(&normalized(m), &normalized(n))
+    by_numbers(&normal_form(m), &normal_form(n))
 }
 
 // The order of four numbers, by their first difference.
@@ -72,9 +72,9 @@ fn by_numbers(m: &Plane, n: &Plane) -> Ordering
 }
 
 // A plane or its opposite, so that the first number that isn't 0 is above 0.
-#[tactic(auto, unfolding(crate::specs::Orders::normalized))]
-fn normalized(m: &Plane) -> Plane
-    ensures { result ≡ normalized m.now }
+#[tactic(auto, unfolding(crate::specs::Orders::normal_form))]
+fn normal_form(m: &Plane) -> Plane
+    ensures { result ≡ normal_form m.now }
 {
     if is_low(m) { opposite(m) } else { *m }
 }

@@ -6,7 +6,7 @@ ghost use Rattle.plane_table.specs.Tables.{HasNoTwoAlike};
 ghost use Rattle.plane_table.specs.Faces.{outline_of, IsFaceOver};
 ghost use Rattle.plane_table.specs.Joins.{number_among, AreNumbersOfUsed, IsFound, IsKept, IsMarked};
 
-use crate::numbering::{Numbered, add};
+use crate::numbering::{NumberedPlanes, add};
 use crate::{Edges, Face, opposite_number};
 use plane_predicate::Plane;
 use smallvec::SmallVec;
@@ -18,8 +18,12 @@ use text_place::NoMemory;
 pub fn renumber(alloc: Global, face: &Face, numbers: &[u32]) -> Result<Face, NoMemory>
     requires plane { face.now.plane < 2 * length numbers.now }
     requires edges { All (λ n. n < 2 * length numbers.now) face.now.edges }
-    ensures outline { IfOk result (λ f. (from planes : List Coefficients) → IsFound planes numbers.now from face.now → outline_of planes f ≡ outline_of from face.now) }
-    ensures face { IfOk result (λ f. (from planes : List Coefficients) → IsFound planes numbers.now from face.now → IsFaceOver from face.now → IsFaceOver planes f) }
+    ensures outline { IfOk result
+        (λ f. (from planes : List Coefficients) → IsFound planes numbers.now from face.now →
+        outline_of planes f ≡ outline_of from face.now) }
+    ensures face { IfOk result
+        (λ f. (from planes : List Coefficients) → IsFound planes numbers.now from face.now →
+        IsFaceOver from face.now → IsFaceOver planes f) }
 {
     let edges = face.edges.items();
     let mut found = SmallVec::with_capacity(alloc, edges.len())?;
@@ -61,18 +65,19 @@ pub fn mark_used(face: &Face, used: &mut [bool])
 }
 
 /// The planes of a list that are used, in order, and for each of them its number there.
-pub fn keep_used(alloc: Global, planes: &[Plane], used: &[bool]) -> Result<Numbered, NoMemory>
+pub fn keep_used(alloc: Global, planes: &[Plane], used: &[bool]) -> Result<NumberedPlanes, NoMemory>
     requires apart { HasNoTwoAlike planes.now }
     requires same { length used.now ≡ length planes.now }
     ensures apart { IfOk result (λ r. HasNoTwoAlike r.planes.items) }
-    ensures numbers { IfOk result (λ r. AreNumbersOfUsed r.planes.items r.numbers.items planes.now used.now) }
+    ensures numbers { IfOk result
+        (λ r. AreNumbersOfUsed r.planes.items r.numbers.items planes.now used.now) }
 {
     let mut kept = Vec::with_capacity(alloc, planes.len())?;
     let mut numbers = Vec::with_capacity(alloc, planes.len())?;
     for i in 0..planes.len() {
         numbers.push(keep(&planes[i], used[i], &mut kept)?)?;
     }
-    Ok(Numbered {
+    Ok(NumberedPlanes {
         planes: kept,
         numbers,
     })

@@ -52,7 +52,8 @@ pub fn sides(
 ) -> Result<CornerSides, NoMemory>
     requires face { IsFaceOver table.now face.now }
     requires number { IsNumberIn table.now number }
-    ensures { IfOk result (λ r. AreSidesOf (outline_of table.now face.now) (plane_named table.now number) r) }
+    ensures { IfOk result
+        (λ r. AreSidesOf (outline_of table.now face.now) (plane_named table.now number) r) }
 {
     let edges = face.edges.items();
     let mut corners = SmallVec::new(alloc);
@@ -88,7 +89,8 @@ pub fn sides_where_across(
 ) -> Result<CornerSides, NoMemory>
     requires face { IsFaceOver table.now face.now }
     requires number { IsNumberIn table.now number }
-    ensures { IfOk result (λ r. AreSidesWhereAcross (outline_of table.now face.now) (plane_named table.now number) r) }
+    ensures { IfOk result
+        (λ r. AreSidesWhereAcross (outline_of table.now face.now) (plane_named table.now number) r) }
 {
     if let Some(side) = side_of_all(table, face.plane, number) {
         return Ok(CornerSides {
@@ -129,7 +131,9 @@ fn both_known(table: &PlaneTable, one: u32, other: u32, number: u32) -> Option<(
     requires one { IsNumberIn table.now one }
     requires other { IsNumberIn table.now other }
     requires number { IsNumberIn table.now number }
-    ensures { IfSome result (λ r. HasAllOn (plane_named table.now one) (plane_named table.now number) r.0 × HasAllOn (plane_named table.now other) (plane_named table.now number) r.1) }
+    ensures { IfSome result
+        (λ r. HasAllOn (plane_named table.now one) (plane_named table.now number) r.0 ×
+        HasAllOn (plane_named table.now other) (plane_named table.now number) r.1) }
 {
     let first = side_of_all(table, one, number)?;
     let second = side_of_all(table, other, number)?;
@@ -212,7 +216,8 @@ fn corner_side(
     requires face { IsFaceOver table.now face.now }
     requires number { IsNumberIn table.now number }
     requires known { IfSome known (IsSideAt table.now face.now (plane_named table.now number) i) }
-    ensures { result ≡ side_against (plane_named table.now number) (corner (outline_of table.now face.now) i) }
+    ensures { result ≡ side_against (plane_named table.now number)
+        (corner (outline_of table.now face.now) i) }
 {
     let side = match known {
         Some(side) => side,
@@ -249,7 +254,8 @@ fn first_known(ends: Option<Side>, begins: Option<Side>) -> Option<Side>
 fn side_of_all(table: &PlaneTable, of: u32, number: u32) -> Option<Side>
     requires of { IsNumberIn table.now of }
     requires number { IsNumberIn table.now number }
-    ensures { IfSome result (λ s. HasAllOn (plane_named table.now of) (plane_named table.now number) s) }
+    ensures { IfSome result
+        (λ s. HasAllOn (plane_named table.now of) (plane_named table.now number) s) }
 {
     let direction = table.direction(of);
     let other = table.direction(number);

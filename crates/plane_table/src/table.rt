@@ -5,7 +5,7 @@ ghost use Rattle.plane_predicate.specs.Space.{opposite_of, is_same};
 ghost use Rattle.plane_polygon.specs.Parallels.{IsAlike};
 ghost use Rattle.plane_table.specs.Tables.{plane_named, opposite_number, AreNumbersSmall, HasNoTwoAlike, IsNumberIn};
 
-use crate::directions::{Oriented, by_number};
+use crate::directions::{OrientedPlane, by_number};
 use plane_predicate::{Plane, are_small};
 use std::alloc::Global;
 use std::marker::Model;
@@ -18,7 +18,7 @@ use text_place::NoMemory;
 #[derive(Drop)]
 pub struct PlaneTable {
     planes: Vec<Plane>,
-    oriented: Vec<Oriented>,
+    oriented: Vec<OrientedPlane>,
     is_small: bool,
 }
 

@@ -1,11 +1,14 @@
--- The stop of a coordinate past the range of numbers.
-use Rattle.std.proofs.Common.{◌≡◌, refl}
-use Rattle.text_place.specs.declared.fault.FaultKind.TheVariants.{TooLarge as TooLargeKind}
+-- The stop of points that steps place nowhere.
+use Rattle.std.proofs.Common.{◌≡◌, ℤ, List, Any, refl}
+use Rattle.plane_predicate.specs.Space.{point_at}
+use Rattle.int_transform.specs.declared.affine.Affine.{Affine}
 use Rattle.int_transform.specs.declared.fault.StepFault.{StepFault}
 use Rattle.int_transform.specs.declared.fault.StepFault.TheVariants.{TooLarge, NoMemory}
-use Rattle.primitives.specs.declared.stop.ShapeStop.TheVariants.{Kind}
+use Rattle.int_transform.specs.Maps.{LeavesRange}
 use Rattle.primitives.specs.Stops.{stop_of}
+use Rattle.primitives.specs.Placing.{IsPlacingStop}
 
-pub large_stop : (fault : StepFault) → Kind TooLargeKind ≡ stop_of fault → fault ≡ TooLarge
-large_stop TooLarge e = refl
-large_stop NoMemory e = cc
+pub placing_stop : (steps : List Affine) (points : List (List ℤ)) (fault : StepFault) →
+    (fault ≡ TooLarge → Any (λ p. LeavesRange steps (point_at p)) points) → IsPlacingStop steps points (stop_of fault)
+placing_stop steps points TooLarge large = large refl
+placing_stop steps points NoMemory large = tt

@@ -1,11 +1,11 @@
 -- Placed shapes, and the planes of their faces.
-use Rattle.std.specs.Prelude.{◌≡◌, ℕ, pos, ◌<ℤ◌, Bool, not, ◌&&◌, List, [], ◌∷◌, map, filter, All, ⊤}
+use Rattle.std.specs.Prelude.{◌≡◌, ℕ, ℤ, pos, ◌<ℤ◌, Bool, not, ◌&&◌, List, [], ◌∷◌, map, filter, All, Any, ⊤}
 use Rattle.std.specs.Ordering.{int_eq}
 use Rattle.std.specs.List.{AllZip}
 use Rattle.text_place.specs.declared.fault.FaultKind.TheVariants.{TooLarge, OutOfRange}
 use Rattle.plane_predicate.specs.Space.{Coefficients, Coordinates, point_at, value, IsInReach}
 use Rattle.int_transform.specs.declared.affine.Affine.{Affine}
-use Rattle.int_transform.specs.Maps.{coordinates, image}
+use Rattle.int_transform.specs.Maps.{coordinates, image, map_of, LeavesRange, StaysInRange}
 use Rattle.primitives.specs.declared.stop.ShapeStop.{ShapeStop}
 use Rattle.primitives.specs.declared.stop.ShapeStop.TheVariants.{Kind, NoMemory}
 use Rattle.primitives.specs.Shapes.{Mesh, IsFacePlane}
@@ -39,9 +39,11 @@ pub record MeetsReach (m : Coefficients) : Type 0 where
   pub reach : IsInReach point
   pub on : value m point ≡ pos 0
 
--- the stops of placing: a coordinate past a limit, or want of memory
-abbrev pub IsPlacingStop : ShapeStop → Type 0
-IsPlacingStop (Kind TooLarge) = ⊤
-IsPlacingStop (Kind OutOfRange) = ⊤
-IsPlacingStop (Kind kind) = ⊥
-IsPlacingStop NoMemory = ⊤
+-- why steps place points nowhere: a coordinate of one is past 2^53 - 1 in size after some step; or else one is past 4095
+-- in size at the end; or memory ran out
+abbrev pub IsPlacingStop : List Affine → List (List ℤ) → ShapeStop → Type 0
+IsPlacingStop steps points (Kind TooLarge) = Any (λ p. LeavesRange steps (point_at p)) points
+IsPlacingStop steps points (Kind OutOfRange) = All (λ p. StaysInRange steps (point_at p)) points
+    × Any (λ p. IsInReach (image (map_of steps) (point_at p)) → ⊥) points
+IsPlacingStop steps points (Kind kind) = ⊥
+IsPlacingStop steps points NoMemory = ⊤

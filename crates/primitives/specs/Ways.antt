@@ -82,3 +82,8 @@ IsClockwise points face m = All (HasNoneLeft points face m) (ways_of points face
 pub record IsWayOnGrid (w : Way) : Type 0 where
   pub from_grid : IsOnGrid (point_at w.from)
   pub to_grid : IsOnGrid (point_at w.to)
+
+-- the ways along a face, where both points of each of them have such coordinates
+pub record AreWaysOnGrid (points : List (List ℤ)) (face : List ℕ) (ways : List Way) : Type 0 where
+  pub are : ways ≡ ways_of points face
+  pub grid : All IsWayOnGrid ways

@@ -14,8 +14,10 @@ use crate::facing::{FacePlane, is_ahead};
 pub fn has_ahead(points: &[[i64; 3]], faces: &[Corners], plane: &FacePlane) -> bool
     requires grid { All (λ p. IsOnGrid (point_at p)) points.now }
     requires there { All (λ f. All (λ i. i < length points.now) f) faces.now }
-    ensures some { OnTrue result (Any (λ f. Any (λ i. pos 0 <ℤ value_at points.now plane.now i) f) faces.now) }
-    ensures none { OnFalse result (All (λ f. All (λ i. value_at points.now plane.now i ≤ℤ pos 0) f) faces.now) }
+    ensures some { OnTrue result (Any (λ f. Any (λ i. pos 0 <ℤ value_at points.now plane.now i) f)
+        faces.now) }
+    ensures none { OnFalse result (All (λ f. All (λ i. value_at points.now plane.now i ≤ℤ pos 0) f)
+        faces.now) }
 {
     // A point is a corner of several faces. So where no point is ahead, the points are the shorter list.
     has_point_ahead(points, plane) && has_corner_ahead(points, faces, plane)
@@ -38,8 +40,10 @@ fn has_point_ahead(points: &[[i64; 3]], plane: &FacePlane) -> bool
 fn has_corner_ahead(points: &[[i64; 3]], faces: &[Corners], plane: &FacePlane) -> bool
     requires grid { All (λ p. IsOnGrid (point_at p)) points.now }
     requires there { All (λ f. All (λ i. i < length points.now) f) faces.now }
-    ensures some { OnTrue result (Any (λ f. Any (λ i. pos 0 <ℤ value_at points.now plane.now i) f) faces.now) }
-    ensures none { OnFalse result (All (λ f. All (λ i. value_at points.now plane.now i ≤ℤ pos 0) f) faces.now) }
+    ensures some { OnTrue result (Any (λ f. Any (λ i. pos 0 <ℤ value_at points.now plane.now i) f)
+        faces.now) }
+    ensures none { OnFalse result (All (λ f. All (λ i. value_at points.now plane.now i ≤ℤ pos 0) f)
+        faces.now) }
 {
     for face in faces {
         if face_has_ahead(points, face.items(), plane) {

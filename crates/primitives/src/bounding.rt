@@ -9,7 +9,7 @@ ghost use Rattle.primitives.specs.Shapes.{IsOnOnePlane};
 ghost use Rattle.primitives.specs.GridSizes.{IsOnGrid};
 ghost use Rattle.primitives.specs.Checks.{AreThere, HasOuterPlane, IsFlat};
 ghost use Rattle.primitives.specs.CornerPlanes.{IsCornerPlane};
-ghost use Rattle.primitives.specs.Ways.{HasNoneLeft, IsWayOnGrid, ways_of};
+ghost use Rattle.primitives.specs.Ways.{AreWaysOnGrid, HasNoneLeft, IsWayOnGrid};
 
 use crate::facing::{FacePlane, opposite};
 use crate::facing_out::turns_left;
@@ -29,11 +29,12 @@ pub fn is_bounded_by(
     requires there { AreThere (length points.now) faces.now }
     requires face_there { All (λ i. i < length points.now) face.now }
     requires flat { IsFlat points.now face.now }
-    requires ways_are { ways.now ≡ ways_of points.now face.now }
-    requires ways_grid { All IsWayOnGrid ways.now }
+    requires ways { AreWaysOnGrid points.now face.now ways.now }
     requires spans { IsCornerPlane points.now face.now plane.now }
-    ensures all { OnTrue result (IsBounded (record { points = points.now; faces = faces.now }) face.now) }
-    ensures past { OnFalse result (HasOuterPlane (record { points = points.now; faces = faces.now }) face.now → IsOnOnePlane (record { points = points.now; faces = faces.now })) }
+    ensures all { OnTrue result (IsBounded (record { points = points.now; faces = faces.now })
+        face.now) }
+    ensures past { OnFalse result (HasOuterPlane (record { points = points.now; faces = faces.now })
+        face.now → IsOnOnePlane (record { points = points.now; faces = faces.now })) }
 {
     let turned = opposite(plane);
     if bounds(points, faces, face, ways, plane, &turned) {
@@ -55,11 +56,12 @@ fn bounds(
     requires grid { All (λ p. IsOnGrid (point_at p)) points.now }
     requires there { AreThere (length points.now) faces.now }
     requires face_there { All (λ i. i < length points.now) face.now }
-    requires ways_are { ways.now ≡ ways_of points.now face.now }
-    requires ways_grid { All IsWayOnGrid ways.now }
+    requires ways { AreWaysOnGrid points.now face.now ways.now }
     requires opposite_is { other.now ≡ opposite_of plane.now }
-    ensures all { OnTrue result (Bounds (record { points = points.now; faces = faces.now }) face.now plane.now) }
-    ensures past { OnFalse result (Bounds (record { points = points.now; faces = faces.now }) face.now plane.now → ⊥) }
+    ensures all { OnTrue result (Bounds (record { points = points.now; faces = faces.now }) face.now
+        plane.now) }
+    ensures past { OnFalse result (Bounds (record { points = points.now; faces = faces.now })
+        face.now plane.now → ⊥) }
 {
     if has_ahead(points, faces, plane) {
         return false;

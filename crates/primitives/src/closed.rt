@@ -34,7 +34,8 @@ fn are_met_both_ways(alloc: Global, ways: &[Way]) -> Result<bool, AllocError>
 
 // The set of some ways. `None` where two of them are the same.
 fn met(alloc: Global, ways: &[Way]) -> Result<Option<BTreeSet<Way>>, AllocError>
-    ensures set { IfOk result (λ o. IfSome o (λ s. (w : Way) → IsTrue (contains ⟦<Way as Ord>⟧.cmp s w) ↔ IsMet ways.now w)) }
+    ensures set { IfOk result (λ o. IfSome o (λ s. (w : Way) →
+        IsTrue (contains ⟦<Way as Ord>⟧.cmp s w) ↔ IsMet ways.now w)) }
     ensures different { IfOk result (λ o. IfSome o (λ s. AreDifferent ways.now)) }
     ensures same { IfOk result (λ o. IsNone o → AreDifferent ways.now → ⊥) }
 {
@@ -49,8 +50,10 @@ fn met(alloc: Global, ways: &[Way]) -> Result<Option<BTreeSet<Way>>, AllocError>
 
 // Whether each of some ways has its way back in a set.
 fn are_met_back(met: &BTreeSet<Way>, ways: &[Way]) -> bool
-    ensures all { OnTrue result (All (λ w. IsTrue (contains ⟦<Way as Ord>⟧.cmp met.now (turned w))) ways.now) }
-    ensures past { OnFalse result (All (λ w. IsTrue (contains ⟦<Way as Ord>⟧.cmp met.now (turned w))) ways.now → ⊥) }
+    ensures all { OnTrue result (All (λ w. IsTrue (contains ⟦<Way as Ord>⟧.cmp met.now (turned w)))
+        ways.now) }
+    ensures past { OnFalse result (All
+        (λ w. IsTrue (contains ⟦<Way as Ord>⟧.cmp met.now (turned w))) ways.now → ⊥) }
 {
     for way in ways {
         if !met.contains(&way.back()) {

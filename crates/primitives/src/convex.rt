@@ -22,8 +22,10 @@ pub fn is_convex(points: &[[i64; 2]]) -> bool
 fn has_corner(points: &[[i64; 2]]) -> bool
     requires some { 0 < length points.now }
     requires near { All IsNear points.now }
-    ensures yes { OnTrue result (Any (λ q. Any (λ r. orientation (point points.now 0) q r ≡ pos 0 → ⊥) points.now) points.now) }
-    ensures no { OnFalse result (All (λ q. All (λ r. orientation (point points.now 0) q r ≡ pos 0) points.now) points.now) }
+    ensures yes { OnTrue result (Any
+        (λ q. Any (λ r. orientation (point points.now 0) q r ≡ pos 0 → ⊥) points.now) points.now) }
+    ensures no { OnFalse result (All
+        (λ q. All (λ r. orientation (point points.now 0) q r ≡ pos 0) points.now) points.now) }
 {
     for second in points {
         if bends(points, points[0], *second) {

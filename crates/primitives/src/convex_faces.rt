@@ -20,8 +20,10 @@ pub fn are_convex(alloc: Global, points: &[[i64; 3]], faces: &[Corners]) -> Resu
     requires grid { All (λ p. IsOnGrid (point_at p)) points.now }
     requires there { AreThere (length points.now) faces.now }
     requires flat { All (IsFlat points.now) faces.now }
-    ensures all { IfOk result (λ b. OnTrue b (All (IsBounded (record { points = points.now; faces = faces.now })) faces.now)) }
-    ensures past { IfOk result (λ b. OnFalse b (IsConvex (record { points = points.now; faces = faces.now }) → ⊥)) }
+    ensures all { IfOk result (λ b. OnTrue b (All
+        (IsBounded (record { points = points.now; faces = faces.now })) faces.now)) }
+    ensures past { IfOk result (λ b. OnFalse b (IsConvex
+        (record { points = points.now; faces = faces.now }) → ⊥)) }
 {
     for face in faces {
         if !is_bounded(alloc, points, faces, face.items())? {
@@ -43,8 +45,11 @@ fn is_bounded(
     requires there { AreThere (length points.now) faces.now }
     requires face_there { All (λ i. i < length points.now) face.now }
     requires flat { IsFlat points.now face.now }
-    ensures all { IfOk result (λ b. OnTrue b (IsBounded (record { points = points.now; faces = faces.now }) face.now)) }
-    ensures past { IfOk result (λ b. OnFalse b (HasOuterPlane (record { points = points.now; faces = faces.now }) face.now → IsOnOnePlane (record { points = points.now; faces = faces.now }))) }
+    ensures all { IfOk result (λ b. OnTrue b (IsBounded
+        (record { points = points.now; faces = faces.now }) face.now)) }
+    ensures past { IfOk result (λ b. OnFalse b (HasOuterPlane
+        (record { points = points.now; faces = faces.now }) face.now →
+        IsOnOnePlane (record { points = points.now; faces = faces.now }))) }
 {
     let plane = spanned(points, face).unwrap();
     let mut ways = Vec::new(alloc);

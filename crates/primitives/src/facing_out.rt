@@ -12,8 +12,10 @@ pub fn turns_left(m: &FacePlane, p: [i64; 3], q: [i64; 3], r: [i64; 3]) -> bool
     requires p_grid { IsOnGrid (point_at p) }
     requires q_grid { IsOnGrid (point_at q) }
     requires r_grid { IsOnGrid (point_at r) }
-    ensures left { OnTrue result (pos 0 <ℤ inner m.now (through (point_at p) (point_at q) (point_at r))) }
-    ensures other { OnFalse result (inner m.now (through (point_at p) (point_at q) (point_at r)) ≤ℤ pos 0) }
+    ensures left { OnTrue result (pos 0
+        <ℤ inner m.now (through (point_at p) (point_at q) (point_at r))) }
+    ensures other { OnFalse result (inner m.now (through (point_at p) (point_at q) (point_at r))
+        ≤ℤ pos 0) }
 {
     turn_at(m, p, q, r) > 0
 }

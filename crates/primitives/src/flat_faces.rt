@@ -46,7 +46,8 @@ fn holds_all(points: &[[i64; 3]], face: &[u32], plane: &FacePlane) -> bool
     requires grid { All (λ p. IsOnGrid (point_at p)) points.now }
     requires there { All (λ i. i < length points.now) face.now }
     ensures all { OnTrue result (All (λ i. value_at points.now plane.now i ≡ pos 0) face.now) }
-    ensures past { OnFalse result (All (λ i. value_at points.now plane.now i ≡ pos 0) face.now → ⊥) }
+    ensures past { OnFalse result (All (λ i. value_at points.now plane.now i ≡ pos 0) face.now →
+        ⊥) }
 {
     for i in face {
         if !goes_through(plane, points[*i as usize]) {

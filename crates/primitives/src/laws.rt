@@ -9,5 +9,9 @@ ghost use Rattle.primitives.specs.Prisms.{extrusion_of, AreBehindOrOn};
 
 /// Every corner of a placed extrusion is behind or on each of the planes of its faces.
 pub fn corners_of_extrusions_are_behind_or_on_planes()
-    ensures { (unit : LengthUnit) (center : Bool) (points : List (List ℤ)) (height : ℤ) (f : Affine) (planes : List Coefficients) → ArePlanesOf (moved_mesh f (extrusion_of unit center points height)) (extrusion_of unit center points height).faces planes → AreBehindOrOn (moved_mesh f (extrusion_of unit center points height)).points planes }
+    ensures { (unit : LengthUnit) (center : Bool) (points : List (List ℤ)) (height : ℤ) (f : Affine)
+        (planes : List Coefficients) →
+        ArePlanesOf (moved_mesh f (extrusion_of unit center points height))
+        (extrusion_of unit center points height).faces planes →
+        AreBehindOrOn (moved_mesh f (extrusion_of unit center points height)).points planes }
 {}

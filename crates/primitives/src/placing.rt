@@ -1,11 +1,9 @@
 //! Shapes moved by steps.
 
-ghost use Rattle.std.specs.Prelude.{◌≡◌, ◌<◌, ◌↔◌, All, Any, IfOk, IfErr, OnOk, IsNone, length};
+ghost use Rattle.std.specs.Prelude.{◌<◌, ◌↔◌, All, Any, IfOk, IfErr, OnOk, length};
 ghost use Rattle.std.specs.Bool.{OnTrue, OnFalse};
 ghost use Rattle.plane_predicate.specs.Space.{Coordinates, point_at, IsInReach};
-ghost use Rattle.text_place.specs.declared.fault.FaultKind.{FaultKind};
-ghost use Rattle.int_transform.specs.Maps.{image, map_of, LeavesRange, StaysInRange};
-ghost use Rattle.primitives.specs.declared.stop.ShapeStop.{ShapeStop};
+ghost use Rattle.int_transform.specs.Maps.{image, map_of, StaysInRange};
 ghost use Rattle.primitives.specs.Shapes.{IsFace, IsInside};
 ghost use Rattle.primitives.specs.Placing.{moved_mesh, ArePlanesOf, IsBehindAll, IsPlacingStop, MeetsReach};
 
@@ -23,18 +21,21 @@ use text_place::FaultKind;
 /// `TooLarge` comes exactly where a coordinate after some step is past 2^53 - 1 in size, and
 /// `OutOfRange` exactly where else a coordinate at the end is past 4095.
 pub fn place(alloc: Global, shape: &Shape, steps: &[Step]) -> Result<Vec<Plane>, ShapeStop>
-    ensures planes { IfOk result (λ v. ArePlanesOf (moved_mesh (map_of steps.now) shape.now) shape.now.faces v.items) }
-    ensures inside { IfOk result (λ v. (p : Coordinates) → IsInside shape.now p ↔ IsBehindAll v.items (image (map_of steps.now) p)) }
+    ensures planes { IfOk result (λ v. ArePlanesOf (moved_mesh (map_of steps.now) shape.now)
+        shape.now.faces v.items) }
+    ensures inside { IfOk result (λ v. (p : Coordinates) → IsInside shape.now p
+        ↔ IsBehindAll v.items (image (map_of steps.now) p)) }
     ensures some { IfOk result (λ v. 0 < length v.items) }
     ensures reach { IfOk result (λ v. All MeetsReach v.items) }
     // no step flattens the shape: its faces stay faces of a body
-    ensures solid { OnOk result (All (IsFace (moved_mesh (map_of steps.now) shape.now)) shape.now.faces) }
+    ensures solid { OnOk result (All (IsFace (moved_mesh (map_of steps.now) shape.now))
+        shape.now.faces) }
 
-    ensures in_range { OnOk result (All (λ p. StaysInRange steps.now (point_at p)) shape.now.points) }
-    ensures in_reach { OnOk result (All (λ p. IsInReach (image (map_of steps.now) (point_at p))) shape.now.points) }
-    ensures too_large { result ≡ Err (ShapeStop.Kind FaultKind.TooLarge) → Any (λ p. LeavesRange steps.now (point_at p)) shape.now.points }
-    ensures out_of_range { result ≡ Err (ShapeStop.Kind FaultKind.OutOfRange) → All (λ p. StaysInRange steps.now (point_at p)) shape.now.points × Any (λ p. IsInReach (image (map_of steps.now) (point_at p)) → ⊥) shape.now.points }
-    ensures stops { IfErr result IsPlacingStop }
+    ensures in_range { OnOk result (All (λ p. StaysInRange steps.now (point_at p))
+        shape.now.points) }
+    ensures in_reach { OnOk result (All (λ p. IsInReach (image (map_of steps.now) (point_at p)))
+        shape.now.points) }
+    ensures stops { IfErr result (IsPlacingStop steps.now shape.now.points) }
 {
     let points = apply(alloc, steps, shape.points())?;
     if !are_in_reach(&points) {

@@ -20,8 +20,10 @@ pub fn planes_of(
     faces: &[Corners],
 ) -> Result<Vec<Plane>, AllocError>
     requires reach { All (λ p. IsInReach (point_at p)) points.now }
-    requires faces_are { All (IsFace (record { points = points.now; faces = faces.now })) faces.now }
-    ensures { IfOk result (λ v. ArePlanesOf (record { points = points.now; faces = faces.now }) faces.now v.items) }
+    requires faces_are { All (IsFace (record { points = points.now; faces = faces.now }))
+        faces.now }
+    ensures { IfOk result (λ v. ArePlanesOf (record { points = points.now; faces = faces.now })
+        faces.now v.items) }
 {
     let mut planes = Vec::with_capacity(alloc, faces.len())?;
     for face in faces {
@@ -36,7 +38,8 @@ pub fn planes_of(
 // The plane of one face.
 fn face_plane(points: &[[i64; 3]], faces: &[Corners], face: &[u32]) -> Plane
     requires reach { All (λ p. IsInReach (point_at p)) points.now }
-    requires faces_are { All (IsFace (record { points = points.now; faces = faces.now })) faces.now }
+    requires faces_are { All (IsFace (record { points = points.now; faces = faces.now }))
+        faces.now }
     requires face_is { IsFace (record { points = points.now; faces = faces.now }) face.now }
     ensures { IsFacePlane (record { points = points.now; faces = faces.now }) face.now result }
 {

@@ -79,8 +79,10 @@ fn check_surface(alloc: Global, points: &[[i64; 3]], faces: &[Corners]) -> Resul
     requires some { 0 < length faces.now }
     requires corners { All (λ f. 0 < length f) faces.now }
     ensures surface { OnOk result (IsSurface (record { points = points.now; faces = faces.now })) }
-    ensures body { OnOk result (All (HasBodyBehind (record { points = points.now; faces = faces.now })) faces.now) }
-    ensures fault { IfErr result (IsSurfaceFault (record { points = points.now; faces = faces.now })) }
+    ensures body { OnOk result (All
+        (HasBodyBehind (record { points = points.now; faces = faces.now })) faces.now) }
+    ensures fault { IfErr result (IsSurfaceFault
+        (record { points = points.now; faces = faces.now })) }
 {
     if !are_flat(points, faces) {
         return Err(ShapeStop::Kind(FaultKind::NotFlat));

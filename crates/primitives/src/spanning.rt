@@ -40,7 +40,8 @@ pub fn find_triangle(points: &[[i64; 3]], face: &[u32]) -> Option<Triangle>
 fn begins_with_triangle(points: &[[i64; 3]], face: &[u32]) -> bool
     requires grid { All (λ p. IsOnGrid (point_at p)) points.now }
     requires there { All (λ i. i < length points.now) face.now }
-    ensures { OnTrue result (IsTriangle points.now face.now (record { first = 0; second = 1; third = 2 })) }
+    ensures { OnTrue result (IsTriangle points.now face.now
+        (record { first = 0; second = 1; third = 2 })) }
 {
     if face.len() < 3 {
         return false;
@@ -77,7 +78,9 @@ fn third_corner(points: &[[i64; 3]], face: &[u32], second: usize) -> Option<usiz
     requires there { All (λ i. i < length points.now) face.now }
     requires second_in { second < length face.now }
     ensures some { IfSome result (IsThird points.now face.now second) }
-    ensures none { IsNone result → All (λ k. AreCollinear (corner points.now (get_or face.now 0 0)) (corner points.now (get_or face.now second 0)) (corner points.now k)) face.now }
+    ensures none { IsNone result →
+        All (λ k. AreCollinear (corner points.now (get_or face.now 0 0))
+        (corner points.now (get_or face.now second 0)) (corner points.now k)) face.now }
 {
     let (from, by) = (points[face[0] as usize], points[face[second] as usize]);
     for third in 0..face.len() {

@@ -12,7 +12,7 @@ use Rattle.reply_text.specs.declared.reply.Reply.{Reply}
 use Rattle.reply_text.specs.declared.reply.Reply.TheVariants as reply
 use Rattle.reply_text.specs.Texts.{replies_text, output}
 use Rattle.reply_text.specs.Answers.{Fits}
-use Rattle.reply_text.specs.Sums.{LackNoSolid, SumTo, AllSumTo}
+use Rattle.reply_text.specs.Sums.{LackNoSolid, WhereSolid, SumTo, AllSumTo}
 
 -- an export gives its source back
 abbrev GivesBack : List ℕ → Reply → Type 0
@@ -83,8 +83,12 @@ unfolding numeral
 lines_are = refl
 
 -- ---- sums over exports
-abbrev HasLength : List ℕ → ℕ → Type 0
-HasLength source n = n ≡ length source
+abbrev HasLength : List ℕ → Reply → ℕ → Type 0
+HasLength source r n = n ≡ length source
+
+-- the same where the export lacks no solid
+abbrev HasSolidLength : List ℕ → Reply → ℕ → Type 0
+HasSolidLength = WhereSolid (λ source n. n ≡ length source)
 
 -- two lines of nine bytes, exported once
 sum_is : SumTo HasLength start commands replies 18
@@ -138,6 +142,16 @@ wanting_sum_is = (0, 3, refl, (0, 3, refl, (3, 0, refl, (0, 0, refl, refl, refl)
 
 all_sum_is : AllSumTo HasLength (client ∷ exporting ∷ client ∷ []) (replies ∷ (reply.Solid [] ∷ []) ∷ replies ∷ []) 36
 all_sum_is = (18, 18, sum_is, (0, 18, (0, 0, refl, refl, refl), (18, 0, sum_is, refl, refl), refl), refl)
+
+-- an export for which memory ran out comes to its source's number among all, and to nothing among those that lack no solid
+abbrev one_source : State
+one_source = record { lines = codes "x" ∷ []; shows = 0; exports = 0 }
+
+both_count : SumTo HasLength one_source (Export ∷ Export ∷ []) (reply.NoMem ∷ reply.Solid [] ∷ []) 4
+both_count = (2, 2, refl, (2, 0, refl, refl, refl), refl)
+
+one_counts : SumTo HasSolidLength one_source (Export ∷ Export ∷ []) (reply.NoMem ∷ reply.Solid [] ∷ []) 2
+one_counts = (0, 2, inr ((λ has. has), refl), (2, 0, inl (tt, refl), refl, refl), refl)
 
 -- a fault, a limit of the boundary and a refusal lack no solid, and a line that had no memory is no export
 none_lacks : LackNoSolid (Put 1 (codes "x") ∷ Export ∷ Export ∷ Export ∷ []) (reply.NoMem ∷ reply.Faulted (record { kind = UnknownName; place = record { line = 1; column = 1 } }) ∷ reply.Complex limit.Facets ∷ reply.Refused TooManyExports ∷ [])

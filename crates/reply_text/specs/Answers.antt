@@ -3,7 +3,7 @@ use Rattle.std.specs.Prelude.{◌≡◌, ◌≢◌, ◌↔◌, ℕ, List, [], �
 use Rattle.script_reader.specs.declared.script.Command.{Command}
 use Rattle.script_reader.specs.declared.script.Command.TheVariants.{Put, Set, Cut, Show, Export, Bad}
 use Rattle.script_reader.specs.declared.script.ClientScript.{ClientScript}
-use Rattle.edit_session.specs.Sessions.{State, start, source_of, refusal, accepted, next}
+use Rattle.edit_session.specs.Sessions.{State, start, source_of, refusal, after_accepted, next}
 use Rattle.edit_session.specs.Asking.{MayWantMemory}
 use Rattle.reply_text.specs.declared.reply.Reply.{Reply}
 use Rattle.reply_text.specs.declared.reply.Reply.TheVariants as reply
@@ -12,9 +12,9 @@ use Rattle.reply_text.specs.declared.reply.Reply.TheVariants as reply
 module _ (Exports : List ℕ → Reply → Type 0) where
   -- what a command that is not refused is answered
   abbrev pub IsDone : State → Command → Reply → Type 0
-  IsDone s (Put line text) r = r ≡ reply.Lines (length (accepted s (Put line text)).lines)
-  IsDone s (Set line text) r = r ≡ reply.Lines (length (accepted s (Set line text)).lines)
-  IsDone s (Cut from upto) r = r ≡ reply.Lines (length (accepted s (Cut from upto)).lines)
+  IsDone s (Put line text) r = r ≡ reply.Lines (length (after_accepted s (Put line text)).lines)
+  IsDone s (Set line text) r = r ≡ reply.Lines (length (after_accepted s (Set line text)).lines)
+  IsDone s (Cut from upto) r = r ≡ reply.Lines (length (after_accepted s (Cut from upto)).lines)
   IsDone s Show r = r ≡ reply.Text s.lines
   IsDone s Export r = Exports (source_of s) r
   IsDone s Bad r = ⊥

@@ -1,5 +1,5 @@
--- What the exports of a script come to in all, where each source has a number of its own.
-use Rattle.std.specs.Prelude.{◌≡◌, ℕ, ◌+◌, List, [], ◌∷◌, MatchOption}
+-- What the exports of a script come to in all, where each source has a number of its own, which may depend on its reply.
+use Rattle.std.specs.Prelude.{◌≡◌, ℕ, ◌+◌, List, [], ◌∷◌, ◌⊎◌, MatchOption}
 use Rattle.script_reader.specs.declared.script.Command.{Command}
 use Rattle.script_reader.specs.declared.script.Command.TheVariants.{Export}
 use Rattle.script_reader.specs.declared.script.ClientScript.{ClientScript}
@@ -33,18 +33,23 @@ abbrev pub AllLackNoSolid : List ClientScript → List (List Reply) → Type 0
 AllLackNoSolid (client ∷ clients) (replies ∷ more) = LackNoSolid client.commands replies × AllLackNoSolid clients more
 AllLackNoSolid _ _ = Unit {0}
 
--- `Counts` relates a source to its number
-module _ (Counts : List ℕ → ℕ → Type 0) where
-  -- what a command comes to: an export that the session doesn't refuse to the number of its source, also where memory ran out,
-  -- and any other to nothing
-  abbrev pub ComesTo : State → Command → ℕ → Type 0
-  ComesTo s Export n = MatchOption (refusal s Export) (Counts (source_of s) n) (λ why. n ≡ 0)
-  ComesTo s _ n = n ≡ 0
+-- a number of a source counts where the reply to its export lacks no solid, and else there is none
+abbrev pub WhereSolid : (List ℕ → ℕ → Type 0) → List ℕ → Reply → ℕ → Type 0
+WhereSolid Counts source r n = (LacksNoSolid r × Counts source n) ⊎ ((LacksNoSolid r → ⊥) × (n ≡ 0))
+
+-- `Counts` relates a source and the reply to its export to a number
+module _ (Counts : List ℕ → Reply → ℕ → Type 0) where
+  -- what a command that is answered so comes to: an export that the session doesn't refuse to the number of its source and its
+  -- reply, also where memory ran out, and any other to nothing
+  abbrev pub ComesTo : State → Command → Reply → ℕ → Type 0
+  ComesTo s Export r n = MatchOption (refusal s Export) (Counts (source_of s) r n) (λ why. n ≡ 0)
+  ComesTo s _ r n = n ≡ 0
 
   -- what commands that are answered so come to in all
   abbrev pub SumTo : State → List Command → List Reply → ℕ → Type 0
   SumTo s [] [] n = n ≡ 0
-  SumTo s (c ∷ cs) (r ∷ rs) n = (here : ℕ) × (more : ℕ) × ComesTo s c here × SumTo (state_after s c r) cs rs more × (n ≡ here + more)
+  SumTo s (c ∷ cs) (r ∷ rs) n =
+      (here : ℕ) × (more : ℕ) × ComesTo s c r here × SumTo (state_after s c r) cs rs more × (n ≡ here + more)
   SumTo s (c ∷ cs) [] n = ⊥
   SumTo s [] (r ∷ rs) n = ⊥
 
@@ -52,6 +57,7 @@ module _ (Counts : List ℕ → ℕ → Type 0) where
   abbrev pub AllSumTo : List ClientScript → List (List Reply) → ℕ → Type 0
   AllSumTo [] [] n = n ≡ 0
   AllSumTo (client ∷ clients) (replies ∷ more) n =
-      (here : ℕ) × (others : ℕ) × SumTo start client.commands replies here × AllSumTo clients more others × (n ≡ here + others)
+      (here : ℕ) × (others : ℕ)
+      × SumTo start client.commands replies here × AllSumTo clients more others × (n ≡ here + others)
   AllSumTo (client ∷ clients) [] n = ⊥
   AllSumTo [] (replies ∷ more) n = ⊥

@@ -15,7 +15,8 @@ use crate::exporting::Exporting;
 /// follows, and so is what follows: no first line of a defined reply is that of want of memory.
 pub fn one_output<E: Exporting>()
     requires { (unit : LengthUnit) → IsExport (E.exports unit) }
-    ensures { (unit : LengthUnit) (clients : List ClientScript) (rs qs : List (List Reply)) (x y : List ℕ) →
+    ensures { (unit : LengthUnit) (clients : List ClientScript) (rs qs : List (List Reply))
+        (x y : List ℕ) →
         AllFit (E.exports unit) clients rs → AllFit (E.exports unit) clients qs →
         output clients rs ++ x ≡ output clients qs ++ y → (rs ≡ qs) × (x ≡ y) }
 {}

@@ -102,7 +102,8 @@ fn count_lines(bytes: &[u8]) -> u64
 
 // The first line of a reply, with its number.
 fn first_line(alloc: Global, number: u32, reply: &Reply) -> Result<Vec<u8>, NoMemory>
-    ensures { IfOk result (λ line. line.items ≡ numeral number ++ first_words reply.now ++ newline) }
+    ensures { IfOk result (λ line.
+        line.items ≡ numeral number ++ first_words reply.now ++ newline) }
 {
     let mut line = Vec::new(alloc);
     push_number(alloc, &mut line, u64::from(number))?;
@@ -113,7 +114,8 @@ fn first_line(alloc: Global, number: u32, reply: &Reply) -> Result<Vec<u8>, NoMe
 
 // Lines, each with its newline. Where memory runs out, some of their bytes may stand behind the others.
 fn push_lines(out: &mut Vec<u8>, lines: &[Bytes]) -> Result<(), NoMemory>
-    ensures ok { OnOk result (out.new.items ≡ out.old.items ++ flat_map (λ line. line ++ newline) lines.now) }
+    ensures ok { OnOk result
+        (out.new.items ≡ out.old.items ++ flat_map (λ line. line ++ newline) lines.now) }
     ensures err { Grows out.old.items out.new.items }
 {
     for line in lines {
@@ -139,7 +141,8 @@ fn push_further(out: &mut Vec<u8>, reply: &Reply) -> Result<(), NoMemory>
 }
 
 fn push_all(out: &mut Vec<u8>, line: &[u8], reply: &Reply) -> Result<(), NoMemory>
-    ensures ok { OnOk result (out.new.items ≡ out.old.items ++ line.now ++ further_lines reply.now) }
+    ensures ok { OnOk result
+        (out.new.items ≡ out.old.items ++ line.now ++ further_lines reply.now) }
     ensures err { Grows out.old.items out.new.items }
 {
     out.extend_from_slice(line)?;
@@ -154,7 +157,8 @@ pub fn push_reply(
     number: u32,
     reply: &Reply,
 ) -> Result<(), NoMemory>
-    ensures ok { OnOk result (out.new.items ≡ out.old.items ++ (numeral number ++ reply_body reply.now)) }
+    ensures ok { OnOk result
+        (out.new.items ≡ out.old.items ++ (numeral number ++ reply_body reply.now)) }
     ensures err { OnErr result (out.new.items ≡ out.old.items) }
 {
     let line = first_line(alloc, number, reply)?;

@@ -26,7 +26,8 @@ pub fn cylinder_shape(
     requires height_safe { IsSafe height }
     requires low_safe { IsSafe low_radius }
     requires high_safe { IsSafe high_radius }
-    ensures shape { IfOk result (λ shape. shape ≡ cylinder_of unit center height low_radius high_radius) }
+    ensures shape { IfOk result (λ shape. shape
+        ≡ cylinder_of unit center height low_radius high_radius) }
     ensures sizes { OnOk result (AreCylinderSizes unit center height low_radius high_radius) }
     ensures stops { IfErr result (IsCylinderStop unit center height low_radius high_radius) }
 {

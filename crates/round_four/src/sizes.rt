@@ -47,7 +47,8 @@ fn has_body(height: i64, low_radius: i64, high_radius: i64) -> bool
 fn is_on_grid(height: i64, center: bool, unit: Unit) -> bool
     requires { IsSafe height }
     ensures all { OnTrue result (IsOnGrid unit center height) }
-    ensures none { OnFalse result ((center ≡ true) × (unsigned_abs (grid_steps unit height) % 2 ≡ 1)) }
+    ensures none { OnFalse result ((center ≡ true)
+        × (unsigned_abs (grid_steps unit height) % 2 ≡ 1)) }
 {
     !center || is_even(height, unit)
 }

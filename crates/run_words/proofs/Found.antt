@@ -10,9 +10,9 @@ use Rattle.clap.specs.declared.parser.matches.ArgMatches.TheViews.{out-ArgMatche
 use Rattle.clap.specs.declared.parser.matches.SubCommand.{SubCommand}
 use Rattle.clap.specs.declared.parser.matches.ArgMatches.{ArgMatches}
 use Rattle.clap.proofs.WalkLemmas.{first_value-rows, one_text-rows}
-use Rattle.run_words.specs.declared.given.Given.{Given}
+use Rattle.run_words.specs.declared.given.GivenOptions.{GivenOptions}
 use Rattle.run_words.specs.declared.settings.Settings.{Settings}
-use Rattle.run_words.specs.Words.{AreInRange, chosen}
+use Rattle.run_words.specs.Words.{AreInRange, chosen_settings}
 use Rattle.run_words.specs.Reading.{Make, SayGiven, Says, SaysFlag}
 use Rattle.run_words.proofs.Rows.{one_says}
 
@@ -55,16 +55,16 @@ found_is m r p name rows is = go (out-ArgMatches m).subcommand (sym (ap (option_
         λ i. Some (the_name i, the_rows i)
 
 -- ---- one choice
-same_made : (rows : List Row) (given : Given) (ones other : Settings) → ones ≡ chosen given → SayGiven rows given → Make (Some (codes "run", rows)) other → other ≡ ones
-same_made rows given ones other is says (inl h) = h.3 ∙ ap (λ (g : Given). chosen g) (one_says rows h.1 given h.2 says) ∙ sym is
+same_made : (rows : List Row) (given : GivenOptions) (ones other : Settings) → ones ≡ chosen_settings given → SayGiven rows given → Make (Some (codes "run", rows)) other → other ≡ ones
+same_made rows given ones other is says (inl h) = h.3 ∙ ap (λ (g : GivenOptions). chosen_settings g) (one_says rows h.1 given h.2 says) ∙ sym is
 same_made rows given ones other is says (inr h) = cc h.0
 
-pub one_made : (r : Option Settings) (rows : List Row) (given : Given) (ones : Settings) → ones ≡ chosen given → SayGiven rows given
+pub one_made : (r : Option Settings) (rows : List Row) (given : GivenOptions) (ones : Settings) → ones ≡ chosen_settings given → SayGiven rows given
     → IfSome r (λ same. (same ≡ ones) × AreInRange ones) → IfSome r (λ same. (other : Settings) → Make (Some (codes "run", rows)) other → other ≡ same)
 one_made None rows given ones is says found = tt
 one_made (Some same) rows given ones is says found = λ other h. same_made rows given ones other is says h ∙ sym found.0
 
-pub none_made : (r : Option Settings) (rows : List Row) (given : Given) (ones : Settings) → ones ≡ chosen given → SayGiven rows given
+pub none_made : (r : Option Settings) (rows : List Row) (given : GivenOptions) (ones : Settings) → ones ≡ chosen_settings given → SayGiven rows given
     → IfNone r (AreInRange ones → ⊥) → IfNone r ((other : Settings) → Make (Some (codes "run", rows)) other → AreInRange other → ⊥)
 none_made (Some same) rows given ones is says none = tt
 none_made None rows given ones is says none = λ other h range. none (subst AreInRange (same_made rows given ones other is says h) range)

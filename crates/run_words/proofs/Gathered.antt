@@ -2,7 +2,7 @@
 use Rattle.std.proofs.Common.{◌≡◌, ◌∙◌, ℕ, Bool, true, false, inl, inr, ◌⊎◌, refl, sym, ap, subst, List, [], ◌∷◌, ◌++◌, Option, Some, None, codes, append-nil, append_assoc}
 use Rattle.std.specs.Prelude.{bytes_eq}
 use Rattle.clap.specs.Walk.{Held, Row, Text, Walk, first_of, has_row}
-use Rattle.run_words.specs.declared.given.Given.{Given}
+use Rattle.run_words.specs.declared.given.GivenOptions.{GivenOptions}
 use Rattle.run_words.specs.Words.{Key, Workers, Memo, Share, RunOption, Number, Half, Tally, key_name, equals, IsNumeralOf, IsNext, AreOptions, with_option, Adds}
 use Rattle.run_words.proofs.Rows.{FlagRow, RowsSay, first_more, first_new, flag_kept, flag_new}
 use Rattle.run_words.proofs.Built.{HasNoSeparator, run_leaf, Leads, both_fine, ends, faults, next_word, then}
@@ -21,8 +21,8 @@ pub record Gathers (rows : List Row) (words : List Text) (all : List Row) : Type
   pub tail : List Row
   pub adds : all ≡ rows ++ tail
   pub flags : FlagsSay rows → FlagsSay all
-  pub options : (given : Given) → RowsSay rows given → AreNumerals all
-      → (options : List RunOption) × (given' : Given) × AreOptions words options × Adds given options given' × RowsSay all given'
+  pub options : (given : GivenOptions) → RowsSay rows given → AreNumerals all
+      → (options : List RunOption) × (given' : GivenOptions) × AreOptions words options × Adds given options given' × RowsSay all given'
 
 gathers_none : (rows : List Row) → Gathers rows [] rows
 gathers_none rows = record {

@@ -10,7 +10,7 @@ use Rattle.clap.specs.declared.parser.matches.ValueSource.TheVariants.{CommandLi
 use Rattle.clap.proofs.OnLiterals.{clap_on_literals}
 use Rattle.clap.proofs.CutLemmas.{Lacks}
 use Rattle.clap.proofs.LexerLemmas.{name_and_value-at, name_and_value-without}
-use Rattle.run_words.specs.declared.given.Given.{Given}
+use Rattle.run_words.specs.declared.given.GivenOptions.{GivenOptions}
 use Rattle.run_words.specs.Words.{Key, Workers, Memo, Share, RunOption, Number, Half, Tally, key_name, equals, IsNumeralOf, AreOptions, IsFree, with_option, Adds}
 use Rattle.run_words.proofs.Rows.{KeyRow, FlagRow, RowsSay, full, first_new, flag_kept, flag_new, key_kept, no_flag, no_text, row}
 use Rattle.run_words.proofs.Built.{run_leaf, Leads, at_hand, ends, faults, separator, test, then}
@@ -149,7 +149,7 @@ IsSpelled HalfGiven Half = Unit {0}
 IsSpelled TallyGiven Tally = Unit {0}
 IsSpelled _ _ = ⊥
 
-abbrev key_option : (key : Key) → Given → Option ℕ
+abbrev key_option : (key : Key) → GivenOptions → Option ℕ
 key_option Workers given = given.workers
 key_option Memo given = given.memo
 key_option Share given = given.share
@@ -158,7 +158,7 @@ new_key : (name text : Text) (n : ℕ) (rows : List Row) → has_row name rows �
     → KeyRow (rows ++ row CommandLine name (text ∷ []) ∷ []) name (Some n)
 new_key name text n rows free here numeral = (text, first_new name rows text free here, numeral)
 
-pub say_more : (p : Piece) (o : RunOption) (rows : List Row) (given : Given) → IsSpelled p o → has_row (name_of p) rows ≡ false → RowsSay rows given
+pub say_more : (p : Piece) (o : RunOption) (rows : List Row) (given : GivenOptions) → IsSpelled p o → has_row (name_of p) rows ≡ false → RowsSay rows given
     → RowsSay (rows ++ row_at p ∷ []) (with_option given o)
 say_more (Valued Workers text) (Number Workers n) rows given s free h = (
   new_key (codes "workers") text n rows free refl s.1,
@@ -209,7 +209,7 @@ say_more TallyGiven (Number key n) rows given s free h = absurd s
 say_more TallyGiven Half rows given s free h = absurd s
 
 -- where the rows have none of the name, the option is free, and the other way round
-pub is_free : (p : Piece) (o : RunOption) (rows : List Row) (given : Given) → IsSpelled p o → has_row (name_of p) rows ≡ false → RowsSay rows given → IsFree given o
+pub is_free : (p : Piece) (o : RunOption) (rows : List Row) (given : GivenOptions) → IsSpelled p o → has_row (name_of p) rows ≡ false → RowsSay rows given → IsFree given o
 is_free (Valued key text) (Number Workers n) rows given s free h = key_free (codes "workers") rows given.workers (subst (λ (k : Key). has_row (key_id k) rows ≡ false) s.0 free) h.0
 is_free (Valued key text) (Number Memo n) rows given s free h = key_free (codes "memo") rows given.memo (subst (λ (k : Key). has_row (key_id k) rows ≡ false) s.0 free) h.1
 is_free (Valued key text) (Number Share n) rows given s free h = key_free (codes "share") rows given.share (subst (λ (k : Key). has_row (key_id k) rows ≡ false) s.0 free) h.2
@@ -222,7 +222,7 @@ is_free HalfGiven Tally rows given s free h = absurd s
 is_free TallyGiven (Number key n) rows given s free h = absurd s
 is_free TallyGiven Half rows given s free h = absurd s
 
-free_key_row : (key : Key) (n : ℕ) (rows : List Row) (given : Given) → IsFree given (Number key n) → RowsSay rows given → has_row (key_id key) rows ≡ false
+free_key_row : (key : Key) (n : ℕ) (rows : List Row) (given : GivenOptions) → IsFree given (Number key n) → RowsSay rows given → has_row (key_id key) rows ≡ false
 free_key_row Workers n rows given free h = free_key (codes "workers") rows given.workers free h.0
 free_key_row Memo n rows given free h = free_key (codes "memo") rows given.memo free h.1
 free_key_row Share n rows given free h = free_key (codes "share") rows given.share free h.2
@@ -231,10 +231,10 @@ free_key_row Share n rows given free h = free_key (codes "share") rows given.sha
 abbrev pub final : Held → List Row
 final end = settled_rows run_leaf.rules end.pending end.rows
 
-abbrev IsTaken : Walk → List Text → Given → Type 0
+abbrev IsTaken : Walk → List Text → GivenOptions → Type 0
 IsTaken w words all = (faults run_leaf w words ≡ []) × RowsSay (final (ends run_leaf w words)) all
 
-led : (w w' : Walk) (words words' : List Text) (all : Given) → Leads run_leaf w words w' words' → IsTaken w' words' all → IsTaken w words all
+led : (w w' : Walk) (words words' : List Text) (all : GivenOptions) → Leads run_leaf w words w' words' → IsTaken w' words' all → IsTaken w words all
 led w w' words words' all leads h = (
   leads.same_faults ∙ h.0,
   subst (λ (end : Held). RowsSay (final end) all) (sym leads.same_ends) h.1,
@@ -255,11 +255,11 @@ numeral_plain (d ∷ ds) n h = go (d == 45) refl
         absurd (omega (arith, below))
     go false t = (rw t refl, rw t refl, rw t refl)
 
-pub taken : (options : List RunOption) (words : List Text) (given all : Given) (seen rows : List Row) (pending : Option (Text × List Text)) → AreOptions words options → Adds given options all
+pub taken : (options : List RunOption) (words : List Text) (given all : GivenOptions) (seen rows : List Row) (pending : Option (Text × List Text)) → AreOptions words options → Adds given options all
     → Stands seen rows pending → RowsSay seen given → IsTaken (idle_at rows pending) words all
 taken [] words given all seen rows pending none adds stands h =
     subst (λ (ws : List Text). IsTaken (idle_at rows pending) ws all) (sym none)
-    (at_end seen rows pending stands, subst (λ (xs : List Row). RowsSay xs all) (sym stands.0) (subst (λ (g : Given). RowsSay seen g) (sym adds) h))
+    (at_end seen rows pending stands, subst (λ (xs : List Row). RowsSay xs all) (sym stands.0) (subst (λ (g : GivenOptions). RowsSay seen g) (sym adds) h))
 taken (Number key n ∷ os) words given all seen rows pending (rest, (text, numeral, inl e), more) (free, adds) stands h =
     let none = free_key_row key n seen given free h in
     let p : Piece = Valued key text in

@@ -7,7 +7,7 @@ use Rattle.clap.specs.declared.builder.value_parser.Reading.{Reading}
 use Rattle.clap.specs.declared.builder.value_parser.Reading.TheVariants.{AsWritten}
 use Rattle.clap.specs.declared.parser.matches.ValueSource.{ValueSource}
 use Rattle.clap.specs.declared.parser.matches.ValueSource.TheVariants.{CommandLine, DefaultValue}
-use Rattle.run_words.specs.declared.given.Given.{Given}
+use Rattle.run_words.specs.declared.given.GivenOptions.{GivenOptions}
 use Rattle.run_words.specs.Words.{IsNumeralOf}
 use Rattle.run_words.specs.Reading.{Says, SaysFlag, SayGiven, flag_text}
 
@@ -109,7 +109,7 @@ pub flag_new : (name : Text) (rows : List Row) → has_row name rows ≡ false �
     → FlagRow (rows ++ row CommandLine name (codes "true" ∷ []) ∷ []) name true
 flag_new name rows e here = picked_new row_text name rows (row CommandLine name (codes "true" ∷ [])) (codes "true") e here refl
 
-abbrev pub RowsSay : List Row → Given → Type 0
+abbrev pub RowsSay : List Row → GivenOptions → Type 0
 RowsSay rows given =
     KeyRow rows (codes "workers") given.workers
     × KeyRow rows (codes "memo") given.memo
@@ -182,7 +182,7 @@ whole_tally rows false h =
     ap (λ l. one_of (codes "tally") (halved rows ++ l)) here
     ∙ picked_new row_text (codes "tally") (halved rows) (row DefaultValue (codes "tally") (codes "false" ∷ [])) (codes "false") none refl refl
 
-pub whole_says : (rows : List Row) (given : Given) → RowsSay rows given → SayGiven (whole rows) given
+pub whole_says : (rows : List Row) (given : GivenOptions) → RowsSay rows given → SayGiven (whole rows) given
 whole_says rows given h = (
   whole_key (codes "workers") rows given.workers refl refl h.0,
   whole_key (codes "memo") rows given.memo refl refl h.1,
@@ -211,7 +211,7 @@ one_flag o false false h g = refl
 one_flag o true false h g = cc (h, g)
 one_flag o false true h g = cc (h, g)
 
-pub one_says : (rows : List Row) (given other : Given) → SayGiven rows given → SayGiven rows other → given ≡ other
+pub one_says : (rows : List Row) (given other : GivenOptions) → SayGiven rows given → SayGiven rows other → given ≡ other
 one_says rows given other h g =
     let workers : given.workers ≡ other.workers = one_number _ _ _ h.0 g.0 in
     let memo : given.memo ≡ other.memo = one_number _ _ _ h.1 g.1 in

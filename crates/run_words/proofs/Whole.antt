@@ -15,10 +15,10 @@ use Rattle.clap.specs.declared.parser.matches.ArgMatches.{ArgMatches}
 use Rattle.clap.proofs.OnLiterals.{clap_on_literals}
 use Rattle.clap.proofs.FaultLemmas.{stopped_fault}
 use Rattle.clap.proofs.WalkLemmas.{walk_stopped}
-use Rattle.run_words.specs.declared.given.Given.{Given}
+use Rattle.run_words.specs.declared.given.GivenOptions.{GivenOptions}
 use Rattle.run_words.specs.declared.settings.Settings.{Settings}
 use Rattle.run_words.specs.declared.settings.Settings.TheVariants.{Demo}
-use Rattle.run_words.specs.Words.{Key, Workers, Memo, Share, RunOption, Number, Half, Tally, key_name, equals, AreOptions, IsNumeralOf, Adds, AreRunOptions, AreDemoWords, AreInRange, Chooses, chosen, no_options}
+use Rattle.run_words.specs.Words.{Key, Workers, Memo, Share, RunOption, Number, Half, Tally, key_name, equals, AreOptions, IsNumeralOf, Adds, AreRunOptions, AreDemoWords, AreInRange, Chooses, chosen_settings, no_options}
 use Rattle.run_words.specs.Program.{program}
 use Rattle.run_words.specs.Reading.{has_separator, HaveFlags, HasFlags, Make, Says, SayGiven}
 use Rattle.run_words.proofs.Rows.{RowsSay, added, number, flag_default, full, no_default, one_says, whole, whole_first, whole_half, whole_says, whole_tally}
@@ -48,24 +48,24 @@ run_rows_are words = go (final (ends run_leaf (walk_from nothing_held) words))
 nothing_said : RowsSay [] no_options
 nothing_said = (refl, refl, refl, refl, refl)
 
-numerals_in : (rows : List Row) (given : Given) → SayGiven (whole rows) given → AreNumerals rows
+numerals_in : (rows : List Row) (given : GivenOptions) → SayGiven (whole rows) given → AreNumerals rows
 numerals_in rows given h Workers text is = number (first_of (codes "workers") (whole rows)) text given.workers (whole_first (codes "workers") rows text is) h.0
 numerals_in rows given h Memo text is = number (first_of (codes "memo") (whole rows)) text given.memo (whole_first (codes "memo") rows text is) h.1
 numerals_in rows given h Share text is = number (first_of (codes "share") (whole rows)) text given.share (whole_first (codes "share") rows text is) h.2
 
 run_taken : (words : List Text) (settings : Settings) → AreRunOptions words settings
-    → (faults run_leaf (walk_from nothing_held) words ≡ []) × (given : Given) × SayGiven (run_rows words) given × (settings ≡ chosen given)
+    → (faults run_leaf (walk_from nothing_held) words ≡ []) × (given : GivenOptions) × SayGiven (run_rows words) given × (settings ≡ chosen_settings given)
 run_taken words settings (options, given, are, adds, is) =
     let h = taken options words no_options given [] [] None are adds (new_stands []) nothing_said in
     (h.0, given, rw (run_rows_are words) (whole_says (final (ends run_leaf (walk_from nothing_held) words)) given h.1), is)
 
 pub run_found : (words : List Text) (settings : Settings) → HasNoSeparator words → faults run_leaf (walk_from nothing_held) words ≡ []
-    → (given : Given) → SayGiven (run_rows words) given → settings ≡ chosen given → AreRunOptions words settings
+    → (given : GivenOptions) → SayGiven (run_rows words) given → settings ≡ chosen_settings given → AreRunOptions words settings
 run_found words settings none fine given says is =
     let rows = final (ends run_leaf (walk_from nothing_held) words) in
     let says' : SayGiven (whole rows) given = subst (λ (xs : List Row). SayGiven xs given) (run_rows_are words) says in
     let h = (gathered words [] [] None none (new_stands []) fine).options no_options nothing_said (numerals_in rows given says') in
-    (h.0, given, h.2, subst (λ (g : Given). Adds no_options h.0 g) (one_says (whole rows) h.1 given (whole_says rows h.1 h.4) says') h.3, is)
+    (h.0, given, h.2, subst (λ (g : GivenOptions). Adds no_options h.0 g) (one_says (whole rows) h.1 given (whole_says rows h.1 h.4) says') h.3, is)
 
 run_flags : (words : List Text) → HasNoSeparator words → faults run_leaf (walk_from nothing_held) words ≡ [] → HaveFlags (run_rows words)
 run_flags words none fine =

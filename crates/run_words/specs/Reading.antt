@@ -2,10 +2,10 @@
 use Rattle.std.specs.Prelude.{◌≡◌, ℕ, Bool, true, false, List, codes, ◌⊎◌, Option, Some, None, bytes_eq}
 use Rattle.std.specs.List.{list_any}
 use Rattle.clap.specs.Words.{Row, Text, first_of, one_of}
-use Rattle.run_words.specs.declared.given.Given.{Given}
+use Rattle.run_words.specs.declared.given.GivenOptions.{GivenOptions}
 use Rattle.run_words.specs.declared.settings.Settings.{Settings}
 use Rattle.run_words.specs.declared.settings.Settings.TheVariants.{Demo}
-use Rattle.run_words.specs.Words.{IsNumeralOf, chosen}
+use Rattle.run_words.specs.Words.{IsNumeralOf, chosen_settings}
 
 -- no text and no number, or a text that writes the number
 abbrev pub Says : Option Text → Option ℕ → Type 0
@@ -22,7 +22,7 @@ flag_text false = codes "false"
 abbrev pub SaysFlag : List Row → Text → Bool → Type 0
 SaysFlag rows name given = one_of name rows ≡ Some (flag_text given)
 
-abbrev pub SayGiven : List Row → Given → Type 0
+abbrev pub SayGiven : List Row → GivenOptions → Type 0
 SayGiven rows given =
     Says (first_of (codes "workers") rows) given.workers
     × Says (first_of (codes "memo") rows) given.memo
@@ -38,7 +38,7 @@ HaveFlags rows = ((half : Bool) × SaysFlag rows (codes "half") half) × ((tally
 abbrev pub Make : Option (Text × List Row) → Settings → Type 0
 Make None settings = ⊥
 Make (Some found) settings =
-    ((found.0 ≡ codes "run") × (given : Given) × SayGiven found.1 given × (settings ≡ chosen given))
+    ((found.0 ≡ codes "run") × (given : GivenOptions) × SayGiven found.1 given × (settings ≡ chosen_settings given))
     ⊎ ((found.0 ≡ codes "demo") × (n : ℕ) × Says (first_of (codes "parts") found.1) (Some n) × (settings ≡ Demo n))
 
 -- where `run` was found, each option without a value was read

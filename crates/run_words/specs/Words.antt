@@ -2,7 +2,7 @@
 use Rattle.std.specs.Prelude.{◌≡◌, ℕ, ◌*◌, ◌≤◌, true, false, List, [], ◌∷◌, ◌++◌, codes, ◌⊎◌, Option, Some, None}
 use Rattle.std.specs.Str.Parse.{digits_value}
 use Rattle.text_place.specs.Decimals.{IsShortNumeral}
-use Rattle.run_words.specs.declared.given.Given.{Given}
+use Rattle.run_words.specs.declared.given.GivenOptions.{GivenOptions}
 use Rattle.run_words.specs.declared.settings.Settings.{Settings}
 use Rattle.run_words.specs.declared.settings.Settings.TheVariants.{Run, Demo}
 
@@ -51,7 +51,7 @@ AreOptions words [] = words ≡ []
 AreOptions words (option ∷ options) = (rest : List (List ℕ)) × IsNext words option rest × AreOptions rest options
 
 -- the option was not given yet
-abbrev pub IsFree : Given → RunOption → Type 0
+abbrev pub IsFree : GivenOptions → RunOption → Type 0
 IsFree given (Number Workers n) = given.workers ≡ None
 IsFree given (Number Memo n) = given.memo ≡ None
 IsFree given (Number Share n) = given.share ≡ None
@@ -59,7 +59,7 @@ IsFree given Half = given.half ≡ false
 IsFree given Tally = given.tally ≡ false
 
 -- with one option more
-abbrev pub with_option : Given → RunOption → Given
+abbrev pub with_option : GivenOptions → RunOption → GivenOptions
 with_option given (Number Workers n) = record given { workers = Some n }
 with_option given (Number Memo n) = record given { memo = Some n }
 with_option given (Number Share n) = record given { share = Some n }
@@ -67,12 +67,12 @@ with_option given Half = record given { half = true }
 with_option given Tally = record given { tally = true }
 
 -- these options, each given at most once, make the one what was given into the other
-abbrev pub Adds : Given → List RunOption → Given → Type 0
+abbrev pub Adds : GivenOptions → List RunOption → GivenOptions → Type 0
 Adds given [] all = all ≡ given
 Adds given (option ∷ options) all = IsFree given option × Adds (with_option given option) options all
 
 -- what is given before any option is read
-abbrev pub no_options : Given
+abbrev pub no_options : GivenOptions
 no_options = record { workers = None; memo = None; share = None; half = false; tally = false }
 
 -- what is given, or else this number
@@ -81,8 +81,8 @@ or_else None other = other
 or_else (Some n) other = n
 
 -- what was given, and the defaults of the rest
-abbrev pub chosen : Given → Settings
-chosen given = Run (or_else given.workers 4) (or_else given.memo 500000) (or_else given.share 0) given.half given.tally
+abbrev pub chosen_settings : GivenOptions → Settings
+chosen_settings given = Run (or_else given.workers 4) (or_else given.memo 500000) (or_else given.share 0) given.half given.tally
 
 -- the numbers are in their ranges
 abbrev pub AreInRange : Settings → Type 0
@@ -93,8 +93,8 @@ AreInRange (Demo n) = (1 ≤ n) × (n ≤ 200)
 -- the words behind `run` choose these settings
 abbrev pub AreRunOptions : List (List ℕ) → Settings → Type 0
 AreRunOptions words settings =
-    (options : List RunOption) × (given : Given)
-    × AreOptions words options × Adds no_options options given × (settings ≡ chosen given)
+    (options : List RunOption) × (given : GivenOptions)
+    × AreOptions words options × Adds no_options options given × (settings ≡ chosen_settings given)
 
 -- the words behind `demo` choose these settings
 abbrev pub AreDemoWords : List (List ℕ) → Settings → Type 0

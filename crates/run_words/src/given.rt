@@ -2,7 +2,7 @@
 
 ghost use Rattle.std.specs.Prelude.{ℕ, Option, IfSome, IfNone};
 ghost use Rattle.clap.specs.Words.{found_of, first_of, rows_of};
-ghost use Rattle.run_words.specs.declared.given.Given.{Given};
+ghost use Rattle.run_words.specs.declared.given.GivenOptions.{GivenOptions};
 ghost use Rattle.run_words.specs.Reading.{Says, SayGiven, HaveFlags};
 
 use clap::ArgMatches;
@@ -10,7 +10,7 @@ use text_place::read_decimal;
 
 /// The options that were given.
 #[derive(Clone, Copy)]
-pub struct Given {
+pub struct GivenOptions {
     pub workers: Option<u64>,
     pub memo: Option<u64>,
     pub share: Option<u64>,
@@ -20,8 +20,11 @@ pub struct Given {
 
 /// The number that was given under this name, if one was, and `None` where its text is no numeral.
 pub fn number_in(matches: &ArgMatches<'_>, name: &str) -> Option<Option<u64>>
-    ensures found { IfSome result (λ number. Says (first_of name.now (rows_of (found_of matches.now))) number) }
-    ensures none { IfNone result ((number : Option ℕ) → Says (first_of name.now (rows_of (found_of matches.now))) number → ⊥) }
+    ensures found { IfSome result (λ number.
+        Says (first_of name.now (rows_of (found_of matches.now))) number) }
+    ensures none { IfNone result
+        ((number : Option ℕ) → Says (first_of name.now (rows_of (found_of matches.now))) number
+        → ⊥) }
 {
     match matches.get_str(name) {
         None => Some(None),
@@ -30,12 +33,13 @@ pub fn number_in(matches: &ArgMatches<'_>, name: &str) -> Option<Option<u64>>
 }
 
 /// The options that clap found behind `run`, unless the text of a number is no numeral.
-pub fn given_in(run: &ArgMatches<'_>) -> Option<Given>
+pub fn given_in(run: &ArgMatches<'_>) -> Option<GivenOptions>
     requires { HaveFlags (rows_of (found_of run.now)) }
     ensures found { IfSome result (λ given. SayGiven (rows_of (found_of run.now)) given) }
-    ensures none { IfNone result ((given : Given) → SayGiven (rows_of (found_of run.now)) given → ⊥) }
+    ensures none { IfNone result
+        ((given : GivenOptions) → SayGiven (rows_of (found_of run.now)) given → ⊥) }
 {
-    Some(Given {
+    Some(GivenOptions {
         workers: number_in(run, "workers")?,
         memo: number_in(run, "memo")?,
         share: number_in(run, "share")?,

@@ -5,11 +5,11 @@ ghost use Rattle.clap.specs.Words.{found_of, kind_of, rows_of, subcommand_rows_o
 ghost use Rattle.clap.specs.declared.error.kind.ErrorKind.TheVariants.{OutOfMemory};
 ghost use Rattle.run_words.specs.declared.settings.Settings.{Settings};
 ghost use Rattle.run_words.specs.declared.settings.WordsFault.TheVariants.{NoMemory};
-ghost use Rattle.run_words.specs.Words.{chosen, AreInRange, Chooses, AreOutside};
+ghost use Rattle.run_words.specs.Words.{chosen_settings, AreInRange, Chooses, AreOutside};
 ghost use Rattle.run_words.specs.Reading.{HaveFlags, HasFlags, Make, has_separator as have_separator};
 
 use crate::command::program;
-use crate::given::{Given, given_in, number_in};
+use crate::given::{GivenOptions, given_in, number_in};
 use clap::error::ErrorKind;
 use clap::{ArgMatches, Error};
 use std::alloc::{AllocError, Global};
@@ -76,8 +76,8 @@ fn in_range(settings: Settings) -> Option<Settings>
 }
 
 // What was given, and the defaults of the rest.
-fn with_defaults(given: Given) -> Settings
-    ensures { result ≡ chosen given }
+fn with_defaults(given: GivenOptions) -> Settings
+    ensures { result ≡ chosen_settings given }
 {
     Settings::Run {
         workers: given.workers.unwrap_or(4),
@@ -101,9 +101,11 @@ fn told(error: &Error) -> WordsFault
 // What clap makes of the words, among which no `--` is.
 fn parse<'a>(alloc: Global, words: &'a [String]) -> Result<ArgMatches<'a>, WordsFault>
     requires { have_separator (map string_bytes words.now) ≡ false }
-    ensures chosen { IfOk result (λ matches. (settings : Settings) → Chooses (map string_bytes words.now) settings
+    ensures chosen { IfOk result (λ matches. (settings : Settings)
+        → Chooses (map string_bytes words.now) settings
         → Make (subcommand_rows_of matches) settings) }
-    ensures made { IfOk result (λ matches. (settings : Settings) → AreInRange settings → Make (subcommand_rows_of matches) settings
+    ensures made { IfOk result (λ matches. (settings : Settings) → AreInRange settings
+        → Make (subcommand_rows_of matches) settings
         → Chooses (map string_bytes words.now) settings) }
     ensures flags { IfOk result (λ matches. HasFlags (subcommand_rows_of matches)) }
     ensures refused { IsErrOf result WordsFault.BadWords → AreOutside (map string_bytes words.now) }
@@ -118,9 +120,13 @@ fn parse<'a>(alloc: Global, words: &'a [String]) -> Result<ArgMatches<'a>, Words
 // The settings of what clap found behind `run`.
 fn run_settings(run: &ArgMatches<'_>) -> Option<Settings>
     requires { HaveFlags (rows_of (found_of run.now)) }
-    ensures found { IfSome result (λ settings. Make (Some (codes "run", rows_of (found_of run.now))) settings × AreInRange settings) }
-    ensures only { IfSome result (λ settings. (other : Settings) → Make (Some (codes "run", rows_of (found_of run.now))) other → other ≡ settings) }
-    ensures none { IfNone result ((settings : Settings) → Make (Some (codes "run", rows_of (found_of run.now))) settings → AreInRange settings → ⊥) }
+    ensures found { IfSome result (λ settings.
+        Make (Some (codes "run", rows_of (found_of run.now))) settings × AreInRange settings) }
+    ensures only { IfSome result (λ settings. (other : Settings)
+        → Make (Some (codes "run", rows_of (found_of run.now))) other → other ≡ settings) }
+    ensures none { IfNone result
+        ((settings : Settings) → Make (Some (codes "run", rows_of (found_of run.now))) settings
+        → AreInRange settings → ⊥) }
 {
     let given = given_in(run)?;
     in_range(with_defaults(given))
@@ -128,9 +134,13 @@ fn run_settings(run: &ArgMatches<'_>) -> Option<Settings>
 
 // The settings of what clap found behind `demo`.
 fn demo_settings(demo: &ArgMatches<'_>) -> Option<Settings>
-    ensures found { IfSome result (λ settings. Make (Some (codes "demo", rows_of (found_of demo.now))) settings × AreInRange settings) }
-    ensures only { IfSome result (λ settings. (other : Settings) → Make (Some (codes "demo", rows_of (found_of demo.now))) other → other ≡ settings) }
-    ensures none { IfNone result ((settings : Settings) → Make (Some (codes "demo", rows_of (found_of demo.now))) settings → AreInRange settings → ⊥) }
+    ensures found { IfSome result (λ settings.
+        Make (Some (codes "demo", rows_of (found_of demo.now))) settings × AreInRange settings) }
+    ensures only { IfSome result (λ settings. (other : Settings)
+        → Make (Some (codes "demo", rows_of (found_of demo.now))) other → other ≡ settings) }
+    ensures none { IfNone result
+        ((settings : Settings) → Make (Some (codes "demo", rows_of (found_of demo.now))) settings
+        → AreInRange settings → ⊥) }
 {
     let parts = number_in(demo, "parts")??;
     in_range(Settings::Demo(parts))
@@ -139,9 +149,13 @@ fn demo_settings(demo: &ArgMatches<'_>) -> Option<Settings>
 // The settings of what clap found.
 fn settings_in(matches: &ArgMatches<'_>) -> Option<Settings>
     requires { HasFlags (subcommand_rows_of matches.now) }
-    ensures found { IfSome result (λ settings. Make (subcommand_rows_of matches.now) settings × AreInRange settings) }
-    ensures only { IfSome result (λ settings. (other : Settings) → Make (subcommand_rows_of matches.now) other → other ≡ settings) }
-    ensures none { IfNone result ((settings : Settings) → Make (subcommand_rows_of matches.now) settings → AreInRange settings → ⊥) }
+    ensures found { IfSome result (λ settings. Make (subcommand_rows_of matches.now) settings
+        × AreInRange settings) }
+    ensures only { IfSome result (λ settings. (other : Settings)
+        → Make (subcommand_rows_of matches.now) other → other ≡ settings) }
+    ensures none { IfNone result
+        ((settings : Settings) → Make (subcommand_rows_of matches.now) settings
+        → AreInRange settings → ⊥) }
 {
     let (name, found) = matches.subcommand()?;
     if name == "run" {
@@ -169,7 +183,8 @@ fn has_separator(words: &[String]) -> bool
 /// the grammar, unless memory runs out.
 pub fn read_words(alloc: Global, words: &[String]) -> Result<Settings, WordsFault>
     ensures found { IfOk result (λ settings. Chooses (map string_bytes words.now) settings) }
-    ensures only { IfOk result (λ settings. (other : Settings) → Chooses (map string_bytes words.now) other → other ≡ settings) }
+    ensures only { IfOk result (λ settings. (other : Settings)
+        → Chooses (map string_bytes words.now) other → other ≡ settings) }
     ensures fault { IsErrOf result WordsFault.BadWords → AreOutside (map string_bytes words.now) }
 {
     if has_separator(words) {

@@ -27,6 +27,13 @@ entry_set es k x local b h e n =
     ∙ ap (λ (y : SourceBlock). set (map entry_of es) k (entry_ended y (locals_of local) (length (map entry_of es))))
     (sym (at_mapped entry_of es k x nothing_there h e))
 
+-- an entry in whose place one stands that means the same
+pub entry_alike : (es : List Entry) (k : ℕ) (x y : Entry) → k < length es → x ≡ get_or es k x → entry_of y ≡ entry_of x
+    → map entry_of (set es k y) ≡ map entry_of es
+entry_alike [] k x y h e f = refl
+entry_alike (z ∷ es) zero x y h e f = ap (λ (s : SourceBlock). s ∷ map entry_of es) (f ∙ ap entry_of e)
+entry_alike (z ∷ es) (suc k) x y h e f = ap (λ (l : List SourceBlock). entry_of z ∷ l) (entry_alike es k x y (omega arith) e f)
+
 none_some : (i : ℕ) (o : Option ℕ) → o ≡ None → o ≡ Some i → ⊥
 none_some i o f g = cc
 

@@ -1,4 +1,4 @@
-mod Places
+pub mod Places
 mod Updates
 pub mod Scans
 pub mod Walks
@@ -8,3 +8,4 @@ pub mod Order
 pub mod Begun
 pub mod Numbered
 pub mod Looking
+pub mod Expected

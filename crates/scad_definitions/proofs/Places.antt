@@ -1,10 +1,10 @@
 -- Names in memory, and the places that an index has of the oldest of them.
-use Rattle.std.proofs.Common.{◌≡◌, ℕ, zero, suc, ◌+◌, ◌-◌, ◌<◌, ◌≤◌, List, [], ◌∷◌, ◌++◌, length, map, take, drop, reverse, get_or, Bool, true, false, cond, Option, Some, None, refl, sym, ap, subst, ◌∙◌, arith, length-append}
-use Rattle.std.specs.Prelude.{IsTrue, is_some}
+use Rattle.std.proofs.Common.{◌≡◌, ℕ, zero, suc, ◌+◌, ◌-◌, ◌<◌, ◌≤◌, List, [], ◌∷◌, ◌++◌, length, map, take, drop, reverse, get_or, Bool, true, false, cond, Option, Some, None, Result, Ok, Err, refl, sym, ap, subst, ◌∙◌, arith, length-append}
+use Rattle.std.specs.Prelude.{IsTrue, is_some, OnOk}
 use Rattle.std.specs.Str.{bytes_eq}
 use Rattle.std.specs.Cmp.Lexicographic.{bytes_decides}
 use Rattle.std.proofs.lemmas.Bool.{cases_Bool, cond-true, cond-false}
-use Rattle.std.proofs.lemmas.List.{map-append, reverse-append, take_more, take-append-drop, length-reverse, length-take-le}
+use Rattle.std.proofs.lemmas.List.{map-append, reverse-append, reverse-reverse, take_more, take-append-drop, length-reverse, length-take-le}
 use Rattle.std.proofs.Math.Seq.{drop-append_seam}
 use mathlib.Core.Logic.{⊎_elim}
 use Rattle.scad_definitions.specs.declared.list.Named.{Named}
@@ -13,6 +13,14 @@ use Rattle.scad_definitions.specs.View.{pair_of, pairs_in}
 
 pub pairs_push : {T : Type 0} (xs : List (Named T)) (x : Named T) → pairs_in (xs ++ x ∷ []) ≡ pair_of x ∷ pairs_in xs
 pairs_push xs x = ap reverse (map-append pair_of xs (x ∷ [])) ∙ reverse-append (map pair_of xs) (pair_of x ∷ [])
+
+-- one name more, in the order of the text
+pub oldest_pushed : {T A E : Type 0} (xs ys : List (Named T)) (p : List ℕ × T) (r : Result A E)
+    → OnOk r (pairs_in ys ≡ p ∷ pairs_in xs) → OnOk r (map pair_of ys ≡ map pair_of xs ++ p ∷ [])
+oldest_pushed xs ys p (Ok x) e =
+    sym (reverse-reverse (map pair_of ys)) ∙ ap reverse e ∙ reverse-append (p ∷ []) (pairs_in xs)
+    ∙ ap (λ l. l ++ p ∷ []) (reverse-reverse (map pair_of xs))
+oldest_pushed xs ys p (Err x) e = tt
 
 pub pairs_length : {T : Type 0} (xs : List (Named T)) → length (pairs_in xs) ≡ length xs
 pairs_length xs = length-reverse (map pair_of xs) ∙ mapped xs

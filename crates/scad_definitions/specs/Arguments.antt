@@ -20,12 +20,14 @@ names_of = map name_of
 -- the number of the first of these names
 abbrev pub first_named : List (List ℕ) → List ℕ → Option ℕ
 first_named [] name = None
-first_named (known ∷ others) name = if bytes_eq known name then Some zero else next (first_named others name)
+first_named (known ∷ others) name =
+    if bytes_eq known name then Some zero else next (first_named others name)
 
 -- The number of the parameter that an argument takes after so many positional ones, among parameters of these names. A special
 -- argument takes none.
 abbrev pub parameter_taken_by : List (List ℕ) → ℕ → ArgTerm → Option ℕ
-parameter_taken_by names positional (PositionalTerm value) = if nat_lt positional (length names) then Some positional
+parameter_taken_by names positional (PositionalTerm value) =
+    if nat_lt positional (length names) then Some positional
     else None
 parameter_taken_by names positional (NamedTerm at name value) = first_named names name
 parameter_taken_by names positional (SpecialArgTerm at name value) = None
@@ -60,30 +62,39 @@ pub data DestinationTerm : Type 0 where
 -- a parameter that was given nothing yet
 abbrev pub unless_bound : {A : Type 0} → List (Option A) → Option ℕ → Option DestinationTerm
 unless_bound bound None = None
-unless_bound bound (Some number) = if is_some (slice_index_or bound number None) then None else Some (to_parameter number)
+unless_bound bound (Some number) =
+    if is_some (slice_index_or bound number None) then None else Some (to_parameter number)
 
 -- what takes an argument after so many positional ones, among parameters of these names: a surplus, an unknown and a
 -- twice given one have no taker
-abbrev pub destination_of : {A : Type 0} → List (List ℕ) → ℕ → ArgumentsOf A → ArgTerm → Option DestinationTerm
-destination_of names positional given (SpecialArgTerm at name value) = if is_some (find_in given.dynamic name) then None else Some (to_special name)
-destination_of names positional given arg = unless_bound given.bound (parameter_taken_by names positional arg)
+abbrev pub destination_of : {A : Type 0} → List (List ℕ) → ℕ → ArgumentsOf A → ArgTerm
+    → Option DestinationTerm
+destination_of names positional given (SpecialArgTerm at name value) =
+    if is_some (find_in given.dynamic name) then None else Some (to_special name)
+destination_of names positional given arg =
+    unless_bound given.bound (parameter_taken_by names positional arg)
 
 -- with one argument more
 abbrev pub with_argument : {A : Type 0} → ArgumentsOf A → DestinationTerm → A → ArgumentsOf A
-with_argument given (to_parameter number) x = record { bound = slice_set given.bound number (Some x); dynamic = given.dynamic }
-with_argument given (to_special name) x = record { bound = given.bound; dynamic = (name, x) ∷ given.dynamic }
+with_argument given (to_parameter number) x =
+    record { bound = slice_set given.bound number (Some x); dynamic = given.dynamic }
+with_argument given (to_special name) x =
+    record { bound = given.bound; dynamic = (name, x) ∷ given.dynamic }
 
 -- goes on, or stops at an argument's place
-abbrev pub or_place : Option DestinationTerm → Place → (DestinationTerm → Result (ArgumentsOf ℕ) Place) → Result (ArgumentsOf ℕ) Place
+abbrev pub or_place : Option DestinationTerm → Place
+    → (DestinationTerm → Result (ArgumentsOf ℕ) Place) → Result (ArgumentsOf ℕ) Place
 or_place None place go = Err place
 or_place (Some target) place go = go target
 
 -- The numbers of the arguments from this number on, put to what takes them, or the place of the first that nothing takes.
-abbrev pub match_arguments : List (List ℕ) → ℕ → ℕ → List ArgTerm → ArgumentsOf ℕ → Result (ArgumentsOf ℕ) Place
+abbrev pub match_arguments : List (List ℕ) → ℕ → ℕ → List ArgTerm → ArgumentsOf ℕ
+    → Result (ArgumentsOf ℕ) Place
 match_arguments names number positional [] given = Ok given
 match_arguments names number positional (arg ∷ args) given =
     or_place (destination_of names positional given arg) (argument_place arg) (λ target.
-    match_arguments names (number + 1) (positional_after positional arg) args (with_argument given target number))
+    match_arguments names (number + 1) (positional_after positional arg) args
+    (with_argument given target number))
 
 -- for each parameter the number of its argument, or none
 abbrev pub only_bound : Result (ArgumentsOf ℕ) Place → Result (List (Option ℕ)) Place
@@ -92,7 +103,8 @@ only_bound (Err at) = Err at
 
 -- a call's arguments, from the first on
 abbrev pub matching_of : List (List ℕ) → List ArgTerm → Result (List (Option ℕ)) Place
-matching_of names args = only_bound (match_arguments names 0 0 args (no_arguments_of (length names)))
+matching_of names args =
+    only_bound (match_arguments names 0 0 args (no_arguments_of (length names)))
 
 -- the matching, or a fault at an argument's place, unless memory ran out
 abbrev pub MeetsMatching : Result (List (Option ℕ)) Stop → Result (List (Option ℕ)) Place → Type 0

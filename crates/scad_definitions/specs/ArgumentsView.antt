@@ -39,7 +39,8 @@ special_pairs dynamic = reverse (map special_pair dynamic)
 
 -- what arguments give
 abbrev pub call_arguments_of : {T : Type 0} → CallArguments T → ArgumentsOf T
-call_arguments_of given = record { bound = given.bound.items; dynamic = special_pairs given.dynamic.items }
+call_arguments_of given =
+    record { bound = given.bound.items; dynamic = special_pairs given.dynamic.items }
 
 -- what takes an argument
 abbrev pub destination_term : Destination → DestinationTerm
@@ -57,8 +58,11 @@ IsDestinationThere count (Parameter number) = number < count
 IsDestinationThere count (Special name) = Unit {0}
 
 -- arguments of which one more gave something, unless memory ran out or it gave nothing
-abbrev pub IsOneMoreGiven : {T : Type 0} → CallArguments T → Destination → Result T Stop → Result (CallArguments T) Stop → Type 0
-IsOneMoreGiven given destination (Ok x) (Ok after) = call_arguments_of after ≡ with_argument (call_arguments_of given) (destination_term destination) x
+abbrev pub IsOneMoreGiven : {T : Type 0} → CallArguments T → Destination → Result T Stop
+    → Result (CallArguments T) Stop → Type 0
+IsOneMoreGiven given destination (Ok x) (Ok after) =
+    call_arguments_of after ≡ with_argument (call_arguments_of given)
+    (destination_term destination) x
 IsOneMoreGiven given destination (Ok x) (Err stop) = stop ≡ NoMemory
 IsOneMoreGiven given destination (Err fault) (Ok after) = ⊥
 IsOneMoreGiven given destination (Err fault) (Err stop) = stop ≡ fault

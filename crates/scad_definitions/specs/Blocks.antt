@@ -26,7 +26,8 @@ pub data Entity : Type 0 where
 abbrev pub statements_of_body : BodyTerm → StatementTerms
 statements_of_body (EmptyBody at) = no_statements
 statements_of_body (BlockBody at statements) = statements
-statements_of_body (InstanceBody instance) = and_statement (InstanceStatement instance) no_statements
+statements_of_body (InstanceBody instance) =
+    and_statement (InstanceStatement instance) no_statements
 
 -- the blocks and definitions of a text, in the order in which they begin
 abbrev mutual
@@ -35,7 +36,8 @@ abbrev mutual
   entities_of (BlockStatement at statements) = entities_in statements
   entities_of (AssignmentTerm at name value) = []
   entities_of (SpecialAssignmentTerm at name value) = []
-  entities_of (ModuleTerm at name name_at params body) = a_module (record { params = params; body = body }) ∷ entities_of_body body
+  entities_of (ModuleTerm at name name_at params body) =
+      a_module (record { params = params; body = body }) ∷ entities_of_body body
   entities_of (FunctionTerm at name name_at params value) =
       a_function (record { params = params; value = value }) ∷ a_block no_statements ∷ []
   entities_of (InstanceStatement instance) = entities_of_instance instance
@@ -62,11 +64,13 @@ abbrev mutual
   entities_of_body (EmptyBody at) = a_block no_statements ∷ []
   entities_of_body (BlockBody at statements) = a_block statements ∷ entities_in statements
   entities_of_body (InstanceBody instance) =
-      a_block (and_statement (InstanceStatement instance) no_statements) ∷ entities_of_instance instance
+      a_block (and_statement (InstanceStatement instance) no_statements)
+      ∷ entities_of_instance instance
 
 -- a program is block 0, and its bodies and the expressions of functions come behind it
 abbrev pub entities_of_program : List StatementTerm → List Entity
-entities_of_program program = a_block (statements_from program) ∷ entities_in (statements_from program)
+entities_of_program program =
+    a_block (statements_from program) ∷ entities_in (statements_from program)
 
 -- the functions that begin in a text, in order; as those of modules, their numbers count from 0
 abbrev pub functions_among : List Entity → List SourceFunction
@@ -117,7 +121,8 @@ bodies_from number (a_module defined ∷ entities) = number ∷ bodies_from numb
 abbrev mutual
   pub local_functions : ℕ → StatementTerms → Pairs ℕ
   local_functions before no_statements = []
-  local_functions before (and_statement statement rest) = local_function before statement ++ local_functions
+  local_functions before (and_statement statement rest) =
+      local_function before statement ++ local_functions
       (before + count_functions (entities_of statement)) rest
 
   -- the function that a statement defines, or those of a bare block
@@ -134,7 +139,8 @@ abbrev mutual
 abbrev mutual
   pub local_modules : ℕ → StatementTerms → Pairs ℕ
   local_modules before no_statements = []
-  local_modules before (and_statement statement rest) = local_module before statement ++ local_modules (before + count_modules
+  local_modules before (and_statement statement rest) =
+      local_module before statement ++ local_modules (before + count_modules
       (entities_of statement)) rest
 
   -- the module that a statement defines, or those of a bare block
@@ -163,12 +169,14 @@ same_name one other = beq one.special other.special && bytes_eq one.name other.n
 abbrev pub with_assigned : List Assigned → Assigned → List Assigned
 with_assigned [] assigned = assigned ∷ []
 with_assigned (known ∷ others) assigned =
-    if same_name known assigned then record known { value = assigned.value } ∷ others else known ∷ with_assigned others assigned
+    if same_name known assigned then record known { value = assigned.value } ∷ others
+    else known ∷ with_assigned others assigned
 
 -- the number of the assignment that has the same name
 abbrev pub place_in : List Assigned → Assigned → Option ℕ
 place_in [] assigned = None
-place_in (known ∷ others) assigned = if same_name known assigned then Some zero else next (place_in others assigned)
+place_in (known ∷ others) assigned =
+    if same_name known assigned then Some zero else next (place_in others assigned)
 
 -- assignments one after another, behind those that are there
 abbrev pub all_assigned : List Assigned → List Assigned → List Assigned
@@ -185,8 +193,10 @@ abbrev mutual
   pub assigned_by : StatementTerm → List Assigned
   assigned_by (EmptyStatement at) = []
   assigned_by (BlockStatement at statements) = assigned_in statements
-  assigned_by (AssignmentTerm at name value) = record { at = at; special = false; name = name; value = value } ∷ []
-  assigned_by (SpecialAssignmentTerm at name value) = record { at = at; special = true; name = name; value = value } ∷ []
+  assigned_by (AssignmentTerm at name value) =
+      record { at = at; special = false; name = name; value = value } ∷ []
+  assigned_by (SpecialAssignmentTerm at name value) =
+      record { at = at; special = true; name = name; value = value } ∷ []
   assigned_by (ModuleTerm at name name_at params body) = []
   assigned_by (FunctionTerm at name name_at params value) = []
   assigned_by (InstanceStatement instance) = []
@@ -235,9 +245,12 @@ entry_at number functions modules statements = record {
 abbrev pub entries_from : ℕ → ℕ → ℕ → List Entity → List SourceBlock
 entries_from number functions modules [] = []
 entries_from number functions modules (a_block statements ∷ entities) =
-    entry_at number functions modules statements ∷ entries_from (number + 1) functions modules entities
-entries_from number functions modules (a_function function ∷ entities) = entries_from number (functions + 1) modules entities
-entries_from number functions modules (a_module defined ∷ entities) = entries_from number functions (modules + 1) entities
+    entry_at number functions modules statements ∷ entries_from (number + 1) functions
+    modules entities
+entries_from number functions modules (a_function function ∷ entities) =
+    entries_from number (functions + 1) modules entities
+entries_from number functions modules (a_module defined ∷ entities) =
+    entries_from number functions (modules + 1) entities
 
 -- a program's blocks, functions and modules by number, and for each module the number of its body's block
 pub record BlockTable : Type 0 where
@@ -260,7 +273,8 @@ block_table program = record {
 abbrev pub StandAt : BlockTable → ℕ → List Entity → Type 0
 StandAt text number [] = Unit {0}
 StandAt text number (a_block statements ∷ entities) =
-    (number < length text.entries) × ((slice_index_or text.entries number nothing_there).statements ≡ statements)
+    (number < length text.entries) × ((slice_index_or text.entries number nothing_there).statements
+    ≡ statements)
     × StandAt text (number + 1) entities
 StandAt text number (a_function function ∷ entities) = StandAt text number entities
 StandAt text number (a_module defined ∷ entities) = StandAt text number entities
@@ -269,5 +283,6 @@ StandAt text number (a_module defined ∷ entities) = StandAt text number entiti
 pub record StandsInOrder (text : BlockTable) : Type 0 where
   pub blocks : (n : ℕ) → n < length text.entries
       → StandAt text (n + 1) (entities_in (slice_index_or text.entries n nothing_there).statements)
-  pub bodies : (number : ℕ) (defined : SourceModule) → number < length text.modules → defined ≡ slice_index_or text.modules number defined
+  pub bodies : (number : ℕ) (defined : SourceModule) → number < length text.modules
+      → defined ≡ slice_index_or text.modules number defined
       → StandAt text (slice_index_or text.bodies number 0) (entities_of_body defined.body)

@@ -13,3 +13,5 @@ pub mod Arguments
 pub mod ArgumentsView
 pub mod Lookup
 pub mod SoFarView
+pub mod Expected
+pub mod ExpectedView

@@ -13,7 +13,8 @@ numbers_below n (pair ∷ pairs) = nat_lt pair.1 n && numbers_below n pairs
 abbrev pub entries_below : ℕ → ℕ → List SourceBlock → Bool
 entries_below functions modules [] = true
 entries_below functions modules (entry ∷ entries) =
-    (numbers_below functions entry.local.functions && numbers_below modules entry.local.modules) && entries_below functions modules entries
+    (numbers_below functions entry.local.functions && numbers_below modules entry.local.modules)
+    && entries_below functions modules entries
 
 -- how many functions a program has
 abbrev pub count_of_functions : List StatementTerm → ℕ

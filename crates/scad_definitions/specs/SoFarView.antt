@@ -5,6 +5,7 @@ use Rattle.scad_definitions.specs.declared.parameters.CallArguments.{CallArgumen
 use Rattle.scad_definitions.specs.declared.so_far.ArgumentsSoFar.{ArgumentsSoFar}
 
 -- what they give, or the stop
-abbrev pub only_arguments : {T : Type 0} → Result (ArgumentsSoFar T) Stop → Result (CallArguments T) Stop
+abbrev pub only_arguments : {T : Type 0} → Result (ArgumentsSoFar T) Stop
+    → Result (CallArguments T) Stop
 only_arguments (Ok so_far) = Ok so_far.given
 only_arguments (Err stop) = Err stop

@@ -1,5 +1,5 @@
 -- What a program's blocks, functions and modules in memory stand for.
-use Rattle.std.specs.Prelude.{ℕ, List, map}
+use Rattle.std.specs.Prelude.{ℕ, List, [], map, Option, Some, None, option_map}
 use Rattle.scad_ast.specs.Terms.{InstanceStatement, StatementTerms, no_statements, and_statement, statements_from}
 use Rattle.scad_ast.specs.ExprView.{term_of}
 use Rattle.scad_ast.specs.StatementView.{params_of, statements_of, instance_of, body_of}
@@ -8,8 +8,11 @@ use Rattle.scad_definitions.specs.declared.text.BlockText.TheVariants.{Nothing, 
 use Rattle.scad_definitions.specs.declared.text.Function.{Function}
 use Rattle.scad_definitions.specs.declared.text.Module.{Module}
 use Rattle.scad_definitions.specs.declared.text.Assignment.{Assignment}
-use Rattle.scad_definitions.specs.declared.text.Named.{Named}
+use Rattle.scad_definitions.specs.declared.text.Definitions.{Definitions}
+use Rattle.scad_definitions.specs.declared.text.LocalsUnderWay.{LocalsUnderWay}
 use Rattle.scad_definitions.specs.declared.text.LocalDefinitions.{LocalDefinitions}
+use Rattle.scad_definitions.specs.Newest.{Pairs}
+use Rattle.scad_definitions.specs.Names.{oldest_first}
 use Rattle.scad_definitions.specs.declared.text.Entry.{Entry}
 use Rattle.scad_definitions.specs.Blocks.{SourceFunction, SourceModule, Assigned, LocalTerms, SourceBlock, BlockTable}
 
@@ -17,15 +20,18 @@ use Rattle.scad_definitions.specs.Blocks.{SourceFunction, SourceModule, Assigned
 abbrev pub statements_held : BlockText → StatementTerms
 statements_held Nothing = no_statements
 statements_held (Statements statements) = statements_from (statements_of statements.now)
-statements_held (Single instance) = and_statement (InstanceStatement (instance_of instance.now)) no_statements
+statements_held (Single instance) =
+    and_statement (InstanceStatement (instance_of instance.now)) no_statements
 
 -- a function as its plain parameters and value
 abbrev pub function_of : Function → SourceFunction
-function_of function = record { params = params_of function.params.now; value = term_of function.value.now }
+function_of function =
+    record { params = params_of function.params.now; value = term_of function.value.now }
 
 -- a module as its plain parameters and body
 abbrev pub module_of : Module → SourceModule
-module_of defined = record { params = params_of defined.params.now; body = body_of defined.body.now }
+module_of defined =
+    record { params = params_of defined.params.now; body = body_of defined.body.now }
 
 -- the number of the block of a module's body
 abbrev pub block_of_module : Module → ℕ
@@ -40,21 +46,40 @@ assigned_of assignment = record {
   value = term_of assignment.value.now;
 }
 
--- a name with the number of its definition
-abbrev pub named_of : Named → List ℕ × ℕ
-named_of named = (named.name.now, named.number)
+-- the functions of a block by name, where there are definitions
+abbrev pub functions_in : Option Definitions → Pairs ℕ
+functions_in None = []
+functions_in (Some definitions) = oldest_first definitions.functions
+
+-- the modules of a block by name, where there are definitions
+abbrev pub modules_in : Option Definitions → Pairs ℕ
+modules_in None = []
+modules_in (Some definitions) = oldest_first definitions.modules
+
+-- a block's local definitions and assignments while it is walked through
+abbrev pub locals_under_way : LocalsUnderWay → LocalTerms
+locals_under_way local = record {
+  functions = oldest_first local.definitions.functions;
+  modules = oldest_first local.definitions.modules;
+  assignments = map assigned_of local.assignments.items;
+}
 
 -- a block's local definitions and assignments
 abbrev pub locals_of : LocalDefinitions → LocalTerms
 locals_of local = record {
-  functions = map named_of local.functions.items;
-  modules = map named_of local.modules.items;
+  functions = functions_in (option_map (λ shared. shared.value) local.definitions);
+  modules = modules_in (option_map (λ shared. shared.value) local.definitions);
   assignments = map assigned_of local.assignments.items;
 }
 
 -- a block with its statements and its local definitions
 abbrev pub entry_of : Entry → SourceBlock
-entry_of entry = record { statements = statements_held entry.text; local = locals_of entry.local; block_end = entry.block_end }
+entry_of entry =
+    record {
+      statements = statements_held entry.text;
+      local = locals_of entry.local;
+      block_end = entry.block_end;
+    }
 
 -- a program by numbers, of its blocks, functions and modules
 abbrev pub table_of : List Entry → List Function → List Module → BlockTable

@@ -20,10 +20,15 @@ nothing_walked = record { entries = []; functions = []; modules = []; bodies = [
 -- with one entity more
 abbrev pub with_entity : BlockTable → Entity → BlockTable
 with_entity text (a_block statements) = record text {
-  entries = text.entries ++ entry_at (length text.entries) (length text.functions) (length text.modules) statements ∷ [];
+  entries = text.entries ++ entry_at (length text.entries) (length text.functions)
+      (length text.modules) statements ∷ [];
 }
 with_entity text (a_function function) = record text { functions = text.functions ++ function ∷ [] }
-with_entity text (a_module defined) = record text { modules = text.modules ++ defined ∷ []; bodies = text.bodies ++ length text.entries ∷ [] }
+with_entity text (a_module defined) =
+    record text {
+      modules = text.modules ++ defined ∷ [];
+      bodies = text.bodies ++ length text.entries ∷ [];
+    }
 
 -- with all entities of a text, one after another
 abbrev pub with_entities : BlockTable → List Entity → BlockTable
@@ -48,17 +53,23 @@ locals_by local functions modules statement = record {
 
 -- with one assignment more
 abbrev pub locals_assigned : LocalTerms → Assigned → LocalTerms
-locals_assigned local assigned = record local { assignments = with_assigned local.assignments assigned }
+locals_assigned local assigned =
+    record local { assignments = with_assigned local.assignments assigned }
 
 -- with one block more, whose local definitions are not known yet
 abbrev pub with_block_begun : BlockTable → StatementTerms → BlockTable
 with_block_begun text statements = record text {
-  entries = text.entries ++ record { statements = statements; local = no_locals; block_end = 0 } ∷ [];
+  entries = text.entries ++ record {
+    statements = statements;
+    local = no_locals;
+    block_end = 0;
+  } ∷ [];
 }
 
 -- a block with its local definitions, and the number of the first block behind it
 abbrev pub entry_ended : SourceBlock → LocalTerms → ℕ → SourceBlock
-entry_ended entry local block_end = record { statements = entry.statements; local = local; block_end = block_end }
+entry_ended entry local block_end =
+    record { statements = entry.statements; local = local; block_end = block_end }
 
 -- a block ends: it gets its local definitions, and all blocks so far stand in it or before it
 abbrev pub ended : BlockTable → ℕ → LocalTerms → BlockTable

@@ -6,7 +6,7 @@ ghost use Rattle.scad_definitions.specs.Places.{of_kind};
 ghost use Rattle.scad_definitions.specs.TextView.{assigned_of};
 
 use crate::NameList;
-use crate::text::{Assignment, LocalDefinitions};
+use crate::text::{Assignment, LocalsUnderWay};
 use std::alloc::Global;
 use text_place::{Bytes, NoMemory};
 
@@ -20,9 +20,11 @@ pub(crate) struct Places {
 /// What stands in a block so far, with the places of its assignments by name.
 #[derive(Drop)]
 pub(crate) struct LocalsSoFar<'a> {
-    pub(crate) local: LocalDefinitions<'a>,
+    pub(crate) local: LocalsUnderWay<'a>,
     pub(crate) places: Places,
-    ghost placed: { (a : Assigned) → find_in (of_kind (newest_first places.ordinary) (newest_first places.special) a.special) a.name
+    ghost placed: { (a : Assigned)
+        → find_in (of_kind (newest_first places.ordinary)
+        (newest_first places.special) a.special) a.name
         ≡ place_in (map assigned_of local.assignments.items) a },
 }
 
@@ -51,8 +53,10 @@ impl Places {
         place: usize,
     ) -> Result<(), NoMemory>
         ensures pushed { OnOk result ((kind : Bool) → places_of self.new kind
-            ≡ (if beq special kind then (name, place) ∷ places_of self.old kind else places_of self.old kind)) }
-        ensures unchanged { OnErr result ((kind : Bool) → places_of self.new kind ≡ places_of self.old kind) }
+            ≡ (if beq special kind then (name, place) ∷ places_of self.old kind
+            else places_of self.old kind)) }
+        ensures unchanged { OnErr result ((kind : Bool) → places_of self.new kind
+            ≡ places_of self.old kind) }
     {
         if special {
             self.special.push(alloc, name, place)
@@ -65,14 +69,14 @@ impl Places {
 impl<'a> LocalsSoFar<'a> {
     ghost use Rattle.std.specs.Prelude.{◌<◌, None, length, IfSome, OnOk};
     ghost use Rattle.scad_definitions.specs.Blocks.{with_assigned, no_locals};
-    ghost use Rattle.scad_definitions.specs.TextView.{locals_of};
+    ghost use Rattle.scad_definitions.specs.TextView.{locals_under_way};
 
     /// Nothing yet.
     pub(crate) fn new(alloc: Global) -> LocalsSoFar<'a>
-        ensures { locals_of result.local ≡ no_locals }
+        ensures { locals_under_way result.local ≡ no_locals }
     {
         LocalsSoFar {
-            local: LocalDefinitions::new(alloc),
+            local: LocalsUnderWay::new(alloc),
             places: Places {
                 ordinary: NameList::new(alloc),
                 special: NameList::new(alloc),
@@ -86,10 +90,10 @@ impl<'a> LocalsSoFar<'a> {
         alloc: Global,
         assignment: Assignment<'a>,
     ) -> Result<(), NoMemory>
-        ensures functions { self.new.local.functions ≡ self.old.local.functions }
-        ensures modules { self.new.local.modules ≡ self.old.local.modules }
+        ensures definitions { self.new.local.definitions ≡ self.old.local.definitions }
         ensures assignments { OnOk result (map assigned_of self.new.local.assignments.items
-            ≡ with_assigned (map assigned_of self.old.local.assignments.items) (assigned_of assignment.entry)) }
+            ≡ with_assigned (map assigned_of self.old.local.assignments.items)
+            (assigned_of assignment.entry)) }
     {
         match self.place(&assignment) {
             Some(i) => {
@@ -102,7 +106,8 @@ impl<'a> LocalsSoFar<'a> {
 
     // The number of the assignment that has the same name.
     fn place(&self, sought: &Assignment<'_>) -> Option<usize>
-        ensures value { result ≡ place_in (map assigned_of self.now.local.assignments.items) (assigned_of sought.now) }
+        ensures value { result ≡ place_in (map assigned_of self.now.local.assignments.items)
+            (assigned_of sought.now) }
         ensures within { IfSome result (λ k. k < length self.now.local.assignments.items) }
     {
         self.places.find(sought.special, sought.name)
@@ -110,11 +115,12 @@ impl<'a> LocalsSoFar<'a> {
 
     // An assignment of a name that isn't there.
     fn add(&mut self, alloc: Global, assignment: Assignment<'a>) -> Result<(), NoMemory>
-        requires { place_in (map assigned_of self.old.local.assignments.items) (assigned_of assignment) ≡ None }
-        ensures functions { self.new.local.functions ≡ self.old.local.functions }
-        ensures modules { self.new.local.modules ≡ self.old.local.modules }
+        requires { place_in (map assigned_of self.old.local.assignments.items)
+            (assigned_of assignment) ≡ None }
+        ensures definitions { self.new.local.definitions ≡ self.old.local.definitions }
         ensures assignments { OnOk result (map assigned_of self.new.local.assignments.items
-            ≡ with_assigned (map assigned_of self.old.local.assignments.items) (assigned_of assignment.entry)) }
+            ≡ with_assigned (map assigned_of self.old.local.assignments.items)
+            (assigned_of assignment.entry)) }
     {
         let place = self.local.assignments.len();
         let name = Bytes::copy_of(alloc, assignment.name)?;

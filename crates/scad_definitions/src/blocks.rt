@@ -17,7 +17,8 @@ pub struct Blocks<'a> {
     pub(crate) entries: Vec<Entry<'a>>,
     pub(crate) functions: Vec<Function<'a>>,
     pub(crate) modules: Vec<Module<'a>>,
-    ghost numbered: { IsTrue (entries_below (length functions.items) (length modules.items) (map entry_of entries.items)) },
+    ghost numbered: { IsTrue (entries_below (length functions.items) (length modules.items)
+        (map entry_of entries.items)) },
 }
 
 impl<'a> Blocks<'a> {
@@ -30,10 +31,13 @@ impl<'a> Blocks<'a> {
 
     /// The blocks, functions and modules of a program, by one walk through its text.
     pub fn of(alloc: Global, program: &'a Program) -> Result<Blocks<'a>, NoMemory>
-        ensures text { IfOk result (λ blocks. table_held blocks ≡ block_table (program_of program.now)) }
+        ensures text { IfOk result (λ blocks. table_held blocks
+            ≡ block_table (program_of program.now)) }
         ensures order { IfOk result (λ blocks. StandsInOrder (table_held blocks)) }
-        ensures functions { IfOk result (λ blocks. length (functions_held blocks) ≡ count_of_functions (program_of program.now)) }
-        ensures modules { IfOk result (λ blocks. length (modules_held blocks) ≡ count_of_modules (program_of program.now)) }
+        ensures functions { IfOk result (λ blocks. length (functions_held blocks)
+            ≡ count_of_functions (program_of program.now)) }
+        ensures modules { IfOk result (λ blocks. length (modules_held blocks)
+            ≡ count_of_modules (program_of program.now)) }
     {
         let walk = walk_program(alloc, program)?;
         Ok(Blocks {
@@ -53,7 +57,8 @@ impl<'a> Blocks<'a> {
     /// The function of a number.
     pub fn function(&self, number: u32) -> Function<'a>
         requires { number < length (functions_held self.now) }
-        ensures same { function_of result ≡ slice_index_or (functions_held self.now) number (function_of result) }
+        ensures same { function_of result ≡ slice_index_or (functions_held self.now) number
+            (function_of result) }
         ensures item { result ≡ slice_index_or self.now.functions.items number result }
     {
         self.functions[number as usize]
@@ -62,9 +67,11 @@ impl<'a> Blocks<'a> {
     /// The module of a number, with the number of its body's block.
     pub fn module(&self, number: u32) -> Module<'a>
         requires { number < length (modules_held self.now) }
-        ensures same { module_of result ≡ slice_index_or (modules_held self.now) number (module_of result) }
+        ensures same { module_of result ≡ slice_index_or (modules_held self.now) number
+            (module_of result) }
         ensures item { result ≡ slice_index_or self.now.modules.items number result }
-        ensures block { result.block ≡ slice_index_or (table_held self.now).bodies number result.block }
+        ensures block { result.block
+            ≡ slice_index_or (table_held self.now).bodies number result.block }
     {
         self.modules[number as usize]
     }
@@ -72,7 +79,8 @@ impl<'a> Blocks<'a> {
     /// What stands in a block.
     pub fn text(&self, number: u32) -> BlockText<'a>
         requires { number < length (table_held self.now).entries }
-        ensures { statements_held result ≡ (slice_index_or (table_held self.now).entries number nothing_there).statements }
+        ensures { statements_held result
+            ≡ (slice_index_or (table_held self.now).entries number nothing_there).statements }
     {
         self.entries[number as usize].text
     }
@@ -80,7 +88,8 @@ impl<'a> Blocks<'a> {
     /// What stands in a block and in no block inside it.
     pub fn local(&self, number: u32) -> &LocalDefinitions<'a>
         requires { number < length (table_held self.now).entries }
-        ensures { locals_of result.now ≡ (slice_index_or (table_held self.now).entries number nothing_there).local }
+        ensures { locals_of result.now
+            ≡ (slice_index_or (table_held self.now).entries number nothing_there).local }
     {
         &self.entries[number as usize].local
     }
@@ -88,7 +97,8 @@ impl<'a> Blocks<'a> {
     /// The number of the first block behind a block and all that stands in it.
     pub fn block_end(&self, number: u32) -> u32
         requires { number < length (table_held self.now).entries }
-        ensures { result ≡ (slice_index_or (table_held self.now).entries number nothing_there).block_end }
+        ensures { result
+            ≡ (slice_index_or (table_held self.now).entries number nothing_there).block_end }
     {
         self.entries[number as usize].block_end
     }
@@ -97,7 +107,9 @@ impl<'a> Blocks<'a> {
     /// once has the place of its first assignment and the expression of its last.
     pub fn assignments(&self, number: u32) -> &[Assignment<'a>]
         requires { number < length (table_held self.now).entries }
-        ensures { map assigned_of result.now ≡ (slice_index_or (table_held self.now).entries number nothing_there).local.assignments }
+        ensures { map assigned_of result.now
+            ≡ (slice_index_or (table_held self.now).entries number
+            nothing_there).local.assignments }
     {
         &self.entries[number as usize].local.assignments
     }

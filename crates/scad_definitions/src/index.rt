@@ -20,8 +20,10 @@ pub(crate) fn put(
     name: &[u8],
     place: usize,
 ) -> Result<(), NoMemory>
-    ensures put { OnOk result ((other : List ℕ) → place_at index.new other ≡ (if bytes_eq name.now other then Some place else place_at index.old other)) }
-    ensures unchanged { OnErr result ((other : List ℕ) → place_at index.new other ≡ place_at index.old other) }
+    ensures put { OnOk result ((other : List ℕ) → place_at index.new other
+        ≡ (if bytes_eq name.now other then Some place else place_at index.old other)) }
+    ensures unchanged { OnErr result ((other : List ℕ) → place_at index.new other
+        ≡ place_at index.old other) }
 {
     let name = Vec::from_slice(alloc, name)?;
     index.insert(name, place)?;
@@ -31,7 +33,8 @@ pub(crate) fn put(
 /// Lets what a name had before, a place or nothing, be found by it again.
 pub(crate) fn put_back(index: &mut BTreeMap<Vec<u8>, usize>, name: &[u8], before: Option<usize>)
     requires { IsTrue (is_some (place_at index.old name.now)) }
-    ensures { (other : List ℕ) → place_at index.new other ≡ (if bytes_eq name.now other then before else place_at index.old other) }
+    ensures { (other : List ℕ) → place_at index.new other
+        ≡ (if bytes_eq name.now other then before else place_at index.old other) }
 {
     match before {
         Some(place) => {

@@ -6,6 +6,7 @@ mod blocks;
 mod index;
 mod list;
 mod lookup;
+mod name_table;
 mod parameters;
 mod so_far;
 mod text;
@@ -13,9 +14,10 @@ mod walk;
 
 pub use blocks::Blocks;
 pub use list::NameList;
+pub use name_table::NameTable;
 pub use parameters::{
     CallArguments, Destination, Matching, Names, SpecialArgument, arguments, name_of,
     positional_after,
 };
 pub use so_far::ArgumentsSoFar;
-pub use text::{Assignment, BlockText, Function, LocalDefinitions, Module, Named};
+pub use text::{Assignment, BlockText, Definitions, Function, LocalDefinitions, Module};

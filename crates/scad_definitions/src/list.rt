@@ -28,8 +28,10 @@ pub struct NameList<T> {
     /// By name the place of the newest of these.
     index: BTreeMap<Vec<u8>, usize>,
     ghost covered: { length hidden.items ≤ length items.items },
-    ghost hides: { reverse hidden.items ≡ hidden_by (pairs_in (take (length hidden.items) items.items)) },
-    ghost indexed: { (name : List ℕ) → place_at index name ≡ place_of (pairs_in (take (length hidden.items) items.items)) name },
+    ghost hides: { reverse hidden.items
+        ≡ hidden_by (pairs_in (take (length hidden.items) items.items)) },
+    ghost indexed: { (name : List ℕ) → place_at index name
+        ≡ place_of (pairs_in (take (length hidden.items) items.items)) name },
 }
 
 impl<T> NameList<T> {
@@ -59,7 +61,8 @@ impl<T> NameList<T> {
     pub fn push(&mut self, alloc: Global, name: Bytes, item: T) -> Result<(), NoMemory>
     where
         T: Drop,
-        ensures pushed { OnOk result (newest_first self.new ≡ (name, item) ∷ newest_first self.old) }
+        ensures pushed { OnOk result (newest_first self.new
+            ≡ (name, item) ∷ newest_first self.old) }
         ensures unchanged { OnErr result (newest_first self.new ≡ newest_first self.old) }
     {
         if self.items.len() - self.hidden.len() >= RECENT {

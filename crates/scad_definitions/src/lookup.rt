@@ -24,8 +24,10 @@ pub(crate) struct NameIndex {
 impl NameIndex {
     /// The first parameter of a name.
     pub(crate) fn first_named(&self, name: &[u8]) -> Option<usize>
-        ensures value { (names : List (List ℕ)) → newest_first self.now.parameters ≡ numbered_from 0 names → result ≡ first_named names name.now }
-        ensures within { (names : List (List ℕ)) → newest_first self.now.parameters ≡ numbered_from 0 names → IfSome result (λ k. k < length names) }
+        ensures value { (names : List (List ℕ)) → newest_first self.now.parameters
+            ≡ numbered_from 0 names → result ≡ first_named names name.now }
+        ensures within { (names : List (List ℕ)) → newest_first self.now.parameters
+            ≡ numbered_from 0 names → IfSome result (λ k. k < length names) }
     {
         self.parameters.find(name).copied()
     }
@@ -70,7 +72,8 @@ pub(crate) fn are_many(args: &[Arg]) -> bool {
 
 /// An index of parameters' names, and of no special name.
 pub(crate) fn index_of(alloc: Global, names: Names<'_>) -> Result<NameIndex, NoMemory>
-    ensures parameters_indexed { IfOk result (λ index. newest_first index.parameters ≡ numbered_from 0 (names_in names.entry)) }
+    ensures parameters_indexed { IfOk result (λ index. newest_first index.parameters
+        ≡ numbered_from 0 (names_in names.entry)) }
     ensures no_specials { IfOk result (λ index. newest_first index.dynamic ≡ []) }
 {
     let mut parameters = NameList::new(alloc);

@@ -82,7 +82,8 @@ pub fn arguments(
     _place: Place,
 ) -> Result<Matching, Stop>
     ensures size { IfOk result (λ m. length m ≡ length params.now) }
-    ensures value { MeetsMatching result (matching_of (names_of (map param_of params.now)) (map arg_of args.now)) }
+    ensures value { MeetsMatching result (matching_of (names_of (map param_of params.now))
+        (map arg_of args.now)) }
 {
     let mut so_far = ArgumentsSoFar::of(alloc, Names::Params(params), args)?;
     let mut positional: usize = 0;

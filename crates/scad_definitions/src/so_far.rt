@@ -23,8 +23,11 @@ pub struct ArgumentsSoFar<'n, 'a, T> {
     /// By an index, where many arguments have names. Few are searched one after another.
     pub(crate) index: Option<Box<NameIndex>>,
     ghost one_each: { length given.bound.items ≡ length (names_in names) },
-    ghost parameters_indexed: { ForSome index (λ index. newest_first index.value.parameters ≡ numbered_from 0 (names_in names)) },
-    ghost specials_indexed: { ForSome index (λ index. names_of_pairs (newest_first index.value.dynamic) ≡ names_of_pairs (special_pairs given.dynamic.items)) },
+    ghost parameters_indexed: { ForSome index (λ index. newest_first index.value.parameters
+        ≡ numbered_from 0 (names_in names)) },
+    ghost specials_indexed: { ForSome index (λ index.
+        names_of_pairs (newest_first index.value.dynamic)
+        ≡ names_of_pairs (special_pairs given.dynamic.items)) },
 }
 
 impl<'n, 'a, T: Drop> ArgumentsSoFar<'n, 'a, T> {
@@ -38,7 +41,8 @@ impl<'n, 'a, T: Drop> ArgumentsSoFar<'n, 'a, T> {
 
     /// Nothing yet, of the arguments of a call that are to be matched to parameters of these names.
     pub fn of(alloc: Global, names: Names<'n>, args: &[Arg]) -> Result<Self, NoMemory>
-        ensures given { IfOk result (λ so_far. call_arguments_of so_far.given ≡ no_arguments_of (length (names_in names.entry))) }
+        ensures given { IfOk result (λ so_far. call_arguments_of so_far.given
+            ≡ no_arguments_of (length (names_in names.entry))) }
         ensures names { IfOk result (λ so_far. so_far.names ≡ names.entry) }
     {
         let given = no_arguments_of(alloc, count_of(names))?;
@@ -56,9 +60,12 @@ impl<'n, 'a, T: Drop> ArgumentsSoFar<'n, 'a, T> {
 
     /// What takes an argument behind others. BadArgument at its first token where nothing does.
     pub fn destination_for(&self, positional: usize, arg: &'a Arg) -> Result<Destination<'a>, Stop>
-        ensures free { IfOk result (λ t. destination_of (names_in self.now.names) positional (call_arguments_of self.now.given) (arg_of arg.now) ≡ Some (destination_term t)) }
+        ensures free { IfOk result (λ t. destination_of (names_in self.now.names) positional
+            (call_arguments_of self.now.given) (arg_of arg.now) ≡ Some (destination_term t)) }
         ensures within { IfOk result (IsDestinationThere (length self.now.given.bound.items)) }
-        ensures none { IfErr result (λ stop. (destination_of (names_in self.now.names) positional (call_arguments_of self.now.given) (arg_of arg.now) ≡ None)
+        ensures none { IfErr result (λ stop.
+            (destination_of (names_in self.now.names) positional (call_arguments_of self.now.given)
+            (arg_of arg.now) ≡ None)
             × IsFaultAt stop BadArgument (argument_place (arg_of arg.now))) }
     {
         match self.free_destination(positional, arg) {
@@ -69,7 +76,8 @@ impl<'n, 'a, T: Drop> ArgumentsSoFar<'n, 'a, T> {
 
     // What takes an argument: a parameter or a special name that was given nothing yet.
     fn free_destination(&self, positional: usize, arg: &'a Arg) -> Option<Destination<'a>>
-        ensures value { destination_of (names_in self.now.names) positional (call_arguments_of self.now.given) (arg_of arg.now) ≡ destination_term_of result }
+        ensures value { destination_of (names_in self.now.names) positional
+            (call_arguments_of self.now.given) (arg_of arg.now) ≡ destination_term_of result }
         ensures within { IfSome result (IsDestinationThere (length self.now.given.bound.items)) }
     {
         match arg {
@@ -87,7 +95,9 @@ impl<'n, 'a, T: Drop> ArgumentsSoFar<'n, 'a, T> {
 
     // A special name that was given nothing yet.
     fn free_special(&self, name: &'a [u8]) -> Option<Destination<'a>>
-        ensures value { destination_term_of result ≡ (if is_some (find_in (special_pairs self.now.given.dynamic.items) name.now) then None else Some (to_special name.now)) }
+        ensures value { destination_term_of result
+            ≡ (if is_some (find_in (special_pairs self.now.given.dynamic.items) name.now) then None
+            else Some (to_special name.now)) }
         ensures within { (n : ℕ) → IfSome result (IsDestinationThere n) }
     {
         if self.has_special(name) {
@@ -108,7 +118,8 @@ impl<'n, 'a, T: Drop> ArgumentsSoFar<'n, 'a, T> {
 
     // The parameter that an argument takes after so many positional ones. A special argument takes none.
     fn parameter_taken_by(&self, positional: usize, arg: &Arg) -> Option<usize>
-        ensures value { result ≡ parameter_taken_by (names_in self.now.names) positional (arg_of arg.now) }
+        ensures value { result ≡ parameter_taken_by (names_in self.now.names) positional
+            (arg_of arg.now) }
         ensures within { IfSome result (λ k. k < length (names_in self.now.names)) }
     {
         match arg {
@@ -144,7 +155,8 @@ impl<'n, 'a, T: Drop> ArgumentsSoFar<'n, 'a, T> {
         next: Result<T, Stop>,
     ) -> Result<Self, Stop>
         requires { IsDestinationThere (length self.given.bound.items) destination }
-        ensures given { IsOneMoreGiven self.entry.given destination.entry next (only_arguments result) }
+        ensures given { IsOneMoreGiven self.entry.given destination.entry next
+            (only_arguments result) }
         ensures names { IfOk result (λ so_far. so_far.names ≡ self.entry.names) }
     {
         match next {
@@ -156,7 +168,8 @@ impl<'n, 'a, T: Drop> ArgumentsSoFar<'n, 'a, T> {
     // Arguments of which one more gives a value, with its special name in the index.
     fn with_value(self, alloc: Global, destination: Destination<'a>, value: T) -> Result<Self, Stop>
         requires { IsDestinationThere (length self.given.bound.items) destination }
-        ensures given { IsOneMoreGiven self.entry.given destination.entry (Ok value) (only_arguments result) }
+        ensures given { IsOneMoreGiven self.entry.given destination.entry (Ok value)
+            (only_arguments result) }
         ensures names { IfOk result (λ so_far. so_far.names ≡ self.entry.names) }
     {
         let ArgumentsSoFar {

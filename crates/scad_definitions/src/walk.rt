@@ -4,12 +4,14 @@ ghost use Rattle.scad_ast.specs.ExprView.{term_of};
 ghost use Rattle.scad_ast.specs.StatementView.{params_of, statement_of, statements_of, instance_of, core_of, body_of};
 ghost use Rattle.scad_definitions.specs.Blocks.{entities_of, entities_in, entities_of_core, entities_of_body, entities_of_instance, a_block, a_function, a_module, entities_of_program};
 ghost use Rattle.scad_definitions.specs.Walk.{walked, count_numbered, with_entities, with_entity, nothing_walked, locals_with, locals_by, locals_assigned, with_block_begun, ended};
-ghost use Rattle.scad_definitions.specs.TextView.{locals_of, statements_held};
+ghost use Rattle.scad_definitions.specs.TextView.{locals_of, locals_under_way, statements_held};
 
+use crate::NameTable;
 use crate::assigned::LocalsSoFar;
-use crate::text::{Assignment, BlockText, Entry, Function, LocalDefinitions, Module, Named};
-use scad_ast::{Body, Core, Expr, Instance, Params, Program, Statement, Statements};
+use crate::text::{Assignment, BlockText, Entry, Function, LocalDefinitions, Module, define};
+use scad_ast::{Body, Core, Expr, Instance, Param, Params, Program, Statement, Statements};
 use std::alloc::Global;
+use std::rc::Rc;
 use text_place::{CompactBytes, NoMemory, Place};
 
 /// A walk through a program's text: the blocks, functions and modules so far, each by number.
@@ -23,7 +25,9 @@ pub(crate) struct Walk<'a> {
 
 /// The blocks, functions and modules of a program.
 pub(crate) fn walk_program<'a>(alloc: Global, program: &'a Program) -> Result<Walk<'a>, NoMemory>
-    ensures { IfOk result (λ w. walked w ≡ with_entities nothing_walked (entities_of_program (statements_of program.now.statements))) }
+    ensures { IfOk result (λ w.
+        walked w ≡ with_entities nothing_walked
+        (entities_of_program (statements_of program.now.statements))) }
 {
     let mut walk = Walk::new(alloc);
     walk.braces(&program.statements)?;
@@ -50,9 +54,13 @@ impl<'a> Walk<'a> {
         statements: &'a Statements,
         so_far: &mut LocalsSoFar<'a>,
     ) -> Result<(), NoMemory>
-        requires { count_numbered (walked self.old) + length (entities_in (statements_from (statements_of statements.now))) < 2 ^ 32 }
-        ensures walked { OnOk result (walked self.new ≡ with_entities (walked self.old) (entities_in (statements_from (statements_of statements.now)))) }
-        ensures local { OnOk result (locals_of so_far.new.local ≡ locals_with (locals_of so_far.old.local) (length (walked self.old).functions)
+        requires { count_numbered (walked self.old) + length
+            (entities_in (statements_from (statements_of statements.now))) < 2 ^ 32 }
+        ensures walked { OnOk result (walked self.new
+            ≡ with_entities (walked self.old)
+            (entities_in (statements_from (statements_of statements.now)))) }
+        ensures local { OnOk result (locals_under_way so_far.new.local
+            ≡ locals_with (locals_under_way so_far.old.local) (length (walked self.old).functions)
             (length (walked self.old).modules) (statements_from (statements_of statements.now))) }
     {
         'each: for statement in &statements.items {
@@ -69,9 +77,12 @@ impl<'a> Walk<'a> {
         statement: &'a Statement,
         so_far: &mut LocalsSoFar<'a>,
     ) -> Result<(), NoMemory>
-        requires { count_numbered (walked self.old) + length (entities_of (statement_of statement.now)) < 2 ^ 32 }
-        ensures walked { OnOk result (walked self.new ≡ with_entities (walked self.old) (entities_of (statement_of statement.now))) }
-        ensures local { OnOk result (locals_of so_far.new.local ≡ locals_by (locals_of so_far.old.local) (length (walked self.old).functions)
+        requires { count_numbered (walked self.old) + length
+            (entities_of (statement_of statement.now)) < 2 ^ 32 }
+        ensures walked { OnOk result (walked self.new
+            ≡ with_entities (walked self.old) (entities_of (statement_of statement.now))) }
+        ensures local { OnOk result (locals_under_way so_far.new.local
+            ≡ locals_by (locals_under_way so_far.old.local) (length (walked self.old).functions)
             (length (walked self.old).modules) (statement_of statement.now)) }
     {
         match statement {
@@ -85,29 +96,62 @@ impl<'a> Walk<'a> {
             }
             Statement::Module(_, name, _, params, body) => {
                 let number = self.module(params, body)?;
-                so_far.local.modules.push(Named {
-                    name: name.items(),
+                define(
+                    &mut so_far.local.definitions.modules,
+                    self.alloc,
+                    name,
                     number,
-                })?;
-                self.body(body)
+                )?;
+                self.module_body(&params.items, body)
             }
             Statement::Function(_, name, _, params, value) => {
                 let number = self.function(params, value)?;
-                so_far.local.functions.push(Named {
-                    name: name.items(),
+                define(
+                    &mut so_far.local.definitions.functions,
+                    self.alloc,
+                    name,
                     number,
-                })?;
+                )?;
                 self.nothing()
             }
             Statement::Instantiation(instance) => self.core(&instance.core),
         }
     }
 
+    // Goes on through the body of a module with parameters of these names.
+    #[cycle(walk)]
+    fn module_body(&mut self, params: &'a [Param], body: &'a Body) -> Result<(), NoMemory>
+        requires { count_numbered (walked self.old) + length
+            (entities_of_body (body_of body.now)) < 2 ^ 32 }
+        ensures { OnOk result (walked self.new ≡ with_entities (walked self.old)
+            (entities_of_body (body_of body.now))) }
+    {
+        let block = self.entries.len();
+        self.body(body)?;
+        self.expect(block, params)
+    }
+
+    // A scope of a module's body is expected to bind the parameters first.
+    fn expect(&mut self, block: usize, params: &[Param]) -> Result<(), NoMemory>
+        ensures { walked self.new ≡ walked self.old }
+    {
+        if block >= self.entries.len() {
+            return Ok(());
+        }
+        let assignments = &self.entries[block].local.assignments;
+        let names = NameTable::of_module(self.alloc, params, assignments)?;
+        let names = Rc::new(self.alloc, names)?;
+        self.entries[block].local.names = Some(names);
+        Ok(())
+    }
+
     // Goes on through the bodies of an instance.
     #[cycle(walk)]
     fn core(&mut self, core: &'a Core) -> Result<(), NoMemory>
-        requires { count_numbered (walked self.old) + length (entities_of_core (core_of core.now)) < 2 ^ 32 }
-        ensures { OnOk result (walked self.new ≡ with_entities (walked self.old) (entities_of_core (core_of core.now))) }
+        requires { count_numbered (walked self.old) + length
+            (entities_of_core (core_of core.now)) < 2 ^ 32 }
+        ensures { OnOk result (walked self.new ≡ with_entities (walked self.old)
+            (entities_of_core (core_of core.now))) }
     {
         match core {
             Core::If(_, _, body) => self.body(body),
@@ -122,7 +166,9 @@ impl<'a> Walk<'a> {
     #[cycle(walk)]
     #[tactic(auto, using(crate::proofs::Begun::numbered_after))]
     fn two(&mut self, body: &'a Body, other: &'a Body) -> Result<(), NoMemory>
-        requires { count_numbered (walked self.old) + length (entities_of_body (body_of body.now)) + length (entities_of_body (body_of other.now)) < 2 ^ 32 }
+        requires { count_numbered (walked self.old) + length
+            (entities_of_body (body_of body.now)) + length
+            (entities_of_body (body_of other.now)) < 2 ^ 32 }
         ensures { OnOk result (walked self.new ≡ with_entities (walked self.old)
             (entities_of_body (body_of body.now) ++ entities_of_body (body_of other.now))) }
     {
@@ -133,8 +179,10 @@ impl<'a> Walk<'a> {
     // Goes on through a body, which is a block.
     #[cycle(walk)]
     fn body(&mut self, body: &'a Body) -> Result<(), NoMemory>
-        requires { count_numbered (walked self.old) + length (entities_of_body (body_of body.now)) < 2 ^ 32 }
-        ensures { OnOk result (walked self.new ≡ with_entities (walked self.old) (entities_of_body (body_of body.now))) }
+        requires { count_numbered (walked self.old) + length
+            (entities_of_body (body_of body.now)) < 2 ^ 32 }
+        ensures { OnOk result (walked self.new ≡ with_entities (walked self.old)
+            (entities_of_body (body_of body.now))) }
     {
         match body {
             Body::Semicolon(_) => self.nothing(),
@@ -147,9 +195,11 @@ impl<'a> Walk<'a> {
     #[cycle(walk)]
     #[tactic(auto, using(crate::proofs::Begun::numbered_begun, crate::proofs::Begun::numbered_after))]
     fn single(&mut self, instance: &'a Instance) -> Result<(), NoMemory>
-        requires { count_numbered (walked self.old) + length (entities_of_instance (instance_of instance.now)) + 1 < 2 ^ 32 }
+        requires { count_numbered (walked self.old) + length
+            (entities_of_instance (instance_of instance.now)) + 1 < 2 ^ 32 }
         ensures { OnOk result (walked self.new ≡ with_entities (walked self.old)
-            (a_block (and_statement (InstanceStatement (instance_of instance.now)) no_statements) ∷ entities_of_instance (instance_of instance.now))) }
+            (a_block (and_statement (InstanceStatement (instance_of instance.now)) no_statements)
+            ∷ entities_of_instance (instance_of instance.now))) }
     {
         let number = self.begin(BlockText::Single(instance))?;
         self.core(&instance.core)?;
@@ -161,14 +211,17 @@ impl<'a> Walk<'a> {
     #[cycle(walk)]
     #[tactic(auto, using(crate::proofs::Begun::numbered_begun, crate::proofs::Begun::numbered_after))]
     fn braces(&mut self, statements: &'a Statements) -> Result<(), NoMemory>
-        requires { count_numbered (walked self.old) + length (entities_in (statements_from (statements_of statements.now))) + 1 < 2 ^ 32 }
+        requires { count_numbered (walked self.old) + length
+            (entities_in (statements_from (statements_of statements.now))) + 1 < 2 ^ 32 }
         ensures { OnOk result (walked self.new ≡ with_entities (walked self.old)
-            (a_block (statements_from (statements_of statements.now)) ∷ entities_in (statements_from (statements_of statements.now)))) }
+            (a_block (statements_from (statements_of statements.now))
+            ∷ entities_in (statements_from (statements_of statements.now)))) }
     {
         let number = self.begin(BlockText::Statements(statements))?;
         let mut so_far = LocalsSoFar::new(self.alloc);
         self.statements(statements, &mut so_far)?;
         let LocalsSoFar { local, .. } = so_far;
+        let local = local.shared(self.alloc)?;
         self.end(number, local);
         Ok(())
     }
@@ -177,7 +230,8 @@ impl<'a> Walk<'a> {
     #[tactic(auto, using(crate::proofs::Begun::numbered_begun))]
     fn nothing(&mut self) -> Result<(), NoMemory>
         requires { count_numbered (walked self.old) + 1 < 2 ^ 32 }
-        ensures { OnOk result (walked self.new ≡ with_entities (walked self.old) (a_block no_statements ∷ [])) }
+        ensures { OnOk result (walked self.new ≡ with_entities (walked self.old)
+            (a_block no_statements ∷ [])) }
     {
         let number = self.begin(BlockText::Nothing)?;
         self.end(number, LocalDefinitions::new(self.alloc));
@@ -188,7 +242,8 @@ impl<'a> Walk<'a> {
     #[tactic(auto, using(crate::proofs::Held::mapped_length))]
     fn begin(&mut self, text: BlockText<'a>) -> Result<u32, NoMemory>
         requires { count_numbered (walked self.old) < 2 ^ 32 }
-        ensures walked { OnOk result (walked self.new ≡ with_block_begun (walked self.old) (statements_held text.entry)) }
+        ensures walked { OnOk result (walked self.new
+            ≡ with_block_begun (walked self.old) (statements_held text.entry)) }
         ensures number { IfOk result (λ n. n ≡ length (walked self.old).entries) }
     {
         let number = self.entries.len() as u32;
@@ -255,7 +310,8 @@ fn assign<'a>(
     name: &'a CompactBytes,
     value: &'a Expr,
 ) -> Result<(), NoMemory>
-    ensures { OnOk result (locals_of so_far.new.local ≡ locals_assigned (locals_of so_far.old.local)
+    ensures { OnOk result (locals_under_way so_far.new.local
+        ≡ locals_assigned (locals_under_way so_far.old.local)
         (record { at = place; special = special; name = name.now; value = term_of value.now })) }
 {
     let name = name.items();

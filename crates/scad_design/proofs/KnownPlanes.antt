@@ -4,7 +4,7 @@ use Rattle.std.specs.List.{list_any}
 use Rattle.std.specs.Ordering.{int_eq}
 use Rattle.std.proofs.lemmas.Int.{ints}
 use Rattle.plane_predicate.specs.Space.{Coefficients, is_same, opposite_of}
-use Rattle.scad_design.specs.Placing.{and_new, if_new, same_points}
+use Rattle.scad_design.specs.Placing.{and_new, unless_known, same_points}
 
 turned_int : (x y : ℤ) → int_eq x (neg_ℤ y) ≡ int_eq (neg_ℤ x) y
 turned_int x y = grind (arith, ints)
@@ -32,12 +32,12 @@ left_none true b h = absurd (true≢false h)
 
 -- a plane that is new is added as a key that is new
 pub added_new : (m : Coefficients) (known : List Coefficients) → list_any (same_points m) known ≡ false →
-    (if list_any (is_same m) known then known else known ++ m ∷ []) ≡ if_new (list_any (same_points m) known) known m
+    (if list_any (is_same m) known then known else known ++ m ∷ []) ≡ unless_known (list_any (same_points m) known) known m
 added_new m known none =
     let apart : list_any (is_same m) known ≡ false = left_none (list_any (is_same m) known) (list_any (is_same (opposite_of m)) known) (sym (either m known) ∙ none) in
     rw (none, apart) refl
 
-module _ (known new planes : List Coefficients) (i : ℕ) (m : Coefficients) (h : i < length planes) (is : m ≡ get_or planes i m) (grows : new ≡ if_new (list_any (same_points m) known) known m) where
+module _ (known new planes : List Coefficients) (i : ℕ) (m : Coefficients) (h : i < length planes) (is : m ≡ get_or planes i m) (grows : new ≡ unless_known (list_any (same_points m) known) known m) where
   next_left : drop i planes ≡ m ∷ drop (i + 1) planes
   next_left = drop-cons planes i m h ∙ ap₂ (λ (n : Coefficients) (l : List Coefficients). n ∷ l) (sym is) (ap (λ (n : ℕ). drop n planes) (sym (add-one i)))
 

@@ -23,42 +23,41 @@ past part h safe =
     h.4.past (stays h.4.after h.4.within)
 
 -- why a shape has no planes where its steps move it is the part's fault, whatever planes are known
-pub range_fault : (part : MovedShape) (known : List Coefficients) (kind : FaultKind) → IsPlacingStop (Kind kind) →
-    (kind ≡ TooLarge → Any (λ (p : List ℤ). LeavesRange part.steps (point_at p)) part.mesh.points) →
-    (kind ≡ OutOfRange → All (λ (p : List ℤ). StaysInRange part.steps (point_at p)) part.mesh.points × Any (λ (p : List ℤ). IsInReach (image (map_of part.steps) (point_at p)) → ⊥) part.mesh.points) →
+pub range_fault : (part : MovedShape) (known : List Coefficients) (kind : FaultKind) → IsPlacingStop part.steps part.mesh.points (Kind kind) →
     IsPlacingFault part known kind
-range_fault part known BadCharacter stop large far_off = absurd stop
-range_fault part known OpenComment stop large far_off = absurd stop
-range_fault part known OpenText stop large far_off = absurd stop
-range_fault part known NotWhole stop large far_off = absurd stop
-range_fault part known TooLarge stop large far_off = past part (large refl)
-range_fault part known TypeMismatch stop large far_off = absurd stop
-range_fault part known ZeroDivisor stop large far_off = absurd stop
-range_fault part known BadSize stop large far_off = absurd stop
-range_fault part known NotOnGrid stop large far_off = absurd stop
-range_fault part known OutOfRange stop large far_off = let h = far_off refl in (h.0, some_not (λ (p : List ℤ). IsInReach (image (map_of part.steps) (point_at p))) part.mesh.points h.1)
-range_fault part known FewPoints stop large far_off = absurd stop
-range_fault part known BadPoint stop large far_off = absurd stop
-range_fault part known NotFlat stop large far_off = absurd stop
-range_fault part known NotConvex stop large far_off = absurd stop
-range_fault part known NotClosed stop large far_off = absurd stop
-range_fault part known Expected stop large far_off = absurd stop
-range_fault part known Nested stop large far_off = absurd stop
-range_fault part known UnknownName stop large far_off = absurd stop
-range_fault part known UnknownFunction stop large far_off = absurd stop
-range_fault part known UnknownModule stop large far_off = absurd stop
-range_fault part known BadArgument stop large far_off = absurd stop
-range_fault part known TooDeep stop large far_off = absurd stop
-range_fault part known TooManyTurns stop large far_off = absurd stop
-range_fault part known RangeOrder stop large far_off = absurd stop
-range_fault part known AssertFailed stop large far_off = absurd stop
-range_fault part known NotInProfile stop large far_off = absurd stop
-range_fault part known WrongDimension stop large far_off = absurd stop
-range_fault part known NotQuarter stop large far_off = absurd stop
-range_fault part known Singular stop large far_off = absurd stop
-range_fault part known TooManyParts stop large far_off = absurd stop
-range_fault part known TooManyPlanes stop large far_off = absurd stop
-range_fault part known LongList stop large far_off = absurd stop
+range_fault part known BadCharacter stop = absurd stop
+range_fault part known OpenComment stop = absurd stop
+range_fault part known OpenText stop = absurd stop
+range_fault part known NotWhole stop = absurd stop
+range_fault part known TooLarge stop = past part stop
+range_fault part known TypeMismatch stop = absurd stop
+range_fault part known ZeroDivisor stop = absurd stop
+range_fault part known BadSize stop = absurd stop
+range_fault part known NotOnGrid stop = absurd stop
+range_fault part known OutOfRange stop =
+    (stop.0, some_not (λ (p : List ℤ). IsInReach (image (map_of part.steps) (point_at p))) part.mesh.points stop.1)
+range_fault part known FewPoints stop = absurd stop
+range_fault part known BadPoint stop = absurd stop
+range_fault part known NotFlat stop = absurd stop
+range_fault part known NotConvex stop = absurd stop
+range_fault part known NotClosed stop = absurd stop
+range_fault part known Expected stop = absurd stop
+range_fault part known Nested stop = absurd stop
+range_fault part known UnknownName stop = absurd stop
+range_fault part known UnknownFunction stop = absurd stop
+range_fault part known UnknownModule stop = absurd stop
+range_fault part known BadArgument stop = absurd stop
+range_fault part known TooDeep stop = absurd stop
+range_fault part known TooManyTurns stop = absurd stop
+range_fault part known RangeOrder stop = absurd stop
+range_fault part known AssertFailed stop = absurd stop
+range_fault part known NotInProfile stop = absurd stop
+range_fault part known WrongDimension stop = absurd stop
+range_fault part known NotQuarter stop = absurd stop
+range_fault part known Singular stop = absurd stop
+range_fault part known TooManyParts stop = absurd stop
+range_fault part known TooManyPlanes stop = absurd stop
+range_fault part known LongList stop = absurd stop
 
 -- a stop of a part by itself is one of the part behind other planes
 pub range_stop : (part : MovedShape) (known : List Coefficients) (stop : Stop) → IsRangeStop part stop → IsStopOf (a_leaf part) known stop

@@ -18,14 +18,14 @@ abbrev pub same_points : Coefficients → Coefficients → Bool
 same_points one other = is_same one other || is_same one (opposite_of other)
 
 -- known planes, and behind them one that is not known
-abbrev pub if_new : Bool → List Coefficients → Coefficients → List Coefficients
-if_new true known plane = known
-if_new false known plane = known ++ plane ∷ []
+abbrev pub unless_known : Bool → List Coefficients → Coefficients → List Coefficients
+unless_known true known plane = known
+unless_known false known plane = known ++ plane ∷ []
 
 -- known planes, and behind them those of a leaf that are new, up to orientation
 abbrev pub and_new : List Coefficients → List Coefficients → List Coefficients
 and_new known [] = known
-and_new known (plane ∷ planes) = and_new (if_new (list_any (same_points plane) known) known plane) planes
+and_new known (plane ∷ planes) = and_new (unless_known (list_any (same_points plane) known) known plane) planes
 
 -- a leaf whose points all keep within 2^53 - 1 after each step
 abbrev pub StaysSafe : MovedShape → Type 0

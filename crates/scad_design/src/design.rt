@@ -17,6 +17,21 @@ pub enum Design {
 }
 
 impl Design {
+    /// An equal design, whose leaves share their shapes with those of this one.
+    pub fn copy(&self, alloc: Global) -> Result<Design, NoMemory>
+        ensures { IfOk result (λ design. plain_of design ≡ plain_of self.now) }
+    {
+        match self {
+            Design::Empty => Ok(Design::Empty),
+            Design::Leaf(part) => Ok(Design::Leaf(part.copy(alloc)?)),
+            Design::Joined(op, left, right) => {
+                let left = Box::new(alloc, left.copy(alloc)?)?;
+                let right = Box::new(alloc, right.copy(alloc)?)?;
+                Ok(Design::Joined(*op, left, right))
+            }
+        }
+    }
+
     /// The design with more steps behind those of each leaf. At `NoMemory` it is dropped.
     pub fn moved_by(self, alloc: Global, steps: &[Step]) -> Result<Design, NoMemory>
         ensures { IfOk result (λ design. plain_of design ≡ moved_by steps.now (plain_of self)) }

@@ -56,7 +56,8 @@ pub fn join_children(alloc: Global, op: Op, list: Vec<Design>) -> Result<Design,
 
 // The first design without the union of the others.
 fn without_others(alloc: Global, list: Vec<Design>) -> Result<Design, NoMemory>
-    ensures { IfOk result (λ design. plain_of design ≡ join_children Difference (map plain_of list.items)) }
+    ensures { IfOk result (λ design. plain_of design
+        ≡ join_children Difference (map plain_of list.items)) }
 {
     let count = list.len();
     let mut designs = list.into_iter();
@@ -77,7 +78,8 @@ fn join_next(
     count: usize,
 ) -> Result<Design, NoMemory>
     requires { count ≤ length (into_iter_items designs.old) }
-    ensures rest { OnOk result (into_iter_items designs.new ≡ drop count (into_iter_items designs.old)) }
+    ensures rest { OnOk result (into_iter_items designs.new
+        ≡ drop count (into_iter_items designs.old)) }
     ensures joined { IfOk result (λ design. plain_of design ≡ balanced op
         (map plain_of (take count (into_iter_items designs.old)))) }
 {
@@ -95,7 +97,8 @@ fn next_or_empty(designs: &mut IntoIter<Design>, count: usize) -> Design
     requires one { count < 2 }
     requires within { count ≤ length (into_iter_items designs.old) }
     ensures rest { into_iter_items designs.new ≡ drop count (into_iter_items designs.old) }
-    ensures next { (by : Op) → plain_of result ≡ balanced by (map plain_of (take count (into_iter_items designs.old))) }
+    ensures next { (by : Op) →
+        plain_of result ≡ balanced by (map plain_of (take count (into_iter_items designs.old))) }
 {
     if count == 0 {
         return Design::Empty;

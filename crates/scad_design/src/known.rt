@@ -3,7 +3,7 @@
 ghost use Rattle.std.specs.Prelude.{◌≡◌, All, OnOk};
 ghost use Rattle.std.specs.List.{list_any};
 ghost use Rattle.plane_predicate.specs.Space.{IsPlane};
-ghost use Rattle.scad_design.specs.Placing.{and_new, if_new, same_points};
+ghost use Rattle.scad_design.specs.Placing.{and_new, unless_known, same_points};
 
 use indexmap::IndexSet;
 use plane_predicate::{Plane, opposite};
@@ -54,7 +54,7 @@ fn is_known(known: &IndexSet<PlaneKey>, plane: &Plane) -> bool
 
 // Adds a plane that is no plane of the others, up to orientation. At `NoMemory` the table stays.
 fn add_plane(known: &mut IndexSet<PlaneKey>, plane: &Plane) -> Result<(), NoMemory>
-    ensures added { OnOk result (known.new.keys ≡ if_new (list_any
+    ensures added { OnOk result (known.new.keys ≡ unless_known (list_any
         (same_points plane.now) known.old.keys) known.old.keys plane.now) }
     ensures plane { IsPlane plane.now }
 {

@@ -19,30 +19,32 @@ use csg_tree::joins_are_proper;
 pub fn joins_of_designs_are_joins_of_trees()
     ensures tree { (design : DesignTree) (known now : List Coefficients) (tree : Formula) →
         Places design known (placed tree now) → IsTreeOf design tree }
-    ensures joins { (op : Op) (left right : DesignTree) (first second : Formula) → IsTreeOf left first → IsTreeOf right second
-        → IsTreeOf (join op left right) (join_of op first second) }
-    ensures halves { (op : Op) (designs : List DesignTree) (trees : List Formula) → AllZip IsTreeOf designs trees →
-        IsTreeOf (balanced op designs) (balanced_of op trees) }
-    ensures moves { (steps : List Affine) (op : Op) (designs : List DesignTree) → moved_by steps (balanced op designs)
-        ≡ balanced op (map (moved_by steps) designs) }
+    ensures joins { (op : Op) (left right : DesignTree) (first second : Formula) →
+        IsTreeOf left first → IsTreeOf right second →
+        IsTreeOf (join op left right) (join_of op first second) }
+    ensures halves { (op : Op) (designs : List DesignTree) (trees : List Formula) →
+        AllZip IsTreeOf designs trees → IsTreeOf (balanced op designs) (balanced_of op trees) }
+    ensures moves { (steps : List Affine) (op : Op) (designs : List DesignTree) →
+        moved_by steps (balanced op designs) ≡ balanced op (map (moved_by steps) designs) }
 {}
 
 /// A design has at most one placing.
 pub fn one_placing()
-    ensures { (design : DesignTree) (known : List Coefficients) (out other : Placed) → Places design known out →
-        Places design known other → out ≡ other }
+    ensures { (design : DesignTree) (known : List Coefficients) (out other : Placed) →
+        Places design known out → Places design known other → out ≡ other }
 {}
 
 /// A design of shapes, moved by steps that are not singular, has a placing: a tree, or a first fault.
 pub fn some_placing()
-    ensures { (design : DesignTree) (known : List Coefficients) → IsSound design → (out : Placed) × Places design known out }
+    ensures { (design : DesignTree) (known : List Coefficients) → IsSound design → (out : Placed)
+        × Places design known out }
 {}
 
 /// A placed design of shapes has a proper tree, where it has fewer than 2^32 pieces: each leaf has planes, which have the
 /// numbers of a plane and come in reach, and no join has an empty side.
 pub fn placed_trees_are_proper()
-    ensures { (design : DesignTree) (tree : Formula) → IsSound design → pieces_in design < 2 ^ 32 → IsPlacedAs design tree →
-        IsProper tree }
+    ensures { (design : DesignTree) (tree : Formula) → IsSound design → pieces_in design < 2 ^ 32 →
+        IsPlacedAs design tree → IsProper tree }
 {
     // Brings a law alone: joins of proper trees are proper.
     joins_are_proper();
@@ -51,10 +53,14 @@ pub fn placed_trees_are_proper()
 /// Grouping and moving leave no empty side in a join, and add no leaf. So a design has at most about
 /// twice as many pieces as leaves.
 pub fn designs_stay_trim()
-    ensures grouped_trim { (op : Op) (designs : List DesignTree) → All IsTrim designs → IsTrim (join_children op designs) }
-    ensures grouped_parts { (op : Op) (designs : List DesignTree) → leaf_count (join_children op designs)
-        ≤ sum_by leaf_count designs }
-    ensures moved_trim { (steps : List Affine) (design : DesignTree) → IsTrim design → IsTrim (moved_by steps design) }
-    ensures moved_parts { (steps : List Affine) (design : DesignTree) → leaf_count (moved_by steps design) ≡ leaf_count design }
-    ensures pieces { (design : DesignTree) → IsTrim design → pieces_in design ≤ 1 + 2 * leaf_count design }
+    ensures grouped_trim { (op : Op) (designs : List DesignTree) → All IsTrim designs →
+        IsTrim (join_children op designs) }
+    ensures grouped_parts { (op : Op) (designs : List DesignTree) →
+        leaf_count (join_children op designs) ≤ sum_by leaf_count designs }
+    ensures moved_trim { (steps : List Affine) (design : DesignTree) → IsTrim design →
+        IsTrim (moved_by steps design) }
+    ensures moved_parts { (steps : List Affine) (design : DesignTree) →
+        leaf_count (moved_by steps design) ≡ leaf_count design }
+    ensures pieces { (design : DesignTree) → IsTrim design →
+        pieces_in design ≤ 1 + 2 * leaf_count design }
 {}

@@ -33,7 +33,8 @@ const PLANES: usize = 1024;
 pub fn place(alloc: Global, design: &Design) -> Result<CsgTree, Stop>
     ensures tree { IfOk result (λ tree. IsPlacedAs (plain_of design.now) (formula_of tree)) }
     ensures stop { IfErr result (IsStopOf (plain_of design.now) []) }
-    ensures proper { IfOk result (λ tree. pieces_in (plain_of design.now) < 2 ^ 32 → IsProper (formula_of tree)) }
+    ensures proper { IfOk result (λ tree. pieces_in (plain_of design.now) < 2 ^ 32 →
+        IsProper (formula_of tree)) }
 {
     let mut known = IndexSet::new(alloc);
     place_after(alloc, &mut known, design)
@@ -45,10 +46,12 @@ fn place_after(
     known: &mut IndexSet<PlaneKey>,
     design: &Design,
 ) -> Result<CsgTree, Stop>
-    ensures tree { IfOk result (λ tree. Places (plain_of design.now) known.old.keys (placed (formula_of tree) known.new.keys)) }
+    ensures tree { IfOk result (λ tree. Places (plain_of design.now) known.old.keys
+        (placed (formula_of tree) known.new.keys)) }
     ensures stop { IfErr result (IsStopOf (plain_of design.now) known.old.keys) }
     ensures full { IfOk result (λ tree. IsFull (formula_of tree)) }
-    ensures few { IfOk result (λ tree. subtrees (formula_of tree) ≤ pieces_in (plain_of design.now)) }
+    ensures few { IfOk result (λ tree. subtrees (formula_of tree)
+        ≤ pieces_in (plain_of design.now)) }
 {
     match design {
         Design::Empty => Ok(CsgTree::Nothing),
@@ -67,7 +70,8 @@ fn place_leaf(
     known: &mut IndexSet<PlaneKey>,
     part: &LeafShape,
 ) -> Result<CsgTree, Stop>
-    ensures tree { IfOk result (λ tree. Places (a_leaf part.now) known.old.keys (placed (formula_of tree) known.new.keys)) }
+    ensures tree { IfOk result (λ tree. Places (a_leaf part.now) known.old.keys
+        (placed (formula_of tree) known.new.keys)) }
     ensures stop { IfErr result (IsStopOf (a_leaf part.now) known.old.keys) }
     ensures full { IfOk result (λ tree. IsFull (formula_of tree)) }
     ensures few { IfOk result (λ tree. subtrees (formula_of tree) ≤ 1) }
@@ -82,8 +86,10 @@ fn place_leaf(
 
 // The planes of a leaf's faces once its steps have moved_mesh it, of equal ones the first.
 fn planes_of(alloc: Global, part: &LeafShape) -> Result<Vec<Plane>, Stop>
-    ensures faces { IfOk result (λ v. ArePlanesOf (moved_mesh (map_of part.now.steps) part.now.mesh) part.now.mesh.faces v.items) }
-    ensures solid { OnOk result (All (IsFace (moved_mesh (map_of part.now.steps) part.now.mesh)) part.now.mesh.faces) }
+    ensures faces { IfOk result (λ v. ArePlanesOf (moved_mesh (map_of part.now.steps) part.now.mesh)
+        part.now.mesh.faces v.items) }
+    ensures solid { OnOk result (All (IsFace (moved_mesh (map_of part.now.steps) part.now.mesh))
+        part.now.mesh.faces) }
     ensures some { IfOk result (λ v. 0 < length v.items) }
     ensures meet { IfOk result (λ v. All MeetsReach v.items) }
     ensures safe { OnOk result (StaysSafe part.now) }

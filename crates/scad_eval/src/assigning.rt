@@ -32,7 +32,8 @@ impl InstanceEvaluator<'_, '_> {
     fn assign(&mut self, assignment: &Assignment<'_>) -> Result<(), Stop>
         ensures { AssignsAnywhere self.old self.new result (λ evaluator here turns leaves.
             then_with (assigned_value evaluator.evaluations here (assigned_of assignment.now) turns)
-            (λ turns value. Gives turns (with_assignment (assigned_of assignment.now) value here))) }
+            (λ turns value. Gives turns (with_assignment
+            (assigned_of assignment.now) value here))) }
     {
         self.evaluation.begin_evaluation(assignment.place)?;
         let value = evaluate(&mut self.evaluation, assignment.value)?;

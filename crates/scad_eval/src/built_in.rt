@@ -43,8 +43,10 @@ impl InstanceEvaluator<'_, '_> {
         body: NumberedBody<'_>,
     ) -> Result<InstanceResult, Stop>
         requires { IsBodyAt self.old position body }
-        ensures { EvaluatesAt instance_design_of self.old self.new position result (λ evaluator here.
-            built_in_design evaluator here place name.now (args_of args.now) (body_seen body.entry) (module_named name.now)) }
+        ensures { EvaluatesAt instance_design_of self.old self.new position result
+            (λ evaluator here.
+            built_in_design evaluator here place name.now (args_of args.now) (body_seen body.entry)
+            (module_named name.now)) }
     {
         match builtin_module(name) {
             None => Err(unknown_module(name).at(place)),
@@ -67,7 +69,8 @@ impl InstanceEvaluator<'_, '_> {
     ) -> Result<InstanceResult, Stop>
         requires { IsBodyAt self.old position body }
         ensures { EvaluatesAt instance_design_of self.old self.new position result (λ evaluator.
-            built_in_given evaluator place built_in (arguments_of given.entry) (body_seen body.entry)) }
+            built_in_given evaluator place built_in (arguments_of given.entry)
+            (body_seen body.entry)) }
     {
         let CallArguments { bound, dynamic } = given;
         let begun = self.evaluation.push_bindings(dynamic);
@@ -96,7 +99,8 @@ impl InstanceEvaluator<'_, '_> {
     ) -> Result<InstanceResult, Stop>
         requires stands { IsBodyAt self.old position body }
         requires safe { IsSafeCall (call_of effect) }
-        ensures { EvaluatesAt instance_design_of self.old self.new position result (λ evaluator here.
+        ensures { EvaluatesAt instance_design_of self.old self.new position result
+            (λ evaluator here.
             effect_design evaluator here place (call_of effect) (body_seen body.entry)) }
     {
         match effect {
@@ -125,7 +129,8 @@ impl InstanceEvaluator<'_, '_> {
         body: NumberedBody<'_>,
     ) -> Result<InstanceResult, Stop>
         requires { IsBodyAt self.old position body }
-        ensures { EvaluatesAt instance_design_of self.old self.new position result (λ evaluator here turns leaves.
+        ensures { EvaluatesAt instance_design_of self.old self.new position result
+            (λ evaluator here turns leaves.
             then_with (body_design evaluator Union here (body_seen body.entry) turns leaves)
             (λ turns made. Gives turns (moved_design (moved_by steps.now) made))) }
     {
@@ -148,7 +153,8 @@ impl InstanceEvaluator<'_, '_> {
         requires stands { IsBodyAt self.old position body }
         requires safe { IsSafe through.height }
         ensures { EvaluatesAt instance_design_of self.old self.new position result
-            (λ evaluator here. effect_design evaluator here place (an_extrusion through.center through.height)
+            (λ evaluator here. effect_design evaluator here place
+            (an_extrusion through.center through.height)
             (body_seen body.entry)) }
     {
         match size_fault(&[through.height], through.center, self.unit) {

@@ -32,7 +32,8 @@ impl InstanceEvaluator<'_, '_> {
         body: NumberedBody<'_>,
     ) -> Result<InstanceResult, Stop>
         requires { IsBodyAt self.old position body }
-        ensures { EvaluatesAt instance_design_of self.old self.new position result (λ evaluator here.
+        ensures { EvaluatesAt instance_design_of self.old self.new position result
+            (λ evaluator here.
             call_design evaluator here place name.now (args_of args.now) (body_seen body.entry)
             (visible_module here.env name.now)) }
     {
@@ -59,8 +60,10 @@ impl InstanceEvaluator<'_, '_> {
     ) -> Result<InstanceResult, Stop>
         requires called { IsCallAt self.old position defined defining_scope body }
         requires given { length given.bound.items ≡ length (params_of defined.params.now) }
-        ensures { EvaluatesAt instance_design_of self.old self.new position result (λ evaluator here.
-            module_design evaluator here place (module_of defined.entry, env_at self.old defining_scope)
+        ensures { EvaluatesAt instance_design_of self.old self.new position result
+            (λ evaluator here.
+            module_design evaluator here place
+            (module_of defined.entry, env_at self.old defining_scope)
             (arguments_of given.entry) (body_seen body.entry)) }
     {
         let begun = self.evaluation.begin_counted_call(place);
@@ -83,7 +86,8 @@ impl InstanceEvaluator<'_, '_> {
         requires called { IsCallAt self.old position defined defining_scope body }
         requires given { length given.bound.items ≡ length (params_of defined.params.now) }
         ensures { EvaluatesAt instance_design_of self.old self.new position result (λ evaluator.
-            module_given evaluator (module_of defined.entry, env_at self.old defining_scope) (arguments_of given.entry)
+            module_given evaluator (module_of defined.entry, env_at self.old defining_scope)
+            (arguments_of given.entry)
             (body_seen body.entry)) }
     {
         let CallArguments { bound, dynamic } = given;
@@ -109,7 +113,8 @@ impl InstanceEvaluator<'_, '_> {
         requires called { IsCallAt self.old position defined defining_scope body }
         requires values { length values.items.items ≡ length defined.params.now.items.items }
         ensures { EvaluatesAt instance_design_of self.old self.new position result
-            (λ evaluator. module_filled evaluator (module_of defined.entry, env_at self.old defining_scope)
+            (λ evaluator. module_filled evaluator
+            (module_of defined.entry, env_at self.old defining_scope)
             (values_seen values) (body_seen body.entry)) }
     {
         let before = self.enter_module(defined, defining_scope, values, body)?;

@@ -28,7 +28,8 @@ impl InstanceEvaluator<'_, '_> {
         requires called { IsModuleCall self.old defined defining_scope body }
         requires values { length values.items.items ≡ length defined.params.now.items.items }
         ensures { EntersModule self.old self.new result
-            (module_scope (env_at self.old defining_scope) (module_of defined.entry) (values_seen values)
+            (module_scope (env_at self.old defining_scope) (module_of defined.entry)
+            (values_seen values)
             (statements_of_body (body_seen body.entry)) (env_here self.old.evaluation)) }
     {
         let count = count_children(&mut self.evaluation, body.block)?;

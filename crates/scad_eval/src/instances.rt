@@ -41,8 +41,7 @@ impl InstanceEvaluator<'_, '_> {
         Ok(made)
     }
 
-    // What an instance gives at its own depth. The outermost mark `!` counts, and then what it gives is
-    // no part of the design around it.
+    // What an instance gives at its own depth. Of marks `!` in one another the outermost one counts.
     #[cycle(instances)]
     fn by_root_modifier(
         &mut self,
@@ -63,7 +62,7 @@ impl InstanceEvaluator<'_, '_> {
             return self.core(position, instance);
         }
         let made = self.core(position.inside_root(), instance)?;
-        Ok(as_root(made))
+        Ok(as_root(self.evaluation.alloc, made)?)
     }
 
     // What an instance gives, whatever its marks are.
@@ -75,7 +74,8 @@ impl InstanceEvaluator<'_, '_> {
     ) -> Result<InstanceResult, Stop>
         requires { IsInstanceAt self.old position instance }
         ensures { EvaluatesAt instance_design_of self.old self.new position result
-            (λ evaluator here. core_design evaluator here (core_of_instance (term_of_numbered instance.entry))) }
+            (λ evaluator here. core_design evaluator here
+            (core_of_instance (term_of_numbered instance.entry))) }
     {
         let NumberedInstance {
             instance,
@@ -123,9 +123,11 @@ impl InstanceEvaluator<'_, '_> {
     ) -> Result<InstanceResult, Stop>
         requires { IsBodyAt self.old position body }
         ensures { EvaluatesAt instance_design_of self.old self.new position result
-            (λ evaluator here turns leaves. then_with (value_at (setting evaluator.evaluations here) true
+            (λ evaluator here turns leaves. then_with
+            (value_at (setting evaluator.evaluations here) true
             (term_of test.now) turns) (λ turns value.
-            if truth_of value then body_design evaluator Union here (body_seen body.entry) turns leaves
+            if truth_of value then body_design evaluator Union here
+            (body_seen body.entry) turns leaves
             else Gives turns (no_design leaves))) }
     {
         let value = evaluate(&mut self.evaluation, test)?;
@@ -147,7 +149,8 @@ impl InstanceEvaluator<'_, '_> {
         requires stands { IsBodyAt self.old position body }
         requires other { IsInBlock (table_in self.old.evaluation.source.now) other }
         ensures { EvaluatesAt instance_design_of self.old self.new position result
-            (λ evaluator here turns leaves. then_with (value_at (setting evaluator.evaluations here) true
+            (λ evaluator here turns leaves. then_with
+            (value_at (setting evaluator.evaluations here) true
             (term_of test.now) turns) (λ turns value.
             body_design evaluator Union here (if truth_of value then body_seen body.entry
             else body_seen other.entry) turns leaves)) }

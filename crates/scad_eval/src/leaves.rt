@@ -23,7 +23,8 @@ impl InstanceEvaluator<'_, '_> {
     /// A solid, as one leaf more.
     pub(crate) fn solid(&mut self, place: Place, shape: &SolidShape) -> Result<InstanceResult, Stop>
         requires { IsSafeSolid (solid_call_of shape.now) }
-        ensures { EvaluatesAnywhere instance_design_of self.old self.new result (λ evaluator here turns leaves.
+        ensures { EvaluatesAnywhere instance_design_of self.old self.new result
+            (λ evaluator here turns leaves.
             unless_refused (evaluator.judge.solid evaluator.unit (solid_call_of shape.now)) place
             (leaf_design place (solid_of evaluator.unit (solid_call_of shape.now)) turns leaves)) }
     {
@@ -42,7 +43,8 @@ impl InstanceEvaluator<'_, '_> {
     ) -> Result<InstanceResult, Stop>
         requires position { IsPosition self.old position }
         requires safe { IsSafeFlat (flat_call_of shape.now) }
-        ensures { EvaluatesKeeping instance_design_of self.old self.new position result (Stays self.old self.new)
+        ensures { EvaluatesKeeping instance_design_of self.old self.new position result
+            (Stays self.old self.new)
             (λ evaluator here. flat_design evaluator here.inside place (flat_call_of shape.now)) }
     {
         match position.inside {
@@ -60,9 +62,11 @@ impl InstanceEvaluator<'_, '_> {
     ) -> Result<InstanceResult, Stop>
         requires through { IsThrough self.old.unit through }
         requires safe { IsSafeFlat (flat_call_of shape.now) }
-        ensures { EvaluatesAnywhere instance_design_of self.old self.new result (λ evaluator here turns leaves.
+        ensures { EvaluatesAnywhere instance_design_of self.old self.new result
+            (λ evaluator here turns leaves.
             unless_refused (evaluator.judge.flat evaluator.unit (flat_call_of shape.now)) place
-            (leaf_design place (extrusion_mesh evaluator.unit through (flat_call_of shape.now)) turns leaves)) }
+            (leaf_design place (extrusion_mesh evaluator.unit through (flat_call_of shape.now))
+            turns leaves)) }
     {
         let alloc = self.evaluation.alloc;
         match flat_shape(alloc, self.unit, shape) {
@@ -81,8 +85,10 @@ impl InstanceEvaluator<'_, '_> {
         place: Place,
         made: InstanceResult,
     ) -> Result<InstanceResult, Stop>
-        ensures { EvaluatesAnywhere instance_design_of self.old self.new result (λ evaluator here turns leaves.
-            hull_design (evaluator.judge.hull (plain_of made.design)) place (instance_design_of leaves made) turns) }
+        ensures { EvaluatesAnywhere instance_design_of self.old self.new result
+            (λ evaluator here turns leaves.
+            hull_design (evaluator.judge.hull (plain_of made.design)) place
+            (instance_design_of leaves made) turns) }
     {
         let InstanceResult { design, root } = made;
         if is_nothing(&design) {
@@ -110,7 +116,7 @@ impl InstanceEvaluator<'_, '_> {
         }
         self.leaves += 1;
         Ok(InstanceResult {
-            design: Design::Leaf(LeafShape::of(self.evaluation.alloc, shape, place)),
+            design: Design::Leaf(LeafShape::of(self.evaluation.alloc, shape, place)?),
             root: None,
         })
     }

@@ -39,7 +39,8 @@ impl InstanceEvaluator<'_, '_> {
     ) -> Result<InstanceResult, Stop>
         requires { IsBodyAt self.old position body }
         ensures { EvaluatesAt instance_design_of self.old self.new position result
-            (λ evaluator here. loop_design evaluator op here place (binders_of binders.now) (body_seen body.entry)) }
+            (λ evaluator here. loop_design evaluator op here place (binders_of binders.now)
+            (body_seen body.entry)) }
     {
         // A source has far fewer; the bound is for the proof that evaluation ends.
         if binders.items.len() > u32::MAX as usize {
@@ -60,7 +61,8 @@ impl InstanceEvaluator<'_, '_> {
     ) -> Result<MemberResults, Stop>
         requires { IsBodyAt self.old position body }
         ensures { EvaluatesAt member_designs_of self.old self.new position result
-            (λ evaluator. each_iteration evaluator place (map binder_of binders.now) (body_seen body.entry)) }
+            (λ evaluator. each_iteration evaluator place (map binder_of binders.now)
+            (body_seen body.entry)) }
     {
         match binders.split_first() {
             None => self.one_iteration(position, place, body),
@@ -106,7 +108,8 @@ impl InstanceEvaluator<'_, '_> {
     ) -> Result<MemberResults, Stop>
         requires { IsBodyAt self.old position body }
         ensures { EvaluatesAt member_designs_of self.old self.new position result (λ evaluator here.
-            each_step place (λ item. each_iteration evaluator place (map binder_of rest.now) (body_seen body.entry)
+            each_step place (λ item. each_iteration evaluator place (map binder_of rest.now)
+            (body_seen body.entry)
             (in_loop here name.now item))
             (remaining_in items.remaining)) }
     {
@@ -132,7 +135,8 @@ impl InstanceEvaluator<'_, '_> {
     ) -> Result<MemberResults, Stop>
         requires { IsBodyAt self.old position body }
         ensures { EvaluatesAt member_designs_of self.old self.new position result
-            (λ evaluator. one_step evaluator place name.now (map binder_of rest.now) (body_seen body.entry)
+            (λ evaluator. one_step evaluator place name.now (map binder_of rest.now)
+            (body_seen body.entry)
             (bounded_val value)) }
     {
         let members = self.iterations_with(position, place, name, rest, body, value)?;
@@ -156,7 +160,8 @@ impl InstanceEvaluator<'_, '_> {
     ) -> Result<MemberResults, Stop>
         requires { IsBodyAt self.old position body }
         ensures { EvaluatesAt member_designs_of self.old self.new position result
-            (λ evaluator here. each_iteration evaluator place (map binder_of rest.now) (body_seen body.entry)
+            (λ evaluator here. each_iteration evaluator place (map binder_of rest.now)
+            (body_seen body.entry)
             (in_loop here name.now (bounded_val value))) }
     {
         let before = self.evaluation.enter_empty()?;

@@ -26,7 +26,8 @@ use text_place::{NoMemory, Stop};
 
 /// The tree of a program in world position, in a unit, or its first fault, which stands at one of the program's places.
 pub fn evaluate(alloc: Global, program: &Program, unit: Unit) -> Result<CsgTree, Stop>
-    ensures tree { IfOk result (λ tree. IsMeaning unit (program_of program.now) (a_tree (formula_of tree))) }
+    ensures tree { IfOk result (λ tree. IsMeaning unit (program_of program.now)
+        (a_tree (formula_of tree))) }
     ensures stop { IfErr result (IsMeaningStop unit (program_of program.now)) }
     ensures place { IfErr result (HoldsFault (program_of program.now)) }
     ensures proper { IfOk result (λ tree. IsProper (formula_of tree)) }
@@ -48,7 +49,8 @@ fn design_of(
 ) -> Result<Design, Stop>
     requires table { IsFirstTable scopes.old }
     requires whole { IsWhole (table_in source.now) }
-    ensures { (program : List StatementTerm) → IsTableOf source.now program → MeetsDesign unit program result }
+    ensures { (program : List StatementTerm) → IsTableOf source.now program →
+        MeetsDesign unit program result }
 {
     let mut evaluator = InstanceEvaluator {
         evaluation: Evaluation {

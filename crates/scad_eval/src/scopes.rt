@@ -49,7 +49,8 @@ impl InstanceEvaluator<'_, '_> {
         requires position { IsPosition self.old position }
         requires safe { IsSafeChosen chosen }
         ensures { let statements = statements_at (table_in self.old.evaluation.source.now) block in
-            EvaluatesKeeping member_designs_of self.old self.new position result (OnOk result (Binds self.old self.new))
+            EvaluatesKeeping member_designs_of self.old self.new position result
+            (OnOk result (Binds self.old self.new))
             (λ evaluator. block_members evaluator (chosen_seen chosen.entry) statements) }
     {
         let length = self.evaluation.count_bindings()?;

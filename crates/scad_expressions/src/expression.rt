@@ -54,7 +54,8 @@ pub fn expr<'a>(alloc: Global, tokens: &'a [Token], depth: u32) -> Parsed<'a, Ex
 #[cycle(expression)]
 #[inline(never)]
 fn choice<'a>(alloc: Global, tokens: &'a [Token], depth: u32) -> Parsed<'a, Expr>
-    ensures value { GivesRead (λ p. (term_of p.0, p.1.now)) result (choice_read (expr_read depth) (operand_read depth) (primary_in depth) tokens.now) }
+    ensures value { GivesRead (λ p. (term_of p.0, p.1.now)) result
+        (choice_read (expr_read depth) (operand_read depth) (primary_in depth) tokens.now) }
 {
     match chain(alloc, tokens, depth) {
         Ok((test, rest)) if TokenClass::Sign(Symbol::Question).begins(rest) => {
@@ -68,7 +69,11 @@ fn choice<'a>(alloc: Global, tokens: &'a [Token], depth: u32) -> Parsed<'a, Expr
 #[cycle(expression)]
 #[inline(never)]
 fn chosen<'a>(alloc: Global, test: Expr, tokens: &'a [Token], depth: u32) -> Parsed<'a, Expr>
-    ensures value { GivesRead (λ p. (term_of p.0, p.1.now)) result (mapped (choice_term (term_of test)) (mapped Some (both pair_of (one (is question_sign)) (both pair_of (expr_read depth) (both second_of (one (is colon_sign)) (expr_read depth))))) tokens.now) }
+    ensures value { GivesRead (λ p. (term_of p.0, p.1.now)) result
+        (mapped (choice_term (term_of test))
+        (mapped Some (both pair_of (one (is question_sign))
+        (both pair_of (expr_read depth) (both second_of (one (is colon_sign)) (expr_read depth)))))
+        tokens.now) }
 {
     let ((test, ((mark, yes), no)), rest) = with(test, sides(alloc, tokens, depth))?;
     let place = test.place();
@@ -89,7 +94,11 @@ fn sides<'a>(
     tokens: &'a [Token],
     depth: u32,
 ) -> Parsed<'a, ((&'a Token, Expr), Expr)>
-    ensures value { GivesRead (λ p. ((p.0.0.0.now, (term_of p.0.0.1, term_of p.0.1)), p.1.now)) result (both pair_of (one (is question_sign)) (both pair_of (expr_read depth) (both second_of (one (is colon_sign)) (expr_read depth))) tokens.now) }
+    ensures value { GivesRead
+        (λ p. ((p.0.0.0.now, (term_of p.0.0.1, term_of p.0.1)), p.1.now)) result
+        (both pair_of (one (is question_sign))
+        (both pair_of (expr_read depth) (both second_of (one (is colon_sign)) (expr_read depth)))
+        tokens.now) }
 {
     let (mark, rest) = take(TokenClass::Sign(Symbol::Question), tokens)?;
     let (yes, rest) = expr(alloc, rest, depth)?;
@@ -100,7 +109,8 @@ fn sides<'a>(
 #[cycle(expression)]
 #[inline(always)]
 pub fn behind<'a>(alloc: Global, sign: Symbol, tokens: &'a [Token], depth: u32) -> Parsed<'a, Expr>
-    ensures value { GivesRead (λ p. (term_of p.0, p.1.now)) result (both second_of (one (is (symbol_class sign))) (expr_read depth) tokens.now) }
+    ensures value { GivesRead (λ p. (term_of p.0, p.1.now)) result
+        (both second_of (one (is (symbol_class sign))) (expr_read depth) tokens.now) }
     ensures rest { IfOk result (λ p. length p.1.now ≤ length tokens.now) }
 {
     let (_, rest) = take(TokenClass::Sign(sign), tokens)?;
@@ -110,7 +120,8 @@ pub fn behind<'a>(alloc: Global, sign: Symbol, tokens: &'a [Token], depth: u32) 
 // Operands with operators between them.
 #[cycle(expression)]
 fn chain<'a>(alloc: Global, tokens: &'a [Token], depth: u32) -> Parsed<'a, Expr>
-    ensures value { GivesRead (λ p. (term_of p.0, p.1.now)) result (chain_read levels (unary_in depth) tokens.now) }
+    ensures value { GivesRead (λ p. (term_of p.0, p.1.now)) result
+        (chain_read levels (unary_in depth) tokens.now) }
 {
     match unary(alloc, tokens, depth) {
         Ok((first, rest)) if TokenClass::BinaryOperator.begins(rest) => {
@@ -123,7 +134,8 @@ fn chain<'a>(alloc: Global, tokens: &'a [Token], depth: u32) -> Parsed<'a, Expr>
 // What the operators of a level stand between.
 #[cycle(expression)]
 fn side<'a>(alloc: Global, tokens: &'a [Token], depth: u32, level: Level) -> Parsed<'a, Expr>
-    ensures value { GivesRead (λ p. (term_of p.0, p.1.now)) result (chain_read (levels_below level) (unary_in depth) tokens.now) }
+    ensures value { GivesRead (λ p. (term_of p.0, p.1.now)) result
+        (chain_read (levels_below level) (unary_in depth) tokens.now) }
 {
     if let Some((token, rest)) = lone_atom(tokens) {
         return atom(alloc, token, rest);
@@ -136,7 +148,8 @@ fn side<'a>(alloc: Global, tokens: &'a [Token], depth: u32, level: Level) -> Par
 #[cycle(expression)]
 #[inline(never)]
 fn climbed<'a>(alloc: Global, first: Expr, tokens: &'a [Token], depth: u32) -> Parsed<'a, Expr>
-    ensures value { GivesRead (λ p. (term_of p.0, p.1.now)) result (climb_read levels (unary_in depth) (term_of first) tokens.now) }
+    ensures value { GivesRead (λ p. (term_of p.0, p.1.now)) result
+        (climb_read levels (unary_in depth) (term_of first) tokens.now) }
 {
     match climb_below(alloc, first, tokens, depth, Level::Or) {
         Ok((first, rest)) if TokenClass::Operator(Level::Or).begins(rest) => {
@@ -156,7 +169,8 @@ fn climb_below<'a>(
     depth: u32,
     level: Level,
 ) -> Parsed<'a, Expr>
-    ensures value { GivesRead (λ p. (term_of p.0, p.1.now)) result (climb_read (levels_below level) (unary_in depth) (term_of first) tokens.now) }
+    ensures value { GivesRead (λ p. (term_of p.0, p.1.now)) result
+        (climb_read (levels_below level) (unary_in depth) (term_of first) tokens.now) }
 {
     let levels = level.tighter_levels();
     let mut first = first;
@@ -184,7 +198,9 @@ fn linked<'a>(
     level: Level,
 ) -> Parsed<'a, Expr>
     requires { starts (among (operators_at level)) tokens.now ≡ true }
-    ensures value { GivesRead (λ p. (term_of p.0, p.1.now)) result (mapped (chain_term (term_of first)) (many (among (operators_at level)) (link_in level depth)) tokens.now) }
+    ensures value { GivesRead (λ p. (term_of p.0, p.1.now)) result
+        (mapped (chain_term (term_of first)) (many (among (operators_at level))
+        (link_in level depth)) tokens.now) }
 {
     let ((first, (next, more)), rest) = with(first, some_links(alloc, tokens, depth, level))?;
     let place = first.place();
@@ -203,7 +219,8 @@ fn some_links<'a>(
     level: Level,
 ) -> Parsed<'a, (Link, Vec<Link>)>
     requires { starts (among (operators_at level)) tokens.now ≡ true }
-    ensures value { GivesRead (λ p. (link_of p.0.0 ∷ map link_of p.0.1.items, p.1.now)) result (many (among (operators_at level)) (link_in level depth) tokens.now) }
+    ensures value { GivesRead (λ p. (link_of p.0.0 ∷ map link_of p.0.1.items, p.1.now)) result
+        (many (among (operators_at level)) (link_in level depth) tokens.now) }
 {
     let (next, rest) = link(alloc, tokens, depth, level)?;
     with(next, links(alloc, rest, depth, level))
@@ -212,7 +229,8 @@ fn some_links<'a>(
 // More operators of a level and what stands behind each.
 #[cycle(expression)]
 fn links<'a>(alloc: Global, tokens: &'a [Token], depth: u32, level: Level) -> Parsed<'a, Vec<Link>>
-    ensures value { GivesRead (λ p. (map link_of p.0.items, p.1.now)) result (many (among (operators_at level)) (link_in level depth) tokens.now) }
+    ensures value { GivesRead (λ p. (map link_of p.0.items, p.1.now)) result
+        (many (among (operators_at level)) (link_in level depth) tokens.now) }
 {
     let mut items = Vec::new(alloc);
     let mut rest = tokens;
@@ -227,7 +245,8 @@ fn links<'a>(alloc: Global, tokens: &'a [Token], depth: u32, level: Level) -> Pa
 // An operator of a level and what stands behind it.
 #[cycle(expression)]
 fn link<'a>(alloc: Global, tokens: &'a [Token], depth: u32, level: Level) -> Parsed<'a, Link>
-    ensures value { GivesRead (λ p. (link_of p.0, p.1.now)) result (link_in level depth tokens.now) }
+    ensures value { GivesRead (λ p. (link_of p.0, p.1.now)) result
+        (link_in level depth tokens.now) }
 {
     let (operator, rest) = take(TokenClass::Operator(level), tokens)?;
     let (right, rest) = side(alloc, rest, depth, level)?;
@@ -251,7 +270,8 @@ fn unary<'a>(alloc: Global, tokens: &'a [Token], depth: u32) -> Parsed<'a, Expr>
 #[cycle(expression)]
 #[inline(never)]
 fn signed<'a>(alloc: Global, operator: &Token, tokens: &'a [Token], depth: u32) -> Parsed<'a, Expr>
-    ensures value { GivesRead (λ p. (term_of p.0, p.1.now)) result (mapped (unary_term operator.now) (operand_read depth) tokens.now) }
+    ensures value { GivesRead (λ p. (term_of p.0, p.1.now)) result
+        (mapped (unary_term operator.now) (operand_read depth) tokens.now) }
 {
     let (of, rest) = boxed(alloc, operand(alloc, tokens, depth))?;
     let op = unary_operator(&operator.kind);
@@ -279,7 +299,8 @@ fn operand<'a>(alloc: Global, tokens: &'a [Token], depth: u32) -> Parsed<'a, Exp
 // A primary with its indexes and members.
 #[cycle(expression)]
 fn postfix<'a>(alloc: Global, tokens: &'a [Token], depth: u32) -> Parsed<'a, Expr>
-    ensures value { GivesRead (λ p. (term_of p.0, p.1.now)) result (postfix_read (expr_read depth) (primary_in depth) tokens.now) }
+    ensures value { GivesRead (λ p. (term_of p.0, p.1.now)) result
+        (postfix_read (expr_read depth) (primary_in depth) tokens.now) }
 {
     match primary(alloc, tokens, depth) {
         Ok((of, rest)) if TokenClass::Suffix.begins(rest) => suffixed(alloc, of, rest, depth),
@@ -292,7 +313,9 @@ fn postfix<'a>(alloc: Global, tokens: &'a [Token], depth: u32) -> Parsed<'a, Exp
 #[inline(never)]
 fn suffixed<'a>(alloc: Global, of: Expr, tokens: &'a [Token], depth: u32) -> Parsed<'a, Expr>
     requires { starts (among suffix_signs) tokens.now ≡ true }
-    ensures value { GivesRead (λ p. (term_of p.0, p.1.now)) result (mapped (postfix_term (term_of of)) (many (among suffix_signs) (suffix_read (expr_read depth))) tokens.now) }
+    ensures value { GivesRead (λ p. (term_of p.0, p.1.now)) result
+        (mapped (postfix_term (term_of of))
+        (many (among suffix_signs) (suffix_read (expr_read depth))) tokens.now) }
 {
     let ((of, (next, more)), rest) = with(of, some_suffixes(alloc, tokens, depth))?;
     let place = of.place();
@@ -310,7 +333,8 @@ fn some_suffixes<'a>(
     depth: u32,
 ) -> Parsed<'a, (Suffix, Vec<Suffix>)>
     requires { starts (among suffix_signs) tokens.now ≡ true }
-    ensures value { GivesRead (λ p. (suffix_of p.0.0 ∷ map suffix_of p.0.1.items, p.1.now)) result (many (among suffix_signs) (suffix_read (expr_read depth)) tokens.now) }
+    ensures value { GivesRead (λ p. (suffix_of p.0.0 ∷ map suffix_of p.0.1.items, p.1.now)) result
+        (many (among suffix_signs) (suffix_read (expr_read depth)) tokens.now) }
 {
     let (next, rest) = suffix(alloc, tokens, depth)?;
     with(next, suffixes(alloc, rest, depth))
@@ -319,7 +343,8 @@ fn some_suffixes<'a>(
 // More indexes and members.
 #[cycle(expression)]
 fn suffixes<'a>(alloc: Global, tokens: &'a [Token], depth: u32) -> Parsed<'a, Vec<Suffix>>
-    ensures value { GivesRead (λ p. (map suffix_of p.0.items, p.1.now)) result (many (among suffix_signs) (suffix_read (expr_read depth)) tokens.now) }
+    ensures value { GivesRead (λ p. (map suffix_of p.0.items, p.1.now)) result
+        (many (among suffix_signs) (suffix_read (expr_read depth)) tokens.now) }
 {
     let mut items = Vec::new(alloc);
     let mut rest = tokens;
@@ -334,7 +359,8 @@ fn suffixes<'a>(alloc: Global, tokens: &'a [Token], depth: u32) -> Parsed<'a, Ve
 // An index or a member.
 #[cycle(expression)]
 fn suffix<'a>(alloc: Global, tokens: &'a [Token], depth: u32) -> Parsed<'a, Suffix>
-    ensures value { GivesRead (λ p. (suffix_of p.0, p.1.now)) result (suffix_read (expr_read depth) tokens.now) }
+    ensures value { GivesRead (λ p. (suffix_of p.0, p.1.now)) result
+        (suffix_read (expr_read depth) tokens.now) }
 {
     if let Some((open, rest)) = TokenClass::Sign(Symbol::OpenBracket).split_first(tokens) {
         let (index, rest) = closed(expr(alloc, rest, depth), Symbol::CloseBracket)?;
@@ -366,7 +392,8 @@ fn primary<'a>(alloc: Global, tokens: &'a [Token], depth: u32) -> Parsed<'a, Exp
 #[cycle(expression)]
 #[inline(never)]
 fn paren<'a>(alloc: Global, tokens: &'a [Token], depth: u32) -> Parsed<'a, Expr>
-    ensures value { GivesRead (λ p. (term_of p.0, p.1.now)) result (paren_read (expr_read depth) tokens.now) }
+    ensures value { GivesRead (λ p. (term_of p.0, p.1.now)) result
+        (paren_read (expr_read depth) tokens.now) }
 {
     let (open, rest) = take(TokenClass::Sign(Symbol::OpenParenthesis), tokens)?;
     let (inner, rest) = boxed(
@@ -399,7 +426,8 @@ fn atom<'a>(alloc: Global, token: &Token, rest: &'a [Token]) -> Parsed<'a, Expr>
 // A name, and its arguments where it has some.
 #[cycle(expression)]
 fn named<'a>(alloc: Global, tokens: &'a [Token], depth: u32) -> Parsed<'a, Expr>
-    ensures value { GivesRead (λ p. (term_of p.0, p.1.now)) result (name_read (arg_in depth (expr_read depth)) tokens.now) }
+    ensures value { GivesRead (λ p. (term_of p.0, p.1.now)) result
+        (name_read (arg_in depth (expr_read depth)) tokens.now) }
 {
     let (name, rest) = take(TokenClass::Name, tokens)?;
     if TokenClass::Sign(Symbol::OpenParenthesis).begins(rest) {
@@ -412,7 +440,9 @@ fn named<'a>(alloc: Global, tokens: &'a [Token], depth: u32) -> Parsed<'a, Expr>
 #[cycle(expression)]
 #[inline(never)]
 fn called<'a>(alloc: Global, name: &Token, tokens: &'a [Token], depth: u32) -> Parsed<'a, Expr>
-    ensures value { GivesRead (λ p. (term_of p.0, p.1.now)) result (mapped (name_term name.now) (mapped Some (in_parentheses (args_read (arg_in depth (expr_read depth))))) tokens.now) }
+    ensures value { GivesRead (λ p. (term_of p.0, p.1.now)) result
+        (mapped (name_term name.now)
+        (mapped Some (in_parentheses (args_read (arg_in depth (expr_read depth))))) tokens.now) }
 {
     let bytes = bytes(alloc, &name.kind)?;
     let ((bytes, args), rest) = with(bytes, arguments(alloc, tokens, depth))?;
@@ -424,7 +454,8 @@ fn called<'a>(alloc: Global, name: &Token, tokens: &'a [Token], depth: u32) -> P
 #[cycle(expression)]
 #[inline(never)]
 fn bracket<'a>(alloc: Global, tokens: &'a [Token], depth: u32) -> Parsed<'a, Expr>
-    ensures value { GivesRead (λ p. (term_of p.0, p.1.now)) result (bracket_read (expr_read depth) tokens.now) }
+    ensures value { GivesRead (λ p. (term_of p.0, p.1.now)) result
+        (bracket_read (expr_read depth) tokens.now) }
 {
     let (open, rest) = take_first(TokenClass::Sign(Symbol::OpenBracket), tokens)?;
     closed(inside(alloc, open, rest, depth), Symbol::CloseBracket)
@@ -433,7 +464,9 @@ fn bracket<'a>(alloc: Global, tokens: &'a [Token], depth: u32) -> Parsed<'a, Exp
 // What a bracket makes with what stands in it: a list or a range.
 #[cycle(expression)]
 fn inside<'a>(alloc: Global, bracket: &Token, tokens: &'a [Token], depth: u32) -> Parsed<'a, Expr>
-    ensures value { GivesRead (λ p. (term_of p.0, p.1.now)) result (mapped (bracket_term bracket.now) (maybe (other_than (close_bracket_sign ∷ [])) (both pair_of (expr_read depth) (rest_read (expr_read depth)))) tokens.now) }
+    ensures value { GivesRead (λ p. (term_of p.0, p.1.now)) result
+        (mapped (bracket_term bracket.now) (maybe (other_than (close_bracket_sign ∷ []))
+        (both pair_of (expr_read depth) (rest_read (expr_read depth)))) tokens.now) }
 {
     if !is_before(Symbol::CloseBracket, tokens) {
         return list(alloc, bracket, no_items(alloc), tokens);
@@ -451,7 +484,9 @@ fn filled<'a>(
     tokens: &'a [Token],
     depth: u32,
 ) -> Parsed<'a, Expr>
-    ensures value { GivesRead (λ p. (term_of p.0, p.1.now)) result (mapped (filled_term bracket.now (term_of first)) (rest_read (expr_read depth)) tokens.now) }
+    ensures value { GivesRead (λ p. (term_of p.0, p.1.now)) result
+        (mapped (filled_term bracket.now (term_of first)) (rest_read (expr_read depth))
+        tokens.now) }
 {
     if !TokenClass::Sign(Symbol::Colon).begins(tokens) {
         let more = is_comma_before(Symbol::CloseBracket, tokens);
@@ -465,7 +500,8 @@ fn filled<'a>(
 // A list by its bracket and its items, and the tokens behind these.
 #[inline(always)]
 fn list<'a>(alloc: Global, bracket: &Token, items: Exprs, rest: &'a [Token]) -> Parsed<'a, Expr>
-    ensures { GivesRead (λ p. (term_of p.0, p.1.now)) result (Ok (ListTerm bracket.now.place (terms_from (terms_of items)), rest.now)) }
+    ensures { GivesRead (λ p. (term_of p.0, p.1.now)) result
+        (Ok (ListTerm bracket.now.place (terms_from (terms_of items)), rest.now)) }
 {
     Ok((Expr::List(bracket.place, Box::new(alloc, items)?), rest))
 }
@@ -480,7 +516,9 @@ fn range<'a>(
     tokens: &'a [Token],
     depth: u32,
 ) -> Parsed<'a, Expr>
-    ensures value { GivesRead (λ p. (term_of p.0, p.1.now)) result (mapped (filled_term bracket.now (term_of from)) (range_read (expr_read depth)) tokens.now) }
+    ensures value { GivesRead (λ p. (term_of p.0, p.1.now)) result
+        (mapped (filled_term bracket.now (term_of from)) (range_read (expr_read depth))
+        tokens.now) }
 {
     let place = bracket.place;
     let ((from, _), rest) = with(from, take(TokenClass::Sign(Symbol::Colon), tokens))?;
@@ -506,7 +544,10 @@ fn more_items<'a>(
     tokens: &'a [Token],
     depth: u32,
 ) -> Parsed<'a, Exprs>
-    ensures value { GivesRead (λ p. (terms_of p.0, p.1.now)) result (in_front (map term_of items.items) (trailing (is comma_sign) (other_than (close_bracket_sign ∷ [])) (expr_read depth) tokens.now)) }
+    ensures value { GivesRead (λ p. (terms_of p.0, p.1.now)) result
+        (in_front (map term_of items.items)
+        (trailing (is comma_sign) (other_than (close_bracket_sign ∷ [])) (expr_read depth)
+        tokens.now)) }
 {
     let mut rest = tokens;
     'commas: while is_comma_before(Symbol::CloseBracket, rest) {
@@ -521,7 +562,8 @@ fn more_items<'a>(
 #[cycle(expression)]
 #[inline(always)]
 pub fn arguments<'a>(alloc: Global, tokens: &'a [Token], depth: u32) -> Parsed<'a, Args>
-    ensures value { GivesRead (λ p. (args_of p.0, p.1.now)) result (in_parentheses (args_read (arg_in depth (expr_read depth))) tokens.now) }
+    ensures value { GivesRead (λ p. (args_of p.0, p.1.now)) result
+        (in_parentheses (args_read (arg_in depth (expr_read depth))) tokens.now) }
     ensures rest { IfOk result (λ p. length p.1.now ≤ length tokens.now) }
 {
     let (_, rest) = take(TokenClass::Sign(Symbol::OpenParenthesis), tokens)?;
@@ -531,7 +573,8 @@ pub fn arguments<'a>(alloc: Global, tokens: &'a [Token], depth: u32) -> Parsed<'
 // Arguments, and maybe a comma behind the last.
 #[cycle(expression)]
 fn arg_list<'a>(alloc: Global, tokens: &'a [Token], depth: u32) -> Parsed<'a, Args>
-    ensures value { GivesRead (λ p. (args_of p.0, p.1.now)) result (args_read (arg_in depth (expr_read depth)) tokens.now) }
+    ensures value { GivesRead (λ p. (args_of p.0, p.1.now)) result
+        (args_read (arg_in depth (expr_read depth)) tokens.now) }
 {
     if !is_before(Symbol::CloseParenthesis, tokens) {
         return Ok((no_args(alloc), tokens));
@@ -550,7 +593,10 @@ fn more_args<'a>(
     tokens: &'a [Token],
     depth: u32,
 ) -> Parsed<'a, Args>
-    ensures value { GivesRead (λ p. (args_of p.0, p.1.now)) result (in_front (map arg_of items.items) (trailing (is comma_sign) (other_than (close_parenthesis_sign ∷ [])) (arg_in depth (expr_read depth)) tokens.now)) }
+    ensures value { GivesRead (λ p. (args_of p.0, p.1.now)) result
+        (in_front (map arg_of items.items)
+        (trailing (is comma_sign) (other_than (close_parenthesis_sign ∷ []))
+        (arg_in depth (expr_read depth)) tokens.now)) }
 {
     let mut rest = tokens;
     'commas: while is_comma_before(Symbol::CloseParenthesis, rest) {
@@ -565,7 +611,8 @@ fn more_args<'a>(
 #[cycle(expression)]
 #[inline(always)]
 fn arg<'a>(alloc: Global, tokens: &'a [Token], depth: u32) -> Parsed<'a, Arg>
-    ensures value { GivesRead (λ p. (arg_of p.0, p.1.now)) result (arg_in depth (expr_read depth) tokens.now) }
+    ensures value { GivesRead (λ p. (arg_of p.0, p.1.now)) result
+        (arg_in depth (expr_read depth) tokens.now) }
 {
     if depth == 0 {
         return Err(too_deep(

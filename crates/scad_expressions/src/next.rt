@@ -108,7 +108,8 @@ impl TokenClass {
     /// The next token and those behind it, where it is of this class.
     #[inline(always)]
     pub fn split_first<'a>(self, tokens: &'a [Token]) -> Option<(&'a Token, &'a [Token])>
-        ensures some { IfSome result (λ p. (starts (among (classes_of self)) tokens.now ≡ true) × (one (among (classes_of self)) tokens.now ≡ Ok (p.0.now, p.1.now))) }
+        ensures some { IfSome result (λ p. (starts (among (classes_of self)) tokens.now ≡ true) ×
+            (one (among (classes_of self)) tokens.now ≡ Ok (p.0.now, p.1.now))) }
         ensures none { IfNone result (starts (among (classes_of self)) tokens.now ≡ false) }
     {
         match tokens {
@@ -167,7 +168,8 @@ pub fn behind_comma(tokens: &[Token]) -> &[Token]
 /// An atom and the tokens behind it, where the first of these does not go on with it.
 #[inline(always)]
 pub(crate) fn lone_atom<'a>(tokens: &'a [Token]) -> Option<(&'a Token, &'a [Token])>
-    ensures some { IfSome result (λ p. (tokens.now ≡ p.0.now ∷ p.1.now) × (has_lone_atom tokens.now ≡ true)) }
+    ensures some { IfSome result (λ p. (tokens.now ≡ p.0.now ∷ p.1.now) ×
+        (has_lone_atom tokens.now ≡ true)) }
     ensures none { IfNone result (has_lone_atom tokens.now ≡ false) }
 {
     match tokens {
@@ -191,7 +193,8 @@ fn ends_atom(tokens: &[Token]) -> bool
 
 /// A token of a class and the tokens behind the `=` that follows it, where both stand here.
 pub fn assigned<'a>(class: TokenClass, tokens: &'a [Token]) -> Option<(&'a Token, &'a [Token])>
-    ensures some { IfSome result (λ p. value_assigned (classes_of class) tokens.now ≡ Some (p.0.now, p.1.now)) }
+    ensures some { IfSome result (λ p. value_assigned (classes_of class) tokens.now
+        ≡ Some (p.0.now, p.1.now)) }
     ensures none { IfNone result (value_assigned (classes_of class) tokens.now ≡ None) }
 {
     match tokens {
@@ -206,7 +209,8 @@ pub fn assigned<'a>(class: TokenClass, tokens: &'a [Token]) -> Option<(&'a Token
 /// One token of a class.
 #[inline(always)]
 pub fn take<'a>(class: TokenClass, tokens: &'a [Token]) -> Parsed<'a, &'a Token>
-    ensures value { GivesRead (λ p. (p.0.now, p.1.now)) result (one (among (classes_of class)) tokens.now) }
+    ensures value { GivesRead (λ p. (p.0.now, p.1.now)) result
+        (one (among (classes_of class)) tokens.now) }
     ensures shorter { IfOk result (λ p. length p.1.now < length tokens.now) }
 {
     match tokens {
@@ -218,7 +222,8 @@ pub fn take<'a>(class: TokenClass, tokens: &'a [Token]) -> Parsed<'a, &'a Token>
 /// One token of a class, where an expression may begin.
 #[inline(always)]
 pub(crate) fn take_first<'a>(class: TokenClass, tokens: &'a [Token]) -> Parsed<'a, &'a Token>
-    ensures value { GivesRead (λ p. (p.0.now, p.1.now)) result (first (among (classes_of class)) tokens.now) }
+    ensures value { GivesRead (λ p. (p.0.now, p.1.now)) result
+        (first (among (classes_of class)) tokens.now) }
     ensures shorter { IfOk result (λ p. length p.1.now < length tokens.now) }
 {
     match tokens {
@@ -248,7 +253,8 @@ pub fn not_expected<'a>(tokens: &'a [Token]) -> Stopped<'a>
 
 /// The fault where nothing may stand that is deeper, by what would begin it.
 pub fn too_deep<'a>(begins: TokenClass, left_out: TokenClass, tokens: &'a [Token]) -> Stopped<'a>
-    ensures { IsStop result (nested_fault (classes_of begins) (classes_of left_out) tokens.now) tokens.now }
+    ensures { IsStop result (nested_fault (classes_of begins) (classes_of left_out) tokens.now)
+        tokens.now }
 {
     if begins.begins(tokens) {
         Stopped::Fault(SyntaxFault::Nested, tokens)

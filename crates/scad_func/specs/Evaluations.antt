@@ -28,7 +28,8 @@ numbered_env_here evaluation = env_of (rows_of evaluation.scopes.now) evaluation
 
 -- the same scope, with what its numbers stand for
 abbrev pub env_here : Evaluation → Env
-env_here evaluation = env_seen evaluation.source.now (rows_of evaluation.scopes.now) evaluation.scope
+env_here evaluation =
+    env_seen evaluation.source.now (rows_of evaluation.scopes.now) evaluation.scope
 
 -- where an expression of the scope in which is evaluated stands
 abbrev pub setting_here : Evaluation → Setting

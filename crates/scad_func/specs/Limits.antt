@@ -9,6 +9,6 @@ most_calls = 64
 abbrev pub most_evaluations : ℕ
 most_evaluations = 512
 
--- the most turns of one run
+-- the most turns that the evaluation of one source counts
 abbrev pub most_turns : ℕ
 most_turns = 100000

@@ -21,11 +21,13 @@ pub record IsScopeOf (table : BlockTable) (rows : List Row) (scope : ℕ) : Type
   pub numbered : IsTrue (functions_below (length table.functions) rows)
   pub modules : IsTrue (modules_below (length table.modules) rows)
 
--- The value of an expression in a scope as it is defined, with so many calls and evaluations left as a meter says, behind its turns,
--- or the first fault, unless memory ran out; each value is bounded.
-pub record GivesValue (scopes : Scopes) (before after : Meter) (env : Env) (expression : Term) (result : Result Value Stop) : Type 0 where
+-- The value of an expression in a scope as it is defined, with so many calls and evaluations left as a meter says,
+-- behind its turns, or the first fault, unless memory ran out; each value is bounded.
+pub record GivesValue (scopes : Scopes) (before after : Meter) (env : Env) (expression : Term)
+    (result : Result Value Stop) : Type 0 where
   pub value : MeetsOutcome val_of result after.turns
-      (value_within (most_evaluations - before.depth) true (most_calls - before.calls) env (bindings_of scopes) expression before.turns)
+      (value_within (most_evaluations - before.depth) true (most_calls - before.calls) env
+      (bindings_of scopes) expression before.turns)
   pub bounded : IfOk result (λ v. IsTrue (is_bounded (val_of v)))
 
 -- the scopes, the dynamic bindings of special names, and of the meter all but the turns are as before

@@ -38,9 +38,11 @@ have_no_names (and_positional value rest) = have_no_names rest
 -- an index or a member of a value
 abbrev pub suffix_value : Setting → Val → SuffixTerm → ℕ → Outcome Val
 suffix_value here value (IndexTerm at index) turns =
-    then_with (value_at here true index turns) (λ turns number. answer_at (index_of value number) at turns)
+    then_with (value_at here true index turns) (λ turns number.
+    answer_at (index_of value number) at turns)
 suffix_value here value (MemberTerm at name name_at) turns =
-    or_fault (member_of name) NotInProfile name_at (λ number. answer_at (index_of value (NumberVal number)) at turns)
+    or_fault (member_of name) NotInProfile name_at (λ number.
+    answer_at (index_of value (NumberVal number)) at turns)
 
 -- an operator and its right side
 abbrev pub link_value : Setting → Val → LinkTerm → ℕ → Outcome Val
@@ -53,4 +55,6 @@ link_value here value link turns =
 -- the value of a function whose parameters have values, in a scope of its own
 abbrev pub with_parameters : Setting → SourceFunction → Vals → ℕ → Outcome Val
 with_parameters defining_scope function values turns =
-    value_at (in_scope defining_scope (Within (with_pairs (names_of function.params) values []) [] [] no_activation defining_scope.env)) true function.value turns
+    value_at (in_scope defining_scope
+    (Within (with_pairs (names_of function.params) values []) [] [] no_activation
+    defining_scope.env)) true function.value turns

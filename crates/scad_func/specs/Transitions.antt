@@ -22,7 +22,8 @@ use Rattle.scad_func.specs.declared.values.BoundedValues.{BoundedValues}
 use Rattle.scad_func.specs.declared.evaluation.Evaluation.{Evaluation}
 
 -- what begins a call: one call deeper, or TooDeep at its place where as many are in one another as may be, and all is as before
-pub record BeginsCall {A : Type 0} (old new : Evaluation) (result : Result A Stop) (place : Place) : Type 0 where
+pub record BeginsCall {A : Type 0} (old new : Evaluation) (result : Result A Stop)
+    (place : Place) : Type 0 where
   pub begun : OnOk result (OneCallDeeper old new)
   pub refused : IfErr result (λ stop. (old.calls ≡ most_calls) × IsFaultAt stop TooDeep place)
   pub kept : OnErr result (Keeps old new)
@@ -34,14 +35,16 @@ IsRefusedCall old place stop = ((old.calls ≡ most_calls) × IsFaultAt stop Too
     ⊎ ((old.calls < most_calls) × (old.turns ≡ most_turns) × IsFaultAt stop TooManyTurns place)
 
 -- what begins a call that is counted: one call deeper and one turn more, or a refusal, and all but the turns is as before
-pub record BeginsCountedCall {A : Type 0} (old new : Evaluation) (result : Result A Stop) (place : Place) : Type 0 where
+pub record BeginsCountedCall {A : Type 0} (old new : Evaluation) (result : Result A Stop)
+    (place : Place) : Type 0 where
   pub begun : OnOk result (OneCallDeeper old new)
   pub counted : OnOk result ((old.turns < most_turns) × (new.turns ≡ old.turns + 1))
   pub refused : IfErr result (IsRefusedCall old place)
   pub kept : OnErr result (Keeps old new)
 
 -- what begins an evaluation: one deeper, or TooDeep at its place where as many are in one another as may be, and all is as before
-pub record BeginsEvaluation {A : Type 0} (old new : Evaluation) (result : Result A Stop) (place : Place) : Type 0 where
+pub record BeginsEvaluation {A : Type 0} (old new : Evaluation) (result : Result A Stop)
+    (place : Place) : Type 0 where
   pub begun : OnOk result (OneEvaluationDeeper old new)
   pub refused : IfErr result (λ stop. (old.depth ≡ most_evaluations) × IsFaultAt stop TooDeep place)
   pub kept : OnErr result (Keeps old new)
@@ -49,15 +52,17 @@ pub record BeginsEvaluation {A : Type 0} (old new : Evaluation) (result : Result
 
 -- What enters a scope: one scope more, with what is said to be in it, and it answers the scope before; or memory ran out, and all
 -- is as before.
-pub record EntersScope {E : Type 0} (old new : Evaluation) (result : Result ℕ E) (env : Env) : Type 0 where
+pub record EntersScope {E : Type 0} (old new : Evaluation) (result : Result ℕ E)
+    (env : Env) : Type 0 where
   pub entered : IfOk result (OneScopeMore old new)
   pub inside : OnOk result (env_here new ≡ env)
   pub kept : OnErr result (Keeps old new)
   pub turns : new.turns ≡ old.turns
 
--- What puts special names among the dynamic bindings: these pairs are in front, and it answers how many were there; or memory ran out, and all
--- is as before.
-pub record PushesBindings {E : Type 0} (old new : Evaluation) (result : Result ℕ E) (newer : Pairs Val) : Type 0 where
+-- What puts special names among the dynamic bindings: these pairs are in front, and it answers how many were there;
+-- or memory ran out, and all is as before.
+pub record PushesBindings {E : Type 0} (old new : Evaluation) (result : Result ℕ E)
+    (newer : Pairs Val) : Type 0 where
   pub begun : IfOk result (MoreBindings old new)
   pub bindings : OnOk result (bindings_of new.scopes.now ≡ newer ++ bindings_of old.scopes.now)
   pub kept : OnErr result (Keeps old new)
@@ -68,15 +73,15 @@ pub record GoesBack (IsBegun : Evaluation → Type 0) (old new : Evaluation) : T
   pub back : (first : Evaluation) → IsBegun first → Keeps first new
   pub turns : new.turns ≡ old.turns
 
--- What leaves the newest scope for one of those before it: they alone are left, and all but the turns is as it was before the newest one
--- was entered.
+-- What leaves the newest scope for one of those before it: they alone are left, and all but the turns is as it was
+-- before the newest one was entered.
 pub record LeavesScope (old new : Evaluation) (before : ℕ) : Type 0 where
   pub back : (first : Evaluation) → OneScopeMore first old before → Keeps first new
   pub rows : rows_of new.scopes.now ≡ take old.scope (rows_of old.scopes.now)
   pub turns : new.turns ≡ old.turns
 
--- What takes special names from the dynamic bindings, to so many: all else is as it is, and all but the turns is as it was before they were put
--- there.
+-- What takes special names from the dynamic bindings, to so many: all else is as it is, and all but the turns is as
+-- it was before they were put there.
 pub record PopsBindings (old new : Evaluation) (to : ℕ) : Type 0 where
   pub back : (first : Evaluation) → MoreBindings first old to → Keeps first new
   pub same : SameSetting old new
@@ -86,35 +91,42 @@ pub record PopsBindings (old new : Evaluation) (to : ℕ) : Type 0 where
 
 -- What gives names values in the newest scope, which is then the one that is said, unless memory ran out: all else is as before,
 -- and where the scope was entered it still is.
-pub record BindsVariables {A E : Type 0} (old new : Evaluation) (result : Result A E) (env : Env) : Type 0 where
+pub record BindsVariables {A E : Type 0} (old new : Evaluation) (result : Result A E)
+    (env : Env) : Type 0 where
   pub bound : OnOk result (env_here new ≡ env)
   pub same : SameSetting old new
   pub front : take old.scope (rows_of new.scopes.now) ≡ take old.scope (rows_of old.scopes.now)
   pub there : scopes_there new ≡ scopes_there old
   pub bindings : bindings_of new.scopes.now ≡ bindings_of old.scopes.now
   pub turns : new.turns ≡ old.turns
-  pub entered : (first : Evaluation) (before : ℕ) → OneScopeMore first old before → OneScopeMore first new before
+  pub entered : (first : Evaluation) (before : ℕ) → OneScopeMore first old before
+      → OneScopeMore first new before
 
 -- What evaluates parameters in a setting: the values that their meaning gives, one for each, or its fault, unless memory ran out;
 -- and all but the turns is as before, after a stop too.
-pub record EvaluatesParameters (old new : Evaluation) (result : Result BoundedValues Stop) (here : Setting) (params : Params)
+pub record EvaluatesParameters (old new : Evaluation) (result : Result BoundedValues Stop)
+    (here : Setting) (params : Params)
     (bound : List (Option BoundedValue)) : Type 0 where
-  pub value : MeetsOutcome values_seen result new.turns (each_parameter here (params_of params) (bound_arguments_in bound) old.turns)
+  pub value : MeetsOutcome values_seen result new.turns
+      (each_parameter here (params_of params) (bound_arguments_in bound) old.turns)
   pub count : IfOk result (λ values. length values.items.items ≡ length params.items.items)
   pub kept : Keeps old new
 
 -- What gives names values in the newest scope of a table: in any text it is then what is said, unless memory ran out. The scopes
 -- before it, how many there are, and the dynamic bindings are as before, and no number of a definition is new.
-pub record BindsNewest {A E : Type 0} (old new : Scopes) (scope : ℕ) (result : Result A E) (change : Env → Env) : Type 0 where
-  pub bound : OnOk result ((table : BlockTable) → env_in table (env_of (rows_of new) scope) ≡ change (env_in table (env_of (rows_of old) scope)))
+pub record BindsNewest {A E : Type 0} (old new : Scopes) (scope : ℕ) (result : Result A E)
+    (change : Env → Env) : Type 0 where
+  pub bound : OnOk result ((table : BlockTable) → env_in table (env_of (rows_of new) scope)
+      ≡ change (env_in table (env_of (rows_of old) scope)))
   pub front : take scope (rows_of new) ≡ take scope (rows_of old)
   pub count : length (rows_of new) ≡ length (rows_of old)
   pub bindings : bindings_of new ≡ bindings_of old
   pub numbered : StaysNumbered (rows_of old) (rows_of new)
 
--- What puts special names among the dynamic bindings of a table: these pairs are in front, unless memory ran out. The older ones and the scopes
--- are as before.
-pub record PutsBindings {A E : Type 0} (old new : Scopes) (result : Result A E) (newer : Pairs Val) : Type 0 where
+-- What puts special names among the dynamic bindings of a table: these pairs are in front, unless memory ran out.
+-- The older ones and the scopes are as before.
+pub record PutsBindings {A E : Type 0} (old new : Scopes) (result : Result A E)
+    (newer : Pairs Val) : Type 0 where
   pub bound : OnOk result (bindings_of new ≡ newer ++ bindings_of old)
   pub longer : length (bindings_of old) ≤ length (bindings_of new)
   pub older : oldest (length (bindings_of old)) (bindings_of new) ≡ bindings_of old

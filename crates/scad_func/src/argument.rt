@@ -48,10 +48,13 @@ pub(crate) fn argument_value(arg: &Arg) -> &Expr
 
 /// The built-in function of a call, whose faults stand at its name.
 pub(crate) fn built_in_for(name: &[u8], place: Place, args: &Args) -> Result<Builtin, Stop>
-    ensures called { IfOk result (λ f. (here : Setting) (turns : ℕ) → built_in here place name.now (args_from (args_of args.now)) turns (builtin_of name.now)
-        ≡ then_with (each_value here (all_values (args_from (args_of args.now))) turns) (λ turns vs. answer_at (builtin_value f vs) place turns)) }
+    ensures called { IfOk result (λ f. (here : Setting) (turns : ℕ)
+        → built_in here place name.now (args_from (args_of args.now)) turns (builtin_of name.now)
+        ≡ then_with (each_value here (all_values (args_from (args_of args.now))) turns) (λ turns vs.
+        answer_at (builtin_value f vs) place turns)) }
     ensures refused { IfErr result (λ stop. (here : Setting) (turns n : ℕ) →
-        MeetsOutcome bounded_val (Err stop) n (built_in here place name.now (args_from (args_of args.now)) turns (builtin_of name.now))) }
+        MeetsOutcome bounded_val (Err stop) n
+        (built_in here place name.now (args_from (args_of args.now)) turns (builtin_of name.now))) }
 {
     let Some(function) = builtin(name) else {
         return Err(unknown_function(name).at(place));

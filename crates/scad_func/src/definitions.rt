@@ -18,7 +18,8 @@ impl<'a> Evaluation<'a, '_> {
         ensures found { IsFunctionFound self.now.source.now (rows_of self.now.scopes.now)
             (visible_function (setting_here self.now).env name.now) result }
         ensures there { IfSome result (λ found. found.1 < scopes_there self.now) }
-        ensures among { IfSome result (λ found. Contains self.now.source.now.blocks.functions.items found.0) }
+        ensures among { IfSome result (λ found.
+            Contains self.now.source.now.blocks.functions.items found.0) }
     {
         // The fault is dropped: a name that the source doesn't define may still be a built-in function's.
         let nowhere = Place { line: 1, column: 1 };
@@ -32,10 +33,12 @@ impl<'a> Evaluation<'a, '_> {
     /// The module that a name stands for, the newest of its name from the scope outward, with its body's block,
     /// and the number of the scope in which it stands. None where no scope outward has one.
     pub fn module(&self, name: &[u8]) -> Option<(Module<'a>, u32)>
-        ensures found { IsModuleFound self.now.source.now (rows_of self.now.scopes.now) (visible_module (env_here self.now) name.now) result }
+        ensures found { IsModuleFound self.now.source.now (rows_of self.now.scopes.now)
+            (visible_module (env_here self.now) name.now) result }
         ensures there { IfSome result (λ found. found.1 < scopes_there self.now) }
         ensures body { IsWhole (table_in self.now.source.now) →
-            IfSome result (λ found. IsBlockOf (table_in self.now.source.now) found.0.block (body_of found.0.body.now)) }
+            IfSome result (λ found. IsBlockOf (table_in self.now.source.now) found.0.block
+            (body_of found.0.body.now)) }
     {
         // The fault is dropped: a name that the source doesn't define may still be a built-in module's.
         let nowhere = Place { line: 1, column: 1 };

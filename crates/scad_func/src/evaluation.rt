@@ -25,7 +25,8 @@ pub struct Evaluation<'a, 's> {
     /// Turns so far.
     pub turns: u64,
     ghost numbered: { IsNumbered source.now (rows_of scopes.now) },
-    ghost modules: { IsTrue (modules_below (length (table_in source.now).modules) (rows_of scopes.now)) },
+    ghost modules: { IsTrue (modules_below (length (table_in source.now).modules)
+        (rows_of scopes.now)) },
     ghost there: { scope < length (rows_of scopes.now) },
     ghost few_calls: { calls ≤ most_calls },
     ghost shallow: { depth ≤ most_evaluations },

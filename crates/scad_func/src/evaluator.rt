@@ -35,7 +35,8 @@ use text_place::{FaultKind, Place, Stop};
 #[cycle(value)]
 #[tactic(auto, using(crate::proofs::Kept::keeps_trans))]
 pub fn evaluate(evaluation: &mut Evaluation<'_, '_>, expr: &Expr) -> Result<BoundedValue, Stop>
-    ensures { EvaluatesTo bounded_val evaluation.old evaluation.new result (λ here. value_at here true (term_of expr.now)) }
+    ensures { EvaluatesTo bounded_val evaluation.old evaluation.new result (λ here.
+        value_at here true (term_of expr.now)) }
 {
     let value = at_next_depth(evaluation, expr)?;
     count_elements(evaluation, value, expr.place())
@@ -44,7 +45,8 @@ pub fn evaluate(evaluation: &mut Evaluation<'_, '_>, expr: &Expr) -> Result<Boun
 // The value of an expression, one evaluation deeper.
 #[cycle(value)]
 fn at_next_depth(evaluation: &mut Evaluation<'_, '_>, expr: &Expr) -> Result<BoundedValue, Stop>
-    ensures { EvaluatesTo bounded_val evaluation.old evaluation.new result (λ here. value_at here false (term_of expr.now)) }
+    ensures { EvaluatesTo bounded_val evaluation.old evaluation.new result (λ here.
+        value_at here false (term_of expr.now)) }
 {
     if evaluation.depth == EVALUATIONS {
         return Err(FaultKind::TooDeep.at(expr.place()));
@@ -59,7 +61,8 @@ fn at_next_depth(evaluation: &mut Evaluation<'_, '_>, expr: &Expr) -> Result<Bou
 // stack holds the locals of the forms that are met alone.
 #[cycle(value)]
 fn operand(evaluation: &mut Evaluation<'_, '_>, expr: &Expr) -> Result<BoundedValue, Stop>
-    ensures { EvaluatesTo bounded_val evaluation.old evaluation.new result (λ here. operand here (term_of expr.now)) }
+    ensures { EvaluatesTo bounded_val evaluation.old evaluation.new result (λ here.
+        operand here (term_of expr.now)) }
 {
     match expr {
         Expr::Number(_, n) => Ok(BoundedValue {
@@ -129,7 +132,8 @@ fn unary(
 #[inline(never)]
 #[tactic(auto, using(crate::proofs::Kept::keeps_trans))]
 fn each_value(evaluation: &mut Evaluation<'_, '_>, exprs: &Exprs) -> Result<BoundedValues, Stop>
-    ensures { EvaluatesTo values_seen evaluation.old evaluation.new result (λ here. each_value here (terms_from (terms_of exprs.now))) }
+    ensures { EvaluatesTo values_seen evaluation.old evaluation.new result (λ here.
+        each_value here (terms_from (terms_of exprs.now))) }
 {
     let mut values = BoundedValues::new(evaluation.alloc);
     'each: for expr in &exprs.items {
@@ -195,7 +199,8 @@ fn postfix(
     rest: &Suffixes,
 ) -> Result<BoundedValue, Stop>
     ensures { EvaluatesTo bounded_val evaluation.old evaluation.new result (λ here turns.
-        then_with (operand here (term_of of.now) turns) (λ turns v. each_suffix here v (suffixes_from (suffixes_of rest.now)) turns)) }
+        then_with (operand here (term_of of.now) turns) (λ turns v.
+        each_suffix here v (suffixes_from (suffixes_of rest.now)) turns)) }
 {
     if let Expr::Name(place, name) = of {
         let variable = evaluation.variable_there(name.items(), *place)?;
@@ -215,7 +220,8 @@ fn suffixes(
 ) -> Result<BoundedValue, Stop>
     requires there { IsThere (numbered_env_here evaluation.old) of }
     ensures { EvaluatesTo bounded_val evaluation.old evaluation.new result (λ here.
-        each_suffix here (indexed_val (numbered_env_here evaluation.old) of.entry) (suffixes_from (suffixes_of rest.now))) }
+        each_suffix here (indexed_val (numbered_env_here evaluation.old) of.entry)
+        (suffixes_from (suffixes_of rest.now))) }
 {
     let mut so_far = suffix(evaluation, of, &rest.first)?;
     'each: for part in &rest.more {
@@ -233,7 +239,8 @@ fn suffix(
 ) -> Result<BoundedValue, Stop>
     requires there { IsThere (numbered_env_here evaluation.old) of }
     ensures { EvaluatesTo bounded_val evaluation.old evaluation.new result (λ here.
-        suffix_value here (indexed_val (numbered_env_here evaluation.old) of.entry) (suffix_of part.now)) }
+        suffix_value here (indexed_val (numbered_env_here evaluation.old) of.entry)
+        (suffix_of part.now)) }
 {
     match part {
         Suffix::Index(place, index) => {
@@ -257,7 +264,8 @@ fn operators(
     rest: &Links,
 ) -> Result<BoundedValue, Stop>
     ensures { EvaluatesTo bounded_val evaluation.old evaluation.new result (λ here turns.
-        then_with (operand here (term_of first.now) turns) (λ turns v. each_link here v (links_from (links_of rest.now)) turns)) }
+        then_with (operand here (term_of first.now) turns) (λ turns v.
+        each_link here v (links_from (links_of rest.now)) turns)) }
 {
     let left = operand(evaluation, first)?;
     links(evaluation, left, rest)
@@ -271,7 +279,8 @@ fn links(
     left: BoundedValue,
     rest: &Links,
 ) -> Result<BoundedValue, Stop>
-    ensures { EvaluatesTo bounded_val evaluation.old evaluation.new result (λ here. each_link here (bounded_val left) (links_from (links_of rest.now))) }
+    ensures { EvaluatesTo bounded_val evaluation.old evaluation.new result (λ here.
+        each_link here (bounded_val left) (links_from (links_of rest.now))) }
 {
     let mut so_far = link(evaluation, left, &rest.first)?;
     'each: for part in &rest.more {
@@ -287,7 +296,8 @@ fn link(
     left: BoundedValue,
     part: &Link,
 ) -> Result<BoundedValue, Stop>
-    ensures { EvaluatesTo bounded_val evaluation.old evaluation.new result (λ here. link_value here (bounded_val left) (link_of part.now)) }
+    ensures { EvaluatesTo bounded_val evaluation.old evaluation.new result (λ here.
+        link_value here (bounded_val left) (link_of part.now)) }
 {
     if !wants_right(part.op, &left) {
         return Ok(BoundedValue {
@@ -313,7 +323,8 @@ fn choice(
     no: &Expr,
 ) -> Result<BoundedValue, Stop>
     ensures { EvaluatesTo bounded_val evaluation.old evaluation.new result (λ here turns.
-        then_with (operand here (term_of test.now) turns) (λ turns v. value_at here true (if truth_of v then term_of yes.now else term_of no.now) turns)) }
+        then_with (operand here (term_of test.now) turns) (λ turns v.
+        value_at here true (if truth_of v then term_of yes.now else term_of no.now) turns)) }
 {
     let value = operand(evaluation, test)?;
     if is_true(value) {
@@ -333,7 +344,8 @@ fn call(
     args: &Args,
 ) -> Result<BoundedValue, Stop>
     ensures { EvaluatesTo bounded_val evaluation.old evaluation.new result (λ here turns.
-        call_value here place name.now (args_from (args_of args.now)) turns (visible_function here.env name.now)) }
+        call_value here place name.now (args_from (args_of args.now)) turns
+        (visible_function here.env name.now)) }
 {
     match evaluation.function(name) {
         Some((function, defining_scope)) => {
@@ -364,8 +376,10 @@ pub fn arguments<'b>(
     args: &'b Args,
 ) -> Result<CallArguments<'b, BoundedValue>, Stop>
     ensures given { EvaluatesTo arguments_of evaluation.old evaluation.new result (λ here.
-        each_argument here (names_in names.entry) 0 (args_from (args_of args.now)) (no_arguments_of (length (names_in names.entry)))) }
-    ensures count { IfOk result (λ given. length given.bound.items ≡ length (names_in names.entry)) }
+        each_argument here (names_in names.entry) 0 (args_from (args_of args.now))
+        (no_arguments_of (length (names_in names.entry)))) }
+    ensures count { IfOk result (λ given. length given.bound.items
+        ≡ length (names_in names.entry)) }
 {
     let mut so_far = ArgumentsSoFar::of(evaluation.alloc, names, &args.items)?;
     let mut positional: usize = 0;
@@ -389,7 +403,8 @@ fn function_call(
     given: CallArguments<'_, BoundedValue>,
     place: Place,
 ) -> Result<BoundedValue, Stop>
-    requires within { function_size function ≤ deepest evaluation.old.source.now.blocks.functions.items }
+    requires within { function_size function ≤ deepest
+        evaluation.old.source.now.blocks.functions.items }
     requires count { length given.bound.items ≡ length function.params.now.items.items }
     ensures { EvaluatesTo bounded_val evaluation.old evaluation.new result (λ here.
         function_called here place (function_of function.entry) (arguments_of given.entry)) }
@@ -432,7 +447,8 @@ fn with_defaults(
 ) -> Result<BoundedValue, Stop>
     requires count { length bound.items ≡ length function.params.now.items.items }
     ensures { EvaluatesTo bounded_val evaluation.old evaluation.new result (λ here turns.
-        then_with (each_parameter here (params_of function.entry.params.now) (bound_arguments_in bound.items) turns) (λ turns vs.
+        then_with (each_parameter here (params_of function.entry.params.now)
+        (bound_arguments_in bound.items) turns) (λ turns vs.
         with_parameters here (function_of function.entry) vs turns)) }
 {
     let values = parameters(evaluation, function.params, bound)?;
@@ -470,7 +486,8 @@ pub(crate) fn parameters(
     bound: Vec<Option<BoundedValue>>,
 ) -> Result<BoundedValues, Stop>
     requires { length bound.items ≡ length params.now.items.items }
-    ensures { EvaluatesParameters evaluation.old evaluation.new result (setting_here evaluation.old) params.now bound.items }
+    ensures { EvaluatesParameters evaluation.old evaluation.new result
+        (setting_here evaluation.old) params.now bound.items }
 {
     let mut open = bound;
     let mut values = BoundedValues::new(evaluation.alloc);
@@ -492,7 +509,8 @@ fn parameter(
     param: &Param,
     given: Option<BoundedValue>,
 ) -> Result<BoundedValue, Stop>
-    ensures { EvaluatesTo bounded_val evaluation.old evaluation.new result (λ here. parameter_value here (param_of param.now) (bound_argument_of given)) }
+    ensures { EvaluatesTo bounded_val evaluation.old evaluation.new result (λ here.
+        parameter_value here (param_of param.now) (bound_argument_of given)) }
 {
     match given {
         Some(value) => Ok(value),
@@ -510,7 +528,8 @@ fn parameter(
 #[inline(never)]
 #[tactic(auto, using(crate::proofs::Kept::keeps_trans))]
 fn each_positional(evaluation: &mut Evaluation<'_, '_>, args: &Args) -> Result<BoundedValues, Stop>
-    ensures { EvaluatesTo values_seen evaluation.old evaluation.new result (λ here. each_value here (all_values (args_from (args_of args.now)))) }
+    ensures { EvaluatesTo values_seen evaluation.old evaluation.new result (λ here.
+        each_value here (all_values (args_from (args_of args.now)))) }
 {
     let mut values = BoundedValues::new(evaluation.alloc);
     'each: for arg in &args.items {
@@ -527,7 +546,8 @@ fn count_elements(
     value: BoundedValue,
     place: Place,
 ) -> Result<BoundedValue, Stop>
-    ensures value { MeetsOutcome bounded_val result evaluation.new.turns (count_elements place (Gives evaluation.old.turns (bounded_val value))) }
+    ensures value { MeetsOutcome bounded_val result evaluation.new.turns
+        (count_elements place (Gives evaluation.old.turns (bounded_val value))) }
     ensures kept { Keeps evaluation.old evaluation.new }
 {
     if let Value::List(_) = &value.value {

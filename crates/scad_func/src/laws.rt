@@ -19,11 +19,16 @@ pub fn enter_what_stands()
 /// The law that arguments are evaluated as `arguments` of `scad_scope` matches them: where those of a call give values, each of
 /// them gave one; and where each gives one, what takes an argument has its value, or the first that nothing takes is the fault.
 pub fn arguments_are_evaluated_as_matched()
-    ensures values { (here : Setting) (names : List (List ℕ)) (args : List ArgTerm) (turns after : ℕ) (given : Arguments) →
-        each_argument here names 0 (args_from args) (no_arguments_of (length names)) turns ≡ Gives after given →
-        (values : Vals) × (each_value here (all_values (args_from args)) turns ≡ Gives after values) }
-    ensures matched { (here : Setting) (names : List (List ℕ)) (args : List ArgTerm) (turns after : ℕ) (values : Vals) →
+    ensures values { (here : Setting) (names : List (List ℕ)) (args : List ArgTerm)
+        (turns after : ℕ) (given : Arguments) →
+        each_argument here names 0 (args_from args) (no_arguments_of (length names)) turns
+        ≡ Gives after given →
+        (values : Vals) × (each_value here (all_values (args_from args)) turns
+        ≡ Gives after values) }
+    ensures matched { (here : Setting) (names : List (List ℕ)) (args : List ArgTerm)
+        (turns after : ℕ) (values : Vals) →
         each_value here (all_values (args_from args)) turns ≡ Gives after values →
         each_argument here names 0 (args_from args) (no_arguments_of (length names)) turns
-        ≡ matched_with values after (match_arguments names 0 0 args (no_arguments_of (length names))) }
+        ≡ matched_with values after
+        (match_arguments names 0 0 args (no_arguments_of (length names))) }
 {}

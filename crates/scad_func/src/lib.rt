@@ -1,7 +1,8 @@
 //! The evaluation of expressions in a scope, with dynamic bindings, where calls, evaluations and turns are counted.
 //!
-//! Read `Meaning.value_within` first: it says which value an expression has, or which fault comes first. What the code does is told by
-//! `Evaluations.EvaluatesTo`: the value or the fault of that meaning, and what stays as it was.
+//! Read `Meaning.value_within` first: it says which value an expression has, or which fault comes first. What the
+//! code does is told by `Evaluations.EvaluatesTo`: the value or the fault of that meaning, and what stays as it
+//! was.
 #![tactic(auto)]
 
 mod answer;

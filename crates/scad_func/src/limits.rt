@@ -20,8 +20,10 @@ pub(crate) const TURNS: u64 = 100_000;
 impl Evaluation<'_, '_> {
     /// One turn more. TooManyTurns at its place where it is the 100,001st.
     pub fn turn(&mut self, place: Place) -> Result<(), Stop>
-        ensures counted { OnOk result ((self.old.turns < most_turns) × (self.new.turns ≡ self.old.turns + 1)) }
-        ensures refused { IfErr result (λ stop. (self.old.turns ≡ most_turns) × IsFaultAt stop TooManyTurns place) }
+        ensures counted { OnOk result ((self.old.turns < most_turns)
+            × (self.new.turns ≡ self.old.turns + 1)) }
+        ensures refused { IfErr result (λ stop. (self.old.turns ≡ most_turns)
+            × IsFaultAt stop TooManyTurns place) }
         ensures kept { Keeps self.old self.new }
     {
         if self.turns == TURNS {
@@ -34,7 +36,8 @@ impl Evaluation<'_, '_> {
     // Whether one call more is within the limit.
     fn may_call(&self, place: Place) -> Result<(), Stop>
         ensures within { OnOk result (self.now.calls < most_calls) }
-        ensures refused { IfErr result (λ stop. (self.now.calls ≡ most_calls) × IsFaultAt stop TooDeep place) }
+        ensures refused { IfErr result (λ stop. (self.now.calls ≡ most_calls)
+            × IsFaultAt stop TooDeep place) }
     {
         if self.calls == CALLS {
             return Err(FaultKind::TooDeep.at(place));

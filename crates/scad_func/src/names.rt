@@ -39,7 +39,9 @@ impl Evaluation<'_, '_> {
         name: &CompactBytes,
         at: Place,
     ) -> Result<BoundedValue, Stop>
-        ensures { (turns : ℕ) → MeetsOutcome bounded_val result turns (or_fault (variable_in (numbered_env_here self.now) name.now) UnknownName at
+        ensures { (turns : ℕ)
+            → MeetsOutcome bounded_val result turns
+            (or_fault (variable_in (numbered_env_here self.now) name.now) UnknownName at
             (λ w. answer_at (binary_of part.now.op (bounded_val left) w) part.now.place turns)) }
     {
         self.binary_with_lent(&left, part, name, at)
@@ -52,8 +54,11 @@ impl Evaluation<'_, '_> {
         name: &CompactBytes,
         at: Place,
     ) -> Result<BoundedValue, Stop>
-        ensures { (turns : ℕ) → MeetsOutcome bounded_val result turns (or_fault (variable_in (numbered_env_here self.now) name.now) UnknownName at
-            (λ w. answer_at (binary_of part.now.op (bounded_val left.now) w) part.now.place turns)) }
+        ensures { (turns : ℕ)
+            → MeetsOutcome bounded_val result turns
+            (or_fault (variable_in (numbered_env_here self.now) name.now) UnknownName at
+            (λ w. answer_at (binary_of part.now.op (bounded_val left.now) w) part.now.place
+            turns)) }
     {
         match self.variable(name.items(), at) {
             Ok(right) => answer_placed(binary(self.alloc, part.op, &left.value, right), part.place),
@@ -65,7 +70,8 @@ impl Evaluation<'_, '_> {
     #[inline(never)]
     pub(crate) fn variable_of(&self, name: &[u8], place: Place) -> Result<BoundedValue, Stop>
         ensures { (turns : ℕ) → MeetsOutcome bounded_val result turns
-            (or_fault (variable_in (numbered_env_here self.now) name.now) UnknownName place (Gives turns)) }
+            (or_fault (variable_in (numbered_env_here self.now) name.now) UnknownName place
+            (Gives turns)) }
     {
         match self.variable(name, place) {
             Ok(value) => Ok(BoundedValue {
@@ -79,7 +85,8 @@ impl Evaluation<'_, '_> {
     #[inline(never)]
     pub(crate) fn special_of(&self, name: &[u8], place: Place) -> Result<BoundedValue, Stop>
         ensures { (turns : ℕ) → MeetsOutcome bounded_val result turns
-            (or_fault (find_in (bindings_of self.now.scopes.now) name.now) UnknownName place (Gives turns)) }
+            (or_fault (find_in (bindings_of self.now.scopes.now) name.now) UnknownName place
+            (Gives turns)) }
     {
         match self.scopes.special(name, place) {
             Ok(value) => Ok(BoundedValue {
@@ -92,7 +99,9 @@ impl Evaluation<'_, '_> {
     /// The number of children, which is 0 where there are none.
     #[inline(never)]
     pub(crate) fn child_count(&self, place: Place) -> Result<BoundedValue, Stop>
-        ensures { (turns : ℕ) → MeetsOutcome bounded_val result turns (Gives turns (or_zero (variable_in (numbered_env_here self.now) (codes "$children")))) }
+        ensures { (turns : ℕ)
+            → MeetsOutcome bounded_val result turns
+            (Gives turns (or_zero (variable_in (numbered_env_here self.now) (codes "$children")))) }
     {
         match self.variable(b"$children", place) {
             Ok(value) => Ok(BoundedValue {
@@ -111,9 +120,12 @@ impl Evaluation<'_, '_> {
         name: &'a [u8],
         place: Place,
     ) -> Result<Indexed<'a>, Stop>
-        ensures found { IfOk result (λ of. variable_in (numbered_env_here self.now) name.now ≡ Some (indexed_val (numbered_env_here self.now) of)) }
+        ensures found { IfOk result (λ of. variable_in (numbered_env_here self.now) name.now
+            ≡ Some (indexed_val (numbered_env_here self.now) of)) }
         ensures there { IfOk result (λ of. IsThere (numbered_env_here self.now) of) }
-        ensures missing { IfErr result (λ stop. (variable_in (numbered_env_here self.now) name.now ≡ None) × IsFaultAt stop UnknownName place) }
+        ensures missing { IfErr result (λ stop.
+            (variable_in (numbered_env_here self.now) name.now ≡ None)
+            × IsFaultAt stop UnknownName place) }
     {
         match self.variable(name, place) {
             Ok(_) => Ok(Indexed::Variable(name)),
@@ -130,7 +142,8 @@ impl Evaluation<'_, '_> {
         place: Place,
     ) -> Result<BoundedValue, Stop>
         requires there { IsThere (numbered_env_here self.now) of }
-        ensures { MeetsAnswerAt result (index_of (indexed_val (numbered_env_here self.now) of.entry) (bounded_val at)) place }
+        ensures { MeetsAnswerAt result (index_of (indexed_val (numbered_env_here self.now) of.entry)
+            (bounded_val at)) place }
     {
         self.item_at(&of, &at, place)
     }
@@ -142,7 +155,8 @@ impl Evaluation<'_, '_> {
         place: Place,
     ) -> Result<BoundedValue, Stop>
         requires there { IsThere (numbered_env_here self.now) of.now }
-        ensures { MeetsAnswerAt result (index_of (indexed_val (numbered_env_here self.now) of.now) (bounded_val at.now)) place }
+        ensures { MeetsAnswerAt result (index_of (indexed_val (numbered_env_here self.now) of.now)
+            (bounded_val at.now)) place }
     {
         match of {
             Indexed::Variable(name) => match self.variable(name, place) {
@@ -166,8 +180,11 @@ impl Evaluation<'_, '_> {
         place: Place,
     ) -> Result<BoundedValue, Stop>
         requires there { IsThere (numbered_env_here self.now) of }
-        ensures { (turns : ℕ) → MeetsOutcome bounded_val result turns (or_fault (member_of name.now) NotInProfile name_place
-            (λ n. answer_at (index_of (indexed_val (numbered_env_here self.now) of.entry) (NumberVal n)) place turns)) }
+        ensures { (turns : ℕ)
+            → MeetsOutcome bounded_val result turns
+            (or_fault (member_of name.now) NotInProfile name_place
+            (λ n. answer_at (index_of (indexed_val (numbered_env_here self.now) of.entry)
+            (NumberVal n)) place turns)) }
     {
         match member_of(name.items()) {
             Some(n) => {
@@ -182,7 +199,8 @@ impl Evaluation<'_, '_> {
 
     // The value of a variable, lent.
     fn variable(&self, name: &[u8], place: Place) -> Result<&Value, Fault>
-        ensures { MatchResult result (λ v. IsVariable (variable_in (numbered_env_here self.now) name.now) v.now)
+        ensures { MatchResult result (λ v.
+            IsVariable (variable_in (numbered_env_here self.now) name.now) v.now)
             (IsMissing UnknownName place (variable_in (numbered_env_here self.now) name.now)) }
     {
         self.scopes.variable(self.scope, name, place)

@@ -19,7 +19,8 @@ pub fn parameters_in(
 ) -> Result<BoundedValues, Stop>
     requires scope { scope < scopes_there evaluation.old }
     requires count { length bound.items ≡ length params.now.items.items }
-    ensures { EvaluatesParameters evaluation.old evaluation.new result (setting_in evaluation.old scope) params.now bound.items }
+    ensures { EvaluatesParameters evaluation.old evaluation.new result
+        (setting_in evaluation.old scope) params.now bound.items }
 {
     let before = evaluation.scope;
     evaluation.scope = scope;

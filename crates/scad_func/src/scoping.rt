@@ -26,7 +26,8 @@ impl<'a> Evaluation<'a, '_> {
     /// none.
     pub fn assignments(&self, block: u32) -> &'a [Assignment<'a>]
         ensures { IsWhole (table_in self.now.source.now) →
-            map assigned_of result.now ≡ assignments_of (statements_at (table_in self.now.source.now) block) }
+            map assigned_of result.now
+            ≡ assignments_of (statements_at (table_in self.now.source.now) block) }
     {
         let blocks = &self.source.blocks;
         if (block as usize) < blocks.count() {
@@ -40,7 +41,8 @@ impl<'a> Evaluation<'a, '_> {
     pub fn enter_body(&mut self, outer: u32, block: u32) -> Result<u32, NoMemory>
         requires { outer < scopes_there self.old }
         ensures { EntersScope self.old self.new result
-            (block_scope (table_in self.old.source.now) block no_activation (env_seen self.old.source.now (rows_of self.old.scopes.now) outer)) }
+            (block_scope (table_in self.old.source.now) block no_activation
+            (env_seen self.old.source.now (rows_of self.old.scopes.now) outer)) }
     {
         let source = self.source;
         let before = self.scope;
@@ -51,7 +53,8 @@ impl<'a> Evaluation<'a, '_> {
     /// Enters a new scope without definitions inside the one in which is evaluated, and answers that one: a scope in
     /// which a loop binds a variable. `NoMemory` leaves all as it was.
     pub fn enter_empty(&mut self) -> Result<u32, NoMemory>
-        ensures { EntersScope self.old self.new result (Within [] [] [] no_activation (env_here self.old)) }
+        ensures { EntersScope self.old self.new result
+            (Within [] [] [] no_activation (env_here self.old)) }
     {
         let before = self.scope;
         self.scope = self.scopes.enter_empty(self.alloc, before)?;
@@ -68,7 +71,8 @@ impl<'a> Evaluation<'a, '_> {
         children: u32,
     ) -> Result<u32, NoMemory>
         requires { defining_scope < scopes_there self.old }
-        ensures { EntersScope self.old self.new result (block_scope (table_in self.old.source.now) block
+        ensures { EntersScope self.old self.new result
+            (block_scope (table_in self.old.source.now) block
             (activation (statements_at (table_in self.old.source.now) children) (env_here self.old))
             (env_seen self.old.source.now (rows_of self.old.scopes.now) defining_scope)) }
     {
@@ -96,7 +100,8 @@ impl<'a> Evaluation<'a, '_> {
     #[tactic(auto, using(crate::proofs::Growth::front_kept, crate::proofs::Growth::bound_length))]
     pub fn bind(&mut self, name: &[u8], value: BoundedValue) -> Result<(), NoMemory>
         requires { self.old.scope + 1 ≡ scopes_there self.old }
-        ensures binds { BindsVariables self.old self.new result (with_value name.now (bounded_val value) (env_here self.old)) }
+        ensures binds { BindsVariables self.old self.new result
+            (with_value name.now (bounded_val value) (env_here self.old)) }
         ensures kept { OnErr result (Keeps self.old self.new) }
     {
         self.scopes.bind(self.alloc, self.scope, name, value.value)
@@ -112,7 +117,8 @@ impl<'a> Evaluation<'a, '_> {
         requires newest { self.old.scope + 1 ≡ scopes_there self.old }
         requires count { length values.items.items ≡ length params.now.items.items }
         ensures binds { BindsVariables self.old self.new result
-            (with_values (names_of (params_of params.now)) (values_seen values) (env_here self.old)) }
+            (with_values (names_of (params_of params.now)) (values_seen values)
+            (env_here self.old)) }
     {
         bind_all(self.alloc, self.scopes, self.scope, params, values)
     }
@@ -169,7 +175,8 @@ impl<'a> Evaluation<'a, '_> {
     /// The innermost call of a module whose scope is the one in which is evaluated or stands around it, with the block of
     /// its children and the scope of its caller.
     pub fn enclosing_activation(&self) -> Option<ModuleActivation>
-        ensures value { IsActivationFound (table_in self.now.source.now) (rows_of self.now.scopes.now) (activation_in (env_here self.now)) result }
+        ensures value { IsActivationFound (table_in self.now.source.now)
+            (rows_of self.now.scopes.now) (activation_in (env_here self.now)) result }
         ensures there { IfSome result (λ call. call.caller < scopes_there self.now) }
     {
         self.scopes.activation_of(self.scope)

@@ -30,7 +30,8 @@ pub(crate) fn value_in(
     meter: &mut Meter,
 ) -> Result<Value, Stop>
     requires { IsScopeOf (table_in source.now) (rows_of scopes.old) scope }
-    ensures value { GivesValue scopes.old meter.old meter.new (env_seen source.now (rows_of scopes.old) scope) (term_of expr.now) result }
+    ensures value { GivesValue scopes.old meter.old meter.new
+        (env_seen source.now (rows_of scopes.old) scope) (term_of expr.now) result }
     ensures kept { KeepsAllButTurns scopes.old scopes.new meter.old meter.new }
 {
     let mut evaluation = Evaluation {
@@ -59,7 +60,8 @@ pub fn value_of(
 ) -> Result<Value, Stop>
     requires { IsScopeOf (block_table (program_of program.now)) (rows_of scopes.old) scope }
     ensures value { GivesValue scopes.old meter.old meter.new
-        (env_in (block_table (program_of program.now)) (env_of (rows_of scopes.old) scope)) (term_of expr.now) result }
+        (env_in (block_table (program_of program.now)) (env_of (rows_of scopes.old) scope))
+        (term_of expr.now) result }
     ensures kept { KeepsAllButTurns scopes.old scopes.new meter.old meter.new }
 {
     let source = Source::of(alloc, program)?;

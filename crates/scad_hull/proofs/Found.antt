@@ -56,7 +56,7 @@ or_assoc : (a b c : Bool) → (a || (b || c)) ≡ ((a || b) || c)
 or_assoc true b c = refl
 or_assoc false b c = refl
 
-listed_push : (points : List (List ℤ)) (faces : List (List ℕ)) (t u : List ℕ) → listed points (faces ++ t ∷ []) u ≡ (listed points faces u || shares_plane points t u)
+pub listed_push : (points : List (List ℤ)) (faces : List (List ℕ)) (t u : List ℕ) → listed points (faces ++ t ∷ []) u ≡ (listed points faces u || shares_plane points t u)
 listed_push points [] t u = or_false (shares_plane points t u)
 listed_push points (s ∷ faces) t u = ap (λ b. shares_plane points s u || b) (listed_push points faces t u) ∙ or_assoc (shares_plane points s u) (listed points faces u) (shares_plane points t u)
 

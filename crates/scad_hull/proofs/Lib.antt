@@ -12,3 +12,5 @@ pub mod Orders
 pub mod Ordered
 mod Rows
 pub mod Loops
+pub mod Surrounded
+pub mod PlaneRows

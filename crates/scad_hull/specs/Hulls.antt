@@ -43,7 +43,7 @@ shares_plane points s t = list_all (λ i. int_eq (value_at points (plane_of poin
 abbrev pub from : ℕ → ℕ → List ℕ
 from a n = range_with_len a (n - a)
 
--- the triples of ascending numbers below n that begin with two numbers, or with one; and all of them, in ascending order
+-- the triples of ascending numbers below n that begin with i and j
 abbrev pub triples_by : ℕ → ℕ → ℕ → List (List ℕ)
 triples_by n i j = map (λ k. i ∷ j ∷ k ∷ []) (from (j + 1) n)
 

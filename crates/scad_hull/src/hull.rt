@@ -23,7 +23,8 @@ use text_place::FaultKind;
 /// plane.
 pub fn hull_shape(alloc: Global, points: &[[i64; 3]]) -> Result<Shape, ShapeStop>
     ensures hull { IfOk result (λ s. s ≡ hull_of points.now) }
-    ensures inside { OnOk result ((q : Coordinates) → pos 0 <ℤ q.w → IsInside (hull_of points.now) q ↔ IsInnerCombination (points_in_order points.now) q) }
+    ensures inside { OnOk result ((q : Coordinates) → pos 0 <ℤ q.w → IsInside (hull_of points.now) q
+        ↔ IsInnerCombination (points_in_order points.now) q) }
     ensures checks { OnOk result (HaveHull points.now) }
     ensures stops { IfErr result (IsHullStop points.now) }
 {

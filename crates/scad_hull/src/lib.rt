@@ -1,10 +1,13 @@
 //! The hull of points, whose inside is their inner combinations, or the first fault.
 #![tactic(auto)]
 
+mod around;
+mod face_list;
 mod faces;
 mod hull;
 mod laws;
 mod plane;
+mod plane_points;
 mod points;
 mod triples;
 

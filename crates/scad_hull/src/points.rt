@@ -42,7 +42,8 @@ fn put_point(points: &mut Vec<[i64; 3]>, point: [i64; 3]) -> Result<(), AllocErr
 // The place of a point among ascending points. `None` where it is among them.
 fn place_of(points: &[[i64; 3]], point: [i64; 3]) -> Option<usize>
     ensures within { IfSome result (λ i. i ≤ length points.now) }
-    ensures some { IfSome result (λ i. point_put_among point points.now ≡ insert points.now i point) }
+    ensures some { IfSome result (λ i. point_put_among point points.now
+        ≡ insert points.now i point) }
     ensures none { IsNone result → point_put_among point points.now ≡ points.now }
 {
     for place in 0..points.len() {

@@ -1,15 +1,19 @@
 //! Triples of points, and the planes through them.
 
-ghost use Rattle.std.specs.Prelude.{◌≡◌, pos, All, length};
+ghost use Rattle.std.specs.Prelude.{◌≡◌, ◌<◌, ◌<ℤ◌, pos, All, length};
+ghost use Rattle.std.specs.Bool.{OnTrue};
 ghost use Rattle.std.specs.List.{list_any};
 ghost use Rattle.std.specs.Ordering.{int_eq};
 ghost use Rattle.plane_predicate.specs.Space.{point_at, value};
 ghost use Rattle.primitives.specs.GridSizes.{IsOnGrid};
+ghost use Rattle.primitives.specs.Shapes.{value_at};
 ghost use Rattle.scad_hull.specs.Hulls.{is_directed, has_none_ahead, is_supporting, plane_of, shares_plane};
 ghost use Rattle.scad_hull.specs.Steps.{AreNumbered, AreThree};
 
 use primitives::face_has_ahead;
-use primitives::facing::{FacePlane, goes_through, has_direction, opposite, plane_through};
+use primitives::facing::{
+    FacePlane, goes_through, has_direction, is_ahead, opposite, plane_through,
+};
 
 /// Whether three points are not on one line, and no point lies strictly on one side of their plane.
 pub fn supports(points: &[[i64; 3]], all: &[u32], triple: [u32; 3]) -> bool
@@ -42,8 +46,8 @@ fn has_free_side(points: &[[i64; 3]], all: &[u32], plane: &FacePlane) -> bool
     !face_has_ahead(points, all, plane)
 }
 
-// The plane through three points.
-fn through(points: &[[i64; 3]], triple: [u32; 3]) -> FacePlane
+/// The plane through three points.
+pub fn through(points: &[[i64; 3]], triple: [u32; 3]) -> FacePlane
     requires grid { All (λ p. IsOnGrid (point_at p)) points.now }
     requires three { AreThree (length points.now) triple }
     ensures { result ≡ plane_of points.now triple }
@@ -91,4 +95,22 @@ fn holds(plane: &FacePlane, at: [i64; 3]) -> bool
     ensures { result ≡ int_eq (value plane.now (point_at at)) (pos 0) }
 {
     goes_through(plane, at)
+}
+
+/// Whether a point is strictly ahead of a plane.
+pub fn is_point_ahead(points: &[[i64; 3]], plane: &FacePlane, number: u32) -> bool
+    requires grid { All (λ p. IsOnGrid (point_at p)) points.now }
+    requires there { number < length points.now }
+    ensures { OnTrue result (pos 0 <ℤ value_at points.now plane.now number) }
+{
+    is_ahead(plane, points[number as usize])
+}
+
+/// Whether a plane goes through a point.
+pub fn is_point_on(points: &[[i64; 3]], plane: &FacePlane, number: u32) -> bool
+    requires grid { All (λ p. IsOnGrid (point_at p)) points.now }
+    requires there { number < length points.now }
+    ensures { OnTrue result (value_at points.now plane.now number ≡ pos 0) }
+{
+    goes_through(plane, points[number as usize])
 }

@@ -40,7 +40,8 @@ pub fn effect_of(
     bound: Vec<Option<BoundedValue>>,
 ) -> Result<Effect, Stop>
     ensures effect { MeetsEffectAt result place (effect_of unit (is_some position.inside)
-        (find_in (bindings_of evaluation.now.scopes.now) (codes "fn")) built_in (bound_arguments_in bound.items)) }
+        (find_in (bindings_of evaluation.now.scopes.now) (codes "fn")) built_in
+        (bound_arguments_in bound.items)) }
     ensures safe { IfOk result (λ effect. IsSafeCall (call_of effect)) }
 {
     let fragments = match evaluation.scopes.special(b"fn", place) {

@@ -74,7 +74,8 @@ pub fn count_children(
     block: u32,
 ) -> Result<BoundedValue, NoMemory>
     requires { IsWhole (table_in evaluation.old.source.now) }
-    ensures { CountsChildren (statements_at (table_in evaluation.old.source.now) block) evaluation.old evaluation.new result }
+    ensures { CountsChildren (statements_at (table_in evaluation.old.source.now) block)
+        evaluation.old evaluation.new result }
 {
     let outer = evaluation.scope;
     let before = evaluation.enter_body(outer, block)?;
@@ -98,7 +99,8 @@ pub fn chosen_instances<'a>(
     requires whole { IsWhole (table_in evaluation.now.source.now) }
     requires safe { IsSafeChosen chosen }
     ensures { let table = table_in evaluation.now.source.now in
-        let wanted = instances_chosen (env_here evaluation.now) (chosen_seen chosen.entry) (statements_at table block) in
+        let wanted = instances_chosen (env_here evaluation.now) (chosen_seen chosen.entry)
+        (statements_at table block) in
         IfOk result (λ found. HaveBodyBlocks table wanted found.items) }
 {
     let alloc = evaluation.alloc;

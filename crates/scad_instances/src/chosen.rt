@@ -21,7 +21,8 @@ pub(crate) fn chosen_among<T: Copy>(
     chosen: &Chosen,
 ) -> Result<Vec<T>, NoMemory>
     requires { IsSafeChoice (chosen_of chosen.now) }
-    ensures { IfOk result (λ found. found.items ≡ chosen_among children.items (chosen_of chosen.now)) }
+    ensures { IfOk result (λ found. found.items ≡ chosen_among children.items
+        (chosen_of chosen.now)) }
 {
     match chosen {
         Chosen::All => Ok(children),
@@ -54,7 +55,8 @@ fn by_range<T: Copy>(
 ) -> Result<Vec<T>, NoMemory>
     requires from { IsTrue (is_small from) }
     requires upto { IsTrue (is_small upto) }
-    ensures { IfOk result (λ found. found.items ≡ items_numbered children.now (numbers_of_range from by upto)) }
+    ensures { IfOk result (λ found. found.items ≡ items_numbered children.now
+        (numbers_of_range from by upto)) }
 {
     let mut found = Vec::new(alloc);
     if by == 0 {

@@ -57,7 +57,8 @@ fn is_union(design: &Design) -> bool
 
 // Adds the points of all leaves of a design, each moved by its leaf's steps.
 fn add_points(alloc: Global, points: &mut Vec<[i64; 3]>, design: &Design) -> Result<(), ShapeStop>
-    ensures points { OnOk result (points.new.items ≡ points.old.items ++ points_of (plain_of design.now)) }
+    ensures points { OnOk result (points.new.items ≡ points.old.items ++ points_of
+        (plain_of design.now)) }
     ensures safe { OnOk result (StaySafe (plain_of design.now)) }
     ensures stops { IfErr result (IsPastRange (StaySafe (plain_of design.now))) }
 {
@@ -74,7 +75,8 @@ fn add_points(alloc: Global, points: &mut Vec<[i64; 3]>, design: &Design) -> Res
 // Adds the points of a leaf, moved by its steps.
 fn add_leaf(alloc: Global, points: &mut Vec<[i64; 3]>, part: &LeafShape) -> Result<(), ShapeStop>
     ensures points { OnOk result (points.new.items ≡ points.old.items
-        ++ map (λ p. coordinates (image (map_of part.now.steps) (point_at p))) part.now.mesh.points) }
+        ++ map (λ p. coordinates (image (map_of part.now.steps) (point_at p)))
+        part.now.mesh.points) }
     ensures safe { OnOk result (StaysSafe part.now) }
     ensures stops { IfErr result (IsPastRange (StaysSafe part.now)) }
 {

@@ -61,7 +61,8 @@ pub enum Remaining {
 impl Remaining {
     fn next(&mut self) -> Option<Value>
         requires { IsTrue (all_bounded (remaining_in self.old)) }
-        ensures { MatchOption result ((remaining_in self.old ≡ no_vals) × (remaining_in self.new ≡ no_vals))
+        ensures { MatchOption result ((remaining_in self.old ≡ no_vals) ×
+            (remaining_in self.new ≡ no_vals))
             (λ v. remaining_in self.old ≡ and_val (val_of v) (remaining_in self.new)) }
     {
         match self {
@@ -85,7 +86,8 @@ impl Items {
     /// The items of a list, which are moved and not copied, or the numbers of a range. None where a
     /// value has none.
     pub fn of(value: BoundedValue) -> Option<Items>
-        ensures { option_map (λ items. remaining_in items.remaining) result ≡ items_of (bounded_val value) }
+        ensures { option_map (λ items. remaining_in items.remaining) result ≡ items_of
+            (bounded_val value) }
     {
         let BoundedValue { value, .. } = value;
         match value {
@@ -117,7 +119,8 @@ impl Items {
     pub fn next(&mut self) -> Option<BoundedValue>
         ensures next { MatchOption result ((remaining_in self.old.remaining ≡ no_vals)
             × (remaining_in self.new.remaining ≡ no_vals))
-            (λ v. remaining_in self.old.remaining ≡ and_val (bounded_val v) (remaining_in self.new.remaining)) }
+            (λ v. remaining_in self.old.remaining ≡ and_val (bounded_val v)
+            (remaining_in self.new.remaining)) }
         ensures fewer { IfSome result (λ _. count_of (remaining_in self.new.remaining)
             < count_of (remaining_in self.old.remaining)) }
     {

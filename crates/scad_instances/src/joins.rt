@@ -33,7 +33,8 @@ pub fn no_members(alloc: Global) -> MemberResults
 
 // The first of two designs that are marked.
 fn first_root(earlier: Option<Design>, later: Option<Design>) -> Option<Design>
-    ensures { option_map plain_of result ≡ first_root (option_map plain_of earlier) (option_map plain_of later) }
+    ensures { option_map plain_of result ≡ first_root (option_map plain_of earlier)
+        (option_map plain_of later) }
 {
     match earlier {
         Some(design) => Some(design),
@@ -41,14 +42,16 @@ fn first_root(earlier: Option<Design>, later: Option<Design>) -> Option<Design>
     }
 }
 
-/// What an instance that is marked `!` gives: its design is no part of the one around it.
-pub fn as_root(made: InstanceResult) -> InstanceResult
-    ensures { (leaves : ℕ) → instance_design_of leaves result ≡ as_root (instance_design_of leaves made) }
+/// What an instance that is marked `!` gives: its design is the root, and a member of what stands around it as well.
+pub fn as_root(alloc: Global, made: InstanceResult) -> Result<InstanceResult, NoMemory>
+    ensures { IfOk result (λ root. (leaves : ℕ) → instance_design_of leaves root
+        ≡ as_root (instance_design_of leaves made)) }
 {
-    InstanceResult {
-        design: Design::Empty,
-        root: Some(made.design),
-    }
+    let root = made.design.copy(alloc)?;
+    Ok(InstanceResult {
+        design: made.design,
+        root: Some(root),
+    })
 }
 
 /// Members joined by an operation.

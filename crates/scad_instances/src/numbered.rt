@@ -36,7 +36,8 @@ pub(crate) fn numbered_instances<'a>(
 ) -> Result<Vec<NumberedInstance<'a>>, NoMemory>
     requires { IsWhole (table_in source.now) }
     ensures { let table = table_in source.now in
-        IfOk result (λ found. HaveBodyBlocks table (evaluated_in (statements_at table block)) found.items) }
+        IfOk result (λ found. HaveBodyBlocks table
+        (evaluated_in (statements_at table block)) found.items) }
 {
     let mut found = Vec::new(alloc);
     if (block as usize) < source.blocks.count() {
@@ -54,7 +55,8 @@ fn add_block<'a>(
     requires whole { IsWhole (table_in source.now) }
     requires there { block < length (table_in source.now).entries }
     ensures { let table = table_in source.now in
-        AddsInstances table (evaluated_in (statements_at table block)) found.old.items found.new.items result }
+        AddsInstances table (evaluated_in (statements_at table block)) found.old.items
+        found.new.items result }
 {
     // What stands in a block begins behind it. No program has so many blocks that there is no number.
     let Some(first) = block.checked_add(1) else {
@@ -82,9 +84,11 @@ fn add_all<'a>(
     found: &mut Vec<NumberedInstance<'a>>,
 ) -> Result<u32, NoMemory>
     requires whole { IsWhole (table_in source.now) }
-    requires stand { StandAt (table_in source.now) first (entities_in (statements_from (statements_of statements.now))) }
+    requires stand { StandAt (table_in source.now) first
+        (entities_in (statements_from (statements_of statements.now))) }
     ensures { let terms = statements_from (statements_of statements.now) in
-        PassesOver (table_in source.now) first (entities_in terms) (evaluated_in terms) found.old.items found.new.items result }
+        PassesOver (table_in source.now) first (entities_in terms)
+        (evaluated_in terms) found.old.items found.new.items result }
 {
     let mut next = first;
     'each: for statement in &statements.items {
@@ -101,7 +105,8 @@ fn add<'a>(
     found: &mut Vec<NumberedInstance<'a>>,
 ) -> Result<u32, NoMemory>
     requires whole { IsWhole (table_in source.now) }
-    requires stand { StandAt (table_in source.now) first (entities_of (statement_of statement.now)) }
+    requires stand { StandAt (table_in source.now) first
+        (entities_of (statement_of statement.now)) }
     ensures { let term = statement_of statement.now in
         PassesOver (table_in source.now) first (entities_of term)
         (filter is_on (instances_of term)) found.old.items found.new.items result }
@@ -124,7 +129,8 @@ fn add_instance<'a>(
     found: &mut Vec<NumberedInstance<'a>>,
 ) -> Result<u32, NoMemory>
     requires whole { IsWhole (table_in source.now) }
-    requires stand { StandAt (table_in source.now) block (entities_of_instance (instance_of instance.now)) }
+    requires stand { StandAt (table_in source.now) block
+        (entities_of_instance (instance_of instance.now)) }
     ensures { let term = instance_of instance.now in
         PassesOver (table_in source.now) block (entities_of_instance term)
         (filter is_on (term ∷ [])) found.old.items found.new.items result }
@@ -142,7 +148,8 @@ fn add_instance<'a>(
 fn block_end(source: &Source<'_>, numbered: NumberedInstance<'_>) -> u32
     requires whole { IsWhole (table_in source.now) }
     requires begins { BlocksBegin (table_in source.now) numbered }
-    ensures { result ≡ numbered.entry.block + count_blocks (entities_of_instance (term_of_numbered numbered.entry)) }
+    ensures { result ≡ numbered.entry.block + count_blocks
+        (entities_of_instance (term_of_numbered numbered.entry)) }
 {
     if has_else(&numbered.instance.core) {
         source.blocks.block_end(numbered.other)
@@ -167,9 +174,11 @@ fn add_if_on<'a>(
     numbered: NumberedInstance<'a>,
     found: &mut Vec<NumberedInstance<'a>>,
 ) -> Result<(), NoMemory>
-    ensures instances { OnOk result (map term_of_numbered found.new.items ≡ map term_of_numbered found.old.items
+    ensures instances { OnOk result (map term_of_numbered found.new.items ≡ map term_of_numbered
+        found.old.items
         ++ filter is_on (term_of_numbered numbered.entry ∷ [])) }
-    ensures blocks { (table : BlockTable) → HasBlocks table numbered.entry → All (HasBlocks table) found.old.items
+    ensures blocks { (table : BlockTable) → HasBlocks table numbered.entry →
+        All (HasBlocks table) found.old.items
         → OnOk result (All (HasBlocks table) found.new.items) }
 {
     if is_on(numbered.instance) {

@@ -15,7 +15,8 @@ use std::alloc::Global;
 pub fn solid_shape(alloc: Global, unit: Unit, shape: &SolidShape) -> Result<Shape, ShapeStop>
     requires { IsSafeSolid (solid_call_of shape.now) }
     ensures { (judge : Judge) → IsRight judge →
-        MeetsShape result (judge.solid unit (solid_call_of shape.now)) (solid_of unit (solid_call_of shape.now)) }
+        MeetsShape result (judge.solid unit (solid_call_of shape.now))
+        (solid_of unit (solid_call_of shape.now)) }
 {
     match shape {
         SolidShape::Cube { size, center } => cube_shape(alloc, *size, *center, unit),
@@ -33,7 +34,8 @@ pub fn solid_shape(alloc: Global, unit: Unit, shape: &SolidShape) -> Result<Shap
 pub fn flat_shape(alloc: Global, unit: Unit, shape: &FlatShape) -> Result<Flat, ShapeStop>
     requires { IsSafeFlat (flat_call_of shape.now) }
     ensures { (judge : Judge) → IsRight judge →
-        MeetsFlat result (judge.flat unit (flat_call_of shape.now)) (outline_of unit (flat_call_of shape.now)) }
+        MeetsFlat result (judge.flat unit (flat_call_of shape.now))
+        (outline_of unit (flat_call_of shape.now)) }
 {
     match shape {
         FlatShape::Square { size, center } => square_flat(alloc, *size, *center, unit),

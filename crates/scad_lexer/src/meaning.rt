@@ -117,7 +117,8 @@ fn is_zeros(bytes: &[u8]) -> bool
 
 // The number that digits write, where it is below 2^53.
 fn number(digits: &[u8]) -> Option<Numeral>
-    ensures { MatchOption result (2 ^ 53 ≤ number_from 0 digits.now) (λ n. (n ≡ number_from 0 digits.now) × (n < 2 ^ 53)) }
+    ensures { MatchOption result (2 ^ 53 ≤ number_from 0 digits.now) (λ n. (n
+        ≡ number_from 0 digits.now) × (n < 2 ^ 53)) }
 {
     let mut number: u64 = 0;
     for digit in digits {
@@ -166,7 +167,8 @@ fn without_quotes(bytes: &[u8]) -> &[u8]
 
 // The bytes that the inside of a text writes, or how many bytes stand before its first fault.
 fn decode(alloc: Global, without_quotes: &[u8]) -> Result<Result<Vec<u8>, usize>, NoMemory>
-    ensures value { IfOk result (λ r. MatchResult r (λ v. bytes_written without_quotes.now ≡ Ok v.items) (λ n. bytes_written without_quotes.now ≡ Err n)) }
+    ensures value { IfOk result (λ r. MatchResult r (λ v. bytes_written without_quotes.now
+        ≡ Ok v.items) (λ n. bytes_written without_quotes.now ≡ Err n)) }
     ensures within { IfOk result (λ r. IfErr r (λ n. n < length without_quotes.now)) }
 {
     let mut bytes = Vec::new(alloc);
@@ -186,7 +188,8 @@ fn decode(alloc: Global, without_quotes: &[u8]) -> Result<Result<Vec<u8>, usize>
 // The byte that the front of a text's inside writes, and in how many bytes.
 fn next_byte(without_quotes: &[u8]) -> Option<(u8, usize)>
     requires { 1 ≤ length without_quotes.now }
-    ensures some { IfSome result (λ p. bytes_written without_quotes.now ≡ with_byte p.0 p.1 (bytes_written (drop p.1 without_quotes.now))) }
+    ensures some { IfSome result (λ p. bytes_written without_quotes.now
+        ≡ with_byte p.0 p.1 (bytes_written (drop p.1 without_quotes.now))) }
     ensures within { IfSome result (λ p. (1 ≤ p.1) × (p.1 ≤ length without_quotes.now)) }
     ensures none { IfNone result (bytes_written without_quotes.now ≡ Err 0) }
 {

@@ -37,7 +37,9 @@ pub fn one_outcome()
 
 /// Each source gives something: its tokens, the last of which is their only end, or its first fault.
 pub fn some_outcome()
-    ensures { (text : List ℕ) → ((tokens : List Token) × Lexes text (GivesTokens tokens) × (ends_once tokens ≡ true)) ⊎ ((kind : FaultKind) × (at : Place) × Lexes text (FaultAt kind at)) }
+    ensures { (text : List ℕ) → ((tokens : List Token) × Lexes text (GivesTokens tokens) ×
+        (ends_once tokens ≡ true)) ⊎ ((kind : FaultKind) × (at : Place) ×
+        Lexes text (FaultAt kind at)) }
 {}
 
 // Most words are blank bytes, and symbols that begin no longer word: they are read without a search for the
@@ -85,7 +87,8 @@ fn push_word(
     requires longest { IsLongest text.now bytes word }
     requires line { place.line + length text.now < 2 ^ 32 }
     requires column { place.column + length text.now < 2 ^ 32 }
-    ensures appended { OnOk result (AppendsNext tokens.old.items tokens.new.items place text.now bytes) }
+    ensures appended { OnOk result (AppendsNext tokens.old.items tokens.new.items place text.now
+        bytes) }
     ensures fault { IfErr result (λ stop. IsLexStopFrom place text.now stop) }
 {
     match meant(alloc, word, &text[..bytes])? {
@@ -100,7 +103,8 @@ fn push_word(
 
 #[inline(always)]
 fn push_token(tokens: &mut Vec<Token>, kind: TokenKind, place: Place) -> Result<(), NoMemory>
-    ensures { OnOk result (tokens.new.items ≡ tokens.old.items ++ record { kind = kind; place = place } ∷ []) }
+    ensures { OnOk result
+        (tokens.new.items ≡ tokens.old.items ++ record { kind = kind; place = place } ∷ []) }
 {
     tokens.push(Token { kind, place })?;
     Ok(())

@@ -1,5 +1,5 @@
 -- Worked rows of hulls, which compute. Each comment is the source whose syntax stands below it.
-use Rattle.std.proofs.Common.{◌≡◌, pos, true, false, [], ◌∷◌, None, Some, refl}
+use Rattle.std.proofs.Common.{◌≡◌, pos, true, false, [], ◌∷◌, None, Some, refl, if◌then◌else◌}
 use Rattle.std.specs.Prelude.{codes}
 use Rattle.text_place.specs.declared.fault.FaultKind.TheVariants.{UnknownModule, NotInProfile, WrongDimension, BadArgument, TooManyParts}
 use Rattle.plane_predicate.specs.declared.unit.Unit.TheVariants.{Whole}
@@ -17,6 +17,10 @@ use Rattle.scad_meaning.proofs.Rows.{at, meaning, nothing_seen, points_seen, see
 -- a judge that finds no hull right
 abbrev strict : Judge
 strict = record { solid = λ _ _. None; flat = λ _ _. None; height = λ _ _ _. None; hull = λ _. Some NotInProfile }
+
+-- a judge that wants unions alone in hulls
+abbrev wants_unions : Judge
+wants_unions = record { solid = λ _ _. None; flat = λ _ _. None; height = λ _ _ _. None; hull = λ design. if is_union design then None else Some NotInProfile }
 
 -- a part with one point
 abbrev dot : MovedShape
@@ -82,6 +86,32 @@ hull_without_a_fault = refl
 marked_in_a_hull : seen_in (meaning (and_statement (InstanceStatement (AnInstance (at 1 1) ([]) (ModuleCallTerm (at 1 1) (codes "hull") ([]) (BlockBody (at 1 8) (and_statement (InstanceStatement (AnInstance (at 1 10) ((record { at = (at 1 10); modifier = Root }) ∷ []) (ModuleCallTerm (at 1 11) (codes "cube") ((PositionalTerm (NumberTerm (at 1 16) 1)) ∷ []) (EmptyBody (at 1 18))))) no_statements))))) no_statements)) ≡ seen_in (meaning (and_statement (InstanceStatement (AnInstance (at 1 1) ([]) (ModuleCallTerm (at 1 1) (codes "cube") ((PositionalTerm (NumberTerm (at 1 6) 1)) ∷ []) (EmptyBody (at 1 8))))) no_statements))
 unfolding design_of design_within value_within
 marked_in_a_hull = refl
+
+-- hull() difference() { cube(9); !cube(1); }
+marked_beside_a_hull : design_of Whole wants_unions first_bindings (and_statement (InstanceStatement (AnInstance (at 1 1) ([]) (ModuleCallTerm (at 1 1) (codes "hull") ([]) (InstanceBody (AnInstance (at 1 8) ([]) (ModuleCallTerm (at 1 8) (codes "difference") ([]) (BlockBody (at 1 21) (and_statement (InstanceStatement (AnInstance (at 1 23) ([]) (ModuleCallTerm (at 1 23) (codes "cube") ((PositionalTerm (NumberTerm (at 1 28) 9)) ∷ []) (EmptyBody (at 1 30))))) (and_statement (InstanceStatement (AnInstance (at 1 32) ((record { at = (at 1 32); modifier = Root }) ∷ []) (ModuleCallTerm (at 1 33) (codes "cube") ((PositionalTerm (NumberTerm (at 1 38) 1)) ∷ []) (EmptyBody (at 1 40))))) no_statements))))))))) no_statements) ≡ Faults NotInProfile (at 1 1)
+unfolding design_of design_within value_within
+marked_beside_a_hull = refl
+
+-- hull() difference() { !cube(9); }
+marked_alone_in_a_hull : seen_in (design_of Whole wants_unions first_bindings (and_statement (InstanceStatement (AnInstance (at 1 1) ([]) (ModuleCallTerm (at 1 1) (codes "hull") ([]) (InstanceBody (AnInstance (at 1 8) ([]) (ModuleCallTerm (at 1 8) (codes "difference") ([]) (BlockBody (at 1 21) (and_statement (InstanceStatement (AnInstance (at 1 23) ((record { at = (at 1 23); modifier = Root }) ∷ []) (ModuleCallTerm (at 1 24) (codes "cube") ((PositionalTerm (NumberTerm (at 1 29) 9)) ∷ []) (EmptyBody (at 1 31))))) no_statements)))))))) no_statements)) ≡ seen_in (meaning (and_statement (InstanceStatement (AnInstance (at 1 1) ([]) (ModuleCallTerm (at 1 1) (codes "cube") ((PositionalTerm (NumberTerm (at 1 6) 9)) ∷ []) (EmptyBody (at 1 8))))) no_statements))
+unfolding design_of design_within value_within
+marked_alone_in_a_hull = refl
+
+-- hull() !cube(1);
+hull_of_a_marked_cube : design_of Whole strict first_bindings (and_statement (InstanceStatement (AnInstance (at 1 1) ([]) (ModuleCallTerm (at 1 1) (codes "hull") ([]) (InstanceBody (AnInstance (at 1 8) ((record { at = (at 1 8); modifier = Root }) ∷ []) (ModuleCallTerm (at 1 9) (codes "cube") ((PositionalTerm (NumberTerm (at 1 14) 1)) ∷ []) (EmptyBody (at 1 16)))))))) no_statements) ≡ Faults NotInProfile (at 1 1)
+unfolding design_of design_within value_within
+hull_of_a_marked_cube = refl
+
+-- after 0 turns and 1023 leaves
+-- hull() !cube(1);
+hull_of_the_last_marked_leaf : begun 0 1023 (and_statement (InstanceStatement (AnInstance (at 1 1) ([]) (ModuleCallTerm (at 1 1) (codes "hull") ([]) (InstanceBody (AnInstance (at 1 8) ((record { at = (at 1 8); modifier = Root }) ∷ []) (ModuleCallTerm (at 1 9) (codes "cube") ((PositionalTerm (NumberTerm (at 1 14) 1)) ∷ []) (EmptyBody (at 1 16)))))))) no_statements) ≡ Faults TooManyParts (at 1 1)
+unfolding design_within value_within
+hull_of_the_last_marked_leaf = refl
+
+-- !hull() { cube(1); !cube(2); }
+marked_inside_a_mark : seen_in (meaning (and_statement (InstanceStatement (AnInstance (at 1 1) ((record { at = (at 1 1); modifier = Root }) ∷ []) (ModuleCallTerm (at 1 2) (codes "hull") ([]) (BlockBody (at 1 9) (and_statement (InstanceStatement (AnInstance (at 1 11) ([]) (ModuleCallTerm (at 1 11) (codes "cube") ((PositionalTerm (NumberTerm (at 1 16) 1)) ∷ []) (EmptyBody (at 1 18))))) (and_statement (InstanceStatement (AnInstance (at 1 20) ((record { at = (at 1 20); modifier = Root }) ∷ []) (ModuleCallTerm (at 1 21) (codes "cube") ((PositionalTerm (NumberTerm (at 1 26) 2)) ∷ []) (EmptyBody (at 1 28))))) no_statements)))))) no_statements)) ≡ seen_in (meaning (and_statement (InstanceStatement (AnInstance (at 1 1) ([]) (ModuleCallTerm (at 1 1) (codes "hull") ([]) (BlockBody (at 1 8) (and_statement (InstanceStatement (AnInstance (at 1 10) ([]) (ModuleCallTerm (at 1 10) (codes "cube") ((PositionalTerm (NumberTerm (at 1 15) 1)) ∷ []) (EmptyBody (at 1 17))))) (and_statement (InstanceStatement (AnInstance (at 1 19) ([]) (ModuleCallTerm (at 1 19) (codes "cube") ((PositionalTerm (NumberTerm (at 1 24) 2)) ∷ []) (EmptyBody (at 1 26))))) no_statements)))))) no_statements))
+unfolding design_of design_within value_within
+marked_inside_a_mark = refl
 
 -- hull() cube(1); behind 1,023 leaves
 hull_of_the_last_leaf : begun 0 1023 (and_statement (InstanceStatement (AnInstance (at 1 1) ([]) (ModuleCallTerm (at 1 1) (codes "hull") ([]) (InstanceBody (AnInstance (at 1 8) ([]) (ModuleCallTerm (at 1 8) (codes "cube") ((PositionalTerm (NumberTerm (at 1 13) 1)) ∷ []) (EmptyBody (at 1 15)))))))) no_statements) ≡ Faults TooManyParts (at 1 1)

@@ -1,6 +1,6 @@
 -- The faults of instances stand at places of the text, and so do the parts of designs, which are sound: by one lemma for each
 -- equation.
-use Rattle.std.proofs.Common.{◌≡◌, refl, subst, ℕ, zero, suc, ◌+◌, ◌/◌, Bool, true, false, nat_lt, List, [], ◌∷◌, ◌++◌, length, take, drop, Option, Some, None, Ok, Err, if◌then◌else◌}
+use Rattle.std.proofs.Common.{◌≡◌, refl, subst, ℕ, zero, suc, ◌+◌, ◌/◌, Bool, true, false, ◌&&◌, nat_lt, nat_eq, List, [], ◌∷◌, ◌++◌, length, take, drop, Option, Some, None, Ok, Err, if◌then◌else◌}
 use Rattle.std.specs.Prelude.{All, IfOk, IfSome, flat_map, is_some, codes}
 use Rattle.std.specs.List.{AllByRecursion}
 use Rattle.std.proofs.lemmas.List.Elements.{All-nil, All-cons, All-head, All-tail, All-append, All-take, All-drop, All-filter}
@@ -35,7 +35,7 @@ use Rattle.scad_meaning.specs.Hulls.{is_nothing, points_of, hull_mesh}
 use Rattle.scad_meaning.specs.Verdicts.{Judge, Verdict, IsRight, IsSolidVerdict, IsFlatVerdict, IsHeightVerdict, IsHullVerdict, solid_of, extrusion_mesh}
 use Rattle.scad_meaning.specs.Bodies.{evaluated_in, is_child, children_in, has_root_modifier, has_no_geometry, is_bare}
 use Rattle.scad_meaning.specs.Loops.{items_of}
-use Rattle.scad_meaning.specs.Meaning.{Context, inside_scope, with_bindings, with_calls_left, inside_root, inside_extrusion, setting, InstanceDesign, MemberDesigns, first_root, no_design, no_members, as_member, and_members, joined_members, EvaluatesInstance, Evaluator, assigned_value, with_assignment, each_assigned, core_of_instance, each_member, each_in_scope, each_in_body, body_design, after_step, each_step, in_loop, each_iteration, loop_design, leaf_design, unless_refused, with_leaf_of, hull_design, answered_with, module_scope, module_design, each_echo_argument, arguments_for, children_design, flat_design, effect_design, built_in_design, call_design, core_design, root_design, instance_design, design_within, evaluator_with, program_context, or_all, design_of, counted_step, instances_chosen, block_members, module_given, most_leaves}
+use Rattle.scad_meaning.specs.Meaning.{Context, inside_scope, with_bindings, with_calls_left, inside_root, inside_extrusion, setting, InstanceDesign, MemberDesigns, first_root, no_design, no_members, as_member, and_members, joined_members, EvaluatesInstance, Evaluator, assigned_value, with_assignment, each_assigned, core_of_instance, each_member, each_in_scope, each_in_body, body_design, after_step, each_step, in_loop, each_iteration, loop_design, leaf_design, unless_refused, with_leaf_of, hull_design, answered_with, module_scope, module_design, each_echo_argument, arguments_for, children_design, chosen_children, after_call, flat_design, effect_design, built_in_design, call_design, core_design, root_design, instance_design, design_within, evaluator_with, program_context, or_all, design_of, counted_step, instances_chosen, block_members, module_given, most_leaves}
 use Rattle.scad_meaning.proofs.Choosing.{all_chosen}
 use Rattle.scad_meaning.proofs.HeldPlaces.{if_keeps, Whatever, Held, first_held, rest_held, ModuleHeld, ScopeHeld, CallHeld, module_found, call_found, variable_held, functions_held, modules_held, entered_held, body_held, AssignedHeld, assignments_held, InstanceHeld, evaluated_held, Keeps, then_keeps, skip_keeps, some_keeps, turn_keeps, call_keeps}
 use Rattle.scad_meaning.proofs.SoundShapes.{HasFlatSides, IsSoundCall, effect_sound, solid_is_shape, extruded_is_shape}
@@ -137,6 +137,10 @@ module _ (P : Place → Type 0) where
       → P at → ((n : ℕ) → Keeps P Q (go n)) → Keeps P Q (after_step at designs turns go)
   after_keeps Q at [] turns go p g = turn_keeps P Q at turns go p g
   after_keeps Q at (d ∷ ds) turns go p g = g turns
+
+  idle_keeps : (at : Place) (idle : Bool) (turns : ℕ) (m : InstanceDesign) → P at → DesignsHeld m → Keeps P DesignsHeld (after_call at idle turns m)
+  idle_keeps at true turns m p k = turn_keeps P DesignsHeld at turns (λ turns. Gives turns m) p (λ turns. k)
+  idle_keeps at false turns m p k = k
 
   module _ (unit : LengthUnit) where
     -- where instances stand: inside no extrusion, or inside one whose height has nothing wrong
@@ -317,8 +321,10 @@ module _ (P : Place → Type 0) where
         call_effect_keeps here at no_geometry body turns leaves p h s sound =
             if_keeps (Keeps P DesignsHeld) (is_bare body) (Gives turns (no_design leaves)) (Faults NotInProfile at) (tt, tt) p
         call_effect_keeps here at (some_children chosen) body turns leaves p h s sound =
-            call_keeps P DesignsHeld here.calls_left at _ p (λ calls.
-            children_keep (with_calls_left here calls) (activation_in here.env) chosen turns leaves (call_found P here.env s.0) s.1)
+            then_keeps P DesignsHeld DesignsHeld (chosen_children evaluator at chosen here turns leaves) _
+            (call_keeps P DesignsHeld here.calls_left at _ p (λ calls.
+            children_keep (with_calls_left here calls) (activation_in here.env) chosen turns leaves (call_found P here.env s.0) s.1)) (λ after m k.
+            idle_keeps at (nat_eq after turns && nat_eq m.leaves leaves) after m p k)
 
         built_in_keeps : (here : Context) (at : Place) (name : List ℕ) (args : List ArgTerm) (body : BodyTerm) (found : Option BuiltinModule) (turns leaves : ℕ)
             → P at → Held P (places_of_args (args_from args)) → Held P (places_of_body body) → ContextHeld here
@@ -383,7 +389,7 @@ module _ (P : Place → Type 0) where
         marked_keeps here core turns leaves s h =
             if_keeps (Keeps P DesignsHeld) here.under_root (core_design evaluator here core turns leaves) _ (core_keeps here core turns leaves s h)
             (then_keeps P DesignsHeld DesignsHeld (core_design evaluator (inside_root here) core turns leaves) _
-            (core_keeps (inside_root here) core turns leaves s h) (λ turns m k. (tt, k.0)))
+            (core_keeps (inside_root here) core turns leaves s h) (λ turns m k. (k.0, k.0)))
 
         core_place_held : (core : CoreTerm) → Held P (places_of_core core) → P (place_of_core core)
         core_place_held (IfTerm at test body) h = h.0

@@ -1,5 +1,5 @@
 -- How many parts designs have: at most as many as there are leaves, and no join of theirs has an empty side.
-use Rattle.std.proofs.Common.{◌≡◌, ℕ, zero, suc, ◌+◌, ◌*◌, ◌<◌, ◌≤◌, ◌^◌, Bool, true, false, nat_lt, List, [], ◌∷◌, ◌++◌, length, Option, Some, None, Ok, Err, refl, subst, arith, if◌then◌else◌}
+use Rattle.std.proofs.Common.{◌≡◌, ℕ, zero, suc, ◌+◌, ◌*◌, ◌<◌, ◌≤◌, ◌^◌, Bool, true, false, ◌&&◌, nat_lt, nat_eq, List, [], ◌∷◌, ◌++◌, length, Option, Some, None, Ok, Err, refl, subst, arith, if◌then◌else◌}
 use Rattle.std.specs.Prelude.{All, is_some, codes}
 use Rattle.std.specs.List.{sum_by}
 use Rattle.std.proofs.lemmas.Bool.Decides.{nat_tests}
@@ -32,7 +32,7 @@ use Rattle.scad_meaning.specs.Hulls.{is_nothing, hull_mesh}
 use Rattle.scad_meaning.specs.Verdicts.{Judge, Verdict, solid_of, extrusion_mesh}
 use Rattle.scad_meaning.specs.Bodies.{has_root_modifier, has_no_geometry, is_bare}
 use Rattle.scad_meaning.specs.Loops.{items_of}
-use Rattle.scad_meaning.specs.Meaning.{Context, inside_scope, with_bindings, with_calls_left, inside_root, inside_extrusion, setting, InstanceDesign, MemberDesigns, first_root, no_design, no_members, as_member, and_members, joined_members, moved_design, EvaluatesInstance, Evaluator, each_assigned, core_of_instance, each_member, each_in_scope, each_in_body, body_design, after_step, each_step, in_loop, each_iteration, loop_design, leaf_design, unless_refused, with_leaf_of, hull_design, answered_with, module_scope, module_design, arguments_for, children_design, flat_design, effect_design, built_in_design, call_design, core_design, root_design, instance_design, design_within, evaluator_with, program_context, or_all, design_of, counted_step, instances_chosen, block_members, module_given, most_leaves}
+use Rattle.scad_meaning.specs.Meaning.{Context, inside_scope, with_bindings, with_calls_left, inside_root, inside_extrusion, setting, InstanceDesign, MemberDesigns, first_root, no_design, no_members, as_member, and_members, joined_members, moved_design, EvaluatesInstance, Evaluator, each_assigned, core_of_instance, each_member, each_in_scope, each_in_body, body_design, after_step, each_step, in_loop, each_iteration, loop_design, leaf_design, unless_refused, with_leaf_of, hull_design, answered_with, module_scope, module_design, arguments_for, children_design, chosen_children, after_call, flat_design, effect_design, built_in_design, call_design, core_design, root_design, instance_design, design_within, evaluator_with, program_context, or_all, design_of, counted_step, instances_chosen, block_members, module_given, most_leaves}
 
 -- what holds of that which an outcome gives
 abbrev Has : {A : Type 0} → (A → Type 0) → Outcome A → Type 0
@@ -80,6 +80,10 @@ after_has : (Q : MemberDesigns → Type 0) (at : Place) (designs : List DesignTr
     → ((n : ℕ) → Has Q (go n)) → Has Q (after_step at designs turns go)
 after_has Q at [] turns go g = turn_has Q at turns go g
 after_has Q at (d ∷ ds) turns go g = g turns
+
+idle_has : (Q : InstanceDesign → Type 0) (at : Place) (idle : Bool) (turns : ℕ) (m : InstanceDesign) → Q m → Has Q (after_call at idle turns m)
+idle_has Q at true turns m h = turn_has Q at turns (λ turns. Gives turns m) (λ turns. h)
+idle_has Q at false turns m h = h
 
 -- a design with no more parts than there are leaves more
 abbrev IsFew : ℕ → ℕ → Option DesignTree → Type 0
@@ -287,8 +291,10 @@ module _ (grouped_trim : (op : Op) (designs : List DesignTree) → All IsTrim de
     effect_small here at no_geometry body turns leaves =
         if_has (IsSmall leaves) (is_bare body) (Gives turns (no_design leaves)) (Faults NotInProfile at) (nothing_small leaves) tt
     effect_small here at (some_children chosen) body turns leaves =
-        call_has (IsSmall leaves) here.calls_left at _ (λ calls.
-        children_small (with_calls_left here calls) (activation_in here.env) chosen turns leaves)
+        then_has (IsSmall leaves) (IsSmall leaves) (chosen_children evaluator at chosen here turns leaves) _
+        (call_has (IsSmall leaves) here.calls_left at _ (λ calls.
+        children_small (with_calls_left here calls) (activation_in here.env) chosen turns leaves)) (λ after m h.
+        idle_has (IsSmall leaves) at (nat_eq after turns && nat_eq m.leaves leaves) after m h)
 
     built_in_small : (here : Context) (at : Place) (name : List ℕ) (args : List ArgTerm) (body : BodyTerm) (found : Option BuiltinModule) (turns leaves : ℕ)
         → Has (IsSmall leaves) (built_in_design evaluator here at name args body found turns leaves)
@@ -333,7 +339,7 @@ module _ (grouped_trim : (op : Op) (designs : List DesignTree) → All IsTrim de
         if_has (IsSmall leaves) here.under_root (core_design evaluator here core turns leaves) _ (core_small here core turns leaves)
         (then_has (IsSmall leaves) (IsSmall leaves) (core_design evaluator (inside_root here) core turns leaves) _
         (core_small (inside_root here) core turns leaves) (λ turns m h.
-        record { grows = h.grows; most = h.most; parts = let a = h.grows in omega arith; trim = tt; root = (h.parts, h.trim) }))
+        record { grows = h.grows; most = h.most; parts = h.parts; trim = h.trim; root = (h.parts, h.trim) }))
 
     instance_small : IsGood (instance_design evaluator)
     instance_small here i turns leaves =

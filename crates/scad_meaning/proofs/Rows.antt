@@ -457,6 +457,54 @@ no_turn_of_children : turns_in (meaning (and_statement (ModuleTerm (at 1 1) (cod
 unfolding design_of design_within value_within
 no_turn_of_children = refl
 
+-- children();
+turn_of_idle_children : turns_in (meaning (and_statement (InstanceStatement (AnInstance (at 1 1) ([]) (ModuleCallTerm (at 1 1) (codes "children") ([]) (EmptyBody (at 1 11))))) no_statements)) ≡ 1
+unfolding design_of design_within value_within
+turn_of_idle_children = refl
+
+-- module m() { children(); children(); } m();
+turns_of_idle_children : turns_in (meaning (and_statement (ModuleTerm (at 1 1) (codes "m") (at 1 8) ([]) (BlockBody (at 1 12) (and_statement (InstanceStatement (AnInstance (at 1 14) ([]) (ModuleCallTerm (at 1 14) (codes "children") ([]) (EmptyBody (at 1 24))))) (and_statement (InstanceStatement (AnInstance (at 1 26) ([]) (ModuleCallTerm (at 1 26) (codes "children") ([]) (EmptyBody (at 1 36))))) no_statements)))) (and_statement (InstanceStatement (AnInstance (at 1 40) ([]) (ModuleCallTerm (at 1 40) (codes "m") ([]) (EmptyBody (at 1 43))))) no_statements))) ≡ 3
+unfolding design_of design_within value_within
+turns_of_idle_children = refl
+
+-- module m() { children(); } m() { union(); }
+turn_of_an_empty_child : turns_in (meaning (and_statement (ModuleTerm (at 1 1) (codes "m") (at 1 8) ([]) (BlockBody (at 1 12) (and_statement (InstanceStatement (AnInstance (at 1 14) ([]) (ModuleCallTerm (at 1 14) (codes "children") ([]) (EmptyBody (at 1 24))))) no_statements))) (and_statement (InstanceStatement (AnInstance (at 1 28) ([]) (ModuleCallTerm (at 1 28) (codes "m") ([]) (BlockBody (at 1 32) (and_statement (InstanceStatement (AnInstance (at 1 34) ([]) (ModuleCallTerm (at 1 34) (codes "union") ([]) (EmptyBody (at 1 41))))) no_statements))))) no_statements))) ≡ 2
+unfolding design_of design_within value_within
+turn_of_an_empty_child = refl
+
+-- module m() { children(); } m() { union(); cube(1); }
+no_turn_beside_a_leaf : turns_in (meaning (and_statement (ModuleTerm (at 1 1) (codes "m") (at 1 8) ([]) (BlockBody (at 1 12) (and_statement (InstanceStatement (AnInstance (at 1 14) ([]) (ModuleCallTerm (at 1 14) (codes "children") ([]) (EmptyBody (at 1 24))))) no_statements))) (and_statement (InstanceStatement (AnInstance (at 1 28) ([]) (ModuleCallTerm (at 1 28) (codes "m") ([]) (BlockBody (at 1 32) (and_statement (InstanceStatement (AnInstance (at 1 34) ([]) (ModuleCallTerm (at 1 34) (codes "union") ([]) (EmptyBody (at 1 41))))) (and_statement (InstanceStatement (AnInstance (at 1 43) ([]) (ModuleCallTerm (at 1 43) (codes "cube") ((PositionalTerm (NumberTerm (at 1 48) 1)) ∷ []) (EmptyBody (at 1 50))))) no_statements)))))) no_statements))) ≡ 1
+unfolding design_of design_within value_within
+no_turn_beside_a_leaf = refl
+
+-- module m() { children(); } m() for (i=[1:2]) ;
+no_turn_beside_a_turn : turns_in (meaning (and_statement (ModuleTerm (at 1 1) (codes "m") (at 1 8) ([]) (BlockBody (at 1 12) (and_statement (InstanceStatement (AnInstance (at 1 14) ([]) (ModuleCallTerm (at 1 14) (codes "children") ([]) (EmptyBody (at 1 24))))) no_statements))) (and_statement (InstanceStatement (AnInstance (at 1 28) ([]) (ModuleCallTerm (at 1 28) (codes "m") ([]) (InstanceBody (AnInstance (at 1 32) ([]) (ForTerm (at 1 32) ((record { at = (at 1 37); name = (codes "i"); values = (RangeTerm (at 1 39) (NumberTerm (at 1 40) 1) (NumberTerm (at 1 42) 2)) }) ∷ []) (EmptyBody (at 1 46)))))))) no_statements))) ≡ 3
+unfolding design_of design_within value_within
+no_turn_beside_a_turn = refl
+
+-- module m() children(); module k() m() children(); k();
+turn_of_the_inner_children : turns_in (meaning (and_statement (ModuleTerm (at 1 1) (codes "m") (at 1 8) ([]) (InstanceBody (AnInstance (at 1 12) ([]) (ModuleCallTerm (at 1 12) (codes "children") ([]) (EmptyBody (at 1 22)))))) (and_statement (ModuleTerm (at 1 24) (codes "k") (at 1 31) ([]) (InstanceBody (AnInstance (at 1 35) ([]) (ModuleCallTerm (at 1 35) (codes "m") ([]) (InstanceBody (AnInstance (at 1 39) ([]) (ModuleCallTerm (at 1 39) (codes "children") ([]) (EmptyBody (at 1 49))))))))) (and_statement (InstanceStatement (AnInstance (at 1 51) ([]) (ModuleCallTerm (at 1 51) (codes "k") ([]) (EmptyBody (at 1 54))))) no_statements)))) ≡ 3
+unfolding design_of design_within value_within
+turn_of_the_inner_children = refl
+
+-- after 99999 turns and 0 leaves
+-- children();
+last_idle_children : is_given (begun 99999 0 (and_statement (InstanceStatement (AnInstance (at 1 1) ([]) (ModuleCallTerm (at 1 1) (codes "children") ([]) (EmptyBody (at 1 11))))) no_statements)) ≡ true
+unfolding design_within value_within
+last_idle_children = refl
+
+-- after 99999 turns and 0 leaves
+-- children(); children();
+idle_children_too_many : begun 99999 0 (and_statement (InstanceStatement (AnInstance (at 1 1) ([]) (ModuleCallTerm (at 1 1) (codes "children") ([]) (EmptyBody (at 1 11))))) (and_statement (InstanceStatement (AnInstance (at 1 13) ([]) (ModuleCallTerm (at 1 13) (codes "children") ([]) (EmptyBody (at 1 23))))) no_statements)) ≡ Faults TooManyTurns (at 1 13)
+unfolding design_within value_within
+idle_children_too_many = refl
+
+-- after 99999 turns and 0 leaves
+-- module m() children(); m() cube(1);
+children_with_a_leaf : is_given (begun 99999 0 (and_statement (ModuleTerm (at 1 1) (codes "m") (at 1 8) ([]) (InstanceBody (AnInstance (at 1 12) ([]) (ModuleCallTerm (at 1 12) (codes "children") ([]) (EmptyBody (at 1 22)))))) (and_statement (InstanceStatement (AnInstance (at 1 24) ([]) (ModuleCallTerm (at 1 24) (codes "m") ([]) (InstanceBody (AnInstance (at 1 28) ([]) (ModuleCallTerm (at 1 28) (codes "cube") ((PositionalTerm (NumberTerm (at 1 33) 1)) ∷ []) (EmptyBody (at 1 35)))))))) no_statements))) ≡ true
+unfolding design_within value_within
+children_with_a_leaf = refl
+
 -- for (i=[1:3], j=[1:2]) ;
 turns_of_a_loop : turns_in (meaning (and_statement (InstanceStatement (AnInstance (at 1 1) ([]) (ForTerm (at 1 1) ((record { at = (at 1 6); name = (codes "i"); values = (RangeTerm (at 1 8) (NumberTerm (at 1 9) 1) (NumberTerm (at 1 11) 3)) }) ∷ (record { at = (at 1 15); name = (codes "j"); values = (RangeTerm (at 1 17) (NumberTerm (at 1 18) 1) (NumberTerm (at 1 20) 2)) }) ∷ []) (EmptyBody (at 1 24))))) no_statements)) ≡ 6
 unfolding design_of design_within value_within

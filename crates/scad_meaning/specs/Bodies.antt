@@ -85,7 +85,7 @@ has_no_geometry env (ModuleCallTerm at name args body) =
     (bytes_eq name (codes "echo") || bytes_eq name (codes "assert")) && not (is_some (visible_module env name))
 has_no_geometry env core = false
 
--- whether an instance is a child: one that doesn't have no geometry
+-- whether an instance is a child: any but a call of the built-in `echo` or `assert`
 abbrev pub is_child : Env → InstanceTerm → Bool
 is_child env (AnInstance at marks core) = not (has_no_geometry env core)
 
@@ -98,7 +98,7 @@ abbrev pub has_no_items : {A : Type 0} → List A → Bool
 has_no_items [] = true
 has_no_items (x ∷ xs) = false
 
--- a body without a token of its own: `;` or `{ }`
+-- a body without statements: `;` or `{ }`
 abbrev pub is_bare : BodyTerm → Bool
 is_bare (EmptyBody at) = true
 is_bare (BlockBody at no_statements) = true

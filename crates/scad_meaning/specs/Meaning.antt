@@ -1,6 +1,6 @@
 -- The meaning of instances: equations over the syntax and lists of pairs, as those of expressions are. The evaluator of a
 -- depth and the context of an instance go in; the turns and the leaves so far go through.
-use Rattle.std.specs.Prelude.{ℕ, zero, suc, ◌+◌, pos, Bool, true, false, List, [], ◌∷◌, ◌++◌, length, Option, Some, None, is_some, Ok, Err, nat_lt, codes, if◌then◌else◌}
+use Rattle.std.specs.Prelude.{ℕ, zero, suc, ◌+◌, pos, Bool, true, false, List, [], ◌∷◌, ◌++◌, length, Option, Some, None, is_some, Ok, Err, nat_lt, nat_eq, ◌&&◌, codes, if◌then◌else◌}
 use Rattle.text_place.specs.declared.fault.Place.{Place}
 use Rattle.text_place.specs.declared.fault.FaultKind.TheVariants.{TypeMismatch, UnknownModule, BadArgument, TooDeep, NotInProfile, WrongDimension, TooManyParts}
 use Rattle.csg_tree.specs.declared.op.Op.{Op}
@@ -172,7 +172,7 @@ abbrev pub body_design : Evaluator → Op → Context → BodyTerm → ℕ → �
 body_design evaluator op here body turns leaves =
     then_with (each_in_body evaluator here body turns leaves) (λ turns members. Gives turns (joined_members op members))
 
--- A step of a loop after which nothing followed counts one turn when it ends
+-- a step of a loop that gave no member counts one turn when it ends
 abbrev pub after_step : Place → List DesignTree → ℕ → (ℕ → Outcome MemberDesigns) → Outcome MemberDesigns
 after_step at [] turns go = turn at turns go
 after_step at (design ∷ designs) turns go = go turns
@@ -303,6 +303,21 @@ abbrev pub chosen_children : Evaluator → Place → ChosenCall → Context → 
 chosen_children evaluator at chosen here turns leaves =
     one_call_fewer here.calls_left at (λ calls. children_design evaluator (with_calls_left here calls) (activation_in here.env) chosen turns leaves)
 
+-- what a call gives, and one turn more at its name where it was idle
+abbrev pub after_call : Place → Bool → ℕ → InstanceDesign → Outcome InstanceDesign
+after_call at idle turns result = if idle then turn at turns (λ turns. Gives turns result) else Gives turns result
+
+-- A call that began after so many turns and leaves, with the turn that it counts when it ends: one where nothing was counted and
+-- no leaf was evaluated since, so that no way through calls alone goes on uncounted
+abbrev pub counted_call : Place → ℕ → ℕ → Outcome InstanceDesign → Outcome InstanceDesign
+counted_call at turns leaves call =
+    then_with call (λ after result. after_call at (nat_eq after turns && nat_eq result.leaves leaves) after result)
+
+-- a call of `children`, whose arguments were evaluated before it began
+abbrev pub counted_children : Evaluator → Place → ChosenCall → Context → ℕ → ℕ → Outcome InstanceDesign
+counted_children evaluator at chosen here turns leaves =
+    counted_call at turns leaves (chosen_children evaluator at chosen here turns leaves)
+
 -- a program's scope stands inside one that is empty; it begins with the dynamic bindings that it is given
 abbrev pub program_context : Pairs Val → StatementTerms → Context
 program_context bindings statements = record {
@@ -339,7 +354,7 @@ effect_design evaluator here at (an_extrusion center height) body turns leaves =
     (body_design evaluator Union (inside_extrusion here (record { center = center; height = height })) body turns leaves)
 effect_design evaluator here at no_geometry body turns leaves =
     if is_bare body then Gives turns (no_design leaves) else Faults NotInProfile at
-effect_design evaluator here at (some_children chosen) body turns leaves = chosen_children evaluator at chosen here turns leaves
+effect_design evaluator here at (some_children chosen) body turns leaves = counted_children evaluator at chosen here turns leaves
 
 -- a built-in module with its arguments
 abbrev pub built_in_given : Evaluator → Place → BuiltinModule → Arguments → BodyTerm → Context → ℕ → ℕ → Outcome InstanceDesign
@@ -379,17 +394,17 @@ core_design evaluator here (IntersectionForTerm at binders body) turns leaves =
 core_design evaluator here (ModuleCallTerm at name args body) turns leaves =
     call_design evaluator here at name args body (visible_module here.env name) turns leaves
 
--- what an instance gives that is marked `!`
+-- What an instance gives that is marked `!`: its design is the root, and a member of what stands around it as if there were no mark
 abbrev pub as_root : InstanceDesign → InstanceDesign
-as_root result = record { leaves = result.leaves; design = empty; root = Some result.design }
+as_root result = record { leaves = result.leaves; design = result.design; root = Some result.design }
 
--- an instance inside a mark, or one that is not marked
+-- an instance that is marked `!`: inside another mark it counts as unmarked, else it is the root
 abbrev pub root_design : Evaluator → Context → CoreTerm → ℕ → ℕ → Outcome InstanceDesign
 root_design evaluator here core turns leaves =
     if here.under_root then core_design evaluator here core turns leaves
     else then_with (core_design evaluator (inside_root here) core turns leaves) (λ turns result. Gives turns (as_root result))
 
--- an instance: the outermost mark `!` counts, and then what it gives is no part of the design around it
+-- an instance: of marks `!` in one another the outermost one counts
 abbrev pub instance_design : Evaluator → EvaluatesInstance
 instance_design evaluator here instance turns leaves =
     if has_root_modifier instance

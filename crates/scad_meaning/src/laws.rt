@@ -28,10 +28,12 @@ use scad_hull::hulls_hold_inner_combinations;
 /// assignments of a body, those that are evaluated have each name once, with its last expression, in the place of its
 /// first.
 pub fn last_assignments_count()
-    ensures counts { (statements : StatementTerms) → AllByRecursion (StandsForAll (assigned_in statements))
+    ensures counts { (statements : StatementTerms) →
+        AllByRecursion (StandsForAll (assigned_in statements))
         (assignments_of statements) }
     ensures once { (statements : StatementTerms) → HaveDistinctNames (assignments_of statements) }
-    ensures all { (statements : StatementTerms) → AllByRecursion (λ a. is_named_in (assignments_of statements) a ≡ true)
+    ensures all { (statements : StatementTerms) → AllByRecursion
+        (λ a. is_named_in (assignments_of statements) a ≡ true)
         (assigned_in statements) }
 {}
 
@@ -45,13 +47,15 @@ pub fn shapes_have_one_verdict()
         IsFlatVerdict unit call v → IsFlatVerdict unit call w → v ≡ w }
     ensures heights { (unit : LengthUnit) (center : Bool) (height : ℤ) (v w : Verdict) →
         IsHeightVerdict unit center height v → IsHeightVerdict unit center height w → v ≡ w }
-    ensures hulls { (design : DesignTree) (v w : Verdict) → IsHullVerdict design v → IsHullVerdict design w → v ≡ w }
+    ensures hulls { (design : DesignTree) (v w : Verdict) → IsHullVerdict design v →
+        IsHullVerdict design w → v ≡ w }
 {}
 
 /// Where nothing is wrong with the hull of what children give, a point is strictly behind all of its faces exactly where it is
 /// a combination, with weights above 0, of the points of their leaves, each moved by its leaf's steps.
 pub fn hulls_in_programs_hold_inner_combinations()
-    ensures { (judge : Judge) → IsRight judge → (design : DesignTree) → judge.hull design ≡ None → (q : Coordinates) →
+    ensures { (judge : Judge) → IsRight judge → (design : DesignTree) → judge.hull design ≡ None →
+        (q : Coordinates) →
         pos 0 <ℤ q.w →
         IsInside (hull_mesh design) q ↔ IsInnerCombination (points_in_order (points_of design)) q }
 {
@@ -61,7 +65,8 @@ pub fn hulls_in_programs_hold_inner_combinations()
 
 /// A program has one meaning at most in each unit: one tree, or one first fault.
 pub fn one_meaning()
-    ensures { (unit : LengthUnit) (program : List StatementTerm) (m n : Meaning) → IsMeaning unit program m →
+    ensures { (unit : LengthUnit) (program : List StatementTerm) (m n : Meaning) →
+        IsMeaning unit program m →
         IsMeaning unit program n → m ≡ n }
 {
     // These bring laws alone: right judges say the same, and a design has one placing at most.
@@ -71,7 +76,8 @@ pub fn one_meaning()
 
 /// A program has a meaning in each unit: a tree, or a first fault.
 pub fn some_meaning()
-    ensures { (unit : LengthUnit) (program : List StatementTerm) → (meaning : Meaning) × IsMeaning unit program meaning }
+    ensures { (unit : LengthUnit) (program : List StatementTerm) →
+        (meaning : Meaning) × IsMeaning unit program meaning }
 {
     // These bring laws alone: right judges say the same, and a design has a placing.
     shapes_have_one_verdict();
@@ -81,7 +87,8 @@ pub fn some_meaning()
 /// The tree that a program means is proper: its leaves have planes, which have the numbers of a plane and come in reach, no
 /// join of it has an empty side, and it has fewer than 2^32 subtrees.
 pub fn programs_mean_proper_trees()
-    ensures { (unit : LengthUnit) (program : List StatementTerm) (tree : Formula) → IsMeaning unit program (a_tree tree) →
+    ensures { (unit : LengthUnit) (program : List StatementTerm) (tree : Formula) →
+        IsMeaning unit program (a_tree tree) →
         IsProper tree }
 {
     // These bring laws alone: right judges say the same, designs stay trim, and what is placed of a trim one is proper.

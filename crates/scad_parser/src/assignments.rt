@@ -19,7 +19,8 @@ pub(crate) fn assignment<'a>(
     tokens: &'a [Token],
     depth: u32,
 ) -> Parsed<'a, Statement>
-    ensures value { GivesRead (λ p. (statement_of p.0, p.1.now)) result (mapped (assignment_term name.now) (ended_read (expr_read depth)) tokens.now) }
+    ensures value { GivesRead (λ p. (statement_of p.0, p.1.now)) result
+        (mapped (assignment_term name.now) (ended_read (expr_read depth)) tokens.now) }
 {
     let bytes = bytes(alloc, &name.kind)?;
     let (value, rest) = ended(alloc, tokens, depth)?;
@@ -33,7 +34,8 @@ pub(crate) fn special_assignment<'a>(
     tokens: &'a [Token],
     depth: u32,
 ) -> Parsed<'a, Statement>
-    ensures value { GivesRead (λ p. (statement_of p.0, p.1.now)) result (special_read (expr_read depth) tokens.now) }
+    ensures value { GivesRead (λ p. (statement_of p.0, p.1.now)) result
+        (special_read (expr_read depth) tokens.now) }
 {
     let (name, rest) = take(TokenClass::Special, tokens)?;
     let (_, rest) = take(TokenClass::Sign(Symbol::Assign), rest)?;
@@ -44,7 +46,8 @@ pub(crate) fn special_assignment<'a>(
 
 /// An expression and the `;` behind it.
 pub(crate) fn ended<'a>(alloc: Global, tokens: &'a [Token], depth: u32) -> Parsed<'a, Expr>
-    ensures value { GivesRead (λ p. (term_of p.0, p.1.now)) result (ended_read (expr_read depth) tokens.now) }
+    ensures value { GivesRead (λ p. (term_of p.0, p.1.now)) result
+        (ended_read (expr_read depth) tokens.now) }
 {
     closed(expr(alloc, tokens, depth), Symbol::Semicolon)
 }

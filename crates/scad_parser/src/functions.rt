@@ -18,7 +18,8 @@ pub(crate) fn function<'a>(
     depth: u32,
     inner: u32,
 ) -> Parsed<'a, Statement>
-    ensures value { GivesRead (λ p. (statement_of p.0, p.1.now)) result (function_read (expr_read depth) (param_in inner (expr_read inner)) tokens.now) }
+    ensures value { GivesRead (λ p. (statement_of p.0, p.1.now)) result
+        (function_read (expr_read depth) (param_in inner (expr_read inner)) tokens.now) }
 {
     let (word, rest) = take(TokenClass::Word(Reserved::Function), tokens)?;
     let (name, rest) = take(TokenClass::Name, rest)?;

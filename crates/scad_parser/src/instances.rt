@@ -47,7 +47,8 @@ pub(crate) fn instance_from(marks: PlacedModifiers, core: Core) -> Instance
 
 /// The condition of an `if`: an expression in parentheses.
 pub(crate) fn condition<'a>(alloc: Global, tokens: &'a [Token], depth: u32) -> Parsed<'a, Expr>
-    ensures value { GivesRead (λ p. (term_of p.0, p.1.now)) result (in_parentheses (expr_read depth) tokens.now) }
+    ensures value { GivesRead (λ p. (term_of p.0, p.1.now)) result
+        (in_parentheses (expr_read depth) tokens.now) }
 {
     let (_, rest) = take(TokenClass::Sign(Symbol::OpenParenthesis), tokens)?;
     closed(expr(alloc, rest, depth), Symbol::CloseParenthesis)

@@ -16,7 +16,8 @@ use std::alloc::Global;
 
 /// Variables of a loop, in parentheses.
 pub(crate) fn binders<'a>(alloc: Global, tokens: &'a [Token], depth: u32) -> Parsed<'a, Binders>
-    ensures value { GivesRead (λ p. (binders_of p.0, p.1.now)) result (in_parentheses (binders_read (binder_in depth (expr_read depth))) tokens.now) }
+    ensures value { GivesRead (λ p. (binders_of p.0, p.1.now)) result
+        (in_parentheses (binders_read (binder_in depth (expr_read depth))) tokens.now) }
 {
     let (_, rest) = take(TokenClass::Sign(Symbol::OpenParenthesis), tokens)?;
     closed(binder_list(alloc, rest, depth), Symbol::CloseParenthesis)
@@ -24,7 +25,8 @@ pub(crate) fn binders<'a>(alloc: Global, tokens: &'a [Token], depth: u32) -> Par
 
 // Variables of a loop, and maybe a comma behind the last.
 fn binder_list<'a>(alloc: Global, tokens: &'a [Token], depth: u32) -> Parsed<'a, Binders>
-    ensures value { GivesRead (λ p. (binders_of p.0, p.1.now)) result (binders_read (binder_in depth (expr_read depth)) tokens.now) }
+    ensures value { GivesRead (λ p. (binders_of p.0, p.1.now)) result
+        (binders_read (binder_in depth (expr_read depth)) tokens.now) }
 {
     let (first, rest) = binder(alloc, tokens, depth)?;
     let items = list_of(alloc, first, 4)?;
@@ -38,7 +40,9 @@ fn more_binders<'a>(
     tokens: &'a [Token],
     depth: u32,
 ) -> Parsed<'a, Binders>
-    ensures value { GivesRead (λ p. (binders_of p.0, p.1.now)) result (in_front (map binder_of items.items) (trailing (is comma_sign) (is name) (binder_in depth (expr_read depth)) tokens.now)) }
+    ensures value { GivesRead (λ p. (binders_of p.0, p.1.now)) result
+        (in_front (map binder_of items.items) (trailing (is comma_sign) (is name)
+        (binder_in depth (expr_read depth)) tokens.now)) }
 {
     let mut rest = tokens;
     'commas: while is_comma_and_name(rest) {
@@ -51,7 +55,8 @@ fn more_binders<'a>(
 
 // A variable of a loop, whose tokens are less deep than so much.
 fn binder<'a>(alloc: Global, tokens: &'a [Token], depth: u32) -> Parsed<'a, Binder>
-    ensures value { GivesRead (λ p. (binder_of p.0, p.1.now)) result (binder_in depth (expr_read depth) tokens.now) }
+    ensures value { GivesRead (λ p. (binder_of p.0, p.1.now)) result
+        (binder_in depth (expr_read depth) tokens.now) }
 {
     if depth == 0 {
         return Err(too_deep(TokenClass::Name, TokenClass::LeftOut, tokens));

@@ -16,7 +16,8 @@ use std::alloc::Global;
 
 /// Parameters in parentheses.
 pub(crate) fn params<'a>(alloc: Global, tokens: &'a [Token], depth: u32) -> Parsed<'a, Params>
-    ensures value { GivesRead (λ p. (params_of p.0, p.1.now)) result (in_parentheses (params_read (param_in depth (expr_read depth))) tokens.now) }
+    ensures value { GivesRead (λ p. (params_of p.0, p.1.now)) result
+        (in_parentheses (params_read (param_in depth (expr_read depth))) tokens.now) }
 {
     let (_, rest) = take(TokenClass::Sign(Symbol::OpenParenthesis), tokens)?;
     closed(param_list(alloc, rest, depth), Symbol::CloseParenthesis)
@@ -24,7 +25,8 @@ pub(crate) fn params<'a>(alloc: Global, tokens: &'a [Token], depth: u32) -> Pars
 
 // Parameters, and maybe a comma behind the last.
 fn param_list<'a>(alloc: Global, tokens: &'a [Token], depth: u32) -> Parsed<'a, Params>
-    ensures value { GivesRead (λ p. (params_of p.0, p.1.now)) result (params_read (param_in depth (expr_read depth)) tokens.now) }
+    ensures value { GivesRead (λ p. (params_of p.0, p.1.now)) result
+        (params_read (param_in depth (expr_read depth)) tokens.now) }
 {
     if !TokenClass::Name.begins(tokens) {
         return Ok((no_params(alloc), tokens));
@@ -50,7 +52,9 @@ fn more_params<'a>(
     tokens: &'a [Token],
     depth: u32,
 ) -> Parsed<'a, Params>
-    ensures value { GivesRead (λ p. (params_of p.0, p.1.now)) result (in_front (map param_of items.items) (trailing (is comma_sign) (is name) (param_in depth (expr_read depth)) tokens.now)) }
+    ensures value { GivesRead (λ p. (params_of p.0, p.1.now)) result
+        (in_front (map param_of items.items) (trailing (is comma_sign) (is name)
+        (param_in depth (expr_read depth)) tokens.now)) }
 {
     let mut rest = tokens;
     'commas: while is_comma_and_name(rest) {
@@ -63,7 +67,8 @@ fn more_params<'a>(
 
 // A parameter whose tokens are less deep than so much.
 fn param<'a>(alloc: Global, tokens: &'a [Token], depth: u32) -> Parsed<'a, Param>
-    ensures value { GivesRead (λ p. (param_of p.0, p.1.now)) result (param_in depth (expr_read depth) tokens.now) }
+    ensures value { GivesRead (λ p. (param_of p.0, p.1.now)) result
+        (param_in depth (expr_read depth) tokens.now) }
 {
     if depth == 0 {
         return Err(too_deep(TokenClass::Name, TokenClass::LeftOut, tokens));

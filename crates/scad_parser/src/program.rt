@@ -29,13 +29,16 @@ pub fn parse(alloc: Global, tokens: &[Token]) -> Result<Program, Stop>
     // What is given is a program that the tokens write.
     ensures found { IfOk result (λ p. WholeProgram too_deep (program_of p) tokens.now) }
     // The program that the tokens write is given, unless memory runs out.
-    ensures program { (x : List StatementTerm) → WholeProgram too_deep x tokens.now → AnswersProgram result x }
+    ensures program { (x : List StatementTerm) → WholeProgram too_deep x tokens.now →
+        AnswersProgram result x }
     // A fault of tokens that end with an end is their first one, at its token's place.
-    ensures fault { ends tokens.now ≡ true → IfErr result (λ stop. IsSyntaxStop too_deep tokens.now stop) }
+    ensures fault { ends tokens.now ≡ true →
+        IfErr result (λ stop. IsSyntaxStop too_deep tokens.now stop) }
     // The place of such a fault is that of one of the tokens, which may be the end.
     ensures place { ends tokens.now ≡ true → IfErr result (λ stop. StandsAtToken tokens.now stop) }
     // The tokens' first fault is given, unless memory runs out.
-    ensures only { (fault : SyntaxFault) (at : List Token) → IsFirstFault too_deep tokens.now fault at → AnswersFault result fault at }
+    ensures only { (fault : SyntaxFault) (at : List Token) →
+        IsFirstFault too_deep tokens.now fault at → AnswersFault result fault at }
     // A program has no more blocks, functions and modules than tokens.
     ensures few { IfOk result (λ p. begun_by_program (program_of p) ≤ length tokens.now) }
 {
@@ -61,7 +64,8 @@ fn read_program(alloc: Global, tokens: &[Token]) -> Result<Program, Stop>
 
 // A program's statements and its end, behind which nothing stands.
 fn program<'a>(alloc: Global, tokens: &'a [Token]) -> Parsed<'a, Statements>
-    ensures { GivesRead (λ p. (statements_of p.0, p.1.now)) result (whole_read too_deep tokens.now) }
+    ensures { GivesRead (λ p. (statements_of p.0, p.1.now)) result
+        (whole_read too_deep tokens.now) }
 {
     let (statements, rest) = statements(alloc, tokens, TOO_DEEP)?;
     let (_, rest) = take(TokenClass::End, rest)?;

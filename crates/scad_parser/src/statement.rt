@@ -23,7 +23,8 @@ use std::alloc::Global;
 /// A statement whose tokens are less deep than so much.
 #[cycle(statement)]
 pub fn statement<'a>(alloc: Global, tokens: &'a [Token], depth: u32) -> Parsed<'a, Statement>
-    ensures value { GivesRead (λ p. (statement_of p.0, p.1.now)) result (statement_read depth tokens.now) }
+    ensures value { GivesRead (λ p. (statement_of p.0, p.1.now)) result
+        (statement_read depth tokens.now) }
 {
     if depth == 0 {
         return Err(too_deep(TokenClass::Statement, TokenClass::LeftOut, tokens));
@@ -39,7 +40,9 @@ fn statement_over<'a>(
     depth: u32,
     inner: u32,
 ) -> Parsed<'a, Statement>
-    ensures value { GivesRead (λ p. (statement_of p.0, p.1.now)) result (statement_over (expr_read depth) (param_in inner (expr_read inner)) (statement_read inner) (body_read inner) (instance_in inner (body_read inner)) tokens.now) }
+    ensures value { GivesRead (λ p. (statement_of p.0, p.1.now)) result
+        (statement_over (expr_read depth) (param_in inner (expr_read inner)) (statement_read inner)
+        (body_read inner) (instance_in inner (body_read inner)) tokens.now) }
 {
     if let Some((end, rest)) = TokenClass::Sign(Symbol::Semicolon).split_first(tokens) {
         Ok((Statement::Empty(end.place), rest))
@@ -58,7 +61,8 @@ fn statement_over<'a>(
 // Statements and the brace that closes them.
 #[cycle(statement)]
 fn braces<'a>(alloc: Global, tokens: &'a [Token], depth: u32) -> Parsed<'a, Statements>
-    ensures value { GivesRead (λ p. (statements_of p.0, p.1.now)) result (braces_read (statement_read depth) tokens.now) }
+    ensures value { GivesRead (λ p. (statements_of p.0, p.1.now)) result
+        (braces_read (statement_read depth) tokens.now) }
 {
     closed(statements(alloc, tokens, depth), Symbol::CloseBrace)
 }
@@ -66,7 +70,8 @@ fn braces<'a>(alloc: Global, tokens: &'a [Token], depth: u32) -> Parsed<'a, Stat
 /// Statements, as long as one may begin.
 #[cycle(statement)]
 pub fn statements<'a>(alloc: Global, tokens: &'a [Token], depth: u32) -> Parsed<'a, Statements>
-    ensures value { GivesRead (λ p. (statements_of p.0, p.1.now)) result (many (among firsts_of_statement) (statement_read depth) tokens.now) }
+    ensures value { GivesRead (λ p. (statements_of p.0, p.1.now)) result
+        (many (among firsts_of_statement) (statement_read depth) tokens.now) }
 {
     let mut items = Vec::new(alloc);
     let mut rest = tokens;
@@ -87,7 +92,9 @@ fn definition<'a>(
     depth: u32,
     inner: u32,
 ) -> Parsed<'a, Statement>
-    ensures value { GivesRead (λ p. (statement_of p.0, p.1.now)) result (definition_read (expr_read depth) (param_in inner (expr_read inner)) (body_read inner) (instance_in inner (body_read inner)) tokens.now) }
+    ensures value { GivesRead (λ p. (statement_of p.0, p.1.now)) result
+        (definition_read (expr_read depth) (param_in inner (expr_read inner)) (body_read inner)
+        (instance_in inner (body_read inner)) tokens.now) }
 {
     if TokenClass::Word(Reserved::Module).begins(tokens) {
         module(alloc, tokens, inner)
@@ -103,7 +110,8 @@ fn definition<'a>(
 #[cycle(statement)]
 #[inline(never)]
 fn module<'a>(alloc: Global, tokens: &'a [Token], depth: u32) -> Parsed<'a, Statement>
-    ensures value { GivesRead (λ p. (statement_of p.0, p.1.now)) result (module_read (param_in depth (expr_read depth)) (body_read depth) tokens.now) }
+    ensures value { GivesRead (λ p. (statement_of p.0, p.1.now)) result
+        (module_read (param_in depth (expr_read depth)) (body_read depth) tokens.now) }
 {
     let (word, rest) = take(TokenClass::Word(Reserved::Module), tokens)?;
     let (name, rest) = take(TokenClass::Name, rest)?;
@@ -119,7 +127,8 @@ fn module<'a>(alloc: Global, tokens: &'a [Token], depth: u32) -> Parsed<'a, Stat
 // An instance over what is less deep than so much.
 #[cycle(statement)]
 fn instance<'a>(alloc: Global, tokens: &'a [Token], depth: u32) -> Parsed<'a, Instance>
-    ensures value { GivesRead (λ p. (instance_of p.0, p.1.now)) result (instance_in depth (body_read depth) tokens.now) }
+    ensures value { GivesRead (λ p. (instance_of p.0, p.1.now)) result
+        (instance_in depth (body_read depth) tokens.now) }
 {
     let (marks, rest) = marks(alloc, tokens)?;
     let ((marks, core), rest) = with(marks, core(alloc, rest, depth))?;
@@ -129,7 +138,9 @@ fn instance<'a>(alloc: Global, tokens: &'a [Token], depth: u32) -> Parsed<'a, In
 // An instance without its modifiers, over what is less deep than so much.
 #[cycle(statement)]
 fn core<'a>(alloc: Global, tokens: &'a [Token], depth: u32) -> Parsed<'a, Core>
-    ensures value { GivesRead (λ p. (core_of p.0, p.1.now)) result (core_read (expr_read depth) (arg_in depth (expr_read depth)) (binder_in depth (expr_read depth)) (body_read depth) tokens.now) }
+    ensures value { GivesRead (λ p. (core_of p.0, p.1.now)) result
+        (core_read (expr_read depth) (arg_in depth (expr_read depth))
+        (binder_in depth (expr_read depth)) (body_read depth) tokens.now) }
 {
     if TokenClass::Word(Reserved::If).begins(tokens) {
         branch(alloc, tokens, depth)
@@ -144,7 +155,8 @@ fn core<'a>(alloc: Global, tokens: &'a [Token], depth: u32) -> Parsed<'a, Core>
 #[cycle(statement)]
 #[inline(never)]
 fn branch<'a>(alloc: Global, tokens: &'a [Token], depth: u32) -> Parsed<'a, Core>
-    ensures value { GivesRead (λ p. (core_of p.0, p.1.now)) result (if_read (expr_read depth) (body_read depth) tokens.now) }
+    ensures value { GivesRead (λ p. (core_of p.0, p.1.now)) result
+        (if_read (expr_read depth) (body_read depth) tokens.now) }
 {
     let (word, rest) = take(TokenClass::Word(Reserved::If), tokens)?;
     let (test, rest) = condition(alloc, rest, depth)?;
@@ -160,7 +172,8 @@ fn branch<'a>(alloc: Global, tokens: &'a [Token], depth: u32) -> Parsed<'a, Core
 #[cycle(statement)]
 #[inline(always)]
 fn otherwise<'a>(alloc: Global, tokens: &'a [Token], depth: u32) -> Parsed<'a, Box<Body>>
-    ensures value { GivesRead (λ p. (body_of p.0.value, p.1.now)) result (both second_of (one (is else_word)) (body_read depth) tokens.now) }
+    ensures value { GivesRead (λ p. (body_of p.0.value, p.1.now)) result
+        (both second_of (one (is else_word)) (body_read depth) tokens.now) }
 {
     let (_, rest) = take(TokenClass::Word(Reserved::Else), tokens)?;
     boxed_body(alloc, rest, depth)
@@ -170,7 +183,8 @@ fn otherwise<'a>(alloc: Global, tokens: &'a [Token], depth: u32) -> Parsed<'a, B
 #[cycle(statement)]
 #[inline(always)]
 fn boxed_body<'a>(alloc: Global, tokens: &'a [Token], depth: u32) -> Parsed<'a, Box<Body>>
-    ensures value { GivesRead (λ p. (body_of p.0.value, p.1.now)) result (body_read depth tokens.now) }
+    ensures value { GivesRead (λ p. (body_of p.0.value, p.1.now)) result
+        (body_read depth tokens.now) }
 {
     boxed(alloc, body(alloc, tokens, depth))
 }
@@ -179,7 +193,8 @@ fn boxed_body<'a>(alloc: Global, tokens: &'a [Token], depth: u32) -> Parsed<'a, 
 #[cycle(statement)]
 #[inline(never)]
 fn repetition<'a>(alloc: Global, tokens: &'a [Token], depth: u32) -> Parsed<'a, Core>
-    ensures value { GivesRead (λ p. (core_of p.0, p.1.now)) result (loop_read (binder_in depth (expr_read depth)) (body_read depth) tokens.now) }
+    ensures value { GivesRead (λ p. (core_of p.0, p.1.now)) result
+        (loop_read (binder_in depth (expr_read depth)) (body_read depth) tokens.now) }
 {
     let (word, rest) = take(TokenClass::LoopWord, tokens)?;
     let (binders, rest) = binders(alloc, rest, depth)?;
@@ -194,7 +209,8 @@ fn repetition<'a>(alloc: Global, tokens: &'a [Token], depth: u32) -> Parsed<'a, 
 // A call of a module.
 #[cycle(statement)]
 fn call<'a>(alloc: Global, tokens: &'a [Token], depth: u32) -> Parsed<'a, Core>
-    ensures value { GivesRead (λ p. (core_of p.0, p.1.now)) result (call_read (arg_in depth (expr_read depth)) (body_read depth) tokens.now) }
+    ensures value { GivesRead (λ p. (core_of p.0, p.1.now)) result
+        (call_read (arg_in depth (expr_read depth)) (body_read depth) tokens.now) }
 {
     let (name, rest) = take(TokenClass::Name, tokens)?;
     let bytes = bytes(alloc, &name.kind)?;
@@ -217,7 +233,8 @@ fn body<'a>(alloc: Global, tokens: &'a [Token], depth: u32) -> Parsed<'a, Body>
 // A body over what is less deep than so much.
 #[cycle(statement)]
 fn body_over<'a>(alloc: Global, tokens: &'a [Token], depth: u32) -> Parsed<'a, Body>
-    ensures value { GivesRead (λ p. (body_of p.0, p.1.now)) result (body_over (statement_read depth) (instance_in depth (body_read depth)) tokens.now) }
+    ensures value { GivesRead (λ p. (body_of p.0, p.1.now)) result
+        (body_over (statement_read depth) (instance_in depth (body_read depth)) tokens.now) }
 {
     if let Some((end, rest)) = TokenClass::Sign(Symbol::Semicolon).split_first(tokens) {
         Ok((Body::Semicolon(end.place), rest))

@@ -2,3 +2,4 @@ pub mod Envs
 pub mod Bound
 pub mod Numbered
 pub mod Chain
+pub mod Bindings

@@ -2,4 +2,5 @@ pub mod Names
 pub mod Rows
 pub mod Table
 pub mod View
+pub mod Known
 pub mod Numbered

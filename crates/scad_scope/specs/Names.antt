@@ -17,9 +17,11 @@ pub record Row : Type 0 where
 mutual
   pub data NumberedEnv : Type 0 where
     NumberedOutermost : NumberedEnv
-    NumberedWithin : (number : ℕ) → (row : Row) → (call : NumberedActivation) → (outer : NumberedEnv) → NumberedEnv
+    NumberedWithin : (number : ℕ) → (row : Row) → (call : NumberedActivation)
+        → (outer : NumberedEnv) → NumberedEnv
 
-  -- the activation of a call of a module of the source: the number of the block of its children, and the scope of its caller; or none
+  -- the activation of a call of a module of the source: the number of the block of its children, and the scope of its
+  -- caller; or none
   pub data NumberedActivation : Type 0 where
     no_numbered_activation : NumberedActivation
     numbered_activation : (children : ℕ) → (caller : NumberedEnv) → NumberedActivation
@@ -27,12 +29,15 @@ mutual
 -- an activation by numbers, where the caller's scope is one of the first so many
 abbrev pub activation_from : (ℕ → NumberedEnv) → ℕ → Option (ℕ × ℕ) → NumberedActivation
 activation_from scope count None = no_numbered_activation
-activation_from scope count (Some call) = if nat_lt call.1 count then numbered_activation call.0 (scope call.1) else no_numbered_activation
+activation_from scope count (Some call) =
+    if nat_lt call.1 count then numbered_activation call.0 (scope call.1)
+    else no_numbered_activation
 
 -- a row behind these scopes, inside one of them or inside none
 abbrev pub env_behind : List NumberedEnv → Row → NumberedEnv
 env_behind before row =
-    NumberedWithin (length before) row (activation_from (λ number. slice_index_or before number NumberedOutermost) (length before) row.call)
+    NumberedWithin (length before) row (activation_from (λ number.
+    slice_index_or before number NumberedOutermost) (length before) row.call)
     (slice_index_or before row.outer NumberedOutermost)
 
 -- each scope of a table
@@ -52,7 +57,8 @@ or_outer_numbered (numbered_activation children caller) outer = numbered_activat
 -- The activation that encloses a scope: the innermost one whose scope it is or stands in (OpenSCAD User Manual, "Children").
 abbrev pub enclosing_activation : NumberedEnv → NumberedActivation
 enclosing_activation NumberedOutermost = no_numbered_activation
-enclosing_activation (NumberedWithin number row call outer) = or_outer_numbered call (enclosing_activation outer)
+enclosing_activation (NumberedWithin number row call outer) =
+    or_outer_numbered call (enclosing_activation outer)
 
 -- what was found, or else what is found further out
 abbrev pub or_else : {A : Type 0} → Option A → Option A → Option A
@@ -62,7 +68,8 @@ or_else None other = other
 -- a variable, from the inner scope outward
 abbrev pub variable_in : NumberedEnv → List ℕ → Option Val
 variable_in NumberedOutermost name = None
-variable_in (NumberedWithin number row call outer) name = or_else (find_in row.variables name) (variable_in outer name)
+variable_in (NumberedWithin number row call outer) name =
+    or_else (find_in row.variables name) (variable_in outer name)
 
 -- a definition that was found, with the scope that it stands in
 abbrev pub standing_in : NumberedEnv → Option ℕ → Option (NumberedEnv × ℕ)
@@ -73,13 +80,15 @@ standing_in env None = None
 abbrev pub function_in : NumberedEnv → List ℕ → Option (NumberedEnv × ℕ)
 function_in NumberedOutermost name = None
 function_in (NumberedWithin number row call outer) name =
-    or_else (standing_in (NumberedWithin number row call outer) (find_in row.functions name)) (function_in outer name)
+    or_else (standing_in (NumberedWithin number row call outer) (find_in row.functions name))
+    (function_in outer name)
 
 -- a module with the scope that it stands in, from the inner scope outward
 abbrev pub module_in : NumberedEnv → List ℕ → Option (NumberedEnv × ℕ)
 module_in NumberedOutermost name = None
 module_in (NumberedWithin number row call outer) name =
-    or_else (standing_in (NumberedWithin number row call outer) (find_in row.modules name)) (module_in outer name)
+    or_else (standing_in (NumberedWithin number row call outer) (find_in row.modules name))
+    (module_in outer name)
 
 -- the number that stands for no scope outside
 abbrev pub nothing_outside : ℕ
@@ -87,11 +96,18 @@ nothing_outside = 2 ^ 32 - 1
 
 -- the outermost scope of a table
 abbrev pub first_row : Row
-first_row = record { variables = []; functions = []; modules = []; outer = nothing_outside; call = None }
+first_row = record {
+  variables = [];
+  functions = [];
+  modules = [];
+  outer = nothing_outside;
+  call = None;
+}
 
 -- a scope without variables and definitions, inside another one
 abbrev pub empty_row : ℕ → Row
-empty_row outer = record { variables = []; functions = []; modules = []; outer = outer; call = None }
+empty_row outer =
+    record { variables = []; functions = []; modules = []; outer = outer; call = None }
 
 -- the scope of a call, by the block of its children and the scope of its caller
 abbrev pub activation_row : ℕ → ℕ → Row → Row
@@ -110,9 +126,11 @@ bound_in (row ∷ rows) (suc number) name value = row ∷ bound_in rows number n
 -- a scope with one more variable, inside the same scopes
 abbrev pub with_pair : List ℕ → Val → NumberedEnv → NumberedEnv
 with_pair name value NumberedOutermost = NumberedOutermost
-with_pair name value (NumberedWithin number row call outer) = NumberedWithin number (with_variable name value row) call outer
+with_pair name value (NumberedWithin number row call outer) =
+    NumberedWithin number (with_variable name value row) call outer
 
 -- The dynamic bindings of special variables (OpenSCAD User Manual, "Special variables"): pairs of a name, without its `$`, and
 -- its value, the newest first. It begins with these.
 abbrev pub first_bindings : Pairs Val
-first_bindings = (codes "fs", NumberVal (pos 2)) ∷ (codes "fa", NumberVal (pos 12)) ∷ (codes "fn", NumberVal (pos 0)) ∷ []
+first_bindings = (codes "fs", NumberVal (pos 2)) ∷ (codes "fa", NumberVal (pos 12))
+    ∷ (codes "fn", NumberVal (pos 0)) ∷ []

@@ -18,9 +18,12 @@ abbrev pub modules_below : ℕ → List Row → Bool
 modules_below n = each_row (λ row. numbers_below n row.modules)
 
 -- after a change each function and each module of a table's scopes is one of so many, where it was so before
-pub record StaysBelow (count_of_functions count_of_modules : ℕ) (before after : List Row) : Type 0 where
-  pub functions : IsTrue (functions_below count_of_functions before) → IsTrue (functions_below count_of_functions after)
-  pub modules : IsTrue (modules_below count_of_modules before) → IsTrue (modules_below count_of_modules after)
+pub record StaysBelow (count_of_functions count_of_modules : ℕ)
+    (before after : List Row) : Type 0 where
+  pub functions : IsTrue (functions_below count_of_functions before)
+      → IsTrue (functions_below count_of_functions after)
+  pub modules : IsTrue (modules_below count_of_modules before)
+      → IsTrue (modules_below count_of_modules after)
 
 -- numbers of functions and of modules that were below any count still are
 pub record StaysNumbered (before after : List Row) : Type 0 where

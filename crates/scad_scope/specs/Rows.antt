@@ -15,4 +15,5 @@ local_row outer local = record {
 
 -- a new scope of the block of a number, inside another one; a block that isn't there has no definitions
 abbrev pub row_of_block : ℕ → BlockTable → ℕ → Row
-row_of_block outer text number = local_row outer (slice_index_or text.entries number nothing_there).local
+row_of_block outer text number =
+    local_row outer (slice_index_or text.entries number nothing_there).local

@@ -21,12 +21,14 @@ abbrev pub bindings_of : Scopes → Pairs Val
 bindings_of scopes = variables_of scopes.bindings
 
 -- the number of a scope that is there, and of a definition that stands in it
-pub record IsFound (rows : List Row) (wanted : Option (NumberedEnv × ℕ)) (found : Found) : Type 0 where
+pub record IsFound (rows : List Row) (wanted : Option (NumberedEnv × ℕ))
+    (found : Found) : Type 0 where
   pub there : found.scope < length rows
   pub same : wanted ≡ Some (env_of rows found.scope, found.definition)
 
 -- a fault of this kind at this place, where nothing is found
-pub record IsMissing {A : Type 0} (kind : FaultKind) (place : Place) (wanted : Option A) (fault : Fault) :
+pub record IsMissing {A : Type 0} (kind : FaultKind) (place : Place) (wanted : Option A)
+    (fault : Fault) :
     Type 0 where
   pub none : wanted ≡ None
   pub same_kind : fault.kind ≡ kind
@@ -44,5 +46,6 @@ numbered_activation_of scope (Some call) = numbered_activation call.children (sc
 
 -- each scope that was there, and each dynamic binding, is as before
 pub record KeepsScopes (before after : Scopes) : Type 0 where
-  pub scopes : (number : ℕ) → number < length (rows_of before) → env_of (rows_of after) number ≡ env_of (rows_of before) number
+  pub scopes : (number : ℕ) → number < length (rows_of before) → env_of (rows_of after) number
+      ≡ env_of (rows_of before) number
   pub bindings : bindings_of after ≡ bindings_of before

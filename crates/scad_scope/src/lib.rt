@@ -5,6 +5,7 @@ mod fault;
 mod local;
 mod scopes;
 mod table;
+mod variables;
 
 pub use scad_definitions::{
     ArgumentsSoFar, Assignment, BlockText, Blocks, CallArguments, Function, Matching, Module,

@@ -1,8 +1,8 @@
 use crate::fault::fault;
 use crate::local::{empty, scope_of_block};
 use crate::table::{
-    Found, ModuleActivation, NameSpace, Scope, activation_before, definitions, find_definition,
-    find_variable, new_bindings,
+    Found, ModuleActivation, NameSpace, Scope, activation_before, find_definition, find_variable,
+    new_bindings,
 };
 use scad_definitions::{Blocks, NameList};
 use scad_value::{BoundedValue, Value};
@@ -39,13 +39,7 @@ impl Scopes {
         ensures modules { IfOk result (λ s. (n : ℕ) → IsTrue (modules_below n (rows_of s))) }
     {
         let mut scopes = Vec::new(alloc);
-        scopes.push(Scope {
-            variables: NameList::new(alloc),
-            functions: NameList::new(alloc),
-            modules: NameList::new(alloc),
-            outer: u32::MAX,
-            call: None,
-        })?;
+        scopes.push(empty(alloc, u32::MAX))?;
         let bindings = new_bindings(alloc)?;
         Ok(Scopes { scopes, bindings })
     }
@@ -69,9 +63,11 @@ impl Scopes {
             rows_of self.old ++ row_of_block outer (table_held blocks.now) block ∷ []) }
         ensures unchanged { OnErr result (rows_of self.new ≡ rows_of self.old) }
         ensures inside { IfOk result (λ n. env_of (rows_of self.new) n ≡
-            NumberedWithin n (row_of_block outer (table_held blocks.now) block) no_numbered_activation (env_of (rows_of self.old) outer)) }
+            NumberedWithin n (row_of_block outer (table_held blocks.now) block)
+            no_numbered_activation (env_of (rows_of self.old) outer)) }
         ensures kept { KeepsScopes self.old self.new }
-        ensures numbered { StaysBelow (length (functions_held blocks.now)) (length (modules_held blocks.now)) (rows_of self.old) (rows_of self.new) }
+        ensures numbered { StaysBelow (length (functions_held blocks.now))
+            (length (modules_held blocks.now)) (rows_of self.old) (rows_of self.new) }
     {
         let scope = scope_of_block(alloc, outer, blocks, block)?;
         self.add(scope)
@@ -91,13 +87,17 @@ impl Scopes {
         requires caller { call.caller < length (rows_of self.old) }
         ensures number { IfOk result (λ n. n ≡ length (rows_of self.old)) }
         ensures entered { OnOk result (rows_of self.new ≡ rows_of self.old ++
-            activation_row call.children call.caller (row_of_block outer (table_held blocks.now) block) ∷ []) }
+            activation_row call.children call.caller
+            (row_of_block outer (table_held blocks.now) block) ∷ []) }
         ensures unchanged { OnErr result (rows_of self.new ≡ rows_of self.old) }
         ensures inside { IfOk result (λ n. env_of (rows_of self.new) n ≡ NumberedWithin n
-            (activation_row call.children call.caller (row_of_block outer (table_held blocks.now) block))
-            (numbered_activation call.children (env_of (rows_of self.old) call.caller)) (env_of (rows_of self.old) outer)) }
+            (activation_row call.children call.caller
+            (row_of_block outer (table_held blocks.now) block))
+            (numbered_activation call.children (env_of (rows_of self.old) call.caller))
+            (env_of (rows_of self.old) outer)) }
         ensures kept { KeepsScopes self.old self.new }
-        ensures numbered { StaysBelow (length (functions_held blocks.now)) (length (modules_held blocks.now)) (rows_of self.old) (rows_of self.new) }
+        ensures numbered { StaysBelow (length (functions_held blocks.now))
+            (length (modules_held blocks.now)) (rows_of self.old) (rows_of self.new) }
     {
         let entered = scope_of_block(alloc, outer, blocks, block)?;
         self.add(entered.of_activation(call))
@@ -109,10 +109,12 @@ impl Scopes {
     pub fn enter_empty(&mut self, alloc: Global, outer: u32) -> Result<u32, NoMemory>
         requires { outer < length (rows_of self.old) }
         ensures number { IfOk result (λ n. n ≡ length (rows_of self.old)) }
-        ensures entered { OnOk result (rows_of self.new ≡ rows_of self.old ++ empty_row outer ∷ []) }
+        ensures entered { OnOk result (rows_of self.new
+            ≡ rows_of self.old ++ empty_row outer ∷ []) }
         ensures unchanged { OnErr result (rows_of self.new ≡ rows_of self.old) }
         ensures inside { IfOk result (λ n. env_of (rows_of self.new) n ≡
-            NumberedWithin n (empty_row outer) no_numbered_activation (env_of (rows_of self.old) outer)) }
+            NumberedWithin n (empty_row outer) no_numbered_activation
+            (env_of (rows_of self.old) outer)) }
         ensures kept { KeepsScopes self.old self.new }
         ensures numbered { StaysNumbered (rows_of self.old) (rows_of self.new) }
     {
@@ -122,7 +124,8 @@ impl Scopes {
     // One scope more, and its number.
     fn add(&mut self, scope: Scope) -> Result<u32, NoMemory>
         ensures number { IfOk result (λ n. n ≡ length (rows_of self.old)) }
-        ensures added { OnOk result (rows_of self.new ≡ rows_of self.old ++ row_of_scope scope ∷ []) }
+        ensures added { OnOk result (rows_of self.new
+            ≡ rows_of self.old ++ row_of_scope scope ∷ []) }
         ensures unchanged { OnErr result (rows_of self.new ≡ rows_of self.old) }
         ensures bindings { bindings_of self.new ≡ bindings_of self.old }
     {
@@ -139,8 +142,10 @@ impl Scopes {
         requires some { 1 ≤ to }
         requires there { to ≤ length (rows_of self.old) }
         ensures rows { rows_of self.new ≡ take to (rows_of self.old) }
-        ensures back { (front behind : List Row) → rows_of self.old ≡ front ++ behind → length front ≡ to → rows_of self.new ≡ front }
-        ensures kept { (k : ℕ) → k < to → env_of (rows_of self.new) k ≡ env_of (rows_of self.old) k }
+        ensures back { (front behind : List Row) → rows_of self.old ≡ front ++ behind
+            → length front ≡ to → rows_of self.new ≡ front }
+        ensures kept { (k : ℕ) → k < to → env_of (rows_of self.new) k
+            ≡ env_of (rows_of self.old) k }
         ensures bindings { bindings_of self.new ≡ bindings_of self.old }
         ensures numbered { StaysNumbered (rows_of self.old) (rows_of self.new) }
     {
@@ -158,7 +163,8 @@ impl Scopes {
     /// what is evaluated in the scope. None where there is no such call.
     pub fn activation_of(&self, scope: u32) -> Option<ModuleActivation>
         requires { scope < length (rows_of self.now) }
-        ensures value { enclosing_activation (env_of (rows_of self.now) scope) ≡ numbered_activation_of (env_of (rows_of self.now)) result }
+        ensures value { enclosing_activation (env_of (rows_of self.now) scope)
+            ≡ numbered_activation_of (env_of (rows_of self.now)) result }
         ensures there { IfSome result (λ c. c.caller < length (rows_of self.now)) }
     {
         let mut at = scope;
@@ -185,11 +191,13 @@ impl Scopes {
     ) -> Result<(), NoMemory>
         requires scope { scope < length (rows_of self.old) }
         requires bounded { IsTrue (is_bounded (val_of value)) }
-        ensures bound { OnOk result (rows_of self.new ≡ bound_in (rows_of self.old) scope name.now (val_of value)) }
+        ensures bound { OnOk result (rows_of self.new
+            ≡ bound_in (rows_of self.old) scope name.now (val_of value)) }
         ensures unchanged { OnErr result (rows_of self.new ≡ rows_of self.old) }
         ensures here { OnOk result (env_of (rows_of self.new) scope ≡
             with_pair name.now (val_of value) (env_of (rows_of self.old) scope)) }
-        ensures kept { (k : ℕ) → k < scope → env_of (rows_of self.new) k ≡ env_of (rows_of self.old) k }
+        ensures kept { (k : ℕ) → k < scope → env_of (rows_of self.new) k
+            ≡ env_of (rows_of self.old) k }
         ensures bindings { bindings_of self.new ≡ bindings_of self.old }
         ensures numbered { StaysNumbered (rows_of self.old) (rows_of self.new) }
     {
@@ -205,11 +213,11 @@ impl Scopes {
         value: BoundedValue,
     ) -> Result<(), NoMemory>
         requires { scope < length (rows_of self.old) }
-        ensures bound { OnOk result (rows_of self.new ≡ bound_in (rows_of self.old) scope name.now (val_of value.value)) }
+        ensures bound { OnOk result (rows_of self.new
+            ≡ bound_in (rows_of self.old) scope name.now (val_of value.value)) }
         ensures unchanged { OnErr result (rows_of self.new ≡ rows_of self.old) }
         ensures bindings { bindings_of self.new ≡ bindings_of self.old }
     {
-        let name = Bytes::copy_of(alloc, name)?;
         self.scopes[scope as usize].bind(alloc, name, value)
     }
 
@@ -217,13 +225,14 @@ impl Scopes {
     /// scope outward has it.
     pub fn variable(&self, scope: u32, name: &[u8], place: Place) -> Result<&Value, Fault>
         requires { scope < length (rows_of self.now) }
-        ensures { MatchResult result (λ v. IsVariable (variable_in (env_of (rows_of self.now) scope) name.now) v.now)
+        ensures { MatchResult result (λ v.
+            IsVariable (variable_in (env_of (rows_of self.now) scope) name.now) v.now)
             (IsMissing UnknownName place (variable_in (env_of (rows_of self.now) scope) name.now)) }
     {
         let mut at = scope;
         'outward: loop {
             let here = &self.scopes[at as usize];
-            if let Some(found) = find_variable(&here.variables, name) {
+            if let Some(found) = here.variables.find(name) {
                 return Ok(&found.value);
             }
             if here.outer >= at {
@@ -244,7 +253,8 @@ impl Scopes {
     ) -> Result<u32, NoMemory>
         requires { IsTrue (is_bounded (val_of value)) }
         ensures length { IfOk result (λ n. n ≡ length (bindings_of self.old)) }
-        ensures bound { OnOk result (bindings_of self.new ≡ (name.now, val_of value) ∷ bindings_of self.old) }
+        ensures bound { OnOk result (bindings_of self.new
+            ≡ (name.now, val_of value) ∷ bindings_of self.old) }
         ensures unchanged { OnErr result (bindings_of self.new ≡ bindings_of self.old) }
         ensures rows { rows_of self.new ≡ rows_of self.old }
     {
@@ -260,7 +270,8 @@ impl Scopes {
     /// The newest value of a special name, given without its `$`; it is bounded. UnknownName at the
     /// place exactly where no dynamic binding has the name.
     pub fn special(&self, name: &[u8], place: Place) -> Result<&Value, Fault>
-        ensures { MatchResult result (λ v. IsVariable (find_in (bindings_of self.now) name.now) v.now)
+        ensures { MatchResult result (λ v.
+            IsVariable (find_in (bindings_of self.now) name.now) v.now)
             (IsMissing UnknownName place (find_in (bindings_of self.now) name.now)) }
     {
         match find_variable(&self.bindings, name) {
@@ -280,7 +291,8 @@ impl Scopes {
     pub fn unwind(&mut self, to: u32)
         requires { to ≤ length (bindings_of self.old) }
         ensures bindings { bindings_of self.new ≡ oldest to (bindings_of self.old) }
-        ensures back { (newer older : Pairs Val) → bindings_of self.old ≡ newer ++ older → length older ≡ to → bindings_of self.new ≡ older }
+        ensures back { (newer older : Pairs Val) → bindings_of self.old ≡ newer ++ older
+            → length older ≡ to → bindings_of self.new ≡ older }
         ensures rows { rows_of self.new ≡ rows_of self.old }
     {
         self.bindings.truncate(to as usize);
@@ -290,8 +302,10 @@ impl Scopes {
     /// has one.
     pub fn function(&self, scope: u32, name: &[u8], place: Place) -> Result<Found, Fault>
         requires { scope < length (rows_of self.now) }
-        ensures { MatchResult result (IsFound (rows_of self.now) (function_in (env_of (rows_of self.now) scope) name.now))
-            (IsMissing UnknownFunction place (function_in (env_of (rows_of self.now) scope) name.now)) }
+        ensures { MatchResult result
+            (IsFound (rows_of self.now) (function_in (env_of (rows_of self.now) scope) name.now))
+            (IsMissing UnknownFunction place
+            (function_in (env_of (rows_of self.now) scope) name.now)) }
     {
         match self.definition(NameSpace::Functions, scope, name) {
             Some(found) => Ok(found),
@@ -303,7 +317,8 @@ impl Scopes {
     /// one.
     pub fn module(&self, scope: u32, name: &[u8], place: Place) -> Result<Found, Fault>
         requires { scope < length (rows_of self.now) }
-        ensures { MatchResult result (IsFound (rows_of self.now) (module_in (env_of (rows_of self.now) scope) name.now))
+        ensures { MatchResult result
+            (IsFound (rows_of self.now) (module_in (env_of (rows_of self.now) scope) name.now))
             (IsMissing UnknownModule place (module_in (env_of (rows_of self.now) scope) name.now)) }
     {
         match self.definition(NameSpace::Modules, scope, name) {
@@ -315,13 +330,15 @@ impl Scopes {
     // The function or the module of a name, from a scope outward, or none.
     fn definition(&self, name_space: NameSpace, scope: u32, name: &[u8]) -> Option<Found>
         requires { scope < length (rows_of self.now) }
-        ensures { MatchOption result (definition_in name_space (env_of (rows_of self.now) scope) name.now ≡ None)
-            (IsFound (rows_of self.now) (definition_in name_space (env_of (rows_of self.now) scope) name.now)) }
+        ensures { MatchOption result
+            (definition_in name_space (env_of (rows_of self.now) scope) name.now ≡ None)
+            (IsFound (rows_of self.now)
+            (definition_in name_space (env_of (rows_of self.now) scope) name.now)) }
     {
         let mut at = scope;
         'outward: loop {
             let here = &self.scopes[at as usize];
-            if let Some(definition) = find_definition(definitions(name_space, here), name) {
+            if let Some(definition) = find_definition(name_space, here, name) {
                 return Some(Found {
                     scope: at,
                     definition,

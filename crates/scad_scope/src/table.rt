@@ -1,14 +1,15 @@
 ghost use Rattle.std.specs.Prelude.{◌≡◌, ◌<◌, ◌∷◌, ℕ, IsTrue, OnOk, OnErr, IfOk, IfSome};
-ghost use Rattle.scad_definitions.specs.Names.{newest_first};
 ghost use Rattle.scad_value.specs.Values.{NumberVal, is_bounded};
 ghost use Rattle.scad_value.specs.View.{val_of};
 ghost use Rattle.scad_scope.specs.Names.{find_in, with_variable, NumberedEnv, activation_from, activation_row, first_bindings};
 ghost use Rattle.scad_scope.specs.Table.{numbered_activation_of};
-ghost use Rattle.scad_scope.specs.View.{variables_of, IsValueFound, pairs_of, row_of_scope};
+ghost use Rattle.scad_scope.specs.View.{variables_of, IsValueFound, newest_defined, pairs_of, row_of_scope};
 
-use scad_definitions::NameList;
+use crate::variables::Variables;
+use scad_definitions::{Definitions, NameList};
 use scad_value::{BoundedValue, Value};
 use std::alloc::Global;
+use std::rc::Rc;
 use text_place::{Bytes, NoMemory};
 
 /// A call of a module of the source.
@@ -20,13 +21,12 @@ pub struct ModuleActivation {
     pub caller: u32,
 }
 
-/// A scope: its variables, functions and modules, the newest last, the number of the scope outside
-/// it, and the call whose scope it is, where it is one's.
+/// A scope: its variables, the newest last, the definitions of its block, which all scopes of that block share, the
+/// number of the scope outside it, and the call whose scope it is, where it is one's.
 #[derive(Drop)]
 pub(crate) struct Scope {
-    pub(crate) variables: NameList<BoundedValue>,
-    pub(crate) functions: NameList<u32>,
-    pub(crate) modules: NameList<u32>,
+    pub(crate) variables: Variables,
+    pub(crate) definitions: Option<Rc<Definitions>>,
     pub(crate) outer: u32,
     pub(crate) call: Option<ModuleActivation>,
 }
@@ -36,23 +36,24 @@ impl Scope {
     pub(crate) fn bind(
         &mut self,
         alloc: Global,
-        name: Bytes,
+        name: &[u8],
         value: BoundedValue,
     ) -> Result<(), NoMemory>
-        ensures bound { OnOk result (row_of_scope self.new ≡ with_variable name (val_of value.value) (row_of_scope self.old)) }
+        ensures bound { OnOk result (row_of_scope self.new
+            ≡ with_variable name.now (val_of value.value) (row_of_scope self.old)) }
         ensures unchanged { OnErr result (row_of_scope self.new ≡ row_of_scope self.old) }
     {
-        self.variables.push(alloc, name, value)
+        self.variables.bind(alloc, name, value)
     }
 
     /// The same as the scope of a call.
     pub(crate) fn of_activation(self, call: ModuleActivation) -> Scope
-        ensures { row_of_scope result ≡ activation_row call.children call.caller (row_of_scope self) }
+        ensures { row_of_scope result ≡ activation_row call.children call.caller
+            (row_of_scope self) }
     {
         Scope {
             variables: self.variables,
-            functions: self.functions,
-            modules: self.modules,
+            definitions: self.definitions,
             outer: self.outer,
             call: Some(call),
         }
@@ -76,7 +77,7 @@ pub struct Found {
     pub definition: u32,
 }
 
-/// The newest value of a name.
+/// The newest value of a name among the dynamic bindings, or among variables that have names of their own.
 pub(crate) fn find_variable<'a>(
     variables: &'a NameList<BoundedValue>,
     name: &[u8],
@@ -86,20 +87,23 @@ pub(crate) fn find_variable<'a>(
     variables.find(name)
 }
 
-/// The number of the newest definition of a name.
-pub(crate) fn find_definition(definitions: &NameList<u32>, name: &[u8]) -> Option<u32>
-    ensures { result ≡ find_in (newest_first definitions.now) name.now }
+/// The number of the newest definition of a name in a scope, of one kind.
+pub(crate) fn find_definition(name_space: NameSpace, scope: &Scope, name: &[u8]) -> Option<u32>
+    ensures { result ≡ find_in (pairs_of name_space (row_of_scope scope.now)) name.now }
 {
-    definitions.find(name).copied()
+    match &scope.definitions {
+        Some(definitions) => find_among(name_space, definitions, name),
+        None => None,
+    }
 }
 
-/// The definitions of one kind in a scope.
-pub(crate) fn definitions(name_space: NameSpace, scope: &Scope) -> &NameList<u32>
-    ensures { newest_first result.now ≡ pairs_of name_space (row_of_scope scope.now) }
+// The number of the newest definition of a name among those of a block, of one kind.
+fn find_among(name_space: NameSpace, definitions: &Definitions, name: &[u8]) -> Option<u32>
+    ensures { result ≡ find_in (newest_defined name_space definitions.now) name.now }
 {
     match name_space {
-        NameSpace::Functions => &scope.functions,
-        NameSpace::Modules => &scope.modules,
+        NameSpace::Functions => definitions.functions.find(name).copied(),
+        NameSpace::Modules => definitions.modules.find(name).copied(),
     }
 }
 
@@ -121,7 +125,8 @@ fn with_number(
     number: i64,
 ) -> Result<NameList<BoundedValue>, NoMemory>
     requires { IsTrue (is_bounded (NumberVal number)) }
-    ensures { IfOk result (λ after. variables_of after ≡ (name.now, NumberVal number) ∷ variables_of bindings) }
+    ensures { IfOk result (λ after. variables_of after
+        ≡ (name.now, NumberVal number) ∷ variables_of bindings) }
 {
     let name = Bytes::copy_of(alloc, name)?;
     let mut longer = bindings;
@@ -132,7 +137,9 @@ fn with_number(
 
 /// The call of a scope of this number, where the caller's scope comes before it.
 pub(crate) fn activation_before(scope: &Scope, number: u32) -> Option<ModuleActivation>
-    ensures told { (look : ℕ → NumberedEnv) → activation_from look number (row_of_scope scope.now).call ≡ numbered_activation_of look result }
+    ensures told { (look : ℕ → NumberedEnv)
+        → activation_from look number (row_of_scope scope.now).call
+        ≡ numbered_activation_of look result }
     ensures before { IfSome result (λ c. c.caller < number) }
 {
     match scope.call {

@@ -29,7 +29,8 @@ pub struct Clients {
 
 // The number of the client with this name, from 0.
 fn number_of(clients: &Clients, name: &[u8]) -> Option<usize>
-    requires { map (λ k. k.items) clients.now.numbers.keys ≡ map (λ c. c.name) clients.now.scripts.items }
+    requires { map (λ k. k.items) clients.now.numbers.keys
+        ≡ map (λ c. c.name) clients.now.scripts.items }
     ensures { result ≡ position (λ c. bytes_eq name.now c.name) clients.now.scripts.items }
 {
     clients.numbers.get_index_of(name)
@@ -55,10 +56,15 @@ fn push_client(
     name: &[u8],
     command: Command,
 ) -> Result<(), NoMemory>
-    requires known { map (λ k. k.items) clients.old.numbers.keys ≡ map (λ c. c.name) clients.old.scripts.items }
+    requires known { map (λ k. k.items) clients.old.numbers.keys
+        ≡ map (λ c. c.name) clients.old.scripts.items }
     requires fresh { position (λ c. bytes_eq name.now c.name) clients.old.scripts.items ≡ None }
-    ensures known { OnOk result (map (λ k. k.items) clients.new.numbers.keys ≡ map (λ c. c.name) clients.new.scripts.items) }
-    ensures last { OnOk result (clients.new.scripts.items ≡ clients.old.scripts.items ++ record { name = name.now; commands = command ∷ [] } ∷ []) }
+    ensures known { OnOk result
+        (map (λ k. k.items) clients.new.numbers.keys
+        ≡ map (λ c. c.name) clients.new.scripts.items) }
+    ensures last { OnOk result
+        (clients.new.scripts.items
+        ≡ clients.old.scripts.items ++ record { name = name.now; commands = command ∷ [] } ∷ []) }
 {
     let mut commands = Vec::new(alloc);
     commands.push(command)?;
@@ -76,10 +82,14 @@ pub fn read_line(
     line: &[u8],
     number: u32,
 ) -> Result<(), ScriptFault>
-    requires { map (λ k. k.items) clients.old.numbers.keys ≡ map (λ c. c.name) clients.old.scripts.items }
-    ensures known { OnOk result (map (λ k. k.items) clients.new.numbers.keys ≡ map (λ c. c.name) clients.new.scripts.items) }
+    requires { map (λ k. k.items) clients.old.numbers.keys
+        ≡ map (λ c. c.name) clients.old.scripts.items }
+    ensures known { OnOk result
+        (map (λ k. k.items) clients.new.numbers.keys
+        ≡ map (λ c. c.name) clients.new.scripts.items) }
     ensures ok { OnOk result (Adds clients.old.scripts.items line.now clients.new.scripts.items) }
-    ensures err { IfErr result (λ fault. IsFaultBehind clients.old.scripts.items line.now number fault) }
+    ensures err { IfErr result (λ fault.
+        IsFaultBehind clients.old.scripts.items line.now number fault) }
 {
     if line.len() > LINE_BYTES {
         return Err(ScriptFault::TooLong(number));

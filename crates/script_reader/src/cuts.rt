@@ -10,7 +10,7 @@ use std::alloc::Global;
 use text_place::{Bytes, NoMemory, read_decimal};
 
 /// A line as it counts: without one carriage return at its end.
-pub fn trimmed(raw: &[u8]) -> &[u8]
+pub fn trimmed_line(raw: &[u8]) -> &[u8]
     ensures { IsTrimmed raw.now result.now }
 {
     match raw {
@@ -35,8 +35,8 @@ pub fn first_line(bytes: &[u8]) -> (&[u8], &[u8])
     ensures { IsFirstLine bytes.now result.0.now result.1.now }
 {
     match split_at_byte(bytes, b'\n') {
-        Some((raw, rest)) => (trimmed(raw), rest),
-        None => (trimmed(bytes), &[]),
+        Some((raw, rest)) => (trimmed_line(raw), rest),
+        None => (trimmed_line(bytes), &[]),
     }
 }
 
@@ -145,7 +145,8 @@ fn word_command(words: &[u8]) -> Command
 
 // What stands behind a word, where the bytes begin with it.
 fn behind<'a>(bytes: &'a [u8], word: &[u8]) -> Option<&'a [u8]>
-    ensures { MatchOption result ((rest : List ℕ) → bytes.now ≢ word.now ++ rest) (λ rest. bytes.now ≡ word.now ++ rest.now) }
+    ensures { MatchOption result ((rest : List ℕ) → bytes.now ≢ word.now ++ rest)
+        (λ rest. bytes.now ≡ word.now ++ rest.now) }
 {
     bytes.strip_prefix(word)
 }

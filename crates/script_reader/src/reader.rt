@@ -18,7 +18,8 @@ const SCRIPT_BYTES: usize = 1_048_576;
 
 fn read_lines(alloc: Global, bytes: &[u8]) -> Result<Vec<ClientScript>, ScriptFault>
     requires { length bytes.now ≤ 1048576 }
-    ensures found { IfOk result (λ clients. EndsScript [] bytes.now (record { clients = clients.items })) }
+    ensures found { IfOk result (λ clients.
+        EndsScript [] bytes.now (record { clients = clients.items })) }
     ensures within { IfOk result (λ clients. AreWithin clients.items) }
     ensures fault { IfErr result (λ fault. (fault ≡ NoMemory) ⊎ HasFault [] 0 bytes.now fault) }
 {
@@ -45,15 +46,18 @@ pub fn read_script(alloc: Global, bytes: &[u8]) -> Result<Script, ScriptFault>
     ensures fault { IfErr result (λ fault. (fault ≡ NoMemory) ⊎ IsScriptFault bytes.now fault) }
 
     // Nothing else: a script is read and a fault answered, unless memory runs out.
-    ensures only_script { (script : Script) → IsScript bytes.now script → MatchResult result (λ read. read ≡ script) (λ fault. fault ≡ NoMemory) }
-    ensures only_fault { (fault : ScriptFault) → IsScriptFault bytes.now fault → MatchResult result (λ _. ⊥) (λ found. (found ≡ NoMemory) ⊎ (found ≡ fault)) }
+    ensures only_script { (script : Script) → IsScript bytes.now script
+        → MatchResult result (λ read. read ≡ script) (λ fault. fault ≡ NoMemory) }
+    ensures only_fault { (fault : ScriptFault) → IsScriptFault bytes.now fault
+        → MatchResult result (λ _. ⊥) (λ found. (found ≡ NoMemory) ⊎ (found ≡ fault)) }
 {
     read_bytes(alloc, bytes)
 }
 
 fn read_bytes(alloc: Global, bytes: &[u8]) -> Result<Script, ScriptFault>
     ensures within { IfOk result (λ script. AreWithin script.clients) }
-    ensures outcome { MatchResult result (IsScript bytes.now) (λ fault. (fault ≡ NoMemory) ⊎ IsScriptFault bytes.now fault) }
+    ensures outcome { MatchResult result (IsScript bytes.now)
+        (λ fault. (fault ≡ NoMemory) ⊎ IsScriptFault bytes.now fault) }
 {
     if bytes.len() > SCRIPT_BYTES {
         return Err(ScriptFault::TooLarge);

@@ -1,5 +1,5 @@
 -- Exporters that count their exports.
-use Rattle.std.proofs.Common.{◌≡◌, ℕ, ◌+◌, List, [], ◌∷◌, refl, codes}
+use Rattle.std.proofs.Common.{◌≡◌, ℕ, ◌+◌, List, [], ◌∷◌, inl, inr, refl, codes}
 use Rattle.script_reader.specs.declared.script.Command.{Command}
 use Rattle.script_reader.specs.declared.script.Command.TheVariants.{Put, Show, Export, Bad}
 use Rattle.script_reader.specs.declared.script.ClientScript.{ClientScript}
@@ -21,14 +21,18 @@ replies = reply.Refused NoSuchLine ∷ reply.Lines 1 ∷ reply.Solid [] ∷ repl
 
 -- exports move it, and nothing else does
 two_exports : MovesAlong IsCounted start commands replies 5 7
-two_exports = (5, refl, (5, refl, (6, (λ has. refl), (6, refl, (6, refl, (7, (λ has. refl), refl))))))
+two_exports = (5, refl, (5, refl, (6, inl refl, (6, refl, (6, refl, (7, inl refl, refl))))))
 
 abbrev nearly_exported : State
 nearly_exported = record { lines = []; shows = 0; exports = 15 }
 
 -- nor does an export that the session refuses
 one_is_refused : MovesAlong IsCounted nearly_exported (Export ∷ Export ∷ []) (reply.Solid [] ∷ reply.Refused TooManyExports ∷ []) 0 1
-one_is_refused = (1, (λ has. refl), (1, (λ has. refl), refl))
+one_is_refused = (1, inl refl, (1, refl, refl))
+
+-- where memory runs out, the exporter was asked before that or not
+want_is_asked_or_not : MovesAlong IsCounted start (Export ∷ Export ∷ []) (reply.NoMem ∷ reply.NoMem ∷ []) 3 4
+want_is_asked_or_not = (3, inr (refl, refl), (4, inl refl, refl))
 
 abbrev client : ClientScript
 client = record { name = codes "a"; commands = commands }
@@ -36,6 +40,6 @@ client = record { name = codes "a"; commands = commands }
 -- an exporter without a client stays as it is
 all_move : AllMove IsCounted (client ∷ client ∷ []) (replies ∷ replies ∷ []) (0 ∷ 1 ∷ 9 ∷ []) (2 ∷ 3 ∷ 9 ∷ [])
 all_move = (
-  (0, refl, (0, refl, (1, (λ has. refl), (1, refl, (1, refl, (2, (λ has. refl), refl)))))),
-  ((1, refl, (1, refl, (2, (λ has. refl), (2, refl, (2, refl, (3, (λ has. refl), refl)))))), refl),
+  (0, refl, (0, refl, (1, inl refl, (1, refl, (1, refl, (2, inl refl, refl)))))),
+  ((1, refl, (1, refl, (2, inl refl, (2, refl, (2, refl, (3, inl refl, refl)))))), refl),
 )

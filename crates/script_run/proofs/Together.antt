@@ -8,12 +8,12 @@ use Rattle.reply_text.specs.declared.reply.Reply.{Reply}
 use Rattle.reply_text.specs.Answers.{Fits, AllFit}
 use Rattle.edit_session.specs.Sessions.{start}
 use Rattle.pair_work.specs.Pairs.{EachReady, EachWorked}
-use Rattle.script_run.specs.declared.served.Served.{Served}
+use Rattle.script_run.specs.declared.served.ServedClient.{ServedClient}
 use Rattle.script_run.specs.Moves.{MovesAlong, AllMove}
 use Rattle.script_run.specs.Serving.{IsReady, IsServed, AreWaiting, replies_of}
 
 -- as many wait as there are clients
-pub waiting_many : (clients : List ClientScript) (all : List Served) → AreWaiting clients all → length all ≡ length clients
+pub waiting_many : (clients : List ClientScript) (all : List ServedClient) → AreWaiting clients all → length all ≡ length clients
 waiting_many [] [] w = refl
 waiting_many (client ∷ clients) (served ∷ all) w = omega (arith, waiting_many clients all w.3)
 waiting_many [] (served ∷ all) w = absurd w
@@ -25,8 +25,8 @@ IsFresh asked CanExport e = (asked e ≡ 0) × CanExport e
 
 module _ {E : Type 0} (Fresh : E → Type 0) where
   -- each of them may be served by such an exporter
-  pub waiting_ready : (clients : List ClientScript) (all : List Served) (es : List E) → AreWaiting clients all → All IsClientWithin clients →
-      All Fresh es → length es ≡ length all → EachReady (λ (s : Served) (e : E). IsReady s × Fresh e) all es
+  pub waiting_ready : (clients : List ClientScript) (all : List ServedClient) (es : List E) → AreWaiting clients all → All IsClientWithin clients →
+      All Fresh es → length es ≡ length all → EachReady (λ (s : ServedClient) (e : E). IsReady s × Fresh e) all es
   waiting_ready [] [] [] w within fresh same = tt
   waiting_ready (client ∷ clients) (served ∷ all) (e ∷ es) w within fresh same =
       let limits = All-head IsClientWithin client clients within in
@@ -48,15 +48,15 @@ module _ {E : Type 0} (Fresh : E → Type 0) where
   waiting_ready (client ∷ clients) [] es w within fresh same = absurd w
 
 -- the replies of clients that were all written over
-pub replies_left : (n : ℕ) (new old : List Served) → n ≡ length new → replies_of (take n (new ++ drop (length new) old)) ≡ replies_of new
+pub replies_left : (n : ℕ) (new old : List ServedClient) → n ≡ length new → replies_of (take n (new ++ drop (length new) old)) ≡ replies_of new
 replies_left n new old same =
     ap (λ k. replies_of (take k (new ++ drop (length new) old))) same ∙ ap replies_of (take-append_seam new (drop (length new) old))
 
 module _ {E : Type 0} (Exports : List ℕ → Reply → Type 0) (Moves : List ℕ → Reply → E → E → Type 0) where
-  abbrev Done : Served → E → Served → E → Type 0
+  abbrev Done : ServedClient → E → ServedClient → E → Type 0
   Done old before new after = IsServed Exports Moves old before new after
 
-  pub served_fit : (clients : List ClientScript) (all : List Served) (es : List E) (all' : List Served) (es' : List E) → AreWaiting clients all →
+  pub served_fit : (clients : List ClientScript) (all : List ServedClient) (es : List E) (all' : List ServedClient) (es' : List E) → AreWaiting clients all →
       EachWorked Done all es all' es' → AllFit Exports clients (replies_of all')
   served_fit [] [] [] [] [] w h = tt
   served_fit (client ∷ clients) [] [] [] [] w h = absurd w
@@ -66,7 +66,7 @@ module _ {E : Type 0} (Exports : List ℕ → Reply → Type 0) (Moves : List �
   served_fit clients all es all' es' w h = absurd h
 
   -- the exporters of the clients are what their commands make of them, and those behind stay as they are
-  pub served_move : (clients : List ClientScript) (all : List Served) (es idle : List E) (all' : List Served) (es' : List E) → AreWaiting clients all →
+  pub served_move : (clients : List ClientScript) (all : List ServedClient) (es idle : List E) (all' : List ServedClient) (es' : List E) → AreWaiting clients all →
       EachWorked Done all es all' es' → AllMove Moves clients (replies_of all') (es ++ idle) (es' ++ idle)
   served_move [] [] [] idle [] [] w h = refl
   served_move (client ∷ clients) [] [] idle [] [] w h = absurd w
@@ -75,7 +75,7 @@ module _ {E : Type 0} (Exports : List ℕ → Reply → Type 0) (Moves : List �
   served_move [] (served ∷ all) (e ∷ es) idle (served' ∷ all') (e' ∷ es') w h = absurd w
   served_move clients all es idle all' es' w h = absurd h
 
-  pub served_few : (clients : List ClientScript) (all : List Served) (es : List E) (all' : List Served) (es' : List E) → AreWaiting clients all →
+  pub served_few : (clients : List ClientScript) (all : List ServedClient) (es : List E) (all' : List ServedClient) (es' : List E) → AreWaiting clients all →
       All IsClientWithin clients → EachWorked Done all es all' es' → All (λ rs. length rs ≤ 8192) (replies_of all')
   served_few [] [] [] [] [] w within h = All-nil (λ rs. length rs ≤ 8192)
   served_few (client ∷ clients) [] [] [] [] w within h = absurd w
@@ -89,12 +89,12 @@ module _ {E : Type 0} (Exports : List ℕ → Reply → Type 0) (Moves : List �
   served_few [] (served ∷ all) (e ∷ es) (served' ∷ all') (e' ∷ es') w within h = absurd w
   served_few clients all es all' es' w within h = absurd h
 
-  pub exporters_many : (all : List Served) (es : List E) (all' : List Served) (es' : List E) → EachWorked Done all es all' es' → length es' ≡ length es
+  pub exporters_many : (all : List ServedClient) (es : List E) (all' : List ServedClient) (es' : List E) → EachWorked Done all es all' es' → length es' ≡ length es
   exporters_many [] [] [] [] h = refl
   exporters_many (served ∷ all) (e ∷ es) (served' ∷ all') (e' ∷ es') h = omega (arith, exporters_many all es all' es' h.1)
   exporters_many all es all' es' h = absurd h
 
-  pub served_many : (all : List Served) (es : List E) (all' : List Served) (es' : List E) → EachWorked Done all es all' es' → length all' ≡ length all
+  pub served_many : (all : List ServedClient) (es : List E) (all' : List ServedClient) (es' : List E) → EachWorked Done all es all' es' → length all' ≡ length all
   served_many [] [] [] [] h = refl
   served_many (served ∷ all) (e ∷ es) (served' ∷ all') (e' ∷ es') h = omega (arith, served_many all es all' es' h.1)
   served_many all es all' es' h = absurd h
@@ -105,7 +105,7 @@ module _ {E : Type 0} (Exports : List ℕ → Reply → Type 0) (Moves : List �
     pub few : All (λ rs. length rs ≤ 8192) taken
     pub moved : AllMove Moves clients taken (es ++ idle) (es' ++ idle)
 
-  pub all_served : (clients : List ClientScript) (items all : List Served) (es idle : List E) (all' : List Served) (es' : List E) (n : ℕ) (taken : List (List Reply)) →
+  pub all_served : (clients : List ClientScript) (items all : List ServedClient) (es idle : List E) (all' : List ServedClient) (es' : List E) (n : ℕ) (taken : List (List Reply)) →
       AreWaiting clients items → All IsClientWithin clients → all ≡ items → n ≡ length items → EachWorked Done all es all' es' →
       taken ≡ replies_of (take n (all' ++ drop (length all') items)) → AllServed clients taken es idle es'
   all_served clients items all es idle all' es' n taken waits within same long worked told =

@@ -1,5 +1,6 @@
 -- What the commands of clients make of their exporters.
-use Rattle.std.specs.Prelude.{◌≡◌, ◌≢◌, ℕ, ◌+◌, ◌≤◌, List, [], ◌∷◌, MatchOption}
+use Rattle.std.specs.Prelude.{◌≡◌, ℕ, ◌+◌, ◌≤◌, List, [], ◌∷◌, ◌⊎◌, MatchOption, Result, Ok, Err}
+use Rattle.text_place.specs.declared.memory.NoMemory.{NoMemory}
 use Rattle.script_reader.specs.declared.script.Command.{Command}
 use Rattle.script_reader.specs.declared.script.Command.TheVariants.{Export}
 use Rattle.script_reader.specs.declared.script.ClientScript.{ClientScript}
@@ -12,12 +13,18 @@ use Rattle.reply_text.specs.Answers.{state_after}
 abbrev pub GoesOn : {E : Type 0} → (E → ℕ) → (E → Type 0) → E → E → Type 0
 GoesOn asked can_export old new = (asked new ≤ asked old + 1) × can_export new
 
+-- the reply that tells what came of an export
+abbrev pub reply_or_want : Result Reply NoMemory → Reply
+reply_or_want (Ok r) = r
+reply_or_want (Err none) = reply.NoMem
+
 -- `Moves` relates a source, the reply to its export, and an exporter before and after it
 module _ {E : Type 0} (Moves : List ℕ → Reply → E → E → Type 0) where
-  -- one command that is answered so: only an export that the session doesn't refuse asks the exporter. Nothing is said of
-  -- an export for which memory ran out.
+  -- One command that is answered so: only an export that the session doesn't refuse asks the exporter, unless memory ran out
+  -- before it was asked.
   abbrev pub MovesAt : State → Command → Reply → E → E → Type 0
-  MovesAt s Export r old new = r ≢ reply.NoMem → MatchOption (refusal s Export) (Moves (source_of s) r old new) (λ why. new ≡ old)
+  MovesAt s Export r old new =
+      MatchOption (refusal s Export) (Moves (source_of s) r old new ⊎ ((r ≡ reply.NoMem) × (new ≡ old))) (λ why. new ≡ old)
   MovesAt s _ r old new = new ≡ old
 
   -- commands that are answered so, one after another

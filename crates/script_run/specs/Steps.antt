@@ -3,7 +3,7 @@ use Rattle.std.specs.Prelude.{◌≡◌, ℕ, ◌⊎◌, List, None, Result, Ok,
 use Rattle.script_reader.specs.declared.script.Command.{Command}
 use Rattle.edit_session.specs.declared.fault.SessionFault.{SessionFault}
 use Rattle.edit_session.specs.declared.fault.SessionFault.TheVariants as fault
-use Rattle.edit_session.specs.Sessions.{State, refusal, accepted, next}
+use Rattle.edit_session.specs.Sessions.{State, refusal, after_accepted, next}
 use Rattle.edit_session.specs.Asking.{MayWantMemory}
 use Rattle.reply_text.specs.declared.reply.Reply.{Reply}
 use Rattle.reply_text.specs.declared.reply.Reply.TheVariants as reply
@@ -13,7 +13,7 @@ use Rattle.reply_text.specs.Answers.{IsDone, Answers}
 pub record Obeys (Exports : List ℕ → Reply → Type 0) (old : State) (c : Command) (new : State) (r : Reply) : Type 0 where
   pub allowed : refusal old c ≡ None
   pub answered : IsDone Exports old c r
-  pub done : new ≡ accepted old c
+  pub done : new ≡ after_accepted old c
 
 -- a command was answered, or memory ran out where it may, and nothing changed
 abbrev pub Steps : (List ℕ → Reply → Type 0) → State → Command → State → Reply → Type 0

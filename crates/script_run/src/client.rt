@@ -3,12 +3,12 @@
 ghost use Rattle.std.specs.Prelude.{◌≡◌, ◌≢◌, ◌+◌, ◌<◌, ◌≤◌, [], length, All, None, IfOk, IfErr, OnErr, vec_capacity};
 ghost use Rattle.script_reader.specs.declared.script.Command.TheVariants.{Show, Export};
 ghost use Rattle.script_reader.specs.Limits.{HasText};
-ghost use Rattle.edit_session.specs.Sessions.{start, source_of, refusal, accepted};
+ghost use Rattle.edit_session.specs.Sessions.{start, source_of, refusal, after_accepted};
 ghost use Rattle.reply_text.specs.Answers.{Fits, state_after};
 ghost use Rattle.edit_session.specs.Asking.{Refuses};
 ghost use Rattle.reply_text.specs.declared.reply.Reply.TheVariants as replies;
 ghost use Rattle.script_run.specs.Steps.{Obeys, Steps, reply_in};
-ghost use Rattle.script_run.specs.Moves.{GoesOn, MovesAt, MovesAlong};
+ghost use Rattle.script_run.specs.Moves.{GoesOn, reply_or_want, MovesAt, MovesAlong};
 
 use crate::exporter::Exporter;
 use edit_session::{Asked, Session, SessionFault};
@@ -21,7 +21,8 @@ use text_place::{Lines, NoMemory};
 // Shows the lines, and books it.
 fn show(alloc: Global, session: &mut Session) -> Result<Reply, NoMemory>
     requires { refusal session.old Show ≡ None }
-    ensures shown { IfOk result (λ reply. (reply ≡ replies.Text session.old.lines) × (session.new ≡ accepted session.old Show)) }
+    ensures shown { IfOk result (λ reply. (reply ≡ replies.Text session.old.lines)
+        × (session.new ≡ after_accepted session.old Show)) }
     ensures err { OnErr result (session.new ≡ session.old) }
 {
     let lines = Lines::copy_of(alloc, session.lines())?;
@@ -39,10 +40,12 @@ fn export<E: Exporter>(
     requires may { refusal session.old Export ≡ None }
     requires asked { E.asked exporter.old < 8192 }
     requires can_export { E.can_export exporter.old }
-    ensures exported { IfOk result (λ reply. E.exports unit (source_of session.old) reply × (session.new ≡ accepted session.old Export)) }
+    ensures exported { IfOk result (λ reply. E.exports unit (source_of session.old) reply
+        × (session.new ≡ after_accepted session.old Export)) }
     ensures err { OnErr result (session.new ≡ session.old) }
     ensures has_memory { IfOk result (λ reply. reply ≢ replies.NoMem) }
-    ensures moved { IfOk result (λ reply. E.moves unit (source_of session.old) reply exporter.old exporter.new) }
+    ensures moved { MovesAt (E.moves unit) session.old Export (reply_or_want result)
+        exporter.old exporter.new }
     ensures goes_on { GoesOn E.asked E.can_export exporter.old exporter.new }
 {
     let source = session.source(alloc)?;
@@ -62,10 +65,12 @@ fn obey<E: Exporter>(
     requires text { HasText command.now }
     requires asked { E.asked exporter.old < 8192 }
     requires can_export { E.can_export exporter.old }
-    ensures done { IfOk result (λ reply. Obeys (E.exports unit) session.old command.now session.new reply) }
+    ensures done { IfOk result (λ reply.
+        Obeys (E.exports unit) session.old command.now session.new reply) }
     ensures refused { IfErr result (λ why. Refuses session.old command.now session.new why) }
     ensures state { session.new ≡ state_after session.old command.now (reply_in result) }
-    ensures moved { MovesAt (E.moves unit) session.old command.now (reply_in result) exporter.old exporter.new }
+    ensures moved { MovesAt (E.moves unit) session.old command.now (reply_in result)
+        exporter.old exporter.new }
     ensures goes_on { GoesOn E.asked E.can_export exporter.old exporter.new }
 {
     match session.command(alloc, command)? {
@@ -88,7 +93,8 @@ fn reply_to<E: Exporter>(
     requires can_export { E.can_export exporter.old }
     ensures steps { Steps (E.exports unit) session.old command.now session.new result }
     ensures state { session.new ≡ state_after session.old command.now result }
-    ensures moved { MovesAt (E.moves unit) session.old command.now result exporter.old exporter.new }
+    ensures moved { MovesAt (E.moves unit) session.old command.now result
+        exporter.old exporter.new }
     ensures asked { E.asked exporter.new ≤ E.asked exporter.old + 1 }
     ensures can_export { E.can_export exporter.new }
 {
@@ -114,7 +120,8 @@ pub fn serve_client<E: Exporter>(
     requires can_export { E.can_export exporter.old }
     ensures fits { Fits (E.exports unit) start commands.now replies.new.items }
     ensures count { length replies.new.items ≡ length commands.now }
-    ensures moved { MovesAlong (E.moves unit) start commands.now replies.new.items exporter.old exporter.new }
+    ensures moved { MovesAlong (E.moves unit) start commands.now replies.new.items
+        exporter.old exporter.new }
 {
     let mut session = Session::new(alloc);
     for command in commands {

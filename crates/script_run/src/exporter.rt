@@ -4,6 +4,7 @@ ghost use Rattle.std.specs.Prelude.{ℕ, ◌≢◌, ◌+◌, ◌<◌, ◌≤◌,
 ghost use Rattle.plane_predicate.specs.declared.unit.Unit.{Unit as LengthUnit};
 ghost use Rattle.reply_text.specs.declared.reply.Reply.{Reply};
 ghost use Rattle.reply_text.specs.declared.reply.Reply.TheVariants as replies;
+ghost use Rattle.script_run.specs.Moves.{reply_or_want};
 
 use plane_predicate::Unit;
 use reply_text::{Exporting, Reply};
@@ -18,7 +19,7 @@ pub trait Exporter: Exporting {
     // What it needs to export, and keeps.
     ghost can_export: { Self → Type 0 };
 
-    // What an export of a source in a unit that is answered so makes of it.
+    // What an export of a source in a unit that is answered so makes of it, also where memory ran out.
     ghost moves: { LengthUnit → List ℕ → Reply → Self → Self → Type 0 };
 
     /// The reply to an export of a source whose lengths are in a unit, which is never that of want of memory. The source
@@ -29,7 +30,7 @@ pub trait Exporter: Exporting {
         requires can_export { can_export self.old }
         ensures reply { IfOk result (Self.exports unit source.now) }
         ensures has_memory { IfOk result (λ reply. reply ≢ replies.NoMem) }
-        ensures moved { IfOk result (λ reply. moves unit source.now reply self.old self.new) }
+        ensures moved { moves unit source.now (reply_or_want result) self.old self.new }
         ensures asked { asked self.new ≤ asked self.old + 1 }
         ensures can_export { can_export self.new };
 }

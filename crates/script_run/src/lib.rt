@@ -1,4 +1,4 @@
-//! Serves the clients of a script at the same time, each by a session and an exporter of its own.
+//! Serves the clients of a script, each by a session and an exporter of its own.
 #![tactic(auto)]
 
 mod client;

@@ -7,7 +7,7 @@ ghost use Rattle.script_run.specs.Moves.{AllMove};
 ghost use Rattle.script_run.specs.Serving.{AreWaiting, replies_of};
 
 use crate::exporter::Exporter;
-use crate::served::{Served, Serving};
+use crate::served::{ClientService, ServedClient};
 use pair_work::work_each;
 use plane_predicate::Unit;
 use reply_text::Replies;
@@ -17,36 +17,36 @@ use std::thread::Threads;
 use text_place::NoMemory;
 
 // Each client with its commands, and room for one reply a command.
-fn waiting(alloc: Global, clients: &[ClientScript]) -> Result<Vec<Served<'_>>, NoMemory>
+fn waiting(alloc: Global, clients: &[ClientScript]) -> Result<Vec<ServedClient<'_>>, NoMemory>
     ensures { IfOk result (λ all. AreWaiting clients.now all.items) }
 {
     let mut all = Vec::new(alloc);
     for client in clients {
         let commands = client.commands.items();
         let replies = Vec::with_capacity(alloc, commands.len())?;
-        all.push(Served { commands, replies })?;
+        all.push(ServedClient { commands, replies })?;
     }
     Ok(all)
 }
 
 // The replies of each client, in the room that is given for them.
-fn taken(clients: Vec<Served<'_>>, room: Vec<Replies>) -> Vec<Replies>
+fn taken(clients: Vec<ServedClient<'_>>, room: Vec<Replies>) -> Vec<Replies>
     requires empty { room.items ≡ [] }
     requires room { length clients.items ≤ vec_capacity room }
     ensures { result.items ≡ replies_of clients.entry.items }
 {
     let mut all = room;
     for client in clients {
-        let Served { replies, .. } = client;
+        let ServedClient { replies, .. } = client;
         all.push_reserved(Replies::of(replies));
     }
     all
 }
 
-/// The replies to the commands of each client, in the clients' order, with the lengths of sources in a unit. The clients
-/// are served at the same time, each by an exporter of its own: the first exporters, in order, and the others stay as they
-/// are. The room for one reply a command is taken before any command is done: so a command for which memory runs out is
-/// answered so, and its session stays as it was.
+/// The replies to the commands of each client, in the clients' order, with the lengths of sources in a unit. Each client is
+/// served by an exporter of its own, in a thread of its own where one can be started: the first exporters, in order, and the
+/// others stay as they are. The room for one reply a command is taken before any command is done: so a command for which memory
+/// runs out is answered so, and its session stays as it was.
 pub fn run_script<E: Exporter + Send, R: Threads + Sync>(
     rt: &R,
     alloc: Global,
@@ -57,9 +57,11 @@ pub fn run_script<E: Exporter + Send, R: Threads + Sync>(
     requires within { AreWithin script.now.clients }
     requires many { length script.now.clients ≤ length exporters.old }
     requires fresh { All (λ e. (E.asked e ≡ 0) × E.can_export e) exporters.old }
-    ensures fits { IfOk result (λ replies. AllFit (E.exports unit) script.now.clients replies.items) }
+    ensures fits { IfOk result (λ replies.
+        AllFit (E.exports unit) script.now.clients replies.items) }
     ensures few { IfOk result (λ replies. All (λ rs. length rs ≤ 8192) replies.items) }
-    ensures moved { IfOk result (λ replies. AllMove (E.moves unit) script.now.clients replies.items exporters.old exporters.new) }
+    ensures moved { IfOk result (λ replies.
+        AllMove (E.moves unit) script.now.clients replies.items exporters.old exporters.new) }
     ensures many { length exporters.new ≡ length exporters.old }
 {
     let mut clients = waiting(alloc, script.clients.items())?;
@@ -68,6 +70,6 @@ pub fn run_script<E: Exporter + Send, R: Threads + Sync>(
     // A thread gets the stack that the C library gives each one: that of `ulimit -s`, or 2 MiB where it says
     // `unlimited`. The usual 8 MiB are enough for a solid of 1,024 planes, whose deepest merge takes less than 1 MiB,
     // and for the deepest source, whose evaluation takes less than 7 MiB.
-    work_each(rt, &Serving { alloc, unit }, &mut clients, busy);
+    work_each(rt, &ClientService { alloc, unit }, &mut clients, busy);
     Ok(taken(clients, room))
 }

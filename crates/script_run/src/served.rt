@@ -13,24 +13,26 @@ use std::alloc::Global;
 
 /// A client's commands, and the replies to them, or at first the room for these.
 #[derive(Drop)]
-pub struct Served<'a> {
+pub struct ServedClient<'a> {
     pub commands: &'a [Command],
     pub replies: Vec<Reply>,
 }
 
 /// The serving of a client by an exporter of its own, with the lengths of sources in a unit.
 #[derive(Drop)]
-pub struct Serving {
+pub struct ClientService {
     pub alloc: Global,
     pub unit: Unit,
 }
 
-impl<'a, E: Exporter> PairWork<Served<'a>, E> for Serving {
-    ghost ready = { λ w client exporter. IsReady client × ((E.asked exporter ≡ 0) × E.can_export exporter) };
+impl<'a, E: Exporter> PairWork<ServedClient<'a>, E> for ClientService {
+    ghost ready = { λ w client exporter.
+        IsReady client × ((E.asked exporter ≡ 0) × E.can_export exporter) };
 
-    ghost worked = { λ w old before new after. IsServed (E.exports w.unit) (E.moves w.unit) old before new after };
+    ghost worked = { λ w old before new after.
+        IsServed (E.exports w.unit) (E.moves w.unit) old before new after };
 
-    fn work(&self, client: &mut Served<'a>, exporter: &mut E) {
+    fn work(&self, client: &mut ServedClient<'a>, exporter: &mut E) {
         serve_client(
             self.alloc,
             exporter,

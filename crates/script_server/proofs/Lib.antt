@@ -8,4 +8,6 @@ pub mod Sums
 pub mod Told
 mod Rows
 mod Refused
+mod Probed
+mod Parts
 mod WholeOutput

@@ -6,8 +6,8 @@ use Rattle.csg_tree.specs.Formulas.{Formula}
 use Rattle.reply_text.specs.declared.reply.Reply.{Reply}
 use Rattle.reply_text.specs.declared.reply.Reply.TheVariants as reply
 use Rattle.reply_text.specs.Answers.{IsExport}
-use Rattle.tree_export.specs.declared.export.Exported.{Exported}
-use Rattle.tree_export.specs.declared.export.Exported.TheVariants as exported
+use Rattle.tree_export.specs.declared.export.TreeExport.{TreeExport}
+use Rattle.tree_export.specs.declared.export.TreeExport.TheVariants as exported
 use Rattle.tree_export.specs.Exports.{IsText, IsExported, PassesNoLimit}
 use Rattle.script_server.specs.Meaning.Sources.{Means, HasFault}
 use Rattle.script_server.specs.Meaning.Exports.{reply_of, Exports, AnswersExport}
@@ -22,10 +22,10 @@ abbrev pub NotBoth : Type 0
 NotBoth = (unit : LengthUnit) (source : List ℕ) (f : Formula) (fault : Fault) → Means unit source f → HasFault unit source fault → ⊥
 
 abbrev pub OneExport : Type 0
-OneExport = (unit : LengthUnit) (tree : Formula) (out other : Exported) → IsExported unit tree out → IsExported unit tree other → out ≡ other
+OneExport = (unit : LengthUnit) (tree : Formula) (out other : TreeExport) → IsExported unit tree out → IsExported unit tree other → out ≡ other
 
 abbrev pub Texts : Type 0
-Texts = (unit : LengthUnit) (tree : Formula) (out : Exported) → IsExported unit tree out → IsText out ↔ PassesNoLimit unit tree
+Texts = (unit : LengthUnit) (tree : Formula) (out : TreeExport) → IsExported unit tree out → IsText out ↔ PassesNoLimit unit tree
 
 pub one_reply : OneTree → OneFault → NotBoth → OneExport →
     (unit : LengthUnit) (source : List ℕ) (r q : Reply) → Exports unit source r → Exports unit source q → r ≡ q
@@ -37,7 +37,7 @@ one_reply trees faults either one unit source r q (inr (f, m, (out, is, e))) (in
     e ∙ ap reply_of (one unit f out other is (subst (λ (t : Formula). IsExported unit t other) same is')) ∙ sym e'
 
 -- memory did not run out
-tree_has_memory : (out : Exported) (r : Reply) → r ≡ reply_of out → r ≢ reply.NoMem
+tree_has_memory : (out : TreeExport) (r : Reply) → r ≡ reply_of out → r ≢ reply.NoMem
 tree_has_memory (exported.Text bytes) r e none = let wrong : reply.Solid bytes ≡ reply.NoMem = sym e ∙ none in cc
 tree_has_memory (exported.Complex passed) r e none = let wrong : reply.Complex passed ≡ reply.NoMem = sym e ∙ none in cc
 
@@ -55,7 +55,7 @@ exports_are one unit = record {
 }
 
 -- a solid is a text
-solid_text : (out : Exported) (bytes : List ℕ) → reply.Solid bytes ≡ reply_of out → IsText out
+solid_text : (out : TreeExport) (bytes : List ℕ) → reply.Solid bytes ≡ reply_of out → IsText out
 solid_text (exported.Text text) bytes e = (text, refl)
 solid_text (exported.Complex passed) bytes e = absurd (cc e)
 

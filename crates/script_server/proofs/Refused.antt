@@ -1,16 +1,46 @@
 -- A source that has no tree is answered by its fault, and no solid is asked for.
-use Rattle.std.proofs.Common.{◌≡◌, inl, ℕ, List, Ok, Err, refl, arith}
+use Rattle.std.proofs.Common.{◌≡◌, ◌+◌, ◌≤◌, ◌⊎◌, inl, inr, ℕ, List, Ok, Err, refl, arith}
 use Rattle.text_place.specs.declared.fault.Fault.{Fault}
 use Rattle.text_place.specs.declared.memory.NoMemory.{NoMemory}
 use Rattle.plane_predicate.specs.declared.unit.Unit.{Unit as LengthUnit}
+use Rattle.csg_tree.specs.Formulas.{Formula}
+use Rattle.csg_tree.specs.Numberings.{nodes_of}
+use Rattle.bsp_boolean.specs.TreeSolids.{joins}
 use Rattle.reply_text.specs.declared.reply.Reply.TheVariants as reply
-use Rattle.script_server.specs.Meaning.Sources.{HasFault}
-use Rattle.script_server.specs.Clients.{ClientBooks, ExportsFor}
+use Rattle.script_server.specs.Books.{HasJoins}
+use Rattle.script_server.specs.Meaning.Sources.{Means, HasFault}
+use Rattle.script_server.specs.Clients.{ClientBooks, AreProbed, ExportsFor}
+use Rattle.script_server.proofs.SomeReply.{MeansSome}
+use Rattle.script_server.proofs.Probed.{none_asked, unasked}
 
 pub fault_answered : (unit : LengthUnit) (source : List ℕ) (fault : Fault) (books : ClientBooks) → HasFault unit source fault
     → ExportsFor unit source (Ok (reply.Faulted fault)) books books
 fault_answered unit source fault books h = record {
   reply = (inl (fault, h, refl), tt);
-  probed = λ all. (0, inl (fault, h, refl), record { few = omega arith; probes = omega arith; offered = refl });
+  probed = (0, inl (fault, h, refl), none_asked _ books.share);
   asked = omega arith;
+}
+
+-- each source has a number of joins
+pub some_joins : (unit : LengthUnit) (source : List ℕ) → MeansSome unit source → (n : ℕ) × HasJoins unit source n
+some_joins unit source (inl (tree, means)) = (joins (nodes_of tree), inr (tree, means, refl))
+some_joins unit source (inr (fault, has)) = (0, inl (fault, has, refl))
+
+-- also one for whose tree there was no memory
+pub want_answered : ((unit : LengthUnit) (source : List ℕ) → MeansSome unit source) → (unit : LengthUnit) (source : List ℕ) (none : NoMemory) (books : ClientBooks)
+    → ExportsFor unit source (Err none) books books
+want_answered some unit source none books =
+    let (n, has) = some_joins unit source (some unit source) in record {
+      reply = tt;
+      probed = (n, has, unasked n books.share);
+      asked = omega arith;
+    }
+
+-- or for whose solid there was no memory
+pub tree_wanted : (unit : LengthUnit) (source : List ℕ) (tree : Formula) (none : NoMemory) (old new : ClientBooks) → Means unit source tree
+    → AreProbed ⊥ (joins (nodes_of tree)) old.share new.share → new.asked ≤ old.asked + 1 → ExportsFor unit source (Err none) old new
+tree_wanted unit source tree none old new means probed asked = record {
+  reply = tt;
+  probed = (joins (nodes_of tree), inr (tree, means, refl), probed);
+  asked = asked;
 }

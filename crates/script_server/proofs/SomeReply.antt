@@ -16,8 +16,8 @@ use Rattle.scad_parser.specs.Parsing.{kind_of, place_at}
 use Rattle.scad_meaning.specs.Sources.{Meaning, a_tree, a_fault, IsMeaning}
 use Rattle.reply_text.specs.declared.reply.Reply.{Reply}
 use Rattle.reply_text.specs.declared.reply.Reply.TheVariants as reply
-use Rattle.tree_export.specs.declared.export.Exported.{Exported}
-use Rattle.tree_export.specs.declared.export.Exported.TheVariants as exported
+use Rattle.tree_export.specs.declared.export.TreeExport.{TreeExport}
+use Rattle.tree_export.specs.declared.export.TreeExport.TheVariants as exported
 use Rattle.tree_export.specs.Exports.{IsExported, Bounds}
 use Rattle.scad_parser.specs.Sources.{Writes}
 use Rattle.script_server.specs.Meaning.Sources.{Means, HasFault}
@@ -48,12 +48,12 @@ some_meaning text unit source = go (text.outcome source)
     go (inr (kind, at, lexes)) = inr (record { kind = kind; place = at }, inl (inl lexes))
 
 -- the reply of what the export of a tree gives
-tree_bounded : (unit : LengthUnit) (source : List ℕ) (tree : Formula) (out : Exported) → Means unit source tree → Bounds unit tree out → IsBounded unit source (reply_of out)
+tree_bounded : (unit : LengthUnit) (source : List ℕ) (tree : Formula) (out : TreeExport) → Means unit source tree → Bounds unit tree out → IsBounded unit source (reply_of out)
 tree_bounded unit source tree (exported.Text bytes) means bounds = (tree, means, bounds)
 tree_bounded unit source tree (exported.Complex passed) means bounds = tt
 
 abbrev pub SomeExport : Type 0
-SomeExport = (unit : LengthUnit) (tree : Formula) → IsProper tree → (out : Exported) × IsExported unit tree out × Bounds unit tree out
+SomeExport = (unit : LengthUnit) (tree : Formula) → IsProper tree → (out : TreeExport) × IsExported unit tree out × Bounds unit tree out
 
 abbrev pub ProperTrees : Type 0
 ProperTrees = (unit : LengthUnit) (program : List StatementTerm) (tree : Formula) → IsMeaning unit program (a_tree tree) → IsProper tree

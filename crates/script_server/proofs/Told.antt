@@ -29,7 +29,7 @@ use Rattle.script_service.specs.declared.status.Status.TheVariants.{Done, BadWor
 use Rattle.script_service.specs.Statuses.{status_number}
 use Rattle.script_service.specs.Streams.{Stream, Streams}
 use Rattle.script_service.specs.Units.{unit_of, memo_of, share_of}
-use Rattle.script_service.specs.Serving.{usage_line, IsRun, IsInput, IsWholeInput, Gives, Lacks, printed}
+use Rattle.script_service.specs.Serving.{usage_line, IsRun, AreTooMany, IsInput, IsWholeInput, Gives, Lacks, printed_text}
 use Rattle.script_service.specs.Outcomes.{AppendsPart, Ends, Prints, HasStatusCause, RefusesWords, RefusesInput}
 use Rattle.std.specs.Prelude.{IsErrOf, Result, Ok, Err, IfOk, IfErr}
 use Rattle.flight_memo.specs.Claims.{View as ClaimsView}
@@ -54,7 +54,7 @@ input_refused words settings s (input_end.BadScript fault) status alone (run, by
 input_refused words settings s (input_end.BadScript fault) status alone (run, bytes, input, is) (inr (inl (e, rose, cut))) =
     as_told words s status WriteFault e (rose, inr (settings, alone, (bytes, fault_line fault, input, inr (fault, is, refl), cut)))
 input_refused words settings s (input_end.BadScript fault) status alone lacks (inr (inr (e, same))) = as_told words s status NoMemory e (inl same)
-input_refused words settings s input_end.Failed status alone (run, rose) (e, same) = as_told words s status ReadFault e (settings, alone, run, rose, same)
+input_refused words settings s input_end.Failed status alone (run, rose, few) (e, same) = as_told words s status ReadFault e (settings, alone, run, rose, few, same)
 input_refused words settings s input_end.NoMemory status alone lacks (e, same) = as_told words s status NoMemory e (inl same)
 
 -- ---- a script was served
@@ -76,7 +76,7 @@ script_served words settings s script status alone gives (inr (e, same)) = as_to
 -- ---- what is written for a run
 pub output_of_run : (settings : Settings) (clients : List ClientScript) (replies : List (List Reply)) (tally : Tally) (core : Core Formula Solid) (closed : ClaimsView Formula) (owned : List ℕ) (callers : ℕ) →
     IsRunOf (unit_of settings) clients (memo_of settings) (share_of settings) name_of replies tally core closed → owned ≡ weights_of callers (marks core.entries) → length owned ≡ callers → callers ≡ length clients →
-    IsOutputFor settings clients (printed settings clients replies tally owned)
+    IsOutputFor settings clients (printed_text settings clients replies tally owned)
 output_of_run settings clients replies tally core closed owned callers ran weights many same =
     let limits = ran.limits in
     let sound = ran.sound in
@@ -103,10 +103,10 @@ output_of_run settings clients replies tally core closed owned callers ran weigh
 -- what is written for a run whose weights are printed where they are asked for
 pub run_written : (settings : Settings) (clients : List ClientScript) (replies : List (List Reply)) (tally : Tally) (core : Core Formula Solid) (closed : ClaimsView Formula) (callers : ℕ) (sink : Stream) (status : Status) →
     IsRunOf (unit_of settings) clients (memo_of settings) (share_of settings) name_of replies tally core closed → callers ≡ length clients →
-    Prints settings sink (printed settings clients replies tally (weights_of callers (marks core.entries))) status → WritesOutput settings clients sink status
+    Prints settings sink (printed_text settings clients replies tally (weights_of callers (marks core.entries))) status → WritesOutput settings clients sink status
 run_written settings clients replies tally core closed callers sink status ran same prints =
     let weights = weights_of callers (marks core.entries) in
-    inl (printed settings clients replies tally weights, output_of_run settings clients replies tally core closed weights callers ran refl (weights_many callers (marks core.entries)) same, prints)
+    inl (printed_text settings clients replies tally weights, output_of_run settings clients replies tally core closed weights callers ran refl (weights_many callers (marks core.entries)) same, prints)
 
 -- ---- what counts of faults say
 -- why there is no script is told as what it is
@@ -128,7 +128,7 @@ pub completes : (words : List (List ℕ)) (s : Streams) (status : Status) → St
 completes words s Done told settings chosen read write = inl refl
 completes words s BadWords told settings chosen read write = absurd (told.0 settings chosen)
 completes words s BadScript told settings chosen read write = inr (inl refl)
-completes words s ReadFault (other, alone, run, rose, same) settings chosen read write = absurd (read rose)
+completes words s ReadFault (other, alone, run, rose, few, same) settings chosen read write = absurd (read rose)
 completes words s WriteFault told settings chosen read write = absurd (write told.0)
 completes words s NoMemory told settings chosen read write = inr (inr refl)
 
@@ -145,14 +145,14 @@ all_read : (bytes more front : List ℕ) → bytes ≡ front ++ more → more �
 all_read bytes more front e none = e ∙ ap (λ (l : List ℕ). front ++ l) none ∙ append-nil front
 
 -- bytes of which a front with a fault was read are no script
-no_script_left : NeverBoth → (left left' : Option (List ℕ)) (front : List ℕ) (fault : ScriptFault) → Consumes left left' front → IsAtEnd left' ⊎ (1048576 < length front)
+no_script_left : NeverBoth → (left left' : Option (List ℕ)) (front : List ℕ) (fault : ScriptFault) → Consumes left left' front → IsAtEnd left' ⊎ AreTooMany front
     → IsScriptFault front fault → IfSome left (λ bytes. IsScriptOf bytes → ⊥)
 no_script_left never None left' front fault read end is = tt
 no_script_left never (Some all) None front fault read end is = absurd read
 no_script_left never (Some all) (Some more) front fault read (inl end) is =
     λ script. never front script.0 fault (subst (λ (l : List ℕ). IsScript l script.0) (all_read all more front read end) script.1) is
 no_script_left never (Some all) (Some more) front fault read (inr long) is =
-    λ script. (let small = script.1.small in absurd (omega (arith, ap length read, length-append front more)))
+    λ script. (let small = script.1.small in let large = long.large in absurd (omega (arith, large, ap length read, length-append front more)))
 
 -- bytes that were read to their end as a script have no fault
 script_left : NeverBoth → (left left' : Option (List ℕ)) (front : List ℕ) (script : Script) → Consumes left left' front → IsAtEnd left' → IsScript front script
@@ -162,7 +162,7 @@ script_left never (Some all) None front script read end is = absurd read
 script_left never (Some all) (Some more) front script read end is =
     λ none. never front script none.0 is (subst (λ (l : List ℕ). IsScriptFault l none.0) (all_read all more front read end) none.1)
 
-input_of_run : (settings : Settings) (source : Stream) (bytes : List ℕ) → IsRun settings → IsInput settings source bytes → Consumes source.old source.new bytes × (IsAtEnd source.new ⊎ (1048576 < length bytes))
+input_of_run : (settings : Settings) (source : Stream) (bytes : List ℕ) → IsRun settings → IsInput settings source bytes → Consumes source.old source.new bytes × (IsAtEnd source.new ⊎ AreTooMany bytes)
 input_of_run (Run workers memo share half tally) source bytes run h = h
 input_of_run (Demo n) source bytes run h = absurd run
 

@@ -10,7 +10,7 @@ use Rattle.reply_text.specs.Texts.{output}
 use Rattle.reply_text.specs.Answers.{AllFit}
 use Rattle.script_service.specs.Units.{unit_of}
 use Rattle.script_service.specs.Endings.{ending}
-use Rattle.script_service.specs.Serving.{IsRun, printed}
+use Rattle.script_service.specs.Serving.{IsRun, printed_text}
 use Rattle.script_server.specs.Meaning.Exports.{AnswersExport}
 use Rattle.script_server.specs.Serving.{TellsAlike}
 
@@ -27,7 +27,7 @@ OneShares = (share : ℕ) (clients : List ClientScript) (s t : Tally) (v w : Lis
 
 pub whole_output : OneOutput → OneTally → OneShares → (settings : Settings) (clients : List ClientScript) (rs qs : List (List Reply)) (s t : Tally) (v w : List ℕ) → IsRun settings →
     AllFit (AnswersExport (unit_of settings)) clients rs → AllFit (AnswersExport (unit_of settings)) clients qs → length v ≡ length clients → length w ≡ length clients →
-    printed settings clients rs s v ≡ printed settings clients qs t w → (rs ≡ qs) × TellsAlike settings s t v w
+    printed_text settings clients rs s v ≡ printed_text settings clients qs t w → (rs ≡ qs) × TellsAlike settings s t v w
 whole_output one tallied shared (Run workers memo share half true) clients rs qs s t v w run f g a b e =
     let (same, rest) = one (unit_of (Run workers memo share half true)) clients rs qs (ending true share clients s v) (ending true share clients t w) f g e in
     (same, (tallied share clients s t v w rest, λ some. shared share clients s t v w some a b rest))

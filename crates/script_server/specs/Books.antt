@@ -11,7 +11,7 @@ use Rattle.bsp_tree.specs.Trees.{size}
 use Rattle.bsp_tree.specs.Shapes.{tree_of}
 use Rattle.bsp_boolean.specs.Solids.{solid_of}
 use Rattle.bsp_boolean.specs.TreeSolids.{joins}
-use Rattle.memo_core.specs.Memo.{Item, Mark, Said, Probe_said, Fill_said, itself, owned, replay, IsLegal}
+use Rattle.memo_core.specs.Memo.{Item, Mark, Answer, Probe_answer, Fill_answer, itself, owner_weight, replay, IsLegal}
 use Rattle.memo_core.specs.Views.{Core, IsSound}
 use Rattle.flight_memo.specs.Claims.{View as ClaimsView, IsClosed}
 use Rattle.subtree_memo.specs.declared.tally.Tally.{Tally}
@@ -19,28 +19,29 @@ use Rattle.subtree_memo.specs.Tallies.{tally_of}
 use Rattle.script_reader.specs.declared.script.ClientScript.{ClientScript}
 use Rattle.reply_text.specs.declared.reply.Reply.{Reply}
 use Rattle.reply_text.specs.Answers.{AllFit}
-use Rattle.reply_text.specs.Sums.{AllLackNoSolid, AllSumTo}
+use Rattle.reply_text.specs.Sums.{AllLackNoSolid, WhereSolid, AllSumTo}
 use Rattle.script_server.specs.Meaning.Sources.{Means, HasFault}
 use Rattle.script_server.specs.Meaning.Exports.{AnswersExport}
 
 -- A memo of solids by trees: each entry holds the solid of its tree with its size as its weight, and the journal is one that
 -- the sequential memo keeps, and replays to the entries.
 abbrev pub IsSolidMemo : (Formula → List ℕ) → Core Formula SolidParts → Type 0
-IsSolidMemo names core = IsSound is_same_tree names (λ tree solid. tree_of solid ≡ solid_of tree) (λ solid. size (tree_of solid)) core
+IsSolidMemo names core =
+    IsSound is_same_tree names (λ tree solid. tree_of solid ≡ solid_of tree) (λ solid. size (tree_of solid)) core
 
 -- what a call says of a tree: a fill offers the size of its solid, whether it is kept or not
-abbrev pub OffersSize : Formula → Said → Type 0
-OffersSize tree (Probe_said hit) = Unit {0}
-OffersSize tree (Fill_said weight kept evicted) = weight ≡ size (solid_of tree)
+abbrev pub OffersSize : Formula → Answer → Type 0
+OffersSize tree (Probe_answer hit) = Unit {0}
+OffersSize tree (Fill_answer weight kept evicted) = weight ≡ size (solid_of tree)
 
 -- each fill of a journal offers the size of the solid of its tree
 abbrev pub OfferSizes : List (Item Formula) → Type 0
-OfferSizes items = AllByRecursion (λ i. OffersSize i.key i.said) items
+OfferSizes items = AllByRecursion (λ i. OffersSize i.key i.answer) items
 
 -- what the entries of the first so many callers weigh
 abbrev pub weights_of : ℕ → List (Mark Formula) → List ℕ
 weights_of zero marks = []
-weights_of (suc n) marks = weights_of n marks ++ owned itself n marks ∷ []
+weights_of (suc n) marks = weights_of n marks ++ owner_weight itself n marks ∷ []
 
 -- how many joins an export of a source has: those among the distinct subtrees of its tree, and none where it has a fault
 abbrev pub HasJoins : LengthUnit → List ℕ → ℕ → Type 0
@@ -48,11 +49,22 @@ HasJoins unit source n =
     ((fault : Fault) × HasFault unit source fault × (n ≡ 0))
     ⊎ ((tree : Formula) × Means unit source tree × (n ≡ joins (nodes_of tree)))
 
--- Where no export was answered by want of memory or by a limit of size, the probes are the joins of all exports in sum, and as many
--- fills were offered as there were misses.
-abbrev pub AddsUp : LengthUnit → List ClientScript → List (List Reply) → Tally → Type 0
-AddsUp unit clients replies tally =
-    AllLackNoSolid clients replies → AllSumTo (HasJoins unit) clients replies tally.probes × (tally.offered ≡ tally.misses)
+-- the same, whatever the export was answered
+abbrev pub HasJoinsAsked : LengthUnit → List ℕ → Reply → ℕ → Type 0
+HasJoinsAsked unit source r n = HasJoins unit source n
+
+-- the same where the export lacks no solid, and else none
+abbrev pub HasJoinsSolved : LengthUnit → List ℕ → Reply → ℕ → Type 0
+HasJoinsSolved unit = WhereSolid (HasJoins unit)
+
+-- The probes of a tally are at least the joins of the exports that were answered by neither want of memory nor a limit of size, in
+-- sum, and at most those of all exports. Where all were answered so, they are these, and as many fills were offered as there were
+-- misses.
+pub record AddsUp (unit : LengthUnit) (clients : List ClientScript) (replies : List (List Reply)) (tally : Tally) : Type 0 where
+  pub least : (n : ℕ) × AllSumTo (HasJoinsSolved unit) clients replies n × (n ≤ tally.probes)
+  pub most : (n : ℕ) × AllSumTo (HasJoinsAsked unit) clients replies n × (tally.probes ≤ n)
+  pub whole : AllLackNoSolid clients replies
+      → AllSumTo (HasJoinsAsked unit) clients replies tally.probes × (tally.offered ≡ tally.misses)
 
 -- the callers of a journal are the clients, by their numbers from 0; where there is no client, there is one caller
 abbrev pub IsOfClients : List ClientScript → List (Item Formula) → Type 0
@@ -71,13 +83,14 @@ AreBooks unit clients replies budget share tally weights =
 
 -- What came of a run of clients over a memo of this budget and share, whose names are these: the replies, the tally, the memo and
 -- its claims at the end.
-pub record IsRunOf (unit : LengthUnit) (clients : List ClientScript) (budget share : ℕ) (names : Formula → List ℕ) (replies : List (List Reply)) (tally : Tally) (core : Core Formula SolidParts) (closed : ClaimsView Formula) : Type 0 where
+pub record IsRunOf (unit : LengthUnit) (clients : List ClientScript) (budget share : ℕ) (names : Formula → List ℕ)
+    (replies : List (List Reply)) (tally : Tally) (core : Core Formula SolidParts) (closed : ClaimsView Formula) : Type 0 where
   -- each client's replies are those that its own commands define, whatever the others do at the same time
   pub fits : AllFit (AnswersExport unit) clients replies
   pub few : All (λ rs. length rs ≤ 8192) replies
   -- the tally is that of the memo's journal, which is one of the sequential memo of the budget and share
   pub counted : tally ≡ tally_of core.journal tally.dropped
-  -- where no export lacked its solid, it adds up to the joins of all exports
+  -- its probes are between the joins of the exports that lack no solid and those of all exports
   pub sums : AddsUp unit clients replies tally
   -- whatever the exports lacked, no more fills were offered than there were misses
   pub offered : tally.offered ≤ tally.misses

@@ -2,7 +2,7 @@
 use Rattle.std.specs.Prelude.{◌≡◌, ◌<◌, ℕ, true, false, List, ◌⊎◌, length}
 use Rattle.std.specs.Io.KnownBytes.{Appends}
 use Rattle.outside_io.specs.Counts.{Rose}
-use Rattle.outside_io.specs.Moves.{AppendsProperPrefix}
+use Rattle.outside_io.specs.Moves.{ConsumesAtMost, AppendsProperPrefix}
 use Rattle.run_words.specs.declared.settings.Settings.{Settings}
 use Rattle.run_words.specs.declared.settings.Settings.TheVariants.{Run, Demo}
 use Rattle.run_words.specs.declared.settings.WordsFault.{WordsFault}
@@ -19,7 +19,7 @@ use Rattle.script_service.specs.declared.status.Status.{Status}
 use Rattle.script_service.specs.declared.status.Status.TheVariants.{Done, BadWords, BadScript, ReadFault, WriteFault, NoMemory}
 use Rattle.script_service.specs.Streams.{Stream, Streams}
 use Rattle.script_service.specs.Units.{unit_of, memo_of, share_of}
-use Rattle.script_service.specs.Serving.{usage_line, IsRun, IsInput, IsWholeInput, printed}
+use Rattle.script_service.specs.Serving.{usage_line, IsRun, IsInput, IsWholeInput, printed_text}
 use Rattle.script_service.specs.Statuses.{status_number}
 use Rattle.script_service.specs.Outcomes.{AppendsPart, Prints, HasStatusCause, RefusesWords}
 use Rattle.script_server.specs.Meaning.Exports.{AnswersExport}
@@ -31,8 +31,9 @@ abbrev pub IsOutputFor : Settings → List ClientScript → List ℕ → Type 0
 IsOutputFor settings clients out =
     (replies : List (List Reply)) × (counts : Tally) × (owned : List ℕ)
     × AllFit (AnswersExport (unit_of settings)) clients replies
-    × AreBooks (unit_of settings) clients replies (memo_of settings) (share_of settings) counts owned × (length owned ≡ length clients)
-    × (out ≡ printed settings clients replies counts owned)
+    × AreBooks (unit_of settings) clients replies (memo_of settings) (share_of settings) counts owned
+    × (length owned ≡ length clients)
+    × (out ≡ printed_text settings clients replies counts owned)
 
 -- that was written, or memory ran out before anything was written
 abbrev pub WritesOutput : Settings → List ClientScript → Stream → Status → Type 0
@@ -90,9 +91,10 @@ StatusTells words s Done = (settings : Settings) × ChoosesAlone words settings 
 StatusTells words s BadWords = AreOutside words × Appends s.sink.old s.sink.new usage_line
 -- The script of the source has a fault, and its line was written.
 StatusTells words s BadScript = (settings : Settings) × ChoosesAlone words settings × IsRun settings × RefusesScript settings s
--- The source failed, and nothing was written.
+-- The source failed, of which no more bytes were read than a script may have, and nothing was written.
 StatusTells words s ReadFault =
-    (settings : Settings) × ChoosesAlone words settings × IsRun settings × Rose s.source.before s.source.now × s.sink.same
+    (settings : Settings) × ChoosesAlone words settings × IsRun settings × Rose s.source.before s.source.now
+    × ConsumesAtMost s.source.old s.source.new 1048576 × s.sink.same
 -- The sink failed, and a prefix of what was to be written was written, and not the whole.
 StatusTells words s WriteFault =
     Rose s.sink.before s.sink.now

@@ -15,7 +15,7 @@ use scad_eval::evaluate;
 use scad_parser::with_program;
 use std::alloc::Global;
 use text_place::Stop;
-use tree_export::Exported;
+use tree_export::TreeExport;
 
 /// The tree that a source means in a unit, or its first fault.
 pub fn tree_of(alloc: Global, unit: Unit, source: &[u8]) -> Result<CsgTree, Stop>
@@ -35,11 +35,11 @@ pub fn tree_of(alloc: Global, unit: Unit, source: &[u8]) -> Result<CsgTree, Stop
 }
 
 /// An export as a reply.
-pub fn reply(exported: Exported) -> Reply
+pub fn reply(exported: TreeExport) -> Reply
     ensures { result ≡ reply_of exported }
 {
     match exported {
-        Exported::Text(bytes) => Reply::Solid(bytes),
-        Exported::Complex(passed) => Reply::Complex(passed),
+        TreeExport::Text(bytes) => Reply::Solid(bytes),
+        TreeExport::Complex(passed) => Reply::Complex(passed),
     }
 }

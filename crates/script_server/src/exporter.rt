@@ -1,6 +1,6 @@
 //! Exports of sources by what they mean, with solids that a memo may hold.
 
-ghost use Rattle.std.specs.Prelude.{◌≡◌, ◌+◌, ◌^◌, ◌<◌, ◌≤◌, ℕ, List, All, length, IfOk, IfErr, OnOk};
+ghost use Rattle.std.specs.Prelude.{◌≡◌, ◌+◌, ◌^◌, ◌<◌, ◌≤◌, ℕ, List, All, length, IfOk, IfErr, IsOk, OnOk};
 ghost use Rattle.std.specs.Arc.{arc_value};
 ghost use Rattle.csg_tree.specs.Formulas.{Formula};
 ghost use Rattle.csg_tree.specs.ProperTrees.{IsProper};
@@ -10,15 +10,15 @@ ghost use Rattle.bsp_tree.specs.Shapes as shapes;
 ghost use Rattle.bsp_boolean.specs.Solids as solids;
 ghost use Rattle.bsp_boolean.specs.TreeSolids.{joins, AreWithin, IsTreeStop};
 ghost use Rattle.subtree_memo.specs.Shares.{parts_each, offered_of};
-ghost use Rattle.reply_text.specs.Sums.{LacksNoSolid};
 ghost use Rattle.tree_export.specs.Exports.{IsExported, Bounds};
 ghost use Rattle.plane_predicate.specs.declared.unit.Unit.{Unit as LengthUnit};
 ghost use Rattle.script_server.specs.Meaning.Sources.{Refuses};
 ghost use Rattle.script_server.specs.Meaning.Exports.{reply_of};
-ghost use Rattle.script_server.specs.Clients.{ClientBooks, AreProbed, ExportsFor};
+ghost use Rattle.script_server.specs.Clients.{ClientBooks, AreProbed, IsSolved, ExportsFor};
 
 use crate::export::{reply, tree_of};
 use crate::kept_export::{KeptExport, export_kept};
+use crate::meaning::some_meaning;
 use crate::under_way::{UnderWay, Workers};
 use bsp_boolean::PlainBuilder;
 use bsp_tree::Solid;
@@ -36,7 +36,7 @@ use std::sync::{Arc, Wait};
 use std::thread::Threads;
 use subtree_memo::MemoLedger;
 use text_place::{NoMemory, Stop};
-use tree_export::{Exported, export_made, last_nodes_are_trees, nodes_of_tree, solid_of_nothing};
+use tree_export::{TreeExport, export_made, last_nodes_are_trees, nodes_of_tree, solid_of_nothing};
 
 /// What one client has of its own: its share of the books of the memo and its claims, how many workers it may have, how often a
 /// solid was asked for, the store for which it was asked last, and the text that was made of it.
@@ -58,7 +58,8 @@ impl<B: FlightBooks> Model for Client<B> {
 
     ghost view = { λ c. record { asked = c.asked; share = c.share.share } };
 
-    ghost invariant = { λ c. (c.share.share.parts ≡ parts_each) × (c.share.share.dropped ≤ c.asked * 2 ^ 32)
+    ghost invariant = { λ c.
+        (c.share.share.parts ≡ parts_each) × (c.share.share.dropped ≤ c.asked * 2 ^ 32)
         × (offered_of c.share.share ≤ c.share.share.misses) };
 }
 
@@ -142,6 +143,7 @@ fn key_of(store: &KnownStore) -> Result<TreeKey, NoMemory>
 }
 
 // The solid of a store for a client by so many builders. The client keeps the store for its next one.
+#[tactic(auto, using(crate::proofs::Probed::asked_of_memo, crate::proofs::Probed::unasked))]
 fn solid_for<
     'a,
     N: Namer<TreeKey> + Send + Sync,
@@ -161,28 +163,22 @@ fn solid_for<
 ) -> Result<Arc<Solid>, EvalStop>
     requires some { 0 < length store }
     requires few { client.old.asked < 8192 }
-    ensures solid { IfOk result (λ s. shapes.tree_of (arc_value s) ≡ solids.solid_of (tree_numbered store (length store))) }
+    ensures solid { IfOk result (λ s.
+        shapes.tree_of (arc_value s) ≡ solids.solid_of (tree_numbered store (length store))) }
     ensures within { OnOk result (AreWithin store) }
     ensures stop { IfErr result (IsTreeStop store) }
-    ensures probed { OnOk result (AreProbed (joins store) client.old.share client.new.share) }
+    ensures probed { AreProbed (IsOk result) (joins store) client.old.share client.new.share }
     ensures asked { client.new.asked ≤ client.old.asked + 1 }
 {
     let mut builders = builders(builds.alloc, workers.count)?;
     client.asked += 1;
-    let made = solid_of(
-        builds.rt,
-        builds.alloc,
-        &mut store,
-        builds.flight,
-        &mut client.share,
-        &mut builders,
-        builds.gate,
-    );
+    let made = solid_of(builds, &mut store, &mut client.share, &mut builders);
     client.keep(store);
     made
 }
 
 // The export of a tree for a client, by so many workers.
+#[tactic(auto, using(crate::proofs::Probed::export_probed, crate::proofs::Probed::unasked, crate::proofs::Probed::none_asked))]
 fn exported<
     'a,
     N: Namer<TreeKey> + Send + Sync,
@@ -200,12 +196,13 @@ fn exported<
     workers: Workers,
     unit: Unit,
     tree: &CsgTree,
-) -> Result<Exported, NoMemory>
+) -> Result<TreeExport, NoMemory>
     requires proper { IsProper (formula_of tree.now) }
     requires few { client.old.asked < 8192 }
     ensures exported { IfOk result (IsExported unit (formula_of tree.now)) }
     ensures boundary { IfOk result (Bounds unit (formula_of tree.now)) }
-    ensures probed { IfOk result (λ out. LacksNoSolid (reply_of out) → AreProbed (joins (nodes_of (formula_of tree.now))) client.old.share client.new.share) }
+    ensures probed { AreProbed (IsSolved result) (joins (nodes_of (formula_of tree.now)))
+        client.old.share client.new.share }
     ensures asked { client.new.asked ≤ client.old.asked + 1 }
 {
     last_nodes_are_trees();
@@ -231,8 +228,11 @@ fn exported<
 // The reply to the export of a source that has no tree: no solid is asked for.
 #[tactic(auto, using(crate::proofs::Refused::fault_answered))]
 fn refused(stop: Stop) -> Result<Reply, NoMemory>
-    ensures { (unit : LengthUnit) (source : List ℕ) (books : ClientBooks) → Refuses unit source stop → ExportsFor unit source result books books }
+    ensures { (unit : LengthUnit) (source : List ℕ) (books : ClientBooks)
+        → Refuses unit source stop → ExportsFor unit source result books books }
 {
+    // A source for whose tree there was no memory has a number of joins, too.
+    some_meaning();
     match stop {
         Stop::Fault(fault) => Ok(Reply::Faulted(fault)),
         Stop::NoMemory => Err(NoMemory),
@@ -318,11 +318,15 @@ impl<C: Booking, F: Fn(&mut C, Unit, &[u8]) -> Result<Reply, NoMemory>> Exporter
 
     ghost asked = { λ e. (C.books e.client).asked };
 
-    ghost moves = { λ unit source reply old new. Probes unit source reply (C.books old.client) (C.books new.client) };
+    ghost moves = { λ unit source reply old new.
+        Probes unit source reply (C.books old.client) (C.books new.client) };
 
-    ghost can_export = { λ e. ((client : _) (unit : _) (source : _) → (C.books client.now).asked < 8192 → length source.now ≤ 4198400 → F.pre e.export client unit source)
-        × ((client : _) (unit : _) (source : _) (r : _) (after : _) → F.post e.export client unit source r after →
-        ExportsFor unit source.now r (C.books client.now) (C.books after.now)) };
+    ghost can_export = { λ e.
+        ((client : _) (unit : _) (source : _) → (C.books client.now).asked < 8192
+        → length source.now ≤ 4198400 → F.pre e.export client unit source)
+        × ((client : _) (unit : _) (source : _) (r : _) (after : _)
+        → F.post e.export client unit source r after
+        → ExportsFor unit source.now r (C.books client.now) (C.books after.now)) };
 
     fn export(&mut self, _alloc: Global, unit: Unit, source: &[u8]) -> Result<Reply, NoMemory> {
         (self.export)(&mut self.client, unit, source)

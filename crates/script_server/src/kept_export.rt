@@ -4,7 +4,7 @@ ghost use Rattle.std.specs.Prelude.{◌≡◌, Ok, IfOk, IfSome, OnErr};
 ghost use Rattle.csg_tree.specs.ProperTrees.{IsProper};
 ghost use Rattle.reply_text.specs.declared.reply.Complex.{Complex as Limit};
 ghost use Rattle.reply_text.specs.Sums.{IsSizeLimit};
-ghost use Rattle.tree_export.specs.declared.export.Exported.TheVariants as exported;
+ghost use Rattle.tree_export.specs.declared.export.TreeExport.TheVariants as exported;
 ghost use Rattle.tree_export.specs.Exports.{IsExported, Bounds, IsMade};
 
 use bsp_tree::Solid;
@@ -16,7 +16,7 @@ use std::marker::Model;
 use std::sync::Arc;
 use std::thread::Threads;
 use text_place::{Bytes, NoMemory};
-use tree_export::{Exported, export_made};
+use tree_export::{TreeExport, export_made};
 
 // The most bytes that the text of an export which is kept may have: 4 MiB. So long is one of 60,000 vertices, each in a line
 // of 48 bytes, and 200,000 corners; most have far fewer.
@@ -38,23 +38,24 @@ impl Model for KeptExport {
 
     ghost coded = { coded_formula };
 
-    ghost use Rattle.tree_export.specs.declared.export.Exported.TheVariants as exported;
+    ghost use Rattle.tree_export.specs.declared.export.TreeExport.TheVariants as exported;
     ghost use Rattle.tree_export.specs.Exports.{IsExported, Bounds};
 
     ghost view = { λ k. k.key };
 
-    ghost invariant = { λ k. IsExported k.unit k.key (exported.Text k.text) × Bounds k.unit k.key (exported.Text k.text) };
+    ghost invariant = { λ k. IsExported k.unit k.key (exported.Text k.text)
+        × Bounds k.unit k.key (exported.Text k.text) };
 }
 
 impl KeptExport {
     // Keeps what the export of a tree gave, where that is a text that isn't too long and there is memory for a copy.
-    fn of(alloc: Global, unit: Unit, key: TreeKey, given: &Exported) -> Option<KeptExport>
+    fn of(alloc: Global, unit: Unit, key: TreeKey, given: &TreeExport) -> Option<KeptExport>
         requires exported { IsExported unit key given.now }
         requires boundary { Bounds unit key given.now }
         ensures { IfSome result (λ kept. kept ≡ key) }
     {
         match given {
-            Exported::Text(text) if text.items().len() <= MOST_KEPT => {
+            TreeExport::Text(text) if text.items().len() <= MOST_KEPT => {
                 let text = Bytes::copy_of(alloc, text.items()).ok()?;
                 Some(KeptExport { key, unit, text })
             }
@@ -63,13 +64,13 @@ impl KeptExport {
     }
 
     // What was kept, where it is the export of this tree in this unit.
-    fn given_for(self, unit: Unit, key: &TreeKey) -> Option<Exported>
+    fn given_for(self, unit: Unit, key: &TreeKey) -> Option<TreeExport>
         ensures exported { IfSome result (IsExported unit key.now) }
         ensures boundary { IfSome result (Bounds unit key.now) }
     {
         if self.unit == unit && self.key.is_same(key) {
             let KeptExport { text, .. } = self;
-            Some(Exported::Text(text))
+            Some(TreeExport::Text(text))
         } else {
             None
         }
@@ -85,7 +86,7 @@ fn given_or_cut<R: Threads + Sync>(
     unit: Unit,
     key: &TreeKey,
     solid: Arc<Solid>,
-) -> Result<Exported, NoMemory>
+) -> Result<TreeExport, NoMemory>
     requires proper { IsProper key.now }
     requires made { IsMade key.now (Ok solid) }
     ensures exported { IfOk result (IsExported unit key.now) }
@@ -108,12 +109,13 @@ fn given_or_made<R: Threads + Sync>(
     unit: Unit,
     key: &TreeKey,
     made: Result<Arc<Solid>, EvalStop>,
-) -> Result<Exported, NoMemory>
+) -> Result<TreeExport, NoMemory>
     requires proper { IsProper key.now }
     requires made { IsMade key.now made }
     ensures exported { IfOk result (IsExported unit key.now) }
     ensures boundary { IfOk result (Bounds unit key.now) }
-    ensures stopped { OnErr made (IfOk result (λ out. (passed : Limit) × IsSizeLimit passed × (out ≡ exported.Complex passed))) }
+    ensures stopped { OnErr made (IfOk result (λ out.
+        (passed : Limit) × IsSizeLimit passed × (out ≡ exported.Complex passed))) }
 {
     match made {
         Ok(solid) => given_or_cut(rt, alloc, workers, last, unit, key, solid),
@@ -132,12 +134,13 @@ pub fn export_kept<R: Threads + Sync>(
     unit: Unit,
     key: TreeKey,
     made: Result<Arc<Solid>, EvalStop>,
-) -> Result<Exported, NoMemory>
+) -> Result<TreeExport, NoMemory>
     requires proper { IsProper key }
     requires made { IsMade key made }
     ensures exported { IfOk result (IsExported unit key) }
     ensures boundary { IfOk result (Bounds unit key) }
-    ensures stopped { OnErr made (IfOk result (λ out. (passed : Limit) × IsSizeLimit passed × (out ≡ exported.Complex passed))) }
+    ensures stopped { OnErr made (IfOk result (λ out.
+        (passed : Limit) × IsSizeLimit passed × (out ≡ exported.Complex passed))) }
 {
     let last = kept.take();
     let given = given_or_made(rt, alloc, workers, last, unit, &key, made)?;

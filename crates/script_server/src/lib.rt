@@ -15,6 +15,6 @@ pub use meaning::{
 };
 pub use program::{run_program, serve_to_exit};
 pub use run_words::{Settings, WordsFault, read_words};
-pub use running::{Ran, printed_weights, run_gated, run_named, run_script};
+pub use running::{RunResult, printed_weights, run_gated, run_named, run_script};
 pub use script_service::Status;
 pub use server::serve;

@@ -18,7 +18,7 @@ ghost use Rattle.reply_text.specs.Answers.{Fits, AllFit, SameWants};
 ghost use Rattle.tree_export.specs.Exports.{PassesNoLimit};
 ghost use Rattle.script_server.specs.Meaning.Sources.{Means, HasFault};
 ghost use Rattle.script_service.specs.Units.{unit_of};
-ghost use Rattle.script_service.specs.Serving.{IsRun, printed};
+ghost use Rattle.script_service.specs.Serving.{IsRun, printed_text};
 ghost use Rattle.script_server.specs.Meaning.Exports.{Exports, AnswersExport};
 ghost use Rattle.script_server.specs.Serving.{TellsAlike};
 
@@ -40,9 +40,12 @@ impl Exporting for ServerExports {
 
 /// In each unit a source means at most one tree, or has at most one first fault, and not both.
 pub fn one_meaning()
-    ensures trees { (unit : LengthUnit) (source : List ℕ) (f g : Formula) → Means unit source f → Means unit source g → f ≡ g }
-    ensures faults { (unit : LengthUnit) (source : List ℕ) (f g : Fault) → HasFault unit source f → HasFault unit source g → f ≡ g }
-    ensures either { (unit : LengthUnit) (source : List ℕ) (f : Formula) (fault : Fault) → Means unit source f → HasFault unit source fault → ⊥ }
+    ensures trees { (unit : LengthUnit) (source : List ℕ) (f g : Formula) → Means unit source f
+        → Means unit source g → f ≡ g }
+    ensures faults { (unit : LengthUnit) (source : List ℕ) (f g : Fault) → HasFault unit source f
+        → HasFault unit source g → f ≡ g }
+    ensures either { (unit : LengthUnit) (source : List ℕ) (f : Formula) (fault : Fault)
+        → Means unit source f → HasFault unit source fault → ⊥ }
 {
     one_outcome();
     one_program_each();
@@ -53,7 +56,9 @@ pub fn one_meaning()
 
 /// In each unit a source means a tree, or has a first fault.
 pub fn some_meaning()
-    ensures { (unit : LengthUnit) (source : List ℕ) → ((tree : Formula) × Means unit source tree) ⊎ ((fault : Fault) × HasFault unit source fault) }
+    ensures { (unit : LengthUnit) (source : List ℕ)
+        → ((tree : Formula) × Means unit source tree)
+        ⊎ ((fault : Fault) × HasFault unit source fault) }
 {
     some_outcome();
     program_or_fault();
@@ -71,7 +76,8 @@ pub fn solids_pass_no_limit()
 
 /// A source has at most one reply to its export.
 pub fn one_reply()
-    ensures { (unit : LengthUnit) (source : List ℕ) (r q : Reply) → Exports unit source r → Exports unit source q → r ≡ q }
+    ensures { (unit : LengthUnit) (source : List ℕ) (r q : Reply) → Exports unit source r
+        → Exports unit source q → r ≡ q }
 {
     one_meaning();
     one_export();
@@ -102,10 +108,12 @@ pub fn one_output()
     ensures replies { (unit : LengthUnit) (script : Script) (rs qs : List (List Reply)) →
         AllFit (AnswersExport unit) script.clients rs → AllFit (AnswersExport unit) script.clients qs →
         output script.clients rs ≡ output script.clients qs → rs ≡ qs }
-    ensures whole { (settings : Settings) (clients : List ClientScript) (rs qs : List (List Reply)) (s t : Tally) (v w : List ℕ) → IsRun settings →
+    ensures whole { (settings : Settings) (clients : List ClientScript) (rs qs : List (List Reply))
+        (s t : Tally) (v w : List ℕ) → IsRun settings →
         AllFit (AnswersExport (unit_of settings)) clients rs → AllFit (AnswersExport (unit_of settings)) clients qs →
         length v ≡ length clients → length w ≡ length clients →
-        printed settings clients rs s v ≡ printed settings clients qs t w → (rs ≡ qs) × TellsAlike settings s t v w }
+        printed_text settings clients rs s v ≡ printed_text settings clients qs t w
+        → (rs ≡ qs) × TellsAlike settings s t v w }
 {
     one_reply();
     reply_text::one_output::<ServerExports>();

@@ -46,7 +46,8 @@ fn serve_words<S: Source, K: Sink, R: Threads + Wait + Sync>(
         (streams S.left S.faults K.held K.faults source.old source.new sink.old sink.new) result) }
     ensures causes { IfOk words (λ words. AreCaused
         (streams S.left S.faults K.held K.faults source.old source.new sink.old sink.new) result) }
-    ensures refused { IfErr words (λ fault. RefusesWords fault (stream K.held K.faults sink.old sink.new) result) }
+    ensures refused { IfErr words (λ fault.
+        RefusesWords fault (stream K.held K.faults sink.old sink.new) result) }
     ensures unread { IfErr words (λ fault. source.new ≡ source.old) }
 {
     match words {
@@ -66,7 +67,8 @@ pub fn serve_to_exit<S: Source, K: Sink, R: Threads + Wait + Sync>(
 ) -> ExitCode
     ensures told { IfOk words (λ words. ExitTells (map string_bytes words.items)
         (streams S.left S.faults K.held K.faults source.old source.new sink.old sink.new) (exit_status result)) }
-    ensures refused { IfErr words (λ fault. ExitRefuses fault (stream K.held K.faults sink.old sink.new) (exit_status result)) }
+    ensures refused { IfErr words (λ fault.
+        ExitRefuses fault (stream K.held K.faults sink.old sink.new) (exit_status result)) }
     ensures unread { IfErr words (λ fault. source.new ≡ source.old) }
 {
     let status = serve_words(rt, alloc, words, source, sink);

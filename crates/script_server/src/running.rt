@@ -1,15 +1,16 @@
-//! The clients of a script at the same time, over one memo that they share, whose missing keys they claim.
+//! The clients of a script over one memo that they share, whose missing keys they claim.
 
 ghost use Rattle.std.specs.Prelude.{◌≡◌, ◌<◌, ◌≤◌, max, [], All, length, map, vec_capacity, IfOk, IsOk};
 ghost use Rattle.csg_tree.specs.TreeKeys.{name_of};
 ghost use Rattle.memo_core.specs.Views.{marks};
-ghost use Rattle.subtree_memo.specs.Shares.{IsOf, opened, offered_of, parts_each};
+ghost use Rattle.subtree_memo.specs.Shares.{IsOf, opened_shares, offered_of, parts_each};
 ghost use Rattle.script_reader.specs.Limits.{AreWithin};
 ghost use Rattle.script_service.specs.Serving.{PrintsWeights};
 ghost use Rattle.script_server.specs.Books.{IsRunOf, weights_of};
 ghost use Rattle.script_server.specs.Clients.{ExportsFor};
 
 use crate::exporter::{Client, ClientExporter, export_source};
+use crate::meaning::some_meaning;
 use crate::under_way::{UnderWay, Workers};
 use csg_tree::TreeKey;
 use flight_memo::{Claims, Flight, FlightBlanks, FlightBooks, FlightLedgers, FlightShare};
@@ -30,7 +31,7 @@ use text_place::NoMemory;
 /// What came of a script: the replies to the commands of each client, in the clients' order, and the memo at the end with
 /// its tally and its claims.
 #[derive(Drop)]
-pub struct Ran<N: Namer<TreeKey>> {
+pub struct RunResult<N: Namer<TreeKey>> {
     pub replies: Vec<Replies>,
     pub tally: Tally,
     pub core: MemoCore<SolidFit, N>,
@@ -61,7 +62,8 @@ pub fn printed_weights(
     core: &MemoCore<SolidFit, ShaNamer>,
     callers: u32,
 ) -> Result<Vec<u64>, NoMemory>
-    ensures weights { IfOk result (λ v. PrintsWeights settings → v.items ≡ weights_of callers (marks core.now.entries)) }
+    ensures weights { IfOk result (λ v. PrintsWeights settings
+        → v.items ≡ weights_of callers (marks core.now.entries)) }
     ensures spares { (PrintsWeights settings → ⊥) → IsOk result }
 {
     let Settings::Run { tally, share, .. } = settings else {
@@ -81,8 +83,9 @@ fn exporters_of<B: FlightBooks, F: Copy + Drop>(
     export: F,
     room: Vec<ClientExporter<Client<B>, F>>,
 ) -> Vec<ClientExporter<Client<B>, F>>
-    requires fresh { All (λ s. (s.share.parts ≡ parts_each) × (offered_of s.share ≡ 0)) shares.items }
-    requires order { map (λ s. s.share) shares.items ≡ opened (length shares.items) }
+    requires fresh { All (λ s. (s.share.parts ≡ parts_each) × (offered_of s.share ≡ 0))
+        shares.items }
+    requires order { map (λ s. s.share) shares.items ≡ opened_shares (length shares.items) }
     requires empty { room.items ≡ [] }
     requires room { length shares.items ≤ vec_capacity room }
     ensures shares { map (λ e. e.client.share) result.items ≡ map (λ s. s.share) shares.items }
@@ -106,7 +109,8 @@ fn shares_of<B: FlightBooks, F: Drop>(
     requires empty { room.items ≡ [] }
     requires room { length exporters.items ≤ vec_capacity room }
     ensures shares { map (λ s. s.share) result.items ≡ map (λ e. e.client.share) exporters.items }
-    ensures whole { All (λ s. (s.share.parts ≡ parts_each) × (offered_of s.share ≤ s.share.misses)) result.items }
+    ensures whole { All (λ s. (s.share.parts ≡ parts_each) × (offered_of s.share ≤ s.share.misses))
+        result.items }
 {
     let mut shares = room;
     for exporter in exporters {
@@ -138,17 +142,21 @@ fn run_over<
     workers: Workers,
     unit: Unit,
     script: &Script,
-) -> Result<Ran<N>, NoMemory>
+) -> Result<RunResult<N>, NoMemory>
     requires within { AreWithin script.now.clients }
-    requires callers { (blanks.callers ≡ max (length script.now.clients) 1) × (claims.callers ≡ blanks.callers) }
+    requires callers { (blanks.callers ≡ max (length script.now.clients) 1)
+        × (claims.callers ≡ blanks.callers) }
     requires empty { core.journal ≡ [] }
-    requires limits { (core.budget ≡ H.budget) × (core.share ≡ H.share) × (blanks.callers ≡ H.callers) }
+    requires limits { (core.budget ≡ H.budget) × (core.share ≡ H.share)
+        × (blanks.callers ≡ H.callers) }
     requires ledgers { IsOf H.name H.parts blanks.hits × IsOf M.name M.parts blanks.misses
         × IsOf K.name K.parts blanks.kept × IsOf E.name E.parts blanks.heavy }
     requires claims { IsOf S.name S.parts claims.begun × IsOf T.name T.parts claims.ended }
     ensures { IfOk result (λ ran. IsRunOf unit script.now.clients core.budget core.share N.name_of
         ran.replies.items ran.tally ran.core ran.claims) }
 {
+    // An export counts in the sum of all also where memory ran out before its tree was known: each source has a number of joins.
+    some_meaning();
     // All room is taken before the memo opens, and nothing can fail between the claims' opening and their closing: so no way
     // out of this function drops an open memo, whose many types it would prove the drop of.
     let callers = blanks.callers as usize;
@@ -177,7 +185,7 @@ fn run_over<
     let shares = shares_of(exporters, room);
     let (tally, core, claims) = flight.close(shares);
     let replies = served?;
-    Ok(Ran {
+    Ok(RunResult {
         replies,
         tally,
         core,
@@ -185,9 +193,10 @@ fn run_over<
     })
 }
 
-/// Runs the clients of a script at the same time, over one memo of this budget and share with these names. An export has so many
-/// builders at most: those that are under way at the same time share them, and each has one at least. Each build of each client enters the gate first, with the client's number from 0; where it is refused, the
-/// export is answered as for want of memory. Where the whole has no memory to begin with, nothing is answered.
+/// Runs the clients of a script over one memo of this budget and share with these names. An export has so many builders at
+/// most: those that are under way share them, and each has one at least. Each build of each client enters the gate first, with
+/// the client's number from 0; where it is refused, the export is answered as for want of memory. Where the whole has no memory
+/// to begin with, nothing is answered.
 pub fn run_named<N: Namer<TreeKey> + Send + Sync, G: Gate + Sync, R: Threads + Wait + Sync>(
     rt: &R,
     alloc: Global,
@@ -198,7 +207,7 @@ pub fn run_named<N: Namer<TreeKey> + Send + Sync, G: Gate + Sync, R: Threads + W
     unit: Unit,
     gate: &G,
     namer: N,
-) -> Result<Ran<N>, NoMemory>
+) -> Result<RunResult<N>, NoMemory>
     requires within { AreWithin script.now.clients }
     requires workers { (1 ≤ workers) × (workers ≤ 64) }
     ensures { IfOk result (λ ran. IsRunOf unit script.now.clients memo share N.name_of
@@ -225,7 +234,7 @@ pub fn run_gated<G: Gate + Sync, R: Threads + Wait + Sync>(
     share: u64,
     unit: Unit,
     gate: &G,
-) -> Result<Ran<ShaNamer>, NoMemory>
+) -> Result<RunResult<ShaNamer>, NoMemory>
     requires within { AreWithin script.now.clients }
     requires workers { (1 ≤ workers) × (workers ≤ 64) }
     ensures { IfOk result (λ ran. IsRunOf unit script.now.clients memo share name_of
@@ -236,7 +245,7 @@ pub fn run_gated<G: Gate + Sync, R: Threads + Wait + Sync>(
     )
 }
 
-/// The same with a gate that is open.
+/// The same with names by digest and a gate that is open.
 pub fn run_script<R: Threads + Wait + Sync>(
     rt: &R,
     alloc: Global,
@@ -245,11 +254,13 @@ pub fn run_script<R: Threads + Wait + Sync>(
     memo: u64,
     share: u64,
     unit: Unit,
-) -> Result<Ran<ShaNamer>, NoMemory>
+) -> Result<RunResult<ShaNamer>, NoMemory>
     requires within { AreWithin script.now.clients }
     requires workers { (1 ≤ workers) × (workers ≤ 64) }
     ensures { IfOk result (λ ran. IsRunOf unit script.now.clients memo share name_of
         ran.replies.items ran.tally ran.core ran.claims) }
 {
-    run_gated(rt, alloc, script, workers, memo, share, unit, &OpenGate)
+    run_named(
+        rt, alloc, script, workers, memo, share, unit, &OpenGate, ShaNamer,
+    )
 }

@@ -13,7 +13,7 @@ ghost use Rattle.script_server.specs.Books.{IsRunOf};
 ghost use Rattle.script_service.specs.Outcomes.{HasStatusCause};
 ghost use Rattle.script_server.specs.Serving.{StatusTells, AreCaused, WritesOutput, AskForRun, AskForNoInput, IsScriptOf, IsNoScript};
 
-use crate::running::{Ran, printed_weights, run_script};
+use crate::running::{RunResult, printed_weights, run_script};
 use outside_io::{Sink, Source};
 use parallel_eval::ShaNamer;
 use plane_predicate::Unit;
@@ -31,10 +31,11 @@ fn run_clients<R: Threads + Wait + Sync>(
     alloc: Global,
     settings: Settings,
     script: &Script,
-) -> Result<Ran<ShaNamer>, NoMemory>
+) -> Result<RunResult<ShaNamer>, NoMemory>
     requires within { AreWithin script.now.clients }
     requires range { AreInRange settings }
-    ensures { IfOk result (λ ran. IsRunOf (unit_of settings) script.now.clients (memo_of settings) (share_of settings) name_of
+    ensures { IfOk result (λ ran.
+        IsRunOf (unit_of settings) script.now.clients (memo_of settings) (share_of settings) name_of
         ran.replies.items ran.tally ran.core ran.claims) }
 {
     match settings {
@@ -57,14 +58,16 @@ fn write_ran<K: Sink>(
     alloc: Global,
     settings: Settings,
     clients: &[ClientScript],
-    ran: &Ran<ShaNamer>,
+    ran: &RunResult<ShaNamer>,
     sink: &mut K,
 ) -> Status
-    requires ran { IsRunOf (unit_of settings) clients.now (memo_of settings) (share_of settings) name_of
-        ran.now.replies.items ran.now.tally ran.now.core ran.now.claims }
+    requires ran { IsRunOf (unit_of settings) clients.now (memo_of settings) (share_of settings)
+        name_of ran.now.replies.items ran.now.tally ran.now.core ran.now.claims }
     requires few { length clients.now ≤ 16 }
-    ensures told { WritesOutput settings clients.now (stream K.held K.faults sink.old sink.new) result }
-    ensures cause { HasStatusCause Status.WriteFault (K.faults sink.old) (K.faults sink.new) result }
+    ensures told { WritesOutput settings clients.now
+        (stream K.held K.faults sink.old sink.new) result }
+    ensures cause { HasStatusCause Status.WriteFault (K.faults sink.old)
+        (K.faults sink.new) result }
 {
     match printed_weights(alloc, settings, &ran.core, clients.len() as u32) {
         Ok(owned) => write_outcome(
@@ -91,18 +94,22 @@ pub fn serve<S: Source, K: Sink, R: Threads + Wait + Sync>(
 ) -> Status
     // What each status tells. Where it is `Done`, whatever was read, each client's replies are those that its own commands
     // define, and each solid is the boundary of what the client's source means, in the unit of the run.
-    ensures told { StatusTells (map string_bytes words.now) (streams S.left S.faults K.held K.faults source.old source.new sink.old sink.new) result }
+    ensures told { StatusTells (map string_bytes words.now)
+        (streams S.left S.faults K.held K.faults source.old source.new sink.old sink.new) result }
     // At words outside the grammar, and for the demonstration, nothing is read.
     ensures unread { AskForNoInput (map string_bytes words.now) → source.new ≡ source.old }
-    // A source that failed is told as that, and so is a sink, and nothing else is told as either.
-    ensures causes { AreCaused (streams S.left S.faults K.held K.faults source.old source.new sink.old sink.new) result }
+    // A source that failed is told as that, and so is a sink. The counts of their faults never fall.
+    ensures causes { AreCaused
+        (streams S.left S.faults K.held K.faults source.old source.new sink.old sink.new) result }
 
     // Where no count of faults rose, a script is served and other bytes are refused, unless memory ran out.
     ensures complete { (settings : Settings) → Chooses (map string_bytes words.now) settings
         → (Rose (S.faults source.old) (S.faults source.new) → ⊥) → (Rose (K.faults sink.old) (K.faults sink.new) → ⊥)
         → (result ≡ Status.Done) ⊎ (result ≡ Status.BadScript) ⊎ (result ≡ Status.NoMemory) }
-    ensures script { IfSome (S.left source.old) (λ bytes. IsScriptOf bytes → result ≢ Status.BadScript) }
-    ensures no_script { AskForRun (map string_bytes words.now) → IfSome (S.left source.old) (λ bytes. IsNoScript bytes → result ≢ Status.Done) }
+    ensures script { IfSome (S.left source.old)
+        (λ bytes. IsScriptOf bytes → result ≢ Status.BadScript) }
+    ensures no_script { AskForRun (map string_bytes words.now)
+        → IfSome (S.left source.old) (λ bytes. IsNoScript bytes → result ≢ Status.Done) }
 {
     bytes_are_one_script();
     let settings = match read_words(alloc, words) {

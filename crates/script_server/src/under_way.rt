@@ -29,7 +29,10 @@ impl UnderWay {
 
     /// Begins one more export, and gives how many workers it has: as many as the client may have where no other one is under
     /// way, and else its part of them, at least one.
-    pub fn begin(&self, most: Workers) -> Workers {
+    #[tactic(auto, using(crate::proofs::Parts::part_of))]
+    pub fn begin(&self, most: Workers) -> Workers
+        ensures { result.count ≤ most.count }
+    {
         let others = self.exports.fetch_add(1, Ordering::SeqCst);
         Workers {
             count: (most.count / (u64::from(others) + 1)).max(1),

@@ -9,23 +9,23 @@ use Rattle.reply_text.specs.declared.reply.Reply.TheVariants as reply
 use Rattle.reply_text.specs.Parts.{first_words}
 
 -- the bytes before the first one that is this
-abbrev pub before : ℕ → List ℕ → List ℕ
-before at [] = []
-before at (b ∷ bs) = if b == at then [] else b ∷ before at bs
+abbrev pub bytes_before : ℕ → List ℕ → List ℕ
+bytes_before at [] = []
+bytes_before at (b ∷ bs) = if b == at then [] else b ∷ bytes_before at bs
 
 -- the bytes behind the first one that is this
-abbrev pub behind : ℕ → List ℕ → List ℕ
-behind at [] = []
-behind at (b ∷ bs) = if b == at then bs else behind at bs
+abbrev pub bytes_behind : ℕ → List ℕ → List ℕ
+bytes_behind at [] = []
+bytes_behind at (b ∷ bs) = if b == at then bs else bytes_behind at bs
 
 -- how many vertices a 4OFF text says that it has: its second line begins with that number, a space, the number of faces and a
 -- space
 abbrev pub vertex_count : List ℕ → List ℕ
-vertex_count text = before 32 (behind 10 text)
+vertex_count text = bytes_before 32 (bytes_behind 10 text)
 
 -- how many faces it says that it has
 abbrev pub face_count : List ℕ → List ℕ
-face_count text = before 32 (behind 32 (behind 10 text))
+face_count text = bytes_before 32 (bytes_behind 32 (bytes_behind 10 text))
 
 -- the counts of a text and its digest
 abbrev pub solid_words : List ℕ → List ℕ

@@ -1,8 +1,9 @@
 -- What is read of a source, and what is written for it. Of a source that doesn't tell its bytes, and of a sink that doesn't,
 -- `Consumes`, `IsAtEnd` and `Appends` say nothing.
-use Rattle.std.specs.Prelude.{◌≡◌, ℕ, ◌<◌, ◌≤◌, true, List, ◌++◌, length, codes, ◌⊎◌, Result, IsErrOf}
+use Rattle.std.specs.Prelude.{◌≡◌, ℕ, ◌+◌, ◌<◌, ◌≤◌, true, List, ◌++◌, length, codes, ◌⊎◌, Result, IsErrOf}
 use Rattle.std.specs.Io.KnownBytes.{Appends, Consumes, IsAtEnd}
 use Rattle.outside_io.specs.Counts.{Rose}
+use Rattle.outside_io.specs.Moves.{ConsumesAtMost}
 use Rattle.run_words.specs.declared.settings.Settings.{Settings}
 use Rattle.run_words.specs.declared.settings.Settings.TheVariants.{Run, Demo}
 use Rattle.subtree_memo.specs.declared.tally.Tally.{Tally}
@@ -29,11 +30,16 @@ abbrev pub IsRun : Settings → Type 0
 IsRun (Run workers memo share half tally) = Unit {0}
 IsRun (Demo n) = ⊥
 
+-- more bytes than a script may have, by at most the 4,096 of one read
+pub record AreTooMany (bytes : List ℕ) : Type 0 where
+  pub large : 1048576 < length bytes
+  pub near : length bytes ≤ 1048576 + 4096
+
 -- the bytes are what is served: of a run those that were read from the source, all of them or more than a script may have;
 -- of the demonstration its script
 abbrev pub IsInput : Settings → Stream → List ℕ → Type 0
 IsInput (Run workers memo share half tally) source bytes =
-    Consumes source.old source.new bytes × (IsAtEnd source.new ⊎ (1048576 < length bytes))
+    Consumes source.old source.new bytes × (IsAtEnd source.new ⊎ AreTooMany bytes)
 IsInput (Demo n) source bytes = bytes ≡ demo_script n
 
 -- the same, and the source of a run was read to its end
@@ -51,12 +57,13 @@ AreNoScript bytes end.NoMemory = Unit {0}
 abbrev pub Gives : Settings → Stream → Script → Type 0
 Gives settings source script = (bytes : List ℕ) × IsWholeInput settings source bytes × IsScript bytes script
 
--- why there is no script: the input has a first fault, or the source failed, or memory ran out. The script of the
+-- why there is no script: the input has a first fault, or the source failed, of which no more bytes were read than a script may
+-- have, or memory ran out. The script of the
 -- demonstration has no fault, and no source fails of which nothing is read.
 abbrev pub Lacks : Settings → Stream → InputEnd → Type 0
 Lacks settings source (end.BadScript fault) =
     IsRun settings × (bytes : List ℕ) × IsInput settings source bytes × IsScriptFault bytes fault
-Lacks settings source end.Failed = IsRun settings × Rose source.before source.now
+Lacks settings source end.Failed = IsRun settings × Rose source.before source.now × ConsumesAtMost source.old source.new 1048576
 Lacks settings source end.NoMemory = Unit {0}
 
 -- the count of a source's faults did not fall, and it is as before where the source is not told to have failed
@@ -71,6 +78,7 @@ PrintsWeights (Demo n) = ⊥
 
 -- what is written for a script whose clients are given these replies, over a memo with this tally and these weights of
 -- the clients' entries
-abbrev pub printed : Settings → List ClientScript → List (List Reply) → Tally → List ℕ → List ℕ
-printed (Run workers memo share half tally) clients replies counts owned = output clients replies ++ ending tally share clients counts owned
-printed (Demo n) clients replies counts owned = demo_text clients replies
+abbrev pub printed_text : Settings → List ClientScript → List (List Reply) → Tally → List ℕ → List ℕ
+printed_text (Run workers memo share half tally) clients replies counts owned =
+    output clients replies ++ ending tally share clients counts owned
+printed_text (Demo n) clients replies counts owned = demo_text clients replies

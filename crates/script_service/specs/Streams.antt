@@ -21,6 +21,7 @@ pub record Streams : Type 1 where
   pub sink : Stream
 
 -- of types that tell their bytes and their faults so
-abbrev pub streams : {S K : Type 0} → (S → Option (List ℕ)) → (S → ℕ) → (K → Option (List ℕ)) → (K → ℕ) → S → S → K → K → Streams
+abbrev pub streams : {S K : Type 0} → (S → Option (List ℕ)) → (S → ℕ) → (K → Option (List ℕ)) → (K → ℕ)
+    → S → S → K → K → Streams
 streams left read_faults held write_faults source source' sink sink' =
     record { source = stream left read_faults source source'; sink = stream held write_faults sink sink' }

@@ -12,7 +12,8 @@ use text_place::one_numeral;
 pub fn one_ending()
     ensures tally { (share : ℕ) (clients : List ClientScript) (s t : Tally) (v w : List ℕ) →
         ending true share clients s v ≡ ending true share clients t w → s ≡ t }
-    ensures shares { (share : ℕ) (clients : List ClientScript) (s t : Tally) (v w : List ℕ) → 0 < share →
+    ensures shares { (share : ℕ) (clients : List ClientScript) (s t : Tally) (v w : List ℕ)
+        → 0 < share →
         length v ≡ length clients → length w ≡ length clients →
         ending true share clients s v ≡ ending true share clients t w → v ≡ w }
 {

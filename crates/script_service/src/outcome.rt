@@ -6,7 +6,7 @@ ghost use Rattle.reply_text.specs.Texts.{output};
 ghost use Rattle.script_service.specs.Endings.{ending};
 ghost use Rattle.script_service.specs.Demos.{demo_text};
 ghost use Rattle.script_service.specs.Streams.{stream};
-ghost use Rattle.script_service.specs.Serving.{PrintsWeights, printed};
+ghost use Rattle.script_service.specs.Serving.{PrintsWeights, printed_text};
 ghost use Rattle.script_service.specs.Outcomes.{Writes, Ends, AppendsPart, Prints, HasStatusCause, RefusesWords, RefusesInput};
 
 use crate::demo::demo_lines;
@@ -28,7 +28,8 @@ const USAGE: &[u8] =
 // Writes all of a text, and ends with the status unless the sink fails.
 fn finish<K: Sink>(sink: &mut K, text: &[u8], status: Status) -> Status
     ensures writes { Writes status (stream K.held K.faults sink.old sink.new) text.now result }
-    ensures cause { HasStatusCause Status.WriteFault (K.faults sink.old) (K.faults sink.new) result }
+    ensures cause { HasStatusCause Status.WriteFault (K.faults sink.old)
+        (K.faults sink.new) result }
 {
     match write_all(sink, text) {
         Ok(()) => status,
@@ -38,8 +39,10 @@ fn finish<K: Sink>(sink: &mut K, text: &[u8], status: Status) -> Status
 
 // Writes the line of a script's fault.
 fn write_script_fault<K: Sink>(alloc: Global, fault: ScriptFault, sink: &mut K) -> Status
-    ensures ends { Ends Status.BadScript (stream K.held K.faults sink.old sink.new) (fault_line fault) result }
-    ensures cause { HasStatusCause Status.WriteFault (K.faults sink.old) (K.faults sink.new) result }
+    ensures ends { Ends Status.BadScript (stream K.held K.faults sink.old sink.new)
+        (fault_line fault) result }
+    ensures cause { HasStatusCause Status.WriteFault (K.faults sink.old)
+        (K.faults sink.new) result }
 {
     match write_fault(alloc, fault) {
         Ok(line) => finish(sink, line.as_slice(), Status::BadScript),
@@ -50,7 +53,8 @@ fn write_script_fault<K: Sink>(alloc: Global, fault: ScriptFault, sink: &mut K) 
 /// Tells why words choose no settings: the usage line, which takes no memory, and nothing where memory ran out at the words.
 pub fn refuse_words<K: Sink>(fault: WordsFault, sink: &mut K) -> Status
     ensures told { RefusesWords fault (stream K.held K.faults sink.old sink.new) result }
-    ensures cause { HasStatusCause Status.WriteFault (K.faults sink.old) (K.faults sink.new) result }
+    ensures cause { HasStatusCause Status.WriteFault (K.faults sink.old)
+        (K.faults sink.new) result }
 {
     match fault {
         WordsFault::BadWords => finish(sink, USAGE, Status::BadWords),
@@ -61,7 +65,8 @@ pub fn refuse_words<K: Sink>(fault: WordsFault, sink: &mut K) -> Status
 /// Tells why there is no script to serve: the line of its fault, and nothing where the source failed or memory ran out.
 pub fn refuse_input<K: Sink>(alloc: Global, end: InputEnd, sink: &mut K) -> Status
     ensures told { RefusesInput end (stream K.held K.faults sink.old sink.new) result }
-    ensures cause { HasStatusCause Status.WriteFault (K.faults sink.old) (K.faults sink.new) result }
+    ensures cause { HasStatusCause Status.WriteFault (K.faults sink.old)
+        (K.faults sink.new) result }
 {
     match end {
         InputEnd::BadScript(fault) => write_script_fault(alloc, fault, sink),
@@ -79,9 +84,11 @@ fn write_replies<K: Sink>(
     sink: &mut K,
 ) -> Status
     requires { All (λ rs. length rs ≤ 8192) replies.now }
-    ensures told { Ends Status.Done (stream K.held K.faults sink.old sink.new) (output clients.now replies.now ++ ending.now) result
+    ensures told { Ends Status.Done (stream K.held K.faults sink.old sink.new)
+        (output clients.now replies.now ++ ending.now) result
         ⊎ ((result ≡ Status.NoMemory) × AppendsPart (K.held sink.old) (K.held sink.new) (output clients.now replies.now ++ ending.now)) }
-    ensures cause { HasStatusCause Status.WriteFault (K.faults sink.old) (K.faults sink.new) result }
+    ensures cause { HasStatusCause Status.WriteFault (K.faults sink.old)
+        (K.faults sink.new) result }
 {
     match write_output(alloc, sink, clients, replies, ending) {
         Ok(()) => Status::Done,
@@ -101,8 +108,10 @@ fn write_printed<K: Sink>(
     sink: &mut K,
 ) -> Status
     requires { All (λ rs. length rs ≤ 8192) replies.now }
-    ensures told { Prints settings (stream K.held K.faults sink.old sink.new) (printed settings clients.now replies.now counts owned.now) result }
-    ensures cause { HasStatusCause Status.WriteFault (K.faults sink.old) (K.faults sink.new) result }
+    ensures told { Prints settings (stream K.held K.faults sink.old sink.new)
+        (printed_text settings clients.now replies.now counts owned.now) result }
+    ensures cause { HasStatusCause Status.WriteFault (K.faults sink.old)
+        (K.faults sink.new) result }
 {
     match settings {
         Settings::Run { tally, share, .. } => {
@@ -134,8 +143,9 @@ pub fn write_outcome<K: Sink>(
 ) -> Status
     requires { All (λ rs. length rs ≤ 8192) replies.now }
     ensures told { (weights : List ℕ) → (PrintsWeights settings → owned.now ≡ weights) →
-        Prints settings (stream K.held K.faults sink.old sink.new) (printed settings clients.now replies.now counts weights) result }
-    ensures cause { HasStatusCause Status.WriteFault (K.faults sink.old) (K.faults sink.new) result }
+        Prints settings (stream K.held K.faults sink.old sink.new) (printed_text settings clients.now replies.now counts weights) result }
+    ensures cause { HasStatusCause Status.WriteFault (K.faults sink.old)
+        (K.faults sink.new) result }
 {
     write_printed(alloc, settings, clients, replies, counts, owned, sink)
 }

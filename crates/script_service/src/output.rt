@@ -40,8 +40,10 @@ impl From<NoMemory> for OutputEnd {
 
 // Writes what the buffer holds, and empties it.
 fn flush<K: Sink>(sink: &mut K, buffer: &mut Vec<u8>) -> Result<(), OutputEnd>
-    ensures ok { OnOk result (Appends (K.held sink.old) (K.held sink.new) buffer.old.items × (buffer.new.items ≡ [])) }
-    ensures err { IfErr result (λ end. (end ≡ ends.Failed) × AppendsProperPrefix (K.held sink.old) (K.held sink.new) buffer.old.items) }
+    ensures ok { OnOk result
+        (Appends (K.held sink.old) (K.held sink.new) buffer.old.items × (buffer.new.items ≡ [])) }
+    ensures err { IfErr result (λ end. (end ≡ ends.Failed)
+        × AppendsProperPrefix (K.held sink.old) (K.held sink.new) buffer.old.items) }
     ensures cause { HasOutputCause (K.faults sink.old) (K.faults sink.new) result }
 {
     if write_all(sink, buffer.as_slice()).is_err() {
@@ -74,7 +76,8 @@ fn put(buffer: &mut Vec<u8>, bytes: &[u8]) -> Result<(), NoMemory>
 
 // Adds a client's name to the buffer.
 fn put_name(buffer: &mut Vec<u8>, name: &[u8]) -> Result<(), NoMemory>
-    ensures ok { OnOk result (buffer.new.items ≡ buffer.old.items ++ (codes "== " ++ name.now ++ newline)) }
+    ensures ok { OnOk result
+        (buffer.new.items ≡ buffer.old.items ++ (codes "== " ++ name.now ++ newline)) }
 {
     put(buffer, b"== ")?;
     put(buffer, name)?;
@@ -89,8 +92,12 @@ fn write_reply<K: Sink>(
     number: u32,
     reply: &Reply,
 ) -> Result<(), OutputEnd>
-    ensures ok { OnOk result (Sends K.held sink.old sink.new buffer.new.items (buffer.old.items ++ (numeral number ++ reply_body reply.now))) }
-    ensures err { IfErr result (IsCutOff K.held sink.old sink.new (buffer.old.items ++ (numeral number ++ reply_body reply.now))) }
+    ensures ok { OnOk result
+        (Sends K.held sink.old sink.new buffer.new.items
+        (buffer.old.items ++ (numeral number ++ reply_body reply.now))) }
+    ensures err { IfErr result
+        (IsCutOff K.held sink.old sink.new
+        (buffer.old.items ++ (numeral number ++ reply_body reply.now))) }
     ensures cause { HasOutputCause (K.faults sink.old) (K.faults sink.new) result }
 {
     push_reply(alloc, buffer, number, reply)?;
@@ -105,8 +112,11 @@ fn write_replies<K: Sink>(
     replies: &[Reply],
 ) -> Result<(), OutputEnd>
     requires { length replies.now ≤ 8192 }
-    ensures ok { OnOk result (Sends K.held sink.old sink.new buffer.new.items (buffer.old.items ++ replies_text 1 replies.now)) }
-    ensures err { IfErr result (IsCutOff K.held sink.old sink.new (buffer.old.items ++ replies_text 1 replies.now)) }
+    ensures ok { OnOk result
+        (Sends K.held sink.old sink.new buffer.new.items
+        (buffer.old.items ++ replies_text 1 replies.now)) }
+    ensures err { IfErr result
+        (IsCutOff K.held sink.old sink.new (buffer.old.items ++ replies_text 1 replies.now)) }
     ensures cause { HasOutputCause (K.faults sink.old) (K.faults sink.new) result }
 {
     let mut number = 0u32;
@@ -126,8 +136,11 @@ fn write_client<K: Sink>(
     replies: &[Reply],
 ) -> Result<(), OutputEnd>
     requires { length replies.now ≤ 8192 }
-    ensures ok { OnOk result (Sends K.held sink.old sink.new buffer.new.items (buffer.old.items ++ client_text name.now replies.now)) }
-    ensures err { IfErr result (IsCutOff K.held sink.old sink.new (buffer.old.items ++ client_text name.now replies.now)) }
+    ensures ok { OnOk result
+        (Sends K.held sink.old sink.new buffer.new.items
+        (buffer.old.items ++ client_text name.now replies.now)) }
+    ensures err { IfErr result
+        (IsCutOff K.held sink.old sink.new (buffer.old.items ++ client_text name.now replies.now)) }
     ensures cause { HasOutputCause (K.faults sink.old) (K.faults sink.new) result }
 {
     put_name(buffer, name)?;
@@ -143,8 +156,11 @@ fn write_clients<K: Sink>(
     replies: &[Replies],
 ) -> Result<(), OutputEnd>
     requires { All (λ rs. length rs ≤ 8192) replies.now }
-    ensures ok { OnOk result (Sends K.held sink.old sink.new buffer.new.items (buffer.old.items ++ output clients.now replies.now)) }
-    ensures err { IfErr result (IsCutOff K.held sink.old sink.new (buffer.old.items ++ output clients.now replies.now)) }
+    ensures ok { OnOk result
+        (Sends K.held sink.old sink.new buffer.new.items
+        (buffer.old.items ++ output clients.now replies.now)) }
+    ensures err { IfErr result
+        (IsCutOff K.held sink.old sink.new (buffer.old.items ++ output clients.now replies.now)) }
     ensures cause { HasOutputCause (K.faults sink.old) (K.faults sink.new) result }
 {
     let mut left = replies;
@@ -171,8 +187,11 @@ pub fn write_output<K: Sink>(
     ending: &[u8],
 ) -> Result<(), OutputEnd>
     requires { All (λ rs. length rs ≤ 8192) replies.now }
-    ensures ok { OnOk result (Appends (K.held sink.old) (K.held sink.new) (output clients.now replies.now ++ ending.now)) }
-    ensures err { IfErr result (IsCutOff K.held sink.old sink.new (output clients.now replies.now ++ ending.now)) }
+    ensures ok { OnOk result
+        (Appends (K.held sink.old) (K.held sink.new)
+        (output clients.now replies.now ++ ending.now)) }
+    ensures err { IfErr result
+        (IsCutOff K.held sink.old sink.new (output clients.now replies.now ++ ending.now)) }
     ensures cause { HasOutputCause (K.faults sink.old) (K.faults sink.new) result }
 {
     let mut buffer = Vec::new(alloc);

@@ -1,6 +1,6 @@
 -- Runs of two clients that are written out: each has one command of one node, and both nodes have one key.
 use Rattle.std.proofs.Common.{◌≡◌, ℕ, true, false, List, [], ◌∷◌, drop, Option, Some, None, refl, inl, inr, nat_eq, nat_lt, if◌then◌else◌}
-use Rattle.memo_core.specs.Memo.{Entry, Item, item, Probe_said, Fill_said}
+use Rattle.memo_core.specs.Memo.{Entry, Item, item, Probe_answer, Fill_answer}
 use Rattle.share_core.specs.Views.{Node, Unasked, Missed, Built, There, Part, Tasks, Machine}
 use Rattle.share_core.specs.Steps.{is_possible, Steps, first_machine}
 use Rattle.share_core.specs.Runs.{Runs}
@@ -59,13 +59,13 @@ machine entries journal first second = record {
 }
 
 abbrev miss : ℕ → Item ℕ
-miss client = item client 7 (Probe_said false)
+miss client = item client 7 (Probe_answer false)
 
 abbrev hit : ℕ → Item ℕ
-hit client = item client 7 (Probe_said true)
+hit client = item client 7 (Probe_answer true)
 
 abbrev kept : ℕ → Item ℕ
-kept client = item client 7 (Fill_said 5 true 0)
+kept client = item client 7 (Fill_answer 5 true 0)
 
 -- ---- both probe before one fills
 abbrev both_miss : List Event
@@ -310,5 +310,5 @@ without_budget journal first = record {
 }
 
 heavy_is_there : TwoStep (without_budget [] (at (Built 5 5))) (event 0 (Fill 0))
-    (without_budget (item 0 7 (Fill_said 5 false 0) ∷ []) (at (There 5)))
+    (without_budget (item 0 7 (Fill_answer 5 false 0) ∷ []) (at (There 5)))
 heavy_is_there = (at (Built 5 5), at (There 5), refl, (5, 5, refl, refl, refl), refl)

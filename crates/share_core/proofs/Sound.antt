@@ -6,7 +6,7 @@ use Rattle.std.specs.Option.{option_map_or}
 use Rattle.std.proofs.lemmas.List.{length-append, length-set, length-replicate}
 use Rattle.share_core.specs.Views.{Node, Unasked, Missed, Built, There, Part, Tasks, MoreThere}
 use Rattle.share_core.specs.Fields.{value_of, have, IsSoundNode, AreSoundNodes, IsSoundPart, AreRepliesFrom}
-use Rattle.share_core.specs.Steps.{all_there, key_at, node_at, with_node, begun, replied, can_do, is_at, is_unasked, is_missed}
+use Rattle.share_core.specs.Steps.{all_there, key_at, node_at, with_node, part_at_command, part_after_reply, can_do, is_at, is_unasked, is_missed}
 use Rattle.share_core.specs.declared.event.Act.TheVariants.{Probe, Build, Reply}
 use Rattle.share_core.proofs.Nodes.{never, both, unasked_at, missed_at, sound_at, more_set, node_stays, nodes_stay, sound_set, unasked_sound}
 
@@ -40,7 +40,7 @@ module _ {K V R : Type 0} (fits : K → V → Type 0) (weighs : V → ℕ) (task
   built_fits n v w e = (node_in n (Built v w) e).1
 
   -- a client that comes to its next command
-  pub begun_sound : length part.replies < tasks.commands client → IsSoundPart fits weighs tasks client (begun tasks client part)
+  pub begun_sound : length part.replies < tasks.commands client → IsSoundPart fits weighs tasks client (part_at_command tasks client part)
   begun_sound lt = record {
     answered = s.answered;
     within = s.within;
@@ -50,7 +50,7 @@ module _ {K V R : Type 0} (fits : K → V → Type 0) (weighs : V → ℕ) (task
   }
 
   -- a client that answers its command
-  pub replied_sound : length part.replies < tasks.commands client → IsSoundPart fits weighs tasks client (replied tasks client part)
+  pub replied_sound : length part.replies < tasks.commands client → IsSoundPart fits weighs tasks client (part_after_reply tasks client part)
   replied_sound lt = record {
     answered = replies_more (tasks.reply client) 0 part.replies (tasks.reply client (length part.replies)) s.answered (let e : length part.replies ≡ 0 + length part.replies = omega arith in ap (tasks.reply client) e);
     within = let l = length-append part.replies (tasks.reply client (length part.replies) ∷ []) in omega (arith, l, lt);

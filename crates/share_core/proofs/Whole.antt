@@ -5,7 +5,7 @@ use Rattle.std.specs.Option.{option_map_or}
 use Rattle.std.proofs.lemmas.Option.{none-some, same_Some}
 use Rattle.std.proofs.lemmas.List.{map-append, append-nil, append_assoc, length-append}
 use Rattle.std.proofs.lemmas.Bool.Decides.{nat_tests}
-use Rattle.memo_core.specs.Memo.{Fill_said, Entry, holds, offered, fill_said}
+use Rattle.memo_core.specs.Memo.{Fill_answer, Entry, holds, entries_after_offer, fill_answer}
 use Rattle.memo_core.specs.Views.{Core, mark_in, new_entry}
 use Rattle.share_core.specs.Views.{Part, Tasks, Machine}
 use Rattle.share_core.specs.Fields.{AreRepliesFrom, nobody}
@@ -33,10 +33,10 @@ module _ {K V R : Type 0} (tasks : Tasks K V R) where
       ∙ sym (append_assoc (call_by tasks t.client (replies_in t.client before) t.act) (calls_after tasks (before ++ t ∷ []) ts) _)
 
 -- a fill's item is a fill
-fill_fills : {K V : Type 0} (same : K → K → Bool) (budget share : ℕ) (new : Entry K V) (es : List (Entry K V)) → fills (fill_said same mark_in budget share new es) ≡ true
-fill_fills {K} {V} same budget share new es = go (offered same mark_in budget share new es) where
+fill_fills : {K V : Type 0} (same : K → K → Bool) (budget share : ℕ) (new : Entry K V) (es : List (Entry K V)) → fills (fill_answer same mark_in budget share new es) ≡ true
+fill_fills {K} {V} same budget share new es = go (entries_after_offer same mark_in budget share new es) where
   go : (o : Option (List (Entry K V)))
-      → fills (option_map_or (λ kept. Fill_said new.mark.weight true (cond (holds same mark_in new.mark.key es) 0 (length es + 1 - length kept))) o (Fill_said new.mark.weight false 0)) ≡ true
+      → fills (option_map_or (λ kept. Fill_answer new.mark.weight true (cond (holds same mark_in new.mark.key es) 0 (length es + 1 - length kept))) o (Fill_answer new.mark.weight false 0)) ≡ true
   go None = refl
   go (Some kept) = refl
 

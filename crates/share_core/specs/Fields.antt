@@ -1,7 +1,7 @@
 -- How the fields of a world stand for what contracts see, and what each part keeps.
 use Rattle.std.specs.Prelude.{◌≡◌, ℕ, ◌+◌, ◌<◌, ◌≤◌, true, List, [], ◌∷◌, map, length, Option, Some, None, IfSome}
 use Rattle.memo_core.specs.Views.{Core}
-use Rattle.share_core.specs.Views.{Node, Unasked, Missed, Built, There, Part, Tasks, Machine, settled}
+use Rattle.share_core.specs.Views.{Node, Unasked, Missed, Built, There, Part, Tasks, Machine, settled_memo}
 use Rattle.share_core.specs.declared.parts.ClientPart.{ClientPart}
 
 module _ {V : Type 0} where
@@ -61,4 +61,4 @@ module _ {K V R : Type 0} (fits : K → V → Type 0) (weighs : V → ℕ) (task
 module _ {K V R : Type 0} where
   -- the machine that a memo and the clients' parts stand for
   abbrev pub machine_of : Core K V → List (ClientPart V R) → Machine K V R
-  machine_of memo parts = record { memo = settled memo; parts = map part_of parts }
+  machine_of memo parts = record { memo = settled_memo memo; parts = map part_of parts }

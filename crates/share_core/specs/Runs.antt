@@ -1,6 +1,6 @@
 -- Whole runs: every list of events.
 use Rattle.std.specs.Prelude.{◌≡◌, ℕ, ◌+◌, ◌<◌, ◌≤◌, take, Bool, true, false, List, [], ◌∷◌, ◌++◌, map, length, ◌⊎◌, nat_eq, if◌then◌else◌, slice_get, Some}
-use Rattle.memo_core.specs.Memo.{Item, Said, Probe_said, Fill_said}
+use Rattle.memo_core.specs.Memo.{Item, Answer, Probe_answer, Fill_answer}
 use Rattle.share_core.specs.Views.{Tasks, Machine, Part}
 use Rattle.share_core.specs.Fields.{AreRepliesFrom}
 use Rattle.share_core.specs.Steps.{is_possible, Steps}
@@ -8,14 +8,17 @@ use Rattle.share_core.specs.declared.event.Act.{Act}
 use Rattle.share_core.specs.declared.event.Act.TheVariants.{Command, Probe, Build, Fill, Reply}
 use Rattle.share_core.specs.declared.event.Event.{Event}
 
-module _ {K V R : Type 0} (same : K → K → Bool) (name_of : K → List ℕ) (fits : K → V → Type 0) (weighs : V → ℕ) (tasks : Tasks K V R) where
+module _ {K V R : Type 0} (same : K → K → Bool) (name_of : K → List ℕ) (fits : K → V → Type 0) (weighs : V → ℕ)
+    (tasks : Tasks K V R) where
   -- One machine is the other after a list of events, of which these were taken, in their order; an event
   -- that is not possible changes nothing, and the next one follows.
   abbrev pub Runs : Machine K V R → List Event → List Event → Machine K V R → Type 0
   Runs machine [] taken machine' = (taken ≡ []) × (machine' ≡ machine)
   Runs machine (e ∷ es) taken machine' =
       ((is_possible tasks machine e ≡ false) × Runs machine es taken machine')
-      ⊎ ((is_possible tasks machine e ≡ true) × ((next : Machine K V R) × (rest : List Event) × Steps same name_of fits weighs tasks machine e next × (taken ≡ e ∷ rest) × Runs next es rest machine'))
+      ⊎ ((is_possible tasks machine e ≡ true)
+      × ((next : Machine K V R) × (rest : List Event) × Steps same name_of fits weighs tasks machine e next
+      × (taken ≡ e ∷ rest) × Runs next es rest machine'))
 
 -- how many replies an act gives
 abbrev pub reply_of : Act → ℕ
@@ -36,14 +39,14 @@ pub record MemoCall (K : Type 0) : Type 0 where
   pub key : K
   pub is_fill : Bool
 
-abbrev pub fills : Said → Bool
-fills (Probe_said hit) = false
-fills (Fill_said weight kept evicted) = true
+abbrev pub fills : Answer → Bool
+fills (Probe_answer hit) = false
+fills (Fill_answer weight kept evicted) = true
 
 module _ {K : Type 0} where
   -- the call of an item of a journal
   abbrev pub call_of : Item K → MemoCall K
-  call_of i = record { caller = i.caller; key = i.key; is_fill = fills i.said }
+  call_of i = record { caller = i.caller; key = i.key; is_fill = fills i.answer }
 
   abbrev pub calls_of : List (Item K) → List (MemoCall K)
   calls_of items = map call_of items
@@ -67,14 +70,18 @@ module _ {K V R : Type 0} (tasks : Tasks K V R) where
   -- commands, one for each of its Reply events that was taken.
   pub record Leaves (taken : List Event) (machine : Machine K V R) : Type 0 where
     pub calls : calls_of machine.memo.journal ≡ calls_after [] taken
-    pub count : (client : ℕ) (part : Part V R) → slice_get machine.parts client ≡ Some part → length part.replies ≡ replies_in client taken
-    pub answered : (client : ℕ) (part : Part V R) → slice_get machine.parts client ≡ Some part → AreRepliesFrom (tasks.reply client) 0 part.replies
+    pub count : (client : ℕ) (part : Part V R) → slice_get machine.parts client ≡ Some part →
+        length part.replies ≡ replies_in client taken
+    pub answered : (client : ℕ) (part : Part V R) → slice_get machine.parts client ≡ Some part →
+        AreRepliesFrom (tasks.reply client) 0 part.replies
 
 module _ {K V R : Type 0} where
   -- two works agree on a client's commands where each command that both have has the same reply; that its
   -- nodes and keys are the same ones is not even asked
   abbrev pub AgreeOn : Tasks K V R → Tasks K V R → ℕ → Type 0
-  AgreeOn tasks others client = (command : ℕ) → command < tasks.commands client → command < others.commands client → tasks.reply client command ≡ others.reply client command
+  AgreeOn tasks others client =
+      (command : ℕ) → command < tasks.commands client → command < others.commands client →
+      tasks.reply client command ≡ others.reply client command
 
   -- a client has the same replies in both, for as many commands as it answered in both
   abbrev pub SameReplies : Machine K V R → Machine K V R → ℕ → Type 0

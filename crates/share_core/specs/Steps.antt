@@ -68,37 +68,43 @@ module _ {K V R : Type 0} (tasks : Tasks K V R) (client : ℕ) where
 
 module _ {K V : Type 0} (same : K → K → Bool) where
   -- a node that was probed: there with the value that is held for this key, or missed
-  abbrev pub probed : K → Core K V → Node V
-  probed key memo = option_map_or (λ e. There e.value) (first_with (has_key same mark_in key) memo.entries) Missed
+  abbrev pub node_after_probe : K → Core K V → Node V
+  node_after_probe key memo = option_map_or (λ e. There e.value) (first_with (has_key same mark_in key) memo.entries) Missed
 
 module _ {K V R : Type 0} (tasks : Tasks K V R) (client : ℕ) where
   -- the part of a client that came to its next command: no node is probed yet
-  abbrev pub begun : Part V R → Part V R
-  begun part = record { nodes = Some (replicate (tasks.nodes client (length part.replies)) Unasked); replies = part.replies }
+  abbrev pub part_at_command : Part V R → Part V R
+  part_at_command part = record {
+    nodes = Some (replicate (tasks.nodes client (length part.replies)) Unasked);
+    replies = part.replies;
+  }
 
   -- the part of a client that answered the command that it was at
-  abbrev pub replied : Part V R → Part V R
-  replied part = record { nodes = None; replies = part.replies ++ tasks.reply client (length part.replies) ∷ [] }
+  abbrev pub part_after_reply : Part V R → Part V R
+  part_after_reply part = record { nodes = None; replies = part.replies ++ tasks.reply client (length part.replies) ∷ [] }
 
 module _ {V R : Type 0} where
   -- the node of the command that a client is at
   abbrev pub node_at : ℕ → Part V R → Option (Option (Node V))
   node_at n part = option_map (λ xs. slice_get xs n) part.nodes
 
-module _ {K V R : Type 0} (same : K → K → Bool) (name_of : K → List ℕ) (fits : K → V → Type 0) (weighs : V → ℕ) (tasks : Tasks K V R) (client : ℕ) where
+module _ {K V R : Type 0} (same : K → K → Bool) (name_of : K → List ℕ) (fits : K → V → Type 0) (weighs : V → ℕ)
+    (tasks : Tasks K V R) (client : ℕ) where
   -- What an act changes: the memo and the client's part before, and both after. Probe and Fill are the
   -- steps of the memo. Build gives some value that fits the key, and what it weighs. Fill makes its node
   -- there, whether the fill was kept or not.
   abbrev pub Changes : Act → Core K V → Part V R → Core K V → Part V R → Type 0
-  Changes Command memo part memo' part' = (memo' ≡ memo) × (part' ≡ begun tasks client part)
+  Changes Command memo part memo' part' = (memo' ≡ memo) × (part' ≡ part_at_command tasks client part)
   Changes (Probe n) memo part memo' part' =
-      (memo' ≡ after_probe same client (key_at tasks client n part) memo) × (part' ≡ with_node n (probed same (key_at tasks client n part) memo) part)
+      (memo' ≡ after_probe same client (key_at tasks client n part) memo)
+      × (part' ≡ with_node n (node_after_probe same (key_at tasks client n part) memo) part)
   Changes (Build n) memo part memo' part' =
-      (v : V) × (w : ℕ) × fits (key_at tasks client n part) v × (w ≡ weighs v) × (memo' ≡ memo) × (part' ≡ with_node n (Built v w) part)
+      (v : V) × (w : ℕ) × fits (key_at tasks client n part) v × (w ≡ weighs v)
+      × (memo' ≡ memo) × (part' ≡ with_node n (Built v w) part)
   Changes (Fill n) memo part memo' part' =
       (v : V) × (w : ℕ) × (node_at n part ≡ Some (Some (Built v w)))
       × (memo' ≡ after_fill same name_of client (key_at tasks client n part) v w memo) × (part' ≡ with_node n (There v) part)
-  Changes Reply memo part memo' part' = (memo' ≡ memo) × (part' ≡ replied tasks client part)
+  Changes Reply memo part memo' part' = (memo' ≡ memo) × (part' ≡ part_after_reply tasks client part)
 
 -- What became of an event: taken exactly where it is possible, and then this changed; not ready exactly
 -- where it is not, and then this stayed.
@@ -111,7 +117,8 @@ module _ {K V R : Type 0} (tasks : Tasks K V R) where
   abbrev pub is_possible : Machine K V R → Event → Bool
   is_possible machine event = option_map_or (can_do tasks event.client event.act) (slice_get machine.parts event.client) false
 
-module _ {K V R : Type 0} (same : K → K → Bool) (name_of : K → List ℕ) (fits : K → V → Type 0) (weighs : V → ℕ) (tasks : Tasks K V R) where
+module _ {K V R : Type 0} (same : K → K → Bool) (name_of : K → List ℕ) (fits : K → V → Type 0) (weighs : V → ℕ)
+    (tasks : Tasks K V R) where
   -- one machine is the other after this event: the memo and the client's own part change as its act says,
   -- and nothing else
   abbrev pub Steps : Machine K V R → Event → Machine K V R → Type 0
@@ -124,4 +131,7 @@ module _ {K V R : Type 0} where
   -- the first machine: no entries and an empty journal, and every client is between commands, with no
   -- replies
   abbrev pub first_machine : ℕ → ℕ → ℕ → Machine K V R
-  first_machine clients budget share = record { memo = record { entries = []; dropped = []; budget = budget; share = share; journal = []; spare = 0 }; parts = replicate clients nobody }
+  first_machine clients budget share = record {
+    memo = record { entries = []; dropped = []; budget = budget; share = share; journal = []; spare = 0 };
+    parts = replicate clients nobody;
+  }

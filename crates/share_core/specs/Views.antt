@@ -32,8 +32,15 @@ pub record Machine (K V R : Type 0) : Type 0 where
 module _ {K V : Type 0} where
   -- A memo without the room of its journal and without what it has dropped, which are no part of the
   -- state.
-  abbrev pub settled : Core K V → Core K V
-  settled core = record { entries = core.entries; dropped = []; budget = core.budget; share = core.share; journal = core.journal; spare = 0 }
+  abbrev pub settled_memo : Core K V → Core K V
+  settled_memo core = record {
+    entries = core.entries;
+    dropped = [];
+    budget = core.budget;
+    share = core.share;
+    journal = core.journal;
+    spare = 0;
+  }
 
 module _ {K V : Type 0} where
   -- each value that is there fits its node's key

@@ -3,10 +3,10 @@ ghost use Rattle.std.specs.Prelude.{IfOk, OnOk, OnErr, IfNone, IfSome, MatchOpti
 ghost use Rattle.std.specs.Arc.{arc_value};
 ghost use Rattle.memo_core.specs.Fields.{value_in};
 ghost use Rattle.memo_core.specs.Views.{after_probe, after_fill};
-ghost use Rattle.share_core.specs.Views.{Built, There, settled};
+ghost use Rattle.share_core.specs.Views.{Built, There, settled_memo};
 ghost use Rattle.share_core.specs.Fields.{part_of, IsSoundPart};
 ghost use Rattle.share_core.specs.Steps.{Answers, Changes, can_do, is_at, is_built, node_at, key_at};
-ghost use Rattle.share_core.specs.Steps.{begun, replied, with_node, probed};
+ghost use Rattle.share_core.specs.Steps.{part_at_command, part_after_reply, with_node, node_after_probe};
 ghost use Rattle.std.specs.Option.{option_map_or};
 
 use crate::event::{Act, Stepped};
@@ -41,7 +41,7 @@ pub fn command<F: Fit, W: Work<F>>(
     requires { IsSoundPart F.fits F.weighs (W.tasks work.now) client (part_of part.old) }
     ensures acts { IfOk result (Answers
         (can_do (W.tasks work.now) client Act.Command (part_of part.old))
-        (part_of part.new ≡ begun (W.tasks work.now) client (part_of part.old))
+        (part_of part.new ≡ part_at_command (W.tasks work.now) client (part_of part.old))
         (part_of part.new ≡ part_of part.old)) }
     ensures sound { IsSoundPart F.fits F.weighs (W.tasks work.now) client (part_of part.new) }
     ensures err { OnErr result (part_of part.new ≡ part_of part.old) }
@@ -50,7 +50,7 @@ pub fn command<F: Fit, W: Work<F>>(
     if part.nodes.is_some() || command >= work.commands(client) {
         return Ok(Stepped::NotReady);
     }
-    let nodes = Nodes::unasked(alloc, work.nodes(client, command))?;
+    let nodes = Nodes::new(alloc, work.nodes(client, command))?;
     part.nodes = Some(nodes);
     Ok(Stepped::Taken)
 }
@@ -97,15 +97,15 @@ pub fn probe<F: Fit, N: Namer<F::Key>, W: Work<F>>(
     requires { IsSoundPart F.fits F.weighs (W.tasks work.now) client (part_of part.old) }
     ensures acts { IfOk result (Answers
         (can_do (W.tasks work.now) client (Act.Probe node) (part_of part.old))
-        ((settled memo.new ≡ after_probe F.same_key client
-        (key_at (W.tasks work.now) client node (part_of part.old)) (settled memo.old))
+        ((settled_memo memo.new ≡ after_probe F.same_key client
+        (key_at (W.tasks work.now) client node (part_of part.old)) (settled_memo memo.old))
         × (part_of part.new ≡ with_node node
-        (probed F.same_key (key_at (W.tasks work.now) client node (part_of part.old))
-        (settled memo.old)) (part_of part.old)))
-        ((settled memo.new ≡ settled memo.old) × (part_of part.new ≡ part_of part.old))) }
+        (node_after_probe F.same_key (key_at (W.tasks work.now) client node (part_of part.old))
+        (settled_memo memo.old)) (part_of part.old)))
+        ((settled_memo memo.new ≡ settled_memo memo.old) × (part_of part.new ≡ part_of part.old))) }
     ensures sound { IsSoundPart F.fits F.weighs (W.tasks work.now) client (part_of part.new) }
     ensures err { OnErr result
-        ((settled memo.new ≡ settled memo.old) × (part_of part.new ≡ part_of part.old)) }
+        ((settled_memo memo.new ≡ settled_memo memo.old) × (part_of part.new ≡ part_of part.old)) }
 {
     if !can_probe(work, part, client, node) {
         return Ok(Stepped::NotReady);
@@ -200,10 +200,10 @@ fn offer<F: Fit, N: Namer<F::Key>>(
 ) -> Result<(), NoMemory>
     requires fits { F.fits (arc_value key.now) (arc_value value) }
     requires weight { weight ≡ F.weighs (arc_value value) }
-    ensures ok { OnOk result (settled memo.new ≡
+    ensures ok { OnOk result (settled_memo memo.new ≡
         after_fill F.same_key N.name_of client (arc_value key.now) (arc_value value) weight
-        (settled memo.old)) }
-    ensures err { OnErr result (settled memo.new ≡ settled memo.old) }
+        (settled_memo memo.old)) }
+    ensures err { OnErr result (settled_memo memo.new ≡ settled_memo memo.old) }
 {
     memo.room(alloc)?;
     match memo.fill(alloc, client, key, value, weight) {
@@ -228,13 +228,13 @@ pub fn fill<F: Fit, N: Namer<F::Key>, W: Work<F>>(
     ensures acts { IfOk result (Answers
         (can_do (W.tasks work.now) client (Act.Fill node) (part_of part.old))
         ((v : F.Value) × (w : ℕ) × (node_at node (part_of part.old) ≡ Some (Some (Built v w)))
-        × (settled memo.new ≡ after_fill F.same_key N.name_of client
-        (key_at (W.tasks work.now) client node (part_of part.old)) v w (settled memo.old))
+        × (settled_memo memo.new ≡ after_fill F.same_key N.name_of client
+        (key_at (W.tasks work.now) client node (part_of part.old)) v w (settled_memo memo.old))
         × (part_of part.new ≡ with_node node (There v) (part_of part.old)))
-        ((settled memo.new ≡ settled memo.old) × (part_of part.new ≡ part_of part.old))) }
+        ((settled_memo memo.new ≡ settled_memo memo.old) × (part_of part.new ≡ part_of part.old))) }
     ensures sound { IsSoundPart F.fits F.weighs (W.tasks work.now) client (part_of part.new) }
     ensures err { OnErr result
-        ((settled memo.new ≡ settled memo.old) × (part_of part.new ≡ part_of part.old)) }
+        ((settled_memo memo.new ≡ settled_memo memo.old) × (part_of part.new ≡ part_of part.old)) }
 {
     let Some((given, kept, weight)) = offered(part, node)? else {
         return Ok(Stepped::NotReady);
@@ -286,7 +286,7 @@ pub fn reply<F: Fit, W: Work<F>>(
     requires { IsSoundPart F.fits F.weighs (W.tasks work.now) client (part_of part.old) }
     ensures acts { IfOk result (Answers
         (can_do (W.tasks work.now) client Act.Reply (part_of part.old))
-        (part_of part.new ≡ replied (W.tasks work.now) client (part_of part.old))
+        (part_of part.new ≡ part_after_reply (W.tasks work.now) client (part_of part.old))
         (part_of part.new ≡ part_of part.old)) }
     ensures sound { IsSoundPart F.fits F.weighs (W.tasks work.now) client (part_of part.new) }
     ensures err { OnErr result (part_of part.new ≡ part_of part.old) }
@@ -311,11 +311,11 @@ pub fn act<F: Fit, N: Namer<F::Key>, W: Work<F>>(
     requires { IsSoundPart F.fits F.weighs (W.tasks work.now) client (part_of part.old) }
     ensures acts { IfOk result (Answers (can_do (W.tasks work.now) client act (part_of part.old))
         (Changes F.same_key N.name_of F.fits F.weighs (W.tasks work.now) client act
-        (settled memo.old) (part_of part.old) (settled memo.new) (part_of part.new))
-        ((settled memo.new ≡ settled memo.old) × (part_of part.new ≡ part_of part.old))) }
+        (settled_memo memo.old) (part_of part.old) (settled_memo memo.new) (part_of part.new))
+        ((settled_memo memo.new ≡ settled_memo memo.old) × (part_of part.new ≡ part_of part.old))) }
     ensures sound { IsSoundPart F.fits F.weighs (W.tasks work.now) client (part_of part.new) }
     ensures err { OnErr result
-        ((settled memo.new ≡ settled memo.old) × (part_of part.new ≡ part_of part.old)) }
+        ((settled_memo memo.new ≡ settled_memo memo.old) × (part_of part.new ≡ part_of part.old)) }
 {
     match act {
         Act::Command => command(alloc, work, part, client),

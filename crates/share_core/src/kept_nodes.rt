@@ -49,7 +49,7 @@ impl<V: Drop> Nodes<V> {
     ghost use Rattle.share_core.specs.Steps.{all_there, is_at, is_unasked, is_missed, is_built};
 
     /// So many nodes that are not yet probed.
-    pub fn unasked(alloc: Global, count: u32) -> Result<Self, NoMemory>
+    pub fn new(alloc: Global, count: u32) -> Result<Self, NoMemory>
         ensures { IfOk result (λ n. n ≡ replicate count Unasked) }
     {
         let mut states = Vec::new(alloc);

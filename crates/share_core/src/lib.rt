@@ -12,4 +12,4 @@ mod world;
 
 pub use event::{Act, Event, Stepped};
 pub use work::Work;
-pub use world::{World, isolated, run};
+pub use world::{World, clients_are_isolated, run};

@@ -175,7 +175,7 @@ pub fn run<F: Fit, N: Namer<F::Key>, W: Work<F>>(
 /// Isolation: two works that agree on a client's commands give that client equal replies, for as
 /// many commands as both answered, whatever the other clients, the names, the budgets, the
 /// shares and the events are.
-pub fn isolated<
+pub fn clients_are_isolated<
     F: Fit,
     N: Namer<F::Key>,
     M: Namer<F::Key>,

@@ -1,4 +1,3 @@
 -- The memo behind a lock.
-pub mod Journals
 pub mod Shares
 pub mod Tallies

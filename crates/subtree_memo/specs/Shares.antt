@@ -40,12 +40,12 @@ fill_booked TooHeavy v = record v { heavy = v.heavy + 1 }
 fill_booked NoMemory v = record v { dropped = min (v.dropped + 1) dropped_max }
 
 -- a share with nothing booked
-abbrev pub fresh : ℕ → ℕ → View
-fresh caller parts = record { caller = caller; parts = parts; hits = 0; misses = 0; kept = 0; heavy = 0; dropped = 0 }
+abbrev pub fresh_share : ℕ → ℕ → View
+fresh_share caller parts = record { caller = caller; parts = parts; hits = 0; misses = 0; kept = 0; heavy = 0; dropped = 0 }
 
 -- two shares of one caller put together
-abbrev pub joined : View → View → View
-joined a b = record {
+abbrev pub joined_share : View → View → View
+joined_share a b = record {
   caller = a.caller;
   parts = a.parts + b.parts;
   hits = a.hits + b.hits;
@@ -56,9 +56,9 @@ joined a b = record {
 }
 
 -- the shares of so many callers, by their numbers
-abbrev pub opened : ℕ → List View
-opened zero = []
-opened (suc n) = opened n ++ fresh n parts_each ∷ []
+abbrev pub opened_shares : ℕ → List View
+opened_shares zero = []
+opened_shares (suc n) = opened_shares n ++ fresh_share n parts_each ∷ []
 
 -- the probes of a share
 abbrev pub probes_of : View → ℕ

@@ -1,13 +1,15 @@
-ghost use Rattle.std.specs.Prelude.{◌≡◌, ◌<◌, [], ◌∷◌, ◌++◌, All, IfOk, OnErr, IfSome};
+ghost use Rattle.std.specs.Prelude.{◌≡◌, ◌<◌, [], ◌∷◌, ◌++◌, All, IfOk, OnErr, IfSome, IfNone};
+ghost use Rattle.std.specs.Prelude.{true};
 ghost use Rattle.std.specs.Arc.{arc_value};
 ghost use Rattle.memo_core.specs.Fields.{value_in, is_hit};
-ghost use Rattle.memo_core.specs.Memo.{item, Probe_said, count_in, hit_by, missed_by, kept_by, heavy_by};
+ghost use Rattle.memo_core.specs.Memo.{item, Probe_answer, count_in};
+ghost use Rattle.memo_core.specs.Memo.{hit_by, missed_by, kept_by, heavy_by};
+ghost use Rattle.memo_core.specs.Fills.{IsFilled};
 ghost use Rattle.subtree_memo.specs.Shares.{probe_booked, fill_booked};
-ghost use Rattle.subtree_memo.specs.Journals.{IsFilled};
 
 use crate::ledgers::Books;
 use crate::share::{Share, dropped_sum};
-use memo_core::{Dropped, Fill, Fit, MemoCore, Namer, Probe};
+use memo_core::{DroppedEntries, Fill, Fit, MemoCore, Namer, Probe};
 use std::alloc::Global;
 use std::sync::Arc;
 use std::sync::ledger::{Book, Ledger};
@@ -15,7 +17,7 @@ use text_place::NoMemory;
 
 /// A memo, and beside it the books of its journal's counts.
 #[derive(Drop)]
-pub struct Booked<F: Fit, N: Namer<F::Key>, B: Books> {
+pub struct BookedMemo<F: Fit, N: Namer<F::Key>, B: Books> {
     pub core: MemoCore<F, N>,
     pub hits: Book<B::Hits>,
     pub misses: Book<B::Misses>,
@@ -44,10 +46,10 @@ pub struct EmptyBooks<B: Books> {
 }
 
 /// A memo whose journal is empty, with its books.
-pub fn first_booked<F: Fit, N: Namer<F::Key>, B: Books>(
+pub fn first_booked_memo<F: Fit, N: Namer<F::Key>, B: Books>(
     core: MemoCore<F, N>,
     books: EmptyBooks<B>,
-) -> Booked<F, N, B>
+) -> BookedMemo<F, N, B>
     requires empty { core.journal ≡ [] }
     requires limits { (core.budget ≡ B.Hits.budget) × (core.share ≡ B.Hits.share) }
 {
@@ -57,7 +59,7 @@ pub fn first_booked<F: Fit, N: Namer<F::Key>, B: Books>(
         kept,
         heavy,
     } = books;
-    Booked {
+    BookedMemo {
         core,
         hits,
         misses,
@@ -66,7 +68,7 @@ pub fn first_booked<F: Fit, N: Namer<F::Key>, B: Books>(
     }
 }
 
-impl<F: Fit, N: Namer<F::Key>, B: Books> Booked<F, N, B> {
+impl<F: Fit, N: Namer<F::Key>, B: Books> BookedMemo<F, N, B> {
     /// A probe that is booked, and stands in the journal as the caller's of the share. NoMemory books
     /// nothing.
     #[tactic(auto, using(crate::proofs::Counts::hits_more, crate::proofs::Counts::misses_more, crate::proofs::Counts::kept_more, crate::proofs::Counts::heavy_more, crate::proofs::Counts::callers_more))]
@@ -80,11 +82,11 @@ impl<F: Fit, N: Namer<F::Key>, B: Books> Booked<F, N, B> {
         ensures fits { IfOk result (λ p. IfSome (value_in p) (F.fits (arc_value key.now))) }
         ensures booked { IfOk result (λ p. share.new ≡ probe_booked (is_hit p) share.old) }
         ensures journal { IfOk result (λ p. self.new.core.journal ≡ self.old.core.journal
-            ++ item share.old.caller (arc_value key.now) (Probe_said (is_hit p)) ∷ []) }
+            ++ item share.old.caller (arc_value key.now) (Probe_answer (is_hit p)) ∷ []) }
         ensures err { OnErr result ((share.new ≡ share.old)
             × (self.new.core.journal ≡ self.old.core.journal)) }
     {
-        let Booked {
+        let BookedMemo {
             core,
             hits,
             misses,
@@ -98,6 +100,45 @@ impl<F: Fit, N: Namer<F::Key>, B: Books> Booked<F, N, B> {
             Probe::Miss => misses.add(&mut share.misses, 1),
         }
         Ok(found)
+    }
+
+    /// A hit that is booked, where the memo holds the key, and stands in the journal as the caller's of the share. Where
+    /// it does not, nothing is asked and nothing is booked. NoMemory books nothing.
+    #[tactic(auto, using(crate::proofs::Counts::hits_more, crate::proofs::Counts::misses_more, crate::proofs::Counts::kept_more, crate::proofs::Counts::heavy_more, crate::proofs::Counts::callers_more))]
+    pub fn hit(
+        &mut self,
+        alloc: Global,
+        share: &mut Share<B>,
+        key: &Arc<F::Key>,
+    ) -> Result<Option<Arc<F::Value>>, NoMemory>
+        requires { 0 < share.old.parts }
+        ensures fits { IfOk result (λ r. IfSome r (λ value.
+            F.fits (arc_value key.now) (arc_value value))) }
+        ensures booked { IfOk result (λ r. IfSome r (λ value.
+            share.new ≡ probe_booked true share.old)) }
+        ensures journal { IfOk result (λ r. IfSome r (λ value. self.new.core.journal ≡
+            self.old.core.journal
+            ++ item share.old.caller (arc_value key.now) (Probe_answer true) ∷ [])) }
+        ensures none { IfOk result (λ r. IfNone r ((share.new ≡ share.old)
+            × (self.new.core.journal ≡ self.old.core.journal))) }
+        ensures err { OnErr result ((share.new ≡ share.old)
+            × (self.new.core.journal ≡ self.old.core.journal)) }
+    {
+        let BookedMemo {
+            core,
+            hits,
+            misses: _,
+            kept: _,
+            heavy: _,
+        } = self;
+        core.room(alloc)?;
+        match core.hit(share.caller, key)? {
+            Some(value) => {
+                hits.add(&mut share.hits, 1);
+                Ok(Some(value))
+            }
+            None => Ok(None),
+        }
     }
 
     /// A fill that is booked, also where memory runs out. Where it does not, the fill stands in the journal
@@ -118,7 +159,7 @@ impl<F: Fit, N: Namer<F::Key>, B: Books> Booked<F, N, B> {
         ensures journal { IsFilled share.old.caller (arc_value key.now) weight result
             self.old.core.journal self.new.core.journal }
     {
-        let Booked {
+        let BookedMemo {
             core,
             hits: _,
             misses: _,
@@ -138,7 +179,7 @@ impl<F: Fit, N: Namer<F::Key>, B: Books> Booked<F, N, B> {
     }
 
     /// What fills dropped, to be freed where the lock is not held.
-    pub fn take_dropped(&mut self, alloc: Global) -> Dropped<F::Key, F::Value> {
+    pub fn take_dropped(&mut self, alloc: Global) -> DroppedEntries<F::Key, F::Value> {
         self.core.take_dropped(alloc)
     }
 }

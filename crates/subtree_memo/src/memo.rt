@@ -1,11 +1,12 @@
-ghost use Rattle.std.specs.Prelude.{◌≡◌, ◌<◌, All, sum_by, [], ◌∷◌, IfOk, OnErr, IfSome};
+ghost use Rattle.std.specs.Prelude.{◌≡◌, ◌<◌, All, sum_by, [], ◌∷◌, IfOk, OnErr, IfSome, IfNone};
+ghost use Rattle.std.specs.Prelude.{true};
 ghost use Rattle.std.specs.Arc.{arc_value};
 ghost use Rattle.memo_core.specs.Views.{IsSound};
 ghost use Rattle.memo_core.specs.Fields.{value_in, is_hit};
-ghost use Rattle.subtree_memo.specs.Shares.{probe_booked, fill_booked, opened, IsOf};
+ghost use Rattle.subtree_memo.specs.Shares.{probe_booked, fill_booked, opened_shares, IsOf};
 ghost use Rattle.subtree_memo.specs.Tallies.{tally_of, AreSums};
 
-use crate::booked::{Booked, EmptyBooks, first_booked};
+use crate::booked::{BookedMemo, EmptyBooks, first_booked_memo};
 use crate::ledgers::{Blanks, Books};
 use crate::share::{Parts, Share, all_of, shares_of};
 use crate::tally::{Tally, counts_of};
@@ -19,7 +20,7 @@ use text_place::NoMemory;
 /// memo, and the books are the journal's counts.
 #[derive(Drop)]
 pub struct Memo<F: Fit, N: Namer<F::Key>, B: Books> {
-    lock: Mutex<Booked<F, N, B>>,
+    lock: Mutex<BookedMemo<F, N, B>>,
 }
 
 impl<F: Fit, N: Namer<F::Key>, B: Books> Memo<F, N, B> {
@@ -37,7 +38,7 @@ impl<F: Fit, N: Namer<F::Key>, B: Books> Memo<F, N, B> {
             × IsOf B.Misses.name B.Misses.parts blanks.misses
             × IsOf B.Kept.name B.Kept.parts blanks.kept
             × IsOf B.Heavy.name B.Heavy.parts blanks.heavy }
-        ensures { IfOk result (λ r. r.1.items ≡ opened blanks.callers) }
+        ensures { IfOk result (λ r. r.1.items ≡ opened_shares blanks.callers) }
     {
         let callers = blanks.callers;
         let (hits, hit_parts) = blanks.hits.open::<B::Hits>();
@@ -57,7 +58,7 @@ impl<F: Fit, N: Namer<F::Key>, B: Books> Memo<F, N, B> {
             kept,
             heavy,
         };
-        let lock = Mutex::new(first_booked(core, books));
+        let lock = Mutex::new(first_booked_memo(core, books));
         Ok((Memo { lock }, shares))
     }
 
@@ -76,6 +77,26 @@ impl<F: Fit, N: Namer<F::Key>, B: Books> Memo<F, N, B> {
         ensures err { OnErr result (share.new ≡ share.old) }
     {
         self.lock.lock(rt).probe(alloc, share, key)
+    }
+
+    /// The value that the memo holds for this very key, which is booked as a probe that is a hit. Where it holds
+    /// none, nothing is booked: who asks for a claim then probes. NoMemory books nothing.
+    pub fn hit<R: Wait>(
+        &self,
+        rt: &R,
+        alloc: Global,
+        share: &mut Share<B>,
+        key: &Arc<F::Key>,
+    ) -> Result<Option<Arc<F::Value>>, NoMemory>
+        requires { 0 < share.old.parts }
+        ensures fits { IfOk result (λ r. IfSome r (λ value.
+            F.fits (arc_value key.now) (arc_value value))) }
+        ensures booked { IfOk result (λ r. IfSome r (λ value.
+            share.new ≡ probe_booked true share.old)) }
+        ensures none { IfOk result (λ r. IfNone r (share.new ≡ share.old)) }
+        ensures err { OnErr result (share.new ≡ share.old) }
+    {
+        self.lock.lock(rt).hit(alloc, share, key)
     }
 
     /// Offers a value for a key. Each answer is booked as what it is, one for want of memory as dropped,
@@ -106,7 +127,8 @@ impl<F: Fit, N: Namer<F::Key>, B: Books> Memo<F, N, B> {
     /// its journal has no other callers than those.
     pub fn close(self, shares: Vec<Share<B>>) -> (Tally, MemoCore<F, N>)
         requires whole { (0 < B.Hits.parts) × (sum_by (λ s. s.parts) shares.items ≡ B.Hits.parts) }
-        requires ledgers { (B.Misses.parts ≡ B.Hits.parts) × (B.Kept.parts ≡ B.Hits.parts) × (B.Heavy.parts ≡ B.Hits.parts) }
+        requires ledgers { (B.Misses.parts ≡ B.Hits.parts) × (B.Kept.parts ≡ B.Hits.parts)
+            × (B.Heavy.parts ≡ B.Hits.parts) }
         ensures tally { result.0 ≡ tally_of result.1.journal result.0.dropped }
         ensures booked { AreSums shares.items result.0 }
         ensures sound { IsSound F.same_key N.name_of F.fits F.weighs result.1 }
@@ -122,7 +144,8 @@ impl<F: Fit, N: Namer<F::Key>, B: Books> Memo<F, N, B> {
     /// As `close`, for all shares put together.
     pub fn close_whole(self, all: Share<B>) -> (Tally, MemoCore<F, N>)
         requires whole { all.parts ≡ B.Hits.parts }
-        requires ledgers { (B.Misses.parts ≡ B.Hits.parts) × (B.Kept.parts ≡ B.Hits.parts) × (B.Heavy.parts ≡ B.Hits.parts) }
+        requires ledgers { (B.Misses.parts ≡ B.Hits.parts) × (B.Kept.parts ≡ B.Hits.parts)
+            × (B.Heavy.parts ≡ B.Hits.parts) }
         ensures tally { result.0 ≡ tally_of result.1.journal result.0.dropped }
         ensures booked { AreSums (all ∷ []) result.0 }
         ensures sound { IsSound F.same_key N.name_of F.fits F.weighs result.1 }
@@ -130,7 +153,7 @@ impl<F: Fit, N: Namer<F::Key>, B: Books> Memo<F, N, B> {
         ensures callers { All (λ i. i.caller < B.Hits.callers) result.1.journal }
     {
         let Memo { lock } = self;
-        let Booked {
+        let BookedMemo {
             core,
             mut hits,
             mut misses,

@@ -1,5 +1,5 @@
 ghost use Rattle.std.specs.Prelude.{◌≡◌, ◌+◌, ◌-◌, ◌*◌, ◌≤◌, ◌<◌, min, sum_by, [], IfOk, IfSome, IfNone};
-ghost use Rattle.subtree_memo.specs.Shares.{fresh, joined, opened, parts_each, dropped_max};
+ghost use Rattle.subtree_memo.specs.Shares.{fresh_share, joined_share, opened_shares, parts_each, dropped_max};
 
 use crate::ledgers::{Books, PARTS_EACH};
 use std::alloc::Global;
@@ -37,8 +37,9 @@ impl<B: Books> Model for Share<B> {
       dropped = s.dropped;
     } };
 
-    ghost invariant = { λ s. (s.caller < B.Hits.callers) × (s.misses.parts ≡ s.hits.parts) × (s.kept.parts ≡ s.hits.parts)
-        × (s.heavy.parts ≡ s.hits.parts) × (s.dropped ≤ dropped_max) };
+    ghost invariant = { λ s. (s.caller < B.Hits.callers) × (s.misses.parts ≡ s.hits.parts)
+        × (s.kept.parts ≡ s.hits.parts) × (s.heavy.parts ≡ s.hits.parts)
+        × (s.dropped ≤ dropped_max) };
 }
 
 // Where the number of dropped fills stops.
@@ -63,7 +64,7 @@ impl<B: Books> Share<B> {
     /// A share of the same caller with one of the parts, and nothing booked.
     pub fn split(&mut self) -> Share<B>
         requires { 2 ≤ self.old.parts }
-        ensures new { result ≡ fresh self.old.caller 1 }
+        ensures new { result ≡ fresh_share self.old.caller 1 }
         ensures rest { self.new ≡ record self.old { parts = self.old.parts - 1 } }
     {
         Share {
@@ -79,7 +80,7 @@ impl<B: Books> Share<B> {
     /// The whole of the share. What is left is the same caller's without a part, and nothing is booked on it.
     pub fn take(&mut self) -> Share<B>
         ensures whole { result ≡ self.old }
-        ensures rest { self.new ≡ fresh self.old.caller 0 }
+        ensures rest { self.new ≡ fresh_share self.old.caller 0 }
     {
         let rest = Share {
             caller: self.caller,
@@ -95,14 +96,14 @@ impl<B: Books> Share<B> {
     /// Adds the parts and numbers of a share of the same caller.
     pub fn absorb(&mut self, other: Share<B>)
         requires { other.caller ≡ self.old.caller }
-        ensures { self.new ≡ joined self.old other }
+        ensures { self.new ≡ joined_share self.old other }
     {
         self.put_together(other)
     }
 
     /// Adds the parts and numbers of a share, also of another caller, to be closed with. The caller's number stays.
     pub fn put_together(&mut self, other: Share<B>)
-        ensures { self.new ≡ joined self.old other }
+        ensures { self.new ≡ joined_share self.old other }
     {
         let Share {
             caller: _,
@@ -156,7 +157,7 @@ fn share_of<B: Books>(caller: u32, parts: Parts<B>) -> Share<B>
     requires misses { (parts.misses.parts ≡ parts_each) × (parts.misses.amount ≡ 0) }
     requires kept { (parts.kept.parts ≡ parts_each) × (parts.kept.amount ≡ 0) }
     requires heavy { (parts.heavy.parts ≡ parts_each) × (parts.heavy.amount ≡ 0) }
-    ensures { result ≡ fresh caller parts_each }
+    ensures { result ≡ fresh_share caller parts_each }
 {
     let Parts {
         hits,
@@ -186,7 +187,7 @@ pub fn shares_of<B: Books>(
     requires misses { (all.misses.parts ≡ parts_each * callers) × (all.misses.amount ≡ 0) }
     requires kept { (all.kept.parts ≡ parts_each * callers) × (all.kept.amount ≡ 0) }
     requires heavy { (all.heavy.parts ≡ parts_each * callers) × (all.heavy.amount ≡ 0) }
-    ensures { IfOk result (λ v. v.items ≡ opened callers) }
+    ensures { IfOk result (λ v. v.items ≡ opened_shares callers) }
 {
     let mut shares = Vec::new(alloc);
     for caller in 0..callers {

@@ -11,7 +11,7 @@ use reply_text::Complex;
 use std::alloc::Global;
 use std::sync::Arc;
 use std::thread::Threads;
-use tree_export::{Exported, export_tree};
+use tree_export::{TreeExport, export_tree};
 
 #[derive(Clone, Copy)]
 pub enum TreeAsking {
@@ -161,8 +161,8 @@ fn put_export<R: Threads + Sync>(
     most: usize,
 ) -> Result<(), CaseStop> {
     match export_tree(rt, alloc, workers, tree.tree(), unit)? {
-        Exported::Text(text) => put_stroked(out, text.items(), most)?,
-        Exported::Complex(passed) => put_complex(alloc, out, passed)?,
+        TreeExport::Text(text) => put_stroked(out, text.items(), most)?,
+        TreeExport::Complex(passed) => put_complex(alloc, out, passed)?,
     }
     Ok(())
 }

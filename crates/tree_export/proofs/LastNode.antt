@@ -7,7 +7,7 @@ use Rattle.std.proofs.lemmas.Bool.Decides.{eqb_tells}
 use Rattle.std.proofs.lemmas.List.Elements.{filter-append}
 use Rattle.csg_tree.specs.Formulas.{Formula, nothing, leaf, joined}
 use Rattle.csg_tree.specs.ProperTrees.{IsSomething}
-use Rattle.csg_tree.specs.Numberings.{height, occurrences, by_height, is_same_tree, distinct, nodes_of, tree_numbered}
+use Rattle.csg_tree.specs.Numberings.{height, occurrences, by_height, is_same_tree, distinct_trees, nodes_of, tree_numbered}
 use Rattle.csg_tree.proofs.Sameness.{tree_true}
 use Rattle.csg_tree.proofs.Distinct.{distinct_push}
 
@@ -81,20 +81,20 @@ among_lower t (suc n) ts low =
     among_append t (by_height n ts) (filter (has_height n) ts) (among_lower t n ts (omega (arith, low))) (among_level t n ts (omega (arith, low)))
 
 -- so it is the last one
-nodes_end : (f : Formula) → IsSomething f → nodes_of f ≡ distinct (by_height (height f) (occurrences f)) ++ f ∷ []
+nodes_end : (f : Formula) → IsSomething f → nodes_of f ≡ distinct_trees (by_height (height f) (occurrences f)) ++ f ∷ []
 nodes_end f some =
     let front = by_height (height f) (occurrences f) in
-    ap (λ (xs : List Formula). distinct (front ++ xs)) (highest f some)
+    ap (λ (xs : List Formula). distinct_trees (front ++ xs)) (highest f some)
     ∙ distinct_push front f
-    ∙ ap (λ (b : Bool). cond b (distinct front) (distinct front ++ f ∷ [])) (among_lower f (height f) (occurrences f) (omega arith))
+    ∙ ap (λ (b : Bool). cond b (distinct_trees front) (distinct_trees front ++ f ∷ [])) (among_lower f (height f) (occurrences f) (omega arith))
 
 pub some_node : (f : Formula) → IsSomething f → 0 < length (nodes_of f)
 some_node f some =
-    omega (arith, ap length (nodes_end f some), length-append (distinct (by_height (height f) (occurrences f))) (f ∷ []))
+    omega (arith, ap length (nodes_end f some), length-append (distinct_trees (by_height (height f) (occurrences f))) (f ∷ []))
 
 pub last_node : (f : Formula) → IsSomething f → tree_numbered (nodes_of f) (length (nodes_of f)) ≡ f
 last_node f some =
-    let front = distinct (by_height (height f) (occurrences f)) in
+    let front = distinct_trees (by_height (height f) (occurrences f)) in
     let place : length (nodes_of f) - 1 ≡ length front =
     omega (arith, ap length (nodes_end f some), length-append front (f ∷ [])) in
     ap₂ (λ (xs : List Formula) (k : ℕ). get_or xs k nothing) (nodes_end f some) place

@@ -11,8 +11,8 @@ use Rattle.facet_cut.specs.Facets.{facets_of}
 use Rattle.off_text.specs.Bounding.{IsBoundary}
 use Rattle.off_text.specs.Texts.{corner_count, most_corners, most_vertices, text_of, vertices_of, AreCornersOf, HasVertices, IsTextOf}
 use Rattle.reply_text.specs.declared.reply.Complex.TheVariants as limit
-use Rattle.tree_export.specs.declared.export.Exported.{Exported}
-use Rattle.tree_export.specs.declared.export.Exported.TheVariants as exported
+use Rattle.tree_export.specs.declared.export.TreeExport.{TreeExport}
+use Rattle.tree_export.specs.declared.export.TreeExport.TheVariants as exported
 use Rattle.tree_export.specs.Exports.{most_facets, IsWritten, IsCut, IsExported, Bounds}
 use Rattle.tree_export.proofs.FirstPassed.{IsSettled}
 
@@ -22,8 +22,8 @@ module _ (unit : LengthUnit) (tree : Formula) (faces : List (List Coordinates)) 
   facets = facets_of (solid_of tree)
 
   -- something that the export may be, of which a text is the boundary
-  abbrev Some : (Exported → Type 0) → Type 0
-  Some P = (out : Exported) × P out × Bounds unit tree out
+  abbrev Some : (TreeExport → Type 0) → Type 0
+  Some P = (out : TreeExport) × P out × Bounds unit tree out
 
   counted : (P : ℕ → Type 0) → P (length (vertices_of faces)) → HasVertices unit P facets
   counted P count = record { faces = faces; corners = corners; count = count }

@@ -19,8 +19,8 @@ use Rattle.off_text.specs.Texts.{corner_count, most_corners, most_vertices, HasV
 use Rattle.off_text.specs.Bounding.{IsBoundary}
 use Rattle.reply_text.specs.declared.reply.Complex.{Complex}
 use Rattle.reply_text.specs.declared.reply.Complex.TheVariants as limit
-use Rattle.tree_export.specs.declared.export.Exported.{Exported}
-use Rattle.tree_export.specs.declared.export.Exported.TheVariants as exported
+use Rattle.tree_export.specs.declared.export.TreeExport.{TreeExport}
+use Rattle.tree_export.specs.declared.export.TreeExport.TheVariants as exported
 
 -- the most facets of an export
 abbrev pub most_facets : ℕ
@@ -42,7 +42,7 @@ IsMade tree made =
     × IfErr made (IsTreeStop (nodes_of tree))
 
 -- more than 200,000 corners, or more than 60,000 vertices, or the text
-abbrev pub IsWritten : LengthUnit → List Outline → Exported → Type 0
+abbrev pub IsWritten : LengthUnit → List Outline → TreeExport → Type 0
 IsWritten unit facets out =
     ((most_corners < corner_count facets) × (out ≡ exported.Complex limit.Corners))
     ⊎ ((corner_count facets ≤ most_corners) ×
@@ -50,14 +50,14 @@ IsWritten unit facets out =
     ⊎ (HasVertices unit (λ n. n ≤ most_vertices) facets × ((bytes : List ℕ) × IsTextOf unit facets bytes × (out ≡ exported.Text bytes)))))
 
 -- more than 20,000 facets, or what they give
-abbrev pub IsCut : LengthUnit → List Outline → Exported → Type 0
+abbrev pub IsCut : LengthUnit → List Outline → TreeExport → Type 0
 IsCut unit facets out =
     ((most_facets < length facets) × (out ≡ exported.Complex limit.Facets))
     ⊎ ((length facets ≤ most_facets) × IsWritten unit facets out)
 
 -- what the export of a tree gives: the first limit of size that its distinct subtrees pass in order of number, or else what
 -- the facets of its solid give
-abbrev pub IsExported : LengthUnit → Formula → Exported → Type 0
+abbrev pub IsExported : LengthUnit → Formula → TreeExport → Type 0
 IsExported unit tree out =
     ((passed : Complex) × IsFirstPassed (nodes_of tree) passed × (out ≡ exported.Complex passed))
     ⊎ (AreWithin (nodes_of tree) × IsCut unit (facets_of (solid_of tree)) out)
@@ -70,11 +70,11 @@ pub record PassesNoLimit (unit : LengthUnit) (tree : Formula) : Type 0 where
   pub vertices : HasVertices unit (λ n. n ≤ most_vertices) (facets_of (solid_of tree))
 
 -- the export is a text
-abbrev pub IsText : Exported → Type 0
+abbrev pub IsText : TreeExport → Type 0
 IsText out = (bytes : List ℕ) × (out ≡ exported.Text bytes)
 
 -- a text is the boundary of the tree
-abbrev pub Bounds : LengthUnit → Formula → Exported → Type 0
+abbrev pub Bounds : LengthUnit → Formula → TreeExport → Type 0
 Bounds unit f (exported.Text bytes) = IsBoundary unit bytes f
 Bounds unit f (exported.Complex passed) = Unit {0}
 

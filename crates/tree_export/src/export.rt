@@ -13,7 +13,7 @@ ghost use Rattle.bsp_boolean.specs.TreeSolids.{AreWithin, IsTreeStop};
 ghost use Rattle.facet_cut.specs.Facets.{facets_of};
 ghost use Rattle.reply_text.specs.declared.reply.Complex.{Complex as Limit};
 ghost use Rattle.reply_text.specs.Sums.{IsSizeLimit};
-ghost use Rattle.tree_export.specs.declared.export.Exported.TheVariants as exported;
+ghost use Rattle.tree_export.specs.declared.export.TreeExport.TheVariants as exported;
 ghost use Rattle.tree_export.specs.Exports.{IsWritten, IsCut, IsExported, Bounds, IsMade};
 
 use bsp_boolean::{PlainBuilder, TreeStop, tree_solid};
@@ -33,7 +33,7 @@ const FACETS: u32 = 20_000;
 
 /// What the export of a tree gives.
 #[derive(Drop)]
-pub enum Exported {
+pub enum TreeExport {
     /// The bytes of its 4OFF text.
     Text(Bytes),
     /// The first limit that it passes.
@@ -41,44 +41,46 @@ pub enum Exported {
 }
 
 // What facets within their limit give, by so many workers.
-fn written<R: Threads + Sync>(
+fn write_facets<R: Threads + Sync>(
     rt: &R,
     alloc: Global,
     workers: u64,
     facets: &[Facet],
     unit: Unit,
-) -> Result<Exported, NoMemory>
+) -> Result<TreeExport, NoMemory>
     ensures written { IfOk result (IsWritten unit facets.now) }
-    ensures boundary { (f : Formula) → IsProper f → facets.now ≡ facets_of (solid_of f) → IfOk result (Bounds unit f) }
+    ensures boundary { (f : Formula) → IsProper f → facets.now ≡ facets_of (solid_of f) →
+        IfOk result (Bounds unit f) }
 {
     match off_bytes_by(rt, alloc, workers, facets, unit) {
-        Ok(bytes) => Ok(Exported::Text(Bytes::of(bytes))),
-        Err(OffStop::TooManyCorners) => Ok(Exported::Complex(Complex::Corners)),
-        Err(OffStop::TooManyVertices) => Ok(Exported::Complex(Complex::Vertices)),
+        Ok(bytes) => Ok(TreeExport::Text(Bytes::of(bytes))),
+        Err(OffStop::TooManyCorners) => Ok(TreeExport::Complex(Complex::Corners)),
+        Err(OffStop::TooManyVertices) => Ok(TreeExport::Complex(Complex::Vertices)),
         Err(OffStop::NoMemory) => Err(NoMemory),
     }
 }
 
 // What a solid within the limits of size gives, by so many workers.
-fn cut<R: Threads + Sync>(
+fn cut_solid<R: Threads + Sync>(
     rt: &R,
     alloc: Global,
     workers: u64,
     solid: &Solid,
     unit: Unit,
-) -> Result<Exported, NoMemory>
+) -> Result<TreeExport, NoMemory>
     ensures cut { IfOk result (IsCut unit (facets_of (tree_of solid.now))) }
-    ensures boundary { (f : Formula) → IsProper f → tree_of solid.now ≡ solid_of f → IfOk result (Bounds unit f) }
+    ensures boundary { (f : Formula) → IsProper f → tree_of solid.now ≡ solid_of f →
+        IfOk result (Bounds unit f) }
 {
     match facets_by(rt, alloc, workers, solid, FACETS) {
-        Ok(facets) => written(rt, alloc, workers, &facets, unit),
-        Err(CutStop::TooMany) => Ok(Exported::Complex(Complex::Facets)),
+        Ok(facets) => write_facets(rt, alloc, workers, &facets, unit),
+        Err(CutStop::TooMany) => Ok(TreeExport::Complex(Complex::Facets)),
         Err(CutStop::NoMemory) => Err(NoMemory),
     }
 }
 
 // A value that many can share.
-fn shared<T: Drop>(alloc: Global, value: T) -> Result<Arc<T>, NoMemory>
+fn share<T: Drop>(alloc: Global, value: T) -> Result<Arc<T>, NoMemory>
     ensures { IfOk result (λ r. arc_value r ≡ value) }
 {
     Ok(Arc::new(alloc, value)?)
@@ -89,14 +91,14 @@ pub fn nodes_of_tree(alloc: Global, tree: &CsgTree) -> Result<Arc<CsgStore>, NoM
     requires { IsProper (formula_of tree.now) }
     ensures { IfOk result (λ store. arc_value store ≡ nodes_of (formula_of tree.now)) }
 {
-    shared(alloc, CsgStore::intern(alloc, tree)?)
+    share(alloc, CsgStore::intern(alloc, tree)?)
 }
 
 /// The solid of Nothing, which has no nodes.
 pub fn solid_of_nothing(alloc: Global) -> Result<Arc<Solid>, NoMemory>
     ensures { IfOk result (λ s. tree_of (arc_value s) ≡ outside) }
 {
-    shared(alloc, Solid::leaf(alloc, false))
+    share(alloc, Solid::leaf(alloc, false))
 }
 
 /// The export of a tree as a text in units, from the solid of its last node or the first node that passes a limit of size, whose
@@ -111,17 +113,19 @@ pub fn export_made<R: Threads + Sync>(
     workers: u64,
     made: Result<Arc<Solid>, TreeStop>,
     unit: Unit,
-) -> Result<Exported, NoMemory>
+) -> Result<TreeExport, NoMemory>
     ensures exported { (f : Formula) → IsMade f made → IfOk result (IsExported unit f) }
     // A text is the boundary of the tree.
     ensures boundary { (f : Formula) → IsProper f → IsMade f made → IfOk result (Bounds unit f) }
     // Without a solid there is no other export than a limit of size.
-    ensures stopped { OnErr made (IfOk result (λ out. (passed : Limit) × IsSizeLimit passed × (out ≡ exported.Complex passed))) }
+    ensures stopped { OnErr made
+        (IfOk result
+        (λ out. (passed : Limit) × IsSizeLimit passed × (out ≡ exported.Complex passed))) }
 {
     match made {
-        Ok(solid) => cut(rt, alloc, workers, &solid, unit),
-        Err(TreeStop::TooBig(number)) => Ok(Exported::Complex(Complex::Solid(number))),
-        Err(TreeStop::SumTooBig(number)) => Ok(Exported::Complex(Complex::Sum(number))),
+        Ok(solid) => cut_solid(rt, alloc, workers, &solid, unit),
+        Err(TreeStop::TooBig(number)) => Ok(TreeExport::Complex(Complex::Solid(number))),
+        Err(TreeStop::SumTooBig(number)) => Ok(TreeExport::Complex(Complex::Sum(number))),
         Err(TreeStop::NoMemory) => Err(NoMemory),
     }
 }
@@ -138,7 +142,7 @@ fn solid_within(alloc: Global, tree: &CsgTree) -> Result<Arc<Solid>, TreeStop>
         return Ok(solid_of_nothing(alloc)?);
     }
     let solid = tree_solid(alloc, &store, &mut PlainBuilder::new())?;
-    Ok(shared(alloc, solid)?)
+    Ok(share(alloc, solid)?)
 }
 
 /// The export of a proper tree, whose planes are in grid steps, without a memo: `export_made` of its solid.
@@ -148,7 +152,7 @@ pub fn export_tree<R: Threads + Sync>(
     workers: u64,
     tree: &CsgTree,
     unit: Unit,
-) -> Result<Exported, NoMemory>
+) -> Result<TreeExport, NoMemory>
     requires { IsProper (formula_of tree.now) }
     ensures exported { IfOk result (IsExported unit (formula_of tree.now)) }
     ensures boundary { IfOk result (Bounds unit (formula_of tree.now)) }

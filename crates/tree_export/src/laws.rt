@@ -9,8 +9,8 @@ ghost use Rattle.csg_tree.specs.ProperTrees.{IsProper};
 ghost use Rattle.bsp_tree.specs.Trees.{outside};
 ghost use Rattle.bsp_boolean.specs.Solids.{solid_of};
 ghost use Rattle.bsp_boolean.specs.TreeSolids.{AreWithin};
-ghost use Rattle.tree_export.specs.declared.export.Exported.{Exported};
-ghost use Rattle.tree_export.specs.declared.export.Exported.TheVariants as exported;
+ghost use Rattle.tree_export.specs.declared.export.TreeExport.{TreeExport};
+ghost use Rattle.tree_export.specs.declared.export.TreeExport.TheVariants as exported;
 ghost use Rattle.tree_export.specs.Exports.{empty_text, Bounds, IsText, IsExported, PassesNoLimit};
 
 use bsp_boolean::{one_tree_more, solids_are_their_trees};
@@ -19,12 +19,14 @@ use off_text::{some_corners, texts_are_boundaries, texts_print_polygons};
 
 /// In each unit a tree has one export.
 pub fn one_export()
-    ensures { (unit : LengthUnit) (tree : Formula) (out other : Exported) → IsExported unit tree out → IsExported unit tree other → out ≡ other }
+    ensures { (unit : LengthUnit) (tree : Formula) (out other : TreeExport) →
+        IsExported unit tree out → IsExported unit tree other → out ≡ other }
 {}
 
 /// In each unit each proper tree has an export, and a text is the boundary of the tree.
 pub fn some_export()
-    ensures { (unit : LengthUnit) (tree : Formula) → IsProper tree → (out : Exported) × IsExported unit tree out × Bounds unit tree out }
+    ensures { (unit : LengthUnit) (tree : Formula) → IsProper tree → (out : TreeExport) ×
+        IsExported unit tree out × Bounds unit tree out }
 {
     one_tree_more();
     solids_are_their_trees();
@@ -36,23 +38,28 @@ pub fn some_export()
 
 /// A tree's export is a text exactly where no limit is passed.
 pub fn texts_pass_no_limit()
-    ensures { (unit : LengthUnit) (tree : Formula) (out : Exported) → IsExported unit tree out → IsText out ↔ PassesNoLimit unit tree }
+    ensures { (unit : LengthUnit) (tree : Formula) (out : TreeExport) → IsExported unit tree out →
+        IsText out ↔ PassesNoLimit unit tree }
 {}
 
 /// The export of Nothing is the 4OFF text without vertices and faces.
 pub fn nothing_has_the_empty_text()
-    ensures { (unit : LengthUnit) (out : Exported) → IsExported unit nothing out ↔ (out ≡ exported.Text empty_text) }
+    ensures { (unit : LengthUnit) (out : TreeExport) → IsExported unit nothing out ↔
+        (out ≡ exported.Text empty_text) }
 {}
 
 /// A leaf of at most eight planes passes no limit.
 pub fn small_leaves_are_texts()
-    ensures { (unit : LengthUnit) (planes : List Coefficients) (out : Exported) → length planes ≤ 8 → IsExported unit (leaf planes) out → IsText out }
+    ensures { (unit : LengthUnit) (planes : List Coefficients) (out : TreeExport) →
+        length planes ≤ 8 → IsExported unit (leaf planes) out → IsText out }
 {}
 
 /// A tree's last node is the tree, and so has its solid; a tree without nodes has the empty solid.
 pub fn last_nodes_are_trees()
-    ensures same { (tree : Formula) → 0 < length (nodes_of tree) → tree_numbered (nodes_of tree) (length (nodes_of tree)) ≡ tree }
-    ensures last { (tree : Formula) → 0 < length (nodes_of tree) → solid_of (tree_numbered (nodes_of tree) (length (nodes_of tree))) ≡ solid_of tree }
+    ensures same { (tree : Formula) → 0 < length (nodes_of tree) →
+        tree_numbered (nodes_of tree) (length (nodes_of tree)) ≡ tree }
+    ensures last { (tree : Formula) → 0 < length (nodes_of tree) →
+        solid_of (tree_numbered (nodes_of tree) (length (nodes_of tree))) ≡ solid_of tree }
     ensures none { (tree : Formula) → length (nodes_of tree) ≡ 0 → outside ≡ solid_of tree }
     ensures within { (tree : Formula) → length (nodes_of tree) ≡ 0 → AreWithin (nodes_of tree) }
 {}

@@ -4,7 +4,7 @@
 mod export;
 mod laws;
 
-pub use export::{Exported, export_made, export_tree, nodes_of_tree, solid_of_nothing};
+pub use export::{TreeExport, export_made, export_tree, nodes_of_tree, solid_of_nothing};
 pub use laws::{
     last_nodes_are_trees, nothing_has_the_empty_text, one_export, small_leaves_are_texts,
     some_export, texts_pass_no_limit,

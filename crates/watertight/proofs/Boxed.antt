@@ -9,7 +9,7 @@ use Rattle.plane_predicate.proofs.IntegerRing.{mul_assoc_ℤ, sums}
 use Rattle.bsp_tree.specs.Cells.{world_box, AllBehind, IsIn}
 use Rattle.bsp_tree.proofs.Worlds.{open_world}
 use Rattle.closed_surface.specs.Ways.{Direction, way, is_same_way, is_opposite_way}
-use Rattle.closed_surface.specs.Closed.{Edge, along, against, edges_of, runs_through, corners_at, is_corner, Closed}
+use Rattle.closed_surface.specs.Closed.{Edge, edges_along, edges_against, edges_of, runs_through, corners_at, is_corner, IsClosedSurface}
 use Rattle.closed_surface.proofs.Numbers.{at_most}
 use Rattle.closed_surface.proofs.EdgeLines.{runs_behind}
 use Rattle.closed_surface.proofs.Each.{Each, each_from_all}
@@ -50,7 +50,7 @@ origin_boxed : (unit : LengthUnit) → IsInWorld (in_steps unit (record { x = po
 origin_boxed Whole = record { weight = omega arith; x_size = omega arith; y_size = omega arith; z_size = omega arith }
 origin_boxed Half = record { weight = omega arith; x_size = omega arith; y_size = omega arith; z_size = omega arith }
 
-corner_boxed : (unit : LengthUnit) (vertices : List Coordinates) → Each (λ p. IsInWorld (in_steps unit p)) vertices → (i : ℕ) →
+pub corner_boxed : (unit : LengthUnit) (vertices : List Coordinates) → Each (λ p. IsInWorld (in_steps unit p)) vertices → (i : ℕ) →
     IsInWorld (in_steps unit (slice_index_or vertices i (record { x = pos 0; y = pos 0; z = pos 0; w = pos 1 })))
 corner_boxed unit [] h i = origin_boxed unit
 corner_boxed unit (p ∷ vertices) h zero = h.0
@@ -86,7 +86,7 @@ in_or_none unit q wq (e ∷ edges) h = elim (in_or_none unit q wq edges h.1) [
 ]
 
 pub closed_everywhere : (unit : LengthUnit) (vertices : List Coordinates) (faces : List (List ℕ)) →
-    All (λ (p : Coordinates). IsInWorld (in_steps unit p)) vertices → Closed unit vertices faces → IsClosedEverywhere vertices faces
+    All (λ (p : Coordinates). IsInWorld (in_steps unit p)) vertices → IsClosedSurface unit vertices faces → IsClosedEverywhere vertices faces
 closed_everywhere unit vertices faces inside closed q v wq free =
     elim (in_or_none unit q wq (flat_map edges_of (map (corners_at vertices) faces))
     (edges_have (λ p. IsInWorld (in_steps unit p)) (map (corners_at vertices) faces)

@@ -7,7 +7,7 @@ use Rattle.plane_predicate.proofs.IntegerRing.{sums, mul_comm_ℤ}
 use Rattle.plane_predicate.proofs.Polynomials.{Poly, var, plus, times, minus, ring}
 use Rattle.plane_predicate.proofs.Signs.{signs, pos_pos}
 use Rattle.closed_surface.specs.Ways.{Direction, way, dot, cross, is_same_place, is_same_way, is_opposite_way}
-use Rattle.closed_surface.specs.Closed.{Edge, along, against, edges_of, runs_through, is_corner}
+use Rattle.closed_surface.specs.Closed.{Edge, edges_along, edges_against, edges_of, runs_through, is_corner}
 use Rattle.closed_surface.proofs.Numbers.{same_tests, false_by}
 use Rattle.closed_surface.proofs.Parallels.{IsZero, dot_above, same_place_is, opposite_way_is, opposite_way_parts}
 use Rattle.closed_surface.proofs.Each.{Each, each_weaker, each_both}

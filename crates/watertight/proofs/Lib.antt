@@ -1,4 +1,8 @@
+mod Rows
 pub mod Lists
 pub mod Ways
 pub mod Boxed
 pub mod Halves
+pub mod General
+pub mod Inner
+pub mod Overlaps

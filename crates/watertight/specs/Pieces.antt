@@ -17,7 +17,8 @@ lies_before_end e p = is_same_place p e.1 || is_same_way (way p e.1) (way e.0 e.
 abbrev pub is_part_of : Edge → Edge → Bool
 is_part_of part e = lies_from_start e part.0 && (lies_before_end e part.1 && is_same_way (way part.0 part.1) (way e.0 e.1))
 
--- no corner of the faces lies strictly between the ends of the part: faces are given by their corners
+-- no corner of the faces, which are given by their corners, lies strictly between the ends of the part. Where its ends are corners
+-- too, it is an elementary edge
 abbrev pub is_elementary : List (List Coordinates) → Edge → Bool
 is_elementary faces part = not (list_any (runs_through part) (flat_map (λ corners. corners) faces))
 

@@ -5,32 +5,52 @@ ghost use Rattle.plane_predicate.specs.declared.unit.Unit.{Unit as LengthUnit};
 ghost use Rattle.plane_predicate.specs.Space.{Coordinates, IsInWorld};
 ghost use Rattle.plane_predicate.specs.InUnits.{in_steps};
 ghost use Rattle.csg_tree.specs.Formulas.{Formula};
-ghost use Rattle.closed_surface.specs.Closed.{corners_at, Closed};
+ghost use Rattle.closed_surface.specs.Closed.{corners_at, IsClosedSurface};
+ghost use Rattle.csg_tree.specs.ProperTrees.{IsProper};
 ghost use Rattle.off_text.specs.Bounding.{IsBoundary};
 ghost use Rattle.watertight.specs.Everywhere.{AreClosedEverywhere, IsClosedEverywhere};
+ghost use Rattle.watertight.specs.Overlaps.{ShareNoInnerPoint};
 ghost use Rattle.watertight.specs.Pieces.{is_elementary, edges_along_part};
 
-/// Faces that are closed inside the world box, and whose vertices are strictly inside it, are closed at every point of space.
+/// Faces that are closed inside the world box, and whose vertices are strictly inside it, are closed at every point of space that
+/// is no corner.
 pub fn closed_at_every_point()
     ensures { (unit : LengthUnit) (vertices : List Coordinates) (faces : List (List ℕ)) →
-        All (λ p. IsInWorld (in_steps unit p)) vertices → Closed unit vertices faces → IsClosedEverywhere vertices faces }
+        All (λ p. IsInWorld (in_steps unit p)) vertices → IsClosedSurface unit vertices faces →
+        IsClosedEverywhere vertices faces }
 {}
 
 /// Where faces are closed at every point, each directed elementary edge stands as often as its reverse: between two points with no
 /// corner strictly between them, as many edges run one way as the other.
 pub fn elementary_edges_pair()
-    ensures { (faces : List (List Coordinates)) → All (λ corners. All (λ p. pos 0 <ℤ p.w) corners) faces → AreClosedEverywhere faces →
+    ensures { (faces : List (List Coordinates)) →
+        All (λ corners. All (λ p. pos 0 <ℤ p.w) corners) faces → AreClosedEverywhere faces →
         (p q : Coordinates) → pos 0 <ℤ p.w → pos 0 <ℤ q.w → is_elementary faces (p, q) ≡ true →
         edges_along_part faces (p, q) ≡ edges_along_part faces (q, p) }
 {}
 
 /// The text of a boundary whose vertices are strictly inside the world box is watertight: its faces are closed at every point of
-/// space, and each of their directed elementary edges stands as often as its reverse.
+/// space that is no corner, and each of their directed elementary edges stands as often as its reverse.
 pub fn texts_are_watertight()
-    ensures everywhere { (unit : LengthUnit) (bytes : List ℕ) (f : Formula) (text : IsBoundary unit bytes f) →
-        All (λ p. IsInWorld (in_steps unit p)) text.vertices → IsClosedEverywhere text.vertices text.faces }
-    ensures edges { (unit : LengthUnit) (bytes : List ℕ) (f : Formula) (text : IsBoundary unit bytes f) →
-        All (λ p. IsInWorld (in_steps unit p)) text.vertices → (p q : Coordinates) → pos 0 <ℤ p.w → pos 0 <ℤ q.w →
+    ensures everywhere { (unit : LengthUnit) (bytes : List ℕ) (f : Formula)
+        (text : IsBoundary unit bytes f) → All (λ p. IsInWorld (in_steps unit p)) text.vertices →
+        IsClosedEverywhere text.vertices text.faces }
+    ensures edges { (unit : LengthUnit) (bytes : List ℕ) (f : Formula)
+        (text : IsBoundary unit bytes f) → All (λ p. IsInWorld (in_steps unit p)) text.vertices →
+        (p q : Coordinates) → pos 0 <ℤ p.w → pos 0 <ℤ q.w →
         is_elementary (map (corners_at text.vertices) text.faces) (p, q) ≡ true →
-        edges_along_part (map (corners_at text.vertices) text.faces) (p, q) ≡ edges_along_part (map (corners_at text.vertices) text.faces) (q, p) }
+        edges_along_part (map (corners_at text.vertices) text.faces) (p, q)
+        ≡ edges_along_part (map (corners_at text.vertices) text.faces) (q, p) }
+{}
+
+/// No two faces of the text of a boundary lie on one another. No point strictly inside the world box is strictly inside two faces
+/// that face the same plane, nor strictly inside two that face a plane from opposite sides. Where all vertices are strictly inside
+/// the box, no point of space is.
+pub fn faces_share_no_inner_point()
+    ensures inside { (unit : LengthUnit) (bytes : List ℕ) (f : Formula) → IsProper f →
+        (text : IsBoundary unit bytes f) →
+        ShareNoInnerPoint (λ p. IsInWorld (in_steps unit p)) unit text.vertices text.faces }
+    ensures anywhere { (unit : LengthUnit) (bytes : List ℕ) (f : Formula) → IsProper f →
+        (text : IsBoundary unit bytes f) → All (λ p. IsInWorld (in_steps unit p)) text.vertices →
+        ShareNoInnerPoint (λ p. pos 0 <ℤ p.w) unit text.vertices text.faces }
 {}

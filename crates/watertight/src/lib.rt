@@ -3,4 +3,6 @@
 
 mod laws;
 
-pub use laws::{closed_at_every_point, elementary_edges_pair, texts_are_watertight};
+pub use laws::{
+    closed_at_every_point, elementary_edges_pair, faces_share_no_inner_point, texts_are_watertight,
+};

@@ -6,19 +6,19 @@ use Rattle.reply_text.specs.declared.reply.Reply.TheVariants as reply
 use Rattle.plane_predicate.specs.declared.unit.Unit.{Unit as LengthUnit}
 use Rattle.csg_tree.specs.Formulas.{Formula}
 use Rattle.off_text.specs.Bounding.{IsBoundary}
-use Rattle.tree_export.specs.declared.export.Exported.{Exported}
-use Rattle.tree_export.specs.declared.export.Exported.TheVariants as exported
+use Rattle.tree_export.specs.declared.export.TreeExport.{TreeExport}
+use Rattle.tree_export.specs.declared.export.TreeExport.TheVariants as exported
 use Rattle.tree_export.specs.Exports.{IsExported}
 use Rattle.script_server.specs.Meaning.Sources.{Means, HasFault}
 
 -- the export of a tree as a reply
-abbrev pub reply_of : Exported → Reply
+abbrev pub reply_of : TreeExport → Reply
 reply_of (exported.Text bytes) = reply.Solid bytes
 reply_of (exported.Complex passed) = reply.Complex passed
 
 -- what a tree is answered: its text, or the first limit that it passes
 abbrev pub AnswersTree : LengthUnit → Formula → Reply → Type 0
-AnswersTree unit tree r = (out : Exported) × IsExported unit tree out × (r ≡ reply_of out)
+AnswersTree unit tree r = (out : TreeExport) × IsExported unit tree out × (r ≡ reply_of out)
 
 -- what an export of a source is answered: its first fault, or what the tree that it means is answered
 abbrev pub Exports : LengthUnit → List ℕ → Reply → Type 0

@@ -9,7 +9,7 @@ use Rattle.bsp_tree.proofs.copying.+add_branch.Goals as goal
 
 pub returns-in-End : goal.returns-in-End
 returns-in-End t c =
-    rw (c.in-End.is, c.turned.ensures, end_exchanged c.args.from.now.planes c.args.from.now.nodes c.in-End.is_inside c.args.is_exchanged)
+    rw (c.in-End.is, c.exchanged_leaf.ensures, end_exchanged c.args.from.now.planes c.args.from.now.nodes c.in-End.is_inside c.args.is_exchanged)
     (leaf_grows c.args.growing.now _)
 
 pub returns-in_ok-copy-in-To : goal.returns-in_ok-copy-in-To

@@ -6,4 +6,4 @@ pub returns : goal.returns
 returns c =
     let listed = c.in_ok-extend_from_slice.ensures.items ∙ ap (λ xs. xs ++ c.planes.result.now) c.new-planes.ensures.items
     ∙ c.planes.ensures.planes ∙ c.table.ensures in
-    whole_tree c.args.nodes _ _ c.args.root c.grown.result c.grown.ensures listed (c.shrink_to_fit.ensures.nodes ∙ c.into_forest-forest.ensures.nodes)
+    whole_tree c.args.nodes _ _ c.args.root c.of_growth.result c.of_growth.ensures listed (c.shrink_to_fit.ensures.nodes ∙ c.into_forest-forest.ensures.nodes)

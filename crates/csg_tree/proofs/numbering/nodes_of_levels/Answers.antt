@@ -2,7 +2,7 @@ use Rattle.std.proofs.Common.{◌≡◌, ℕ, ◌+◌, ◌-◌, ◌<◌, ◌++�
 use Rattle.std.proofs.lemmas.Bool.{cases_lt}
 use Rattle.csg_tree.specs.declared.node.CsgNode.{CsgNode}
 use Rattle.csg_tree.specs.Formulas.{Formula}
-use Rattle.csg_tree.specs.Numberings.{by_height, distinct, height, tree_numbered, IsNumberIn}
+use Rattle.csg_tree.specs.Numberings.{by_height, distinct_trees, height, tree_numbered, IsNumberIn}
 use Rattle.csg_tree.specs.Nodes.{node_of, trees_of, trees_of_lent, AreLinkedLent}
 use Rattle.csg_tree.specs.Levels.{numbers_of_height}
 use Rattle.csg_tree.specs.Interned.{AreReady, IsPlaced}
@@ -83,7 +83,7 @@ loop-level-preserved c =
     record {
       room = c.number_level.ensures.room;
       interned = now.interned;
-      trees = now.distinct (by_height h ps) c.loop-level.invariant.trees ∙ ap distinct grown;
+      trees = now.grown.distinct (by_height h ps) c.loop-level.invariant.trees ∙ ap distinct_trees grown;
       placed = level_placed ps us ms level h e
           (λ m within less. now.stay m within (c.loop-level.invariant.placed m within less)) now.placed;
     }

@@ -1,7 +1,7 @@
 use Rattle.std.proofs.Common.{◌≡◌, ◌∷◌, length, sym, arith}
 use Rattle.std.proofs.lemmas.Grind.{common_steps}
 use Rattle.std.proofs.lemmas.List.Elements.{All-head, All-rest, All-same}
-use Rattle.subtree_memo.specs.Shares.{opened}
+use Rattle.subtree_memo.specs.Shares.{opened_shares}
 use Rattle.flight_memo.proofs.Opened.{IsFreshShare, opened_fresh}
 use Rattle.flight_memo.proofs.flight_share.flights_of.Goals as goal
 
@@ -13,7 +13,7 @@ invariant_of-push_reserved g c =
 
 pub loop-share-init : goal.loop-share-init
 loop-share-init g c = record {
-  fresh = All-same IsFreshShare c.into_iter-share-iterator.result.rest.items (opened (length c.args.shares.items)) (cc) (opened_fresh (length c.args.shares.items));
+  fresh = All-same IsFreshShare c.into_iter-share-iterator.result.rest.items (opened_shares (length c.args.shares.items)) (cc) (opened_fresh (length c.args.shares.items));
   items = grind (arith, common_steps);
   many = grind (arith, common_steps);
   room = grind (arith, common_steps);

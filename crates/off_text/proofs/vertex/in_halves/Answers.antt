@@ -6,8 +6,8 @@ use Rattle.off_text.specs.Numbering.{is_even}
 use Rattle.off_text.proofs.Halves.{even_parts, halved_vertex, doubled_vertex, twice_size}
 use Rattle.off_text.proofs.vertex.in_halves.Goals as goal
 
-pub halved-requires-then-has_even_coordinates-2 : goal.halved-requires-then-has_even_coordinates-2
-halved-requires-then-has_even_coordinates-2 c =
+pub half_of-requires-then-has_even_coordinates-2 : goal.half_of-requires-then-has_even_coordinates-2
+half_of-requires-then-has_even_coordinates-2 c =
     let iz : FitsSigned w128 c.corner.inside.z = search rules in
     let p : Coordinates = record { x = c.corner.inside.x; y = c.corner.inside.y; z = c.corner.inside.z; w = c.corner.inside.w } in
     let all = sym c.has_even_coordinates.ensures ∙ c.if-has_even_coordinates.true in
@@ -20,19 +20,19 @@ returns-then-has_even_coordinates c =
     let iy : FitsSigned w128 c.corner.inside.y = search rules in
     let iz : FitsSigned w128 c.corner.inside.z = search rules in
     let iw : FitsSigned w128 c.corner.inside.w = search rules in
-    let hx : FitsSigned w128 c.halved.result = search rules in
-    let hy : FitsSigned w128 c.halved-then-has_even_coordinates.result = search rules in
-    let hz : FitsSigned w128 c.halved-then-has_even_coordinates-2.result = search rules in
+    let hx : FitsSigned w128 c.half_of.result = search rules in
+    let hy : FitsSigned w128 c.half_of-then-has_even_coordinates.result = search rules in
+    let hz : FitsSigned w128 c.half_of-then-has_even_coordinates-2.result = search rules in
     let p : Coordinates = record { x = c.corner.inside.x; y = c.corner.inside.y; z = c.corner.inside.z; w = c.corner.inside.w } in
     let v : Coordinates = record {
-      x = c.halved.result;
-      y = c.halved-then-has_even_coordinates.result;
-      z = c.halved-then-has_even_coordinates-2.result;
+      x = c.half_of.result;
+      y = c.half_of-then-has_even_coordinates.result;
+      z = c.half_of-then-has_even_coordinates-2.result;
       w = c.corner.inside.w;
     } in
-    let ex : p.x ≡ pos 2 *ℤ v.x = simp to_z-of_z at c.halved.ensures in
-    let ey : p.y ≡ pos 2 *ℤ v.y = simp to_z-of_z at c.halved-then-has_even_coordinates.ensures in
-    let ez : p.z ≡ pos 2 *ℤ v.z = simp to_z-of_z at c.halved-then-has_even_coordinates-2.ensures in
+    let ex : p.x ≡ pos 2 *ℤ v.x = simp to_z-of_z at c.half_of.ensures in
+    let ey : p.y ≡ pos 2 *ℤ v.y = simp to_z-of_z at c.half_of-then-has_even_coordinates.ensures in
+    let ez : p.z ≡ pos 2 *ℤ v.z = simp to_z-of_z at c.half_of-then-has_even_coordinates-2.ensures in
     rw (← c.corner.view_is) (simp to_z-of_z (halved_vertex p v ex ey ez refl))
 
 pub returns-else-has_even_coordinates : goal.returns-else-has_even_coordinates

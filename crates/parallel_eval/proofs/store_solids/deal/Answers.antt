@@ -1,5 +1,5 @@
 use Rattle.std.proofs.Common.{◌≡◌, ◌+◌, ◌-◌, ◌≤◌, ◌++◌, ◌∷◌, [], length, ap, sym, subst, ◌∙◌, arith, length-append}
-use Rattle.subtree_memo.specs.Shares.{fresh}
+use Rattle.subtree_memo.specs.Shares.{fresh_share}
 use Rattle.flight_memo.specs.Shares.{FlightView}
 use Rattle.parallel_eval.specs.Runs.{AreFreshLanes}
 use Rattle.parallel_eval.proofs.Steps.{fresh_more}
@@ -14,8 +14,8 @@ loop-index-preserved g c =
     let lane = c.fresh_lane.result in
     let more = c.one_more.result in
     let items : c.push_reserved.new.self.items ≡ c.loop-index.lanes.items ++ lane ∷ [] = c.push_reserved.ensures.items in
-    let share : lane.share.share ≡ fresh whole.caller 1 =
-    ap (λ (s : FlightView). s.share) (c.fresh_lane.ensures.share ∙ c.split.ensures.new) ∙ ap (λ (s : FlightView). fresh s.share.caller 1) before.rest in
+    let share : lane.share.share ≡ fresh_share whole.caller 1 =
+    ap (λ (s : FlightView). s.share) (c.fresh_lane.ensures.share ∙ c.split.ensures.new) ∙ ap (λ (s : FlightView). fresh_share s.share.caller 1) before.rest in
     let first : lane.before ≡ c.loop-index.next = c.fresh_lane.ensures.range.0 in
     let end = c.fresh_lane.ensures.range.1 in
     let longer : length c.push_reserved.new.self.items ≡ length c.loop-index.lanes.items + 1 =

@@ -3,7 +3,11 @@ use Rattle.primitives.specs.Ways.{ways_of, IsWayOnGrid}
 use Rattle.primitives.proofs.Rounds.{ways_on_grid}
 use Rattle.primitives.proofs.convex_faces.is_bounded.Goals as goal
 
-pub is_bounded_by-requires-clause-ways_grid : goal.is_bounded_by-requires-clause-ways_grid
-is_bounded_by-requires-clause-ways_grid c =
+pub is_bounded_by-requires-clause-ways : goal.is_bounded_by-requires-clause-ways
+is_bounded_by-requires-clause-ways c =
     let e : c.deref.result.now ≡ ways_of c.args.points.now c.args.face.now = search rules in
-    subst (All IsWayOnGrid) (sym e) (ways_on_grid c.args.points.now c.args.face.now c.requires.grid c.requires.face_there)
+    record {
+      are = e;
+      grid = subst (All IsWayOnGrid) (sym e)
+          (ways_on_grid c.args.points.now c.args.face.now c.requires.grid c.requires.face_there);
+    }

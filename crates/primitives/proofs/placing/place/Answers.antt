@@ -1,21 +1,22 @@
 use Rattle.std.proofs.Common.{◌≡◌, ◌<◌, List, ℤ, pos, length, sym, ◌∙◌, ap, subst, All, Any, Err}
+use Rattle.std.proofs.lemmas.Result.{err_from_is_err_and}
 use Rattle.plane_predicate.specs.Space.{point_at, IsInReach}
 use Rattle.int_transform.specs.Maps.{determinant_of, map_of, LeavesRange, StaysInRange}
 use Rattle.primitives.specs.Placing.{moved_mesh}
 use Rattle.primitives.proofs.Transforms.{faces_after, some_points, images_in_reach, image_past_reach, inside-placed, placed_faces, reach_placed, some_placed, IsPlaced}
-use Rattle.text_place.specs.declared.fault.FaultKind.TheVariants.{TooLarge as TooLargeKind}
-use Rattle.primitives.specs.declared.stop.ShapeStop.TheVariants.{Kind}
-use Rattle.primitives.specs.Stops.{stop_of}
-use Rattle.primitives.proofs.Stops.{large_stop}
+use Rattle.primitives.proofs.Stops.{placing_stop}
 use Rattle.primitives.proofs.placing.place.Goals as goal
 
-pub returns-in_err-points-clause-too_large : goal.returns-in_err-points-clause-too_large
-returns-in_err-points-clause-too_large c = λ e.
-    let stop : Kind TooLargeKind ≡ stop_of c.in_err-points.field-0.0 = rw e at c.from_residual.ensures.1 in
-    subst (Any (λ (p : List ℤ). LeavesRange c.args.steps.now (point_at p))) c.points.ensures.points (c.in_err-points.ensures.too_large (ap Err (large_stop c.in_err-points.field-0.0 stop)))
+pub returns-in_err-points-clause-stops : goal.returns-in_err-points-clause-stops
+returns-in_err-points-clause-stops c =
+    let steps = c.args.steps.now in
+    let stop = placing_stop steps c.args.shape.now.points c.in_err-points.field-0.0 (λ e.
+    subst (Any (λ (p : List ℤ). LeavesRange steps (point_at p))) c.points.ensures.points (c.in_err-points.ensures.too_large (ap Err e))) in
+    let p = err_from_is_err_and c.from_residual.result c.from_residual.ensures.1 in
+    rw (p.1 ∙ ap Err p.2) stop
 
-pub returns-then-not-are_in_reach-clause-out_of_range : goal.returns-then-not-are_in_reach-clause-out_of_range
-returns-then-not-are_in_reach-clause-out_of_range c = λ _.
+pub returns-then-not-are_in_reach-clause-stops : goal.returns-then-not-are_in_reach-clause-stops
+returns-then-not-are_in_reach-clause-stops c =
     let f = map_of c.args.steps.now in
     let points = c.args.shape.now.points in
     let same : c.deref.result.now ≡ (moved_mesh f c.args.shape.now).points = c.deref.ensures.value ∙ c.in_ok-points.ensures.images ∙ ap (λ (ps : List (List ℤ)). (moved_mesh f (record { points = ps; faces = c.args.shape.now.faces })).points) c.points.ensures.points in

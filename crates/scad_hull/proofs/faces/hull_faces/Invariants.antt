@@ -1,8 +1,9 @@
-use Rattle.std.proofs.Common.{◌≡◌, All, [], flat_map, length}
+use Rattle.std.proofs.Common.{◌≡◌, [], flat_map, length}
 use Rattle.scad_hull.specs.Hulls.{from, triples, triples_from}
-use Rattle.scad_hull.specs.Steps.{with_triples, AreThree}
+use Rattle.scad_hull.specs.Steps.{with_triples, AreFound}
 use Rattle.scad_hull.proofs.faces.hull_faces.Given as goal
 
 abbrev pub invariant-loop-first : goal.invariant-loop-first
 invariant-loop-first l =
-    (with_triples l.points l.faces.items (flat_map (triples_from (length l.points)) (from l.first (length l.points))) ≡ with_triples l.points [] (triples (length l.points))) × All (AreThree (length l.points)) l.faces.items
+    (with_triples l.points l.found.faces.items (flat_map (triples_from (length l.points)) (from l.first (length l.points)))
+    ≡ with_triples l.points [] (triples (length l.points))) × AreFound l.points l.found

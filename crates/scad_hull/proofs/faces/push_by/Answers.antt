@@ -1,18 +1,18 @@
-use Rattle.std.proofs.Common.{rules, ◌≡◌, ◌∙◌, ◌∷◌, ◌+◌, [], ap, sym, List, ℕ, map, length, arith}
+use Rattle.std.proofs.Common.{◌+◌, List, Bool, length, sym, subst}
 use Rattle.scad_hull.specs.Hulls.{from}
-use Rattle.scad_hull.specs.Steps.{with_triple, with_triples}
-use Rattle.scad_hull.proofs.Found.{triple_next}
+use Rattle.scad_hull.specs.Steps.{IsCommonRow}
+use Rattle.scad_hull.proofs.PlaneRows.{listed_by, none_added, none_listed}
 use Rattle.scad_hull.proofs.faces.push_by.Goals as goal
 
-pub loop-third-preserved : goal.loop-third-preserved
-loop-third-preserved c =
-    let points = c.args.points.now in
-    let n = length points in
-    let i = c.args.first in
-    let j = c.args.second in
-    let k = c.loop-third.third in
-    let few = c.requires.numbered.few in
-    let e : c.push_triple.new.faces.items ≡ with_triple points c.loop-third.faces.items (i ∷ j ∷ k ∷ []) = search rules in (
-      ap (λ (fs : List (List ℕ)). with_triples points fs (map (λ (l : ℕ). i ∷ j ∷ l ∷ []) (from (k + 1) n))) e ∙ sym (triple_next points c.loop-third.faces.items n i j k (omega arith)) ∙ c.loop-third.invariant.0,
-      c.in_ok-push_triple.ensures.three,
-    )
+pub returns-then-is_surrounded-clause-faces : goal.returns-then-is_surrounded-clause-faces
+returns-then-is_surrounded-clause-faces c =
+    sym (none_added c.args.points.now c.args.found.now.faces.items c.args.first c.args.second c.if-is_surrounded.ensures.none (from (c.args.second + 1) (length c.args.points.now)))
+
+pub push_past-requires-clause-listed : goal.push_past-requires-clause-listed
+push_past-requires-clause-listed c =
+    listed_by c.args.points.now c.args.found.now c.args.first c.args.second c.in-Some.row c.requires.found
+    (subst (λ (rows : List (List Bool)). IsCommonRow rows c.args.first c.args.second c.in-Some.row) c.deref.ensures.value c.in-Some.ensures)
+
+pub push_past-requires-in-None-clause-listed : goal.push_past-requires-in-None-clause-listed
+push_past-requires-in-None-clause-listed c =
+    none_listed c.args.points.now c.args.found.now.faces.items c.args.first c.args.second 128

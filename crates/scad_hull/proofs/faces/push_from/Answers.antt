@@ -10,6 +10,7 @@ loop-second-preserved c =
     let n = length points in
     let i = c.args.first in
     let j = c.loop-second.second in (
-      ap (λ (fs : List (List ℕ)). with_triples points fs (flat_map (triples_by n i) (from (j + 1) n))) c.in_ok-push_by.ensures.faces ∙ sym (pair_next points c.loop-second.faces.items n i j (omega arith)) ∙ c.loop-second.invariant.0,
-      c.in_ok-push_by.ensures.three,
+      ap (λ (fs : List (List ℕ)). with_triples points fs (flat_map (triples_by n i) (from (j + 1) n))) c.in_ok-push_by.ensures.faces ∙ sym (pair_next points c.loop-second.found.faces.items n i j (omega arith)) ∙ c.loop-second.invariant.0,
+      c.in_ok-push_by.ensures.found,
+      c.push_by.ensures.around,
     )

@@ -3,9 +3,10 @@ use Rattle.std.proofs.lemmas.List.Elements.{All-weaker, All-map}
 use Rattle.std.proofs.Common.{◌≡◌, ℕ, ◌≤◌, ◌<◌, ◌∙◌, List, Ok, All, length, get_or, map, ap, sym, subst, arith, rules}
 use Rattle.csg_tree.specs.Formulas.{Formula}
 use Rattle.memo_core.specs.Memo.{Item}
-use Rattle.subtree_memo.specs.Shares.{View, opened, offered_of, parts_each}
+use Rattle.subtree_memo.specs.Shares.{View, opened_shares, offered_of, parts_each}
 use Rattle.flight_memo.specs.Shares.{FlightView}
 use Rattle.script_server.proofs.Books.{of_given, parts_in_all, all_opened, opened_many, memo_opened, written_over, mapped_many, mapped_same, all_read}
+use Rattle.script_server.proofs.Refused.{some_joins}
 use Rattle.script_server.proofs.Sums.{tally_of_shares, adds_up, offered_most}
 use Rattle.script_server.proofs.running.run_over.Goals as goal
 
@@ -18,7 +19,7 @@ exporters_of-exporters-requires-clause-fresh g c =
 pub exporters_of-exporters-requires-clause-order : goal.exporters_of-exporters-requires-clause-order
 exporters_of-exporters-requires-clause-order g c =
     let read = memo_opened c.args.blanks.callers _ _ c.in_ok-memo.ensures c.in_ok-flight.ensures in
-    read ∙ sym (ap opened (mapped_many (λ (s : FlightView). s.share) _ _ read ∙ opened_many c.args.blanks.callers))
+    read ∙ sym (ap opened_shares (mapped_many (λ (s : FlightView). s.share) _ _ read ∙ opened_many c.args.blanks.callers))
 
 pub exporters_of-exporters-requires-clause-room : goal.exporters_of-exporters-requires-clause-room
 exporters_of-exporters-requires-clause-room g c =
@@ -31,8 +32,8 @@ exporters_of-exporters-requires-clause-room g c =
 
 -- there are as many exporters as callers
 exporters_many : {A : Type 0} (share : A → View) (es : List A) (flights : List FlightView) (callers : ℕ) → map share es ≡ map (λ (s : FlightView). s.share) flights →
-    map (λ (s : FlightView). s.share) flights ≡ opened callers → length es ≡ callers
-exporters_many share es flights callers same read = mapped_many share es (opened callers) (same ∙ read) ∙ opened_many callers
+    map (λ (s : FlightView). s.share) flights ≡ opened_shares callers → length es ≡ callers
+exporters_many share es flights callers same read = mapped_many share es (opened_shares callers) (same ∙ read) ∙ opened_many callers
 
 pub run_script-served-requires-clause-many : goal.run_script-served-requires-clause-many
 run_script-served-requires-clause-many g c κs within =
@@ -94,9 +95,9 @@ returns g c =
     let served : c.run_script-served.result ≡ Ok c.in_ok-replies.replies = c.in_ok-replies.was in
     let books = map (λ (s : FlightView). s.share) c.shares_of-shares.result.items in
     let told = c.close-core.ensures in
-    let sums = adds_up (λ e. e.client) c.args.unit c.args.script.now.clients c.in_ok-replies.replies.items lent news c.args.blanks.callers c.close-core.result.0
+    let sums = adds_up (λ e. e.client) c.args.unit (λ source. some_joins c.args.unit source (c.some_meaning.ensures c.args.unit source)) c.args.script.now.clients c.in_ok-replies.replies.items lent news c.args.blanks.callers c.close-core.result.0
     c.requires.within.few
-    (subst (λ l. map (λ e. e.client.share) l ≡ opened c.args.blanks.callers) (sym same) fresh)
+    (subst (λ l. map (λ e. e.client.share) l ≡ opened_shares c.args.blanks.callers) (sym same) fresh)
     (of_given _ _ _ served c.run_script-served.ensures.moved)
     (tally_of_shares c.close-core.result.1.journal books (map (λ e. e.client.share) news) c.close-core.result.0
     (c.shares_of-shares.ensures.shares ∙ ap (map (λ e. e.client.share)) left)

@@ -1,7 +1,7 @@
 use Rattle.std.proofs.Common.{rules, refl, length, ◌<◌, ◌≡◌, ◌∙◌, ap, map, option_map, Some}
 use Rattle.std.specs.Prelude.{slice_get}
 use Rattle.std.proofs.lemmas.Option.{slice_get-map, slice_get_read}
-use Rattle.share_core.specs.Views.{settled}
+use Rattle.share_core.specs.Views.{settled_memo}
 use Rattle.share_core.specs.Fields.{part_of}
 use Rattle.share_core.proofs.Lists.{map_set, ok_then, err_then}
 use Rattle.share_core.proofs.Clients.{part_sound, parts_set, lifted, machine_stays, get_set_other}
@@ -20,7 +20,7 @@ act-requires g c = part_sound g.F.Fit.fits g.F.Fit.weighs (g.W.Work.tasks c.args
 pub returns-clause-steps : goal.returns-clause-steps
 returns-clause-steps g c =
     rw (map_set part_of c.args.parts.now.items c.args.event.client c.act.new.part)
-    (ok_then c.act.result (λ s a. lifted g.F.Fit.same_key g.N.Namer.name_of g.F.Fit.fits g.F.Fit.weighs (g.W.Work.tasks c.args.work.now) c.args.event (settled c.args.memo.now) (settled c.act.new.memo) (map part_of c.args.parts.now.items) (part_of c.index_mut.result.now) (part_of c.act.new.part) s (at g c.before.before) a) c.act.ensures.acts)
+    (ok_then c.act.result (λ s a. lifted g.F.Fit.same_key g.N.Namer.name_of g.F.Fit.fits g.F.Fit.weighs (g.W.Work.tasks c.args.work.now) c.args.event (settled_memo c.args.memo.now) (settled_memo c.act.new.memo) (map part_of c.args.parts.now.items) (part_of c.index_mut.result.now) (part_of c.act.new.part) s (at g c.before.before) a) c.act.ensures.acts)
 
 pub returns-clause-sound : goal.returns-clause-sound
 returns-clause-sound g c =
@@ -35,4 +35,4 @@ returns-clause-others g c client ne =
 pub returns-clause-err : goal.returns-clause-err
 returns-clause-err g c =
     rw (map_set part_of c.args.parts.now.items c.args.event.client c.act.new.part)
-    (err_then c.act.result (λ a. machine_stays (settled c.args.memo.now) (settled c.act.new.memo) (map part_of c.args.parts.now.items) c.args.event.client (part_of c.index_mut.result.now) (part_of c.act.new.part) (at g c.before.before) a.0 a.1) c.act.ensures.err)
+    (err_then c.act.result (λ a. machine_stays (settled_memo c.args.memo.now) (settled_memo c.act.new.memo) (map part_of c.args.parts.now.items) c.args.event.client (part_of c.index_mut.result.now) (part_of c.act.new.part) (at g c.before.before) a.0 a.1) c.act.ensures.err)

@@ -19,7 +19,7 @@ returns-then-len-eq0-clause-within c =
 pub returns-clause-solid : goal.returns-clause-solid
 returns-clause-solid c =
     let tree = formula_of c.args.tree.now in
-    ap tree_of c.in_ok-shared.ensures
+    ap tree_of c.in_ok-share.ensures
     ∙ c.in_ok-solid.ensures.solid
     ∙ ap (λ (ts : List Formula). solid_of (tree_numbered ts (length ts))) (c.deref-2.ensures ∙ c.in_ok-store.ensures)
     ∙ last_solid tree (omega (arith, ap length c.in_ok-store.ensures, ap length c.deref.ensures, c.len.ensures.is, c.if-len-eq0.false))

@@ -24,7 +24,7 @@ branch-returns-then-is_alike-clause-grows t c =
 pub branch-returns-then-is_alike-2-clause-grows : goal.branch-returns-then-is_alike-2-clause-grows
 branch-returns-then-is_alike-2-clause-grows t c =
     let m = c.args.self.now in
-    let e = ap (λ side. is_alike side m.in_decides) (sym c.turned.ensures) ∙ sym c.is_alike-in-To-End.ensures ∙ c.if-is_alike-2.true in
+    let e = ap (λ side. is_alike side m.in_decides) (sym c.exchanged_leaf.ensures) ∙ sym c.is_alike-in-To-End.ensures ∙ c.if-is_alike-2.true in
     rw (c.in-To-End.is-1, right_end_decides c.args.scratch.now c.in-To-End.is_inside m.is_exchanged m.in_decides (tree_on m.left.now.own c.args.left) e)
     (leaf_grows c.args.growing.now m.in_decides)
 
@@ -38,7 +38,7 @@ branch-returns-else-is_alike-clause-grows t c =
 pub branch-returns-else-is_alike-2-clause-grows : goal.branch-returns-else-is_alike-2-clause-grows
 branch-returns-else-is_alike-2-clause-grows t c =
     let m = c.args.self.now in
-    let e = ap (λ side. is_alike side m.in_decides) (sym c.turned.ensures) ∙ sym c.is_alike-in-To-End.ensures ∙ c.if-is_alike-2.false in
+    let e = ap (λ side. is_alike side m.in_decides) (sym c.exchanged_leaf.ensures) ∙ sym c.is_alike-in-To-End.ensures ∙ c.if-is_alike-2.false in
     rw (c.in-To-End.is-1, right_end_gives c.args.scratch.now c.in-To-End.is_inside m.is_exchanged m.in_decides (tree_on m.left.now.own c.args.left) e)
     c.add_moved.ensures
 

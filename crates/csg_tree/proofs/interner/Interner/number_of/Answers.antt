@@ -1,4 +1,4 @@
-use Rattle.std.proofs.Common.{◌≡◌, [], List, Some, None, sym, ap, subst, ◌∙◌}
+use Rattle.std.proofs.Common.{◌≡◌, ◌∷◌, [], List, Some, None, length, sym, ap, subst, ◌∙◌, arith, length-append}
 use Rattle.std.specs.BTreeMap.{get}
 use Rattle.csg_tree.specs.Numberings.{HasNumber}
 use Rattle.csg_tree.specs.declared.node.StoredNode.{StoredNode}
@@ -15,13 +15,17 @@ returns-in-Some-clause-number c =
     known_number c.args.self.now.found c.args.self.now.nodes.items c.in_ok-key.key (node_of c.args.node) c.in-Some.number
     c.requires.interned c.in_ok-key.ensures look
 
-pub returns-in-Some-clause-distinct : goal.returns-in-Some-clause-distinct
-returns-in-Some-clause-distinct c = λ trees e.
+pub returns-in-Some-clause-grown : goal.returns-in-Some-clause-grown
+returns-in-Some-clause-grown c =
     let look : get key_cmp c.args.self.now.found c.in_ok-key.key ≡ Some c.in-Some.number = sym c.look_up.ensures ∙ c.in-Some.is in
     let ts = trees_of c.args.self.now.nodes.items in
-    distinct_known ts trees (tree_over ts (node_of c.args.node)) c.in-Some.number e
-    (known_number c.args.self.now.found c.args.self.now.nodes.items c.in_ok-key.key (node_of c.args.node) c.in-Some.number
-    c.requires.interned c.in_ok-key.ensures look)
+    record {
+      distinct = λ trees e.
+          distinct_known ts trees (tree_over ts (node_of c.args.node)) c.in-Some.number e
+          (known_number c.args.self.now.found c.args.self.now.nodes.items c.in_ok-key.key (node_of c.args.node) c.in-Some.number
+          c.requires.interned c.in_ok-key.ensures look);
+      few = omega arith;
+    }
 
 pub returns-in_ok-number-in-None-clause-interned : goal.returns-in_ok-number-in-None-clause-interned
 returns-in_ok-number-in-None-clause-interned c =
@@ -44,11 +48,15 @@ returns-in_ok-number-in-None-clause-stay c =
     subst (λ (nodes : List StoredNode). TheyStay (trees_of old) (trees_of nodes)) (sym c.in_ok-number-in-None.ensures.nodes)
     (they_stay old (node_of c.args.node))
 
-pub returns-in_ok-number-in-None-clause-distinct : goal.returns-in_ok-number-in-None-clause-distinct
-returns-in_ok-number-in-None-clause-distinct c = λ trees e.
+pub returns-in_ok-number-in-None-clause-grown : goal.returns-in_ok-number-in-None-clause-grown
+returns-in_ok-number-in-None-clause-grown c =
     let look : get key_cmp c.args.self.now.found c.in_ok-key.key ≡ None = sym c.look_up.ensures ∙ c.in-None.is in
     let old = c.args.self.now.nodes.items in
     let node = node_of c.args.node in
-    ap trees_of c.in_ok-number-in-None.ensures.nodes ∙ behind_more [] old node
-    ∙ distinct_new (trees_of old) trees (tree_over (trees_of old) node) e
-    (no_number c.args.self.now.found old c.in_ok-key.key node c.requires.interned c.in_ok-key.ensures look c.requires.over)
+    record {
+      distinct = λ trees e.
+          ap trees_of c.in_ok-number-in-None.ensures.nodes ∙ behind_more [] old node
+          ∙ distinct_new (trees_of old) trees (tree_over (trees_of old) node) e
+          (no_number c.args.self.now.found old c.in_ok-key.key node c.requires.interned c.in_ok-key.ensures look c.requires.over);
+      few = omega (arith, ap length c.in_ok-number-in-None.ensures.nodes, length-append old (node ∷ []));
+    }

@@ -14,10 +14,10 @@ pub returns-clause-node : goal.returns-clause-node
 returns-clause-node c =
     let nodes = c.self.inside.nodes.items in
     let number = c.args.number in
-    let told = c.lent.result in
+    let told = c.as_node.result in
     let within : IsNumberIn nodes number =
     (c.requires.0, omega (arith, c.requires.1, length_trees nodes, ap length c.self.view_is)) in
     let is : node_of told ≡ get_or nodes (number - 1) (node_of told) =
-    subst (λ (x : StoredNode). x ≡ get_or nodes (number - 1) x) (sym c.lent.ensures) c.index.ensures in
+    subst (λ (x : StoredNode). x ≡ get_or nodes (number - 1) x) (sym c.as_node.ensures) c.index.ensures in
     subst (λ (ts : List Formula). IsNodeOf ts number told) c.self.view_is
     (node_told nodes number told c.self.invariant.linked within is)

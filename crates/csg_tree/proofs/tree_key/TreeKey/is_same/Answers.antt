@@ -21,5 +21,5 @@ pub returns-else-eq : goal.returns-else-eq
 returns-else-eq c =
     c.if-eq.false
     ∙ names_differ c.args.self.now c.args.other.now c.self.inside.name c.other.inside.name
-    (c.self.invariant.named ∙ ap name_of c.self.view_is) (c.other.invariant.named ∙ ap name_of c.other.view_is)
+    (c.self.invariant.name_is ∙ ap name_of c.self.view_is) (c.other.invariant.name_is ∙ ap name_of c.other.view_is)
     (sym c.eq.ensures ∙ c.if-eq.false)

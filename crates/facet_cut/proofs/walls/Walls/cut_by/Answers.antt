@@ -16,6 +16,6 @@ returns g c =
     let ids = c.deref.result.now in
     let size = c.row_size-size.result in
     let of_tree : facets_at planes nodes ids ≡ facets_of (tree_over planes nodes c.args.root) = search rules in
-    subst (λ (facets : List Outline). IsCut facets c.args.most c.joined.result)
+    subst (λ (facets : List Outline). IsCut facets c.args.most c.join_rows.result)
     (all_rows (λ (id : NodeId). facets_on_top (tree_over planes nodes (To id))) ids size (length c.in_ok-rows.rows.items) c.in_ok-rows.ensures.whole ∙ of_tree)
-    (c.joined.ensures (λ (n : ℕ). facets_at planes nodes (slice_chunk ids size n)) c.in_ok-rows.ensures.rows)
+    (c.join_rows.ensures (λ (n : ℕ). facets_at planes nodes (slice_chunk ids size n)) c.in_ok-rows.ensures.rows)

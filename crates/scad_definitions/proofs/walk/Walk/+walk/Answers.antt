@@ -6,7 +6,7 @@ use Rattle.scad_ast.specs.Terms.{statements_from, no_statements, and_statement, 
 use Rattle.scad_ast.specs.StatementView.{statements_of, instance_of, body_of}
 use Rattle.scad_definitions.specs.Blocks.{entities_in, entities_of_body, entities_of_instance, LocalTerms, locals_of_block, BlockTable}
 use Rattle.scad_definitions.specs.Walk.{walked, count_numbered, with_entities, with_block_begun, locals_with}
-use Rattle.scad_definitions.specs.TextView.{locals_of}
+use Rattle.scad_definitions.specs.TextView.{locals_of, locals_under_way}
 use Rattle.scad_definitions.proofs.Begun.{numbered_after, numbered_begun, room_here}
 use Rattle.scad_definitions.proofs.Scans.{instance_beginnings}
 use Rattle.scad_definitions.proofs.Walks.{ending, begun_there, joined_told, walked_more, own_more, own_single, single_blocks}
@@ -47,10 +47,10 @@ pub braces-returns : goal.braces-returns
 braces-returns t c =
     let s = statements_from (statements_of c.args.statements.now) in
     ending (walked c.args.self.now) (walked c.statements.new.self) (walked c.end.new.self) c.in_ok-number.number
-    (locals_of c.statements.new.so_far.local) s (entities_in s) c.end.ensures
+    (locals_of c.in_ok-local.local) s (entities_in s) c.end.ensures
     (c.in_ok-statements.ensures.walked ∙ ap (λ (w : BlockTable). with_entities w (entities_in s)) c.in_ok-number.ensures.walked)
     c.in_ok-number.ensures.number
-    (c.in_ok-statements.ensures.local
+    (c.in_ok-local.ensures ∙ c.in_ok-statements.ensures.local
     ∙ ap (λ (o : LocalTerms). locals_with o (length (walked c.begin.new.self).functions) (length (walked c.begin.new.self).modules) s) c.new-so_far.ensures
     ∙ ap (λ (w : BlockTable). locals_of_block (length w.functions) (length w.modules) s) c.in_ok-number.ensures.walked) refl
 
@@ -84,7 +84,7 @@ statements-each-preserved t c =
     record {
       walked_on = walked_more (walked c.each.self) (walked c.statement.new.self) _ ss i c.statement-item.result h here
           c.in_ok-statement.ensures.walked c.each.invariant.walked_on;
-      owned = own_more (locals_of c.each.so_far.local) (locals_of c.statement.new.so_far.local) _ (walked c.each.self) (walked c.statement.new.self) ss i
+      owned = own_more (locals_under_way c.each.so_far.local) (locals_under_way c.statement.new.so_far.local) _ (walked c.each.self) (walked c.statement.new.self) ss i
           c.statement-item.result h here c.in_ok-statement.ensures.walked c.in_ok-statement.ensures.local c.each.invariant.owned;
     }
 

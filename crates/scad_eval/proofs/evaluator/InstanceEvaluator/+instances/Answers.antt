@@ -1,4 +1,4 @@
-use Rattle.std.proofs.Common.{◌≡◌, ℕ, ◌+◌, ◌-◌, ◌<◌, Bool, true, false, List, [], ◌∷◌, ◌++◌, All, length, map, drop, Option, Some, None, Ok, Err, refl, sym, ap, subst, ◌∙◌, length-append, arith, if◌then◌else◌}
+use Rattle.std.proofs.Common.{◌≡◌, ℕ, ◌+◌, ◌-◌, ◌<◌, Bool, true, false, ◌&&◌, nat_eq, List, [], ◌∷◌, ◌++◌, All, length, map, drop, Option, Some, None, Ok, Err, refl, sym, ap, subst, ◌∙◌, length-append, arith, if◌then◌else◌}
 use Rattle.std.proofs.lemmas.Result.{err_from_is_err_and, IfErr-at_err}
 use Rattle.text_place.specs.declared.fault.Place.{Place}
 use Rattle.text_place.specs.declared.fault.FaultKind.TheVariants.{TooDeep, TypeMismatch}
@@ -39,7 +39,7 @@ use Rattle.scad_instances.specs.Seen.{one_member_of, instance_design_of, member_
 use Rattle.scad_meaning.specs.Verdicts.{Judge}
 use Rattle.scad_meaning.specs.Bodies.{is_child}
 use Rattle.scad_meaning.specs.Loops.{items_of}
-use Rattle.scad_meaning.specs.Meaning.{Context, MemberDesigns, InstanceDesign, Evaluator, joined_members, moved_design, no_design, as_member, and_members, body_design, core_design, core_of_instance, hull_design, loop_design, built_in_design, children_design, effect_design, after_step, each_member, each_step, each_iteration, in_loop, module_design, module_scope, with_calls_left, with_bindings, inside_scope, setting, as_root, block_members, built_in_given, instances_chosen, module_filled, module_given}
+use Rattle.scad_meaning.specs.Meaning.{Context, MemberDesigns, InstanceDesign, Evaluator, joined_members, moved_design, no_design, as_member, and_members, body_design, core_design, core_of_instance, hull_design, loop_design, built_in_design, children_design, effect_design, after_step, after_call, each_member, each_step, each_iteration, in_loop, module_design, module_scope, with_calls_left, with_bindings, inside_scope, setting, as_root, block_members, built_in_given, instances_chosen, module_filled, module_given}
 use Rattle.scad_eval.specs.declared.evaluator.InstanceEvaluator.{InstanceEvaluator}
 use Rattle.scad_eval.specs.Keeping.{evaluator_at, env_at, context_at, Stays, Enters, meant_at}
 use Rattle.scad_eval.specs.Steps.{one_step}
@@ -204,16 +204,16 @@ children_made-leave-requires t c =
     let e = c.in_ok-before-in-Some.ensures.entered in
     omega (arith, e.from, e.number, c.in_ok-members-in-Some.ensures.kept.older.same.stands, c.args.self.now.evaluation.there)
 
-pub children_called-children_made-requires : goal.children_called-children_made-requires
-children_called-children_made-requires t c =
+pub children_chosen-children_made-requires : goal.children_chosen-children_made-requires
+children_chosen-children_made-requires t c =
     let m = c.args.self.now in
     let b = c.in_ok-begin_call.ensures.begun in (
       omega (arith, work_same c.begin_call.new.self.depth m.evaluation.depth b.depth, c.decreases),
       (position_still m _ refl b.source c.requires.position, c.requires.safe),
     )
 
-pub children_called-returns-in_err-begin_call : goal.children_called-returns-in_err-begin_call
-children_called-returns-in_err-begin_call t c =
+pub children_chosen-returns-in_err-begin_call : goal.children_chosen-returns-in_err-begin_call
+children_chosen-returns-in_err-begin_call t c =
     let p = err_from_is_err_and c.from_residual.result c.from_residual.ensures.1 in
     let m = c.args.self.now in
     let r = c.in_err-begin_call.ensures.refused in
@@ -222,21 +222,28 @@ children_called-returns-in_err-begin_call t c =
       kept = tt;
     })
 
-pub children_called-returns-in_err-made : goal.children_called-returns-in_err-made
-children_called-returns-in_err-made t c =
+pub children_chosen-returns-in_err-made : goal.children_chosen-returns-in_err-made
+children_chosen-returns-in_err-made t c =
     let p = err_from_is_err_and c.from_residual-in_err-made.result c.from_residual-in_err-made.ensures.1 in
     rw (p.1, p.2) (told_from c.in_err-made.ensures
     (λ judge right. children_meant judge c.args.self.now (begun_at c.in_err-made.ensures) c.args.position c.args.place (chosen_of c.args.chosen.now) refl refl
     c.begin_call.ensures.turns c.in_ok-begin_call.ensures.begun) refl refl tt)
 
-pub children_called-returns : goal.children_called-returns
-children_called-returns t c =
+pub children_chosen-returns : goal.children_chosen-returns
+children_chosen-returns t c =
     let m = c.args.self.now in
     let k = c.in_ok-made.ensures.kept in
     told_from c.in_ok-made.ensures
     (λ judge right. children_meant judge m (begun_at c.in_ok-made.ensures) c.args.position c.args.place (chosen_of c.args.chosen.now) refl refl
     c.begin_call.ensures.turns c.in_ok-begin_call.ensures.begun) c.end_call.ensures.turns refl
     (stays_kept m _ k.unit (c.end_call.ensures.back m.evaluation (call_kept c.in_ok-begin_call.ensures.begun k.evaluation)))
+
+pub children_called-returns-in_err-made : goal.children_called-returns-in_err-made
+children_called-returns-in_err-made t c =
+    let p = err_from_is_err_and c.from_residual.result c.from_residual.ensures.1 in
+    let m = c.args.self.now in
+    rw (p.1, p.2) (stops (λ judge after made. after_call c.args.place (nat_eq after m.evaluation.turns && nat_eq made.leaves m.leaves) after made)
+    c.in_err-made.ensures (λ judge right. refl) tt)
 
 pub built_in_made-returns-in_err-bound : goal.built_in_made-returns-in_err-bound
 built_in_made-returns-in_err-bound t c =
@@ -427,7 +434,7 @@ by_root_modifier-returns t c =
           (then_outcome (λ turns made. Gives turns (as_root made))
           (along (ap (λ (position : Position). meant_at m position judge (λ evaluator here. core_design evaluator here (core_of_instance i))) (sym c.inside_root.ensures))
           (f.equation judge right))
-          (record { is = ap (λ (made : InstanceDesign). Gives c.core-2.new.self.evaluation.turns made) (sym (c.as_root.ensures c.core-2.new.self.leaves)) }));
+          (record { is = ap (λ (made : InstanceDesign). Gives c.core-2.new.self.evaluation.turns made) (sym (c.in_ok-as_root.ensures c.core-2.new.self.leaves)) }));
       kept = f.kept;
     }
 

@@ -59,7 +59,10 @@ abbrev pub decreases-module_called : goal.decreases-module_called
 decreases-module_called l = work l.self.now.evaluation.depth + 5
 
 abbrev pub decreases-children_made : goal.decreases-children_made
-decreases-children_made l = work l.self.now.evaluation.depth + 4
+decreases-children_made l = work l.self.now.evaluation.depth + 3
+
+abbrev pub decreases-children_chosen : goal.decreases-children_chosen
+decreases-children_chosen l = work l.self.now.evaluation.depth + 4
 
 abbrev pub decreases-children_called : goal.decreases-children_called
 decreases-children_called l = work l.self.now.evaluation.depth + 5

@@ -1,5 +1,5 @@
 use Rattle.std.proofs.Common.{rules, ◌≡◌, ◌∙◌, sym}
-use Rattle.tree_export.specs.declared.export.Exported.TheVariants as exported
+use Rattle.tree_export.specs.declared.export.TreeExport.TheVariants as exported
 use Rattle.script_server.proofs.Kept.{same_export, same_bounds}
 use Rattle.script_server.proofs.kept_export.KeptExport.given_for.Goals as goal
 

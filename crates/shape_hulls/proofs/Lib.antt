@@ -1,0 +1,11 @@
+pub mod Axes
+pub mod Frustums
+pub mod Turns
+pub mod Insides
+pub mod Cubes
+pub mod Cylinders
+pub mod Prisms
+pub mod Moved
+pub mod Regular
+pub mod Reach
+pub mod Placed

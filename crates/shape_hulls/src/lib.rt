@@ -1,0 +1,11 @@
+//! Shapes as the hulls of their points: what is inside a cube, a cylinder, an extrusion or a hull, before and after it is placed,
+//! as laws that the program doesn't call.
+#![tactic(auto)]
+
+mod laws;
+
+pub use laws::{
+    cubes_are_hulls_of_their_points, cylinders_are_hulls_of_their_points,
+    extrusions_are_hulls_of_their_points, hulls_are_hulls_of_their_points,
+    images_of_points_inside_are_behind_planes, placed_shapes_are_hulls_of_their_points,
+};

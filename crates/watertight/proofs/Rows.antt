@@ -1,0 +1,219 @@
+-- Surfaces that are written out, worked by hand: a cube, two cubes that share a face, two that share an edge alone, and a
+-- tetrahedron.
+use Rattle.std.proofs.Common.{◌≡◌, ◌≢◌, ℕ, zero, suc, ◌<◌, Bool, true, false, List, [], ◌∷◌, ◌++◌, map, flat_map, length, slice_index_or, eqb, refl, sym, ◌∙◌, true≢false, arith, ℤ, pos, ◌<ℤ◌, negsuc}
+use Rattle.std.proofs.Math.Nat.{eq-one_of_dvd-one}
+use Rattle.std.proofs.lemmas.Bool.Decides.{Decides-eqb}
+use Rattle.plane_predicate.specs.declared.unit.Unit.TheVariants.{Whole}
+use Rattle.plane_predicate.specs.Space.{Coefficients, Coordinates, value, turn, opposite_of, IsPlane}
+use Rattle.plane_predicate.proofs.IntegerRing.{sums}
+use Rattle.closed_surface.specs.Ways.{Direction}
+use Rattle.closed_surface.specs.Closed.{edges_of, corners_at, edges_along, edges_against}
+use Rattle.off_text.specs.Boundaries.{after, grid_corner, Faces, Covers}
+use Rattle.watertight.specs.Everywhere.{IsClosedEverywhere}
+use Rattle.watertight.specs.Pieces.{is_elementary, edges_along_part}
+use Rattle.watertight.specs.Overlaps.{ShareNoInnerPoint}
+
+abbrev point : ℤ → ℤ → ℤ → ℤ → Coordinates
+point x y z w = record { x = x; y = y; z = z; w = w }
+
+abbrev whole : ℕ → ℕ → ℕ → Coordinates
+whole x y z = point (pos x) (pos y) (pos z) (pos 1)
+
+abbrev to_x : Direction
+to_x = record { x = pos 1; y = pos 0; z = pos 0 }
+
+-- how many edges run through the point along the direction, and how many against it
+abbrev Run : List Coordinates → List (List ℕ) → Coordinates → Direction → ℕ → ℕ → Type 0
+Run vertices faces q v one other =
+    (edges_along (flat_map edges_of (map (corners_at vertices) faces)) q v ≡ one) × (edges_against (flat_map edges_of (map (corners_at vertices) faces)) q v ≡ other)
+
+-- whether no corner is strictly between the two points, and how many edges run along the part from the one to the other, and back
+abbrev Part : List Coordinates → List (List ℕ) → Coordinates → Coordinates → Bool → ℕ → ℕ → Type 0
+Part vertices faces p q free one other =
+    (is_elementary (map (corners_at vertices) faces) (p, q) ≡ free)
+    × (edges_along_part (map (corners_at vertices) faces) (p, q) ≡ one) × (edges_along_part (map (corners_at vertices) faces) (q, p) ≡ other)
+
+-- ---- a cube
+abbrev cube : List Coordinates
+cube = whole 0 0 0 ∷ whole 1 0 0 ∷ whole 1 1 0 ∷ whole 0 1 0 ∷ whole 0 0 1 ∷ whole 1 0 1 ∷ whole 1 1 1 ∷ whole 0 1 1 ∷ []
+
+abbrev others : List (List ℕ)
+others = (4 ∷ 5 ∷ 6 ∷ 7 ∷ []) ∷ (0 ∷ 1 ∷ 5 ∷ 4 ∷ []) ∷ (1 ∷ 2 ∷ 6 ∷ 5 ∷ []) ∷ (2 ∷ 3 ∷ 7 ∷ 6 ∷ []) ∷ (0 ∷ 4 ∷ 7 ∷ 3 ∷ []) ∷ []
+
+abbrev cube_faces : List (List ℕ)
+cube_faces = (0 ∷ 3 ∷ 2 ∷ 1 ∷ []) ∷ others
+
+cube_edge : Part cube cube_faces (whole 0 0 0) (whole 1 0 0) true 1 1
+cube_edge = (refl, refl, refl)
+
+-- a part of an edge has no corner between its ends either
+cube_half_edge : Part cube cube_faces (whole 0 0 0) (point (pos 1) (pos 0) (pos 0) (pos 2)) true 1 1
+cube_half_edge = (refl, refl, refl)
+
+-- a diagonal, a point, a part that goes on past the end of an edge, one off the line of the edge
+cube_diagonal : Part cube cube_faces (whole 0 0 0) (whole 1 1 0) true 0 0
+cube_diagonal = (refl, refl, refl)
+
+cube_point : Part cube cube_faces (whole 0 0 0) (whole 0 0 0) true 0 0
+cube_point = (refl, refl, refl)
+
+cube_past_the_end : Part cube cube_faces (whole 0 0 0) (whole 2 0 0) false 0 0
+cube_past_the_end = (refl, refl, refl)
+
+cube_beside : Part cube cube_faces (whole 0 2 0) (whole 1 2 0) true 0 0
+cube_beside = (refl, refl, refl)
+
+-- in the middle of an edge, and on its line outside the world box
+cube_through : Run cube cube_faces (point (pos 1) (pos 0) (pos 0) (pos 2)) to_x 1 1
+cube_through = (refl, refl)
+
+cube_far : Run cube cube_faces (whole 5000 0 0) to_x 0 0
+cube_far = (refl, refl)
+
+differ : (n m : ℕ) → n ≡ m → eqb n m ≡ false → ⊥
+differ n m e h = true≢false (sym ((Decides-eqb n m).1 e) ∙ h)
+
+-- without the face below, the cube is open at the middle of an edge of that face
+open_cube : IsClosedEverywhere cube others → ⊥
+open_cube h = differ 1 0 (h (point (pos 1) (pos 0) (pos 0) (pos 2)) to_x (omega (arith, sums)) refl) refl
+
+open_cube_edge : Part cube others (whole 0 0 0) (whole 1 0 0) true 1 0
+open_cube_edge = (refl, refl, refl)
+
+-- ---- two cubes that share a face: one face below both, and on the other sides a face of each
+abbrev two_cubes : List Coordinates
+two_cubes =
+    whole 0 0 0 ∷ whole 1 0 0 ∷ whole 2 0 0 ∷ whole 0 1 0 ∷ whole 1 1 0 ∷ whole 2 1 0
+    ∷ whole 0 0 1 ∷ whole 1 0 1 ∷ whole 2 0 1 ∷ whole 0 1 1 ∷ whole 1 1 1 ∷ whole 2 1 1 ∷ []
+
+abbrev two_cubes_faces : List (List ℕ)
+two_cubes_faces =
+    (0 ∷ 3 ∷ 5 ∷ 2 ∷ []) ∷ (6 ∷ 7 ∷ 10 ∷ 9 ∷ []) ∷ (7 ∷ 8 ∷ 11 ∷ 10 ∷ []) ∷ (0 ∷ 1 ∷ 7 ∷ 6 ∷ []) ∷ (1 ∷ 2 ∷ 8 ∷ 7 ∷ [])
+    ∷ (4 ∷ 3 ∷ 9 ∷ 10 ∷ []) ∷ (5 ∷ 4 ∷ 10 ∷ 11 ∷ []) ∷ (0 ∷ 6 ∷ 9 ∷ 3 ∷ []) ∷ (2 ∷ 5 ∷ 11 ∷ 8 ∷ []) ∷ []
+
+-- the corner (1, 0, 0) lies in the middle of an edge of the face below, and cuts it into two pieces
+two_cubes_first_piece : Part two_cubes two_cubes_faces (whole 0 0 0) (whole 1 0 0) true 1 1
+two_cubes_first_piece = (refl, refl, refl)
+
+two_cubes_second_piece : Part two_cubes two_cubes_faces (whole 1 0 0) (whole 2 0 0) true 1 1
+two_cubes_second_piece = (refl, refl, refl)
+
+-- the whole edge stands the one way alone: it is no elementary edge
+two_cubes_whole_edge : Part two_cubes two_cubes_faces (whole 0 0 0) (whole 2 0 0) false 0 1
+two_cubes_whole_edge = (refl, refl, refl)
+
+-- between two faces of one plane, and across the face below, where the two cubes meet
+two_cubes_upright : Part two_cubes two_cubes_faces (whole 1 0 0) (whole 1 0 1) true 1 1
+two_cubes_upright = (refl, refl, refl)
+
+two_cubes_across : Part two_cubes two_cubes_faces (whole 1 0 0) (whole 1 1 0) true 0 0
+two_cubes_across = (refl, refl, refl)
+
+two_cubes_through : Run two_cubes two_cubes_faces (point (pos 3) (pos 0) (pos 0) (pos 2)) to_x 1 1
+two_cubes_through = (refl, refl)
+
+-- ---- two cubes that share the edge from (1, 1, 0) to (1, 1, 1) alone
+abbrev at_an_edge : List Coordinates
+at_an_edge = cube ++ (whole 2 1 0 ∷ whole 2 2 0 ∷ whole 1 2 0 ∷ whole 2 1 1 ∷ whole 2 2 1 ∷ whole 1 2 1 ∷ [])
+
+abbrev at_an_edge_faces : List (List ℕ)
+at_an_edge_faces =
+    cube_faces
+    ++ ((2 ∷ 10 ∷ 9 ∷ 8 ∷ []) ∷ (6 ∷ 11 ∷ 12 ∷ 13 ∷ []) ∷ (2 ∷ 8 ∷ 11 ∷ 6 ∷ []) ∷ (8 ∷ 9 ∷ 12 ∷ 11 ∷ []) ∷ (9 ∷ 10 ∷ 13 ∷ 12 ∷ []) ∷ (2 ∷ 6 ∷ 13 ∷ 10 ∷ []) ∷ [])
+
+at_an_edge_shared : Part at_an_edge at_an_edge_faces (whole 1 1 0) (whole 1 1 1) true 2 2
+at_an_edge_shared = (refl, refl, refl)
+
+at_an_edge_own : Part at_an_edge at_an_edge_faces (whole 2 1 0) (whole 2 1 1) true 1 1
+at_an_edge_own = (refl, refl, refl)
+
+-- ---- a tetrahedron
+abbrev tetrahedron : List Coordinates
+tetrahedron = whole 0 0 0 ∷ whole 1 0 0 ∷ whole 0 1 0 ∷ whole 0 0 1 ∷ []
+
+abbrev slanted : List ℕ
+slanted = 1 ∷ 2 ∷ 3 ∷ []
+
+abbrev turned_round : List ℕ
+turned_round = 1 ∷ 3 ∷ 2 ∷ []
+
+abbrev tetrahedron_faces : List (List ℕ)
+tetrahedron_faces = (0 ∷ 2 ∷ 1 ∷ []) ∷ (0 ∷ 1 ∷ 3 ∷ []) ∷ (0 ∷ 3 ∷ 2 ∷ []) ∷ slanted ∷ []
+
+tetrahedron_edge : Part tetrahedron tetrahedron_faces (whole 1 0 0) (whole 0 1 0) true 1 1
+tetrahedron_edge = (refl, refl, refl)
+
+-- ---- a face that lies on another one: the slanted one of the tetrahedron, twice, and once from each side
+abbrev slope_plane : Coefficients
+slope_plane = record { a = pos 1; b = pos 1; c = pos 1; d = pos 1 }
+
+is_plane : IsPlane slope_plane
+is_plane = record { a_size = omega arith; b_size = omega arith; c_size = omega arith; d_size = omega arith; directed = omega arith; reduced = λ k h _ _ _. eq-one_of_dvd-one h }
+
+-- (1/3, 1/3, 1/3)
+abbrev middle : Coordinates
+middle = point (pos 1) (pos 1) (pos 1) (pos 3)
+
+corners_on : (i : ℕ) → i < 3 → value slope_plane (grid_corner Whole tetrahedron slanted i) ≡ pos 0
+corners_on zero l = refl
+corners_on (suc zero) l = refl
+corners_on (suc (suc zero)) l = refl
+corners_on (suc (suc (suc i))) l = absurd (omega arith)
+
+corners_left : (i j : ℕ) → i < 3 → j < 3 → j ≢ i → j ≢ after 3 i →
+    pos 0 <ℤ turn slope_plane (grid_corner Whole tetrahedron slanted i) (grid_corner Whole tetrahedron slanted (after 3 i)) (grid_corner Whole tetrahedron slanted j)
+corners_left zero zero l k a b = absurd (a refl)
+corners_left zero (suc zero) l k a b = absurd (b refl)
+corners_left zero (suc (suc zero)) l k a b = omega (arith, sums)
+corners_left (suc zero) zero l k a b = omega (arith, sums)
+corners_left (suc zero) (suc zero) l k a b = absurd (a refl)
+corners_left (suc zero) (suc (suc zero)) l k a b = absurd (b refl)
+corners_left (suc (suc zero)) zero l k a b = absurd (b refl)
+corners_left (suc (suc zero)) (suc zero) l k a b = omega (arith, sums)
+corners_left (suc (suc zero)) (suc (suc zero)) l k a b = absurd (a refl)
+corners_left (suc (suc (suc i))) j l k a b = absurd (omega arith)
+corners_left i (suc (suc (suc j))) l k a b = absurd (omega arith)
+
+middle_left : (i : ℕ) → i < 3 → pos 0 <ℤ turn slope_plane (grid_corner Whole tetrahedron slanted i) (grid_corner Whole tetrahedron slanted (after 3 i)) middle
+middle_left zero l = omega (arith, sums)
+middle_left (suc zero) l = omega (arith, sums)
+middle_left (suc (suc zero)) l = omega (arith, sums)
+middle_left (suc (suc (suc i))) l = absurd (omega arith)
+
+middle_covered : Covers Whole tetrahedron slope_plane middle slanted
+middle_covered = record { faces = record { on = corners_on; left = corners_left }; on = refl; left = middle_left }
+
+back_on : (i : ℕ) → i < 3 → value (opposite_of slope_plane) (grid_corner Whole tetrahedron turned_round i) ≡ pos 0
+back_on zero l = refl
+back_on (suc zero) l = refl
+back_on (suc (suc zero)) l = refl
+back_on (suc (suc (suc i))) l = absurd (omega arith)
+
+back_left : (i j : ℕ) → i < 3 → j < 3 → j ≢ i → j ≢ after 3 i →
+    pos 0 <ℤ turn (opposite_of slope_plane) (grid_corner Whole tetrahedron turned_round i) (grid_corner Whole tetrahedron turned_round (after 3 i)) (grid_corner Whole tetrahedron turned_round j)
+back_left zero zero l k a b = absurd (a refl)
+back_left zero (suc zero) l k a b = absurd (b refl)
+back_left zero (suc (suc zero)) l k a b = omega (arith, sums)
+back_left (suc zero) zero l k a b = omega (arith, sums)
+back_left (suc zero) (suc zero) l k a b = absurd (a refl)
+back_left (suc zero) (suc (suc zero)) l k a b = absurd (b refl)
+back_left (suc (suc zero)) zero l k a b = absurd (b refl)
+back_left (suc (suc zero)) (suc zero) l k a b = omega (arith, sums)
+back_left (suc (suc zero)) (suc (suc zero)) l k a b = absurd (a refl)
+back_left (suc (suc (suc i))) j l k a b = absurd (omega arith)
+back_left i (suc (suc (suc j))) l k a b = absurd (omega arith)
+
+middle_left_back : (i : ℕ) → i < 3 → pos 0 <ℤ turn (opposite_of slope_plane) (grid_corner Whole tetrahedron turned_round i) (grid_corner Whole tetrahedron turned_round (after 3 i)) middle
+middle_left_back zero l = omega (arith, sums)
+middle_left_back (suc zero) l = omega (arith, sums)
+middle_left_back (suc (suc zero)) l = omega (arith, sums)
+middle_left_back (suc (suc (suc i))) l = absurd (omega arith)
+
+middle_covered_back : Covers Whole tetrahedron (opposite_of slope_plane) middle turned_round
+middle_covered_back = record { faces = record { on = back_on; left = back_left }; on = refl; left = middle_left_back }
+
+twice_overlaps : ShareNoInnerPoint (λ p. pos 0 <ℤ p.w) Whole tetrahedron (slanted ∷ slanted ∷ []) → ⊥
+twice_overlaps h = differ 0 1 (h.same slope_plane middle is_plane (omega (arith, sums)) 0 1 (omega arith) (omega arith) middle_covered middle_covered) refl
+
+both_sides_overlap : ShareNoInnerPoint (λ p. pos 0 <ℤ p.w) Whole tetrahedron (slanted ∷ turned_round ∷ []) → ⊥
+both_sides_overlap h = h.opposite slope_plane middle is_plane (omega (arith, sums)) 0 1 (omega arith) (omega arith) middle_covered middle_covered_back
