@@ -7,6 +7,8 @@ paragraph of `//!` lines of each crate's root file; with --write they are made a
 
 - a crate that stands on one of a higher layer, on itself by way of others, or in no layer, or that says nothing of itself;
 - a chain of more than ten crates;
+- a crate that stands on a library of the kit other than those that are named here: a contract says what a call does with what it is
+  given, and some libraries reach files and streams by number, which no call is given;
 - a picture or table that is out of date;
 - a name that the page has in backticks and that is no crate, file, word of a contract or function of the sources;
 - with --gate, which names what a run of `rt ci` printed: a crate that was proved there and of which crates.txt gives another number
@@ -25,6 +27,8 @@ from typing import Iterator
 
 TOP = Path(__file__).resolve().parent.parent
 MOST_IN_A_CHAIN = 10
+#: The libraries of the kit that crates may stand on. None of them reaches beyond what its calls are given.
+OF_THE_KIT = frozenset(("clap", "hex", "indexmap", "itoa", "lru", "sha2", "smallvec"))
 HEAD = re.compile(r"# (?P<name>[a-z ]+): (?P<purpose>.+)")
 #: What the page has between these two lines is made by this tool.
 MADE = re.compile(r"(?P<begin><!-- made by tools/house\.py: (?P<what>\w+) -->\n)(?P<text>.*?)(?P<end><!-- end -->)", re.DOTALL)
@@ -112,6 +116,8 @@ def misplaced(house: House, top: Path) -> Iterator[str]:
         for name in house.own(crate):
             if house.crates[name].layer > crate.layer:
                 yield f"crates.txt: {crate.name} stands on {name}, which is of a higher layer"
+        for name in sorted({*crate.below} - {*house.crates} - OF_THE_KIT):
+            yield f"crates.txt: {crate.name} stands on {name}, which is neither a crate nor a library that crates may stand on"
         if lengths[crate.name] > MOST_IN_A_CHAIN:
             yield f"crates.txt: {crate.name} ends a chain of more than {MOST_IN_A_CHAIN} crates"
         if not summary(top, crate.name):

@@ -108,8 +108,7 @@ PROMISE: dict[str, str] = {
     "was written. The replies of each client are those that its own commands define. Each solid is the boundary of the tree "
     "that the client's source means. Each other status says which fault there was, and what was written before it.",
     "unread": "Where the words are outside the grammar, or choose the demonstration, nothing is read.",
-    "causes": "A source that failed is told as that, and so is a sink, and nothing else is told as either. The counts of their faults "
-    "never fall.",
+    "causes": "A source that failed is told as that, and so is a sink. The counts of their faults never fall.",
     "complete": "Where neither count rose and the words choose settings, the status is `Done`, `BadScript` or `NoMemory`.",
     "script": "Where the source tells its bytes and these are a script, the status is not `BadScript`.",
     "no_script": "Where a script is asked for, and the bytes have a fault, the status is not `Done`.",
@@ -130,7 +129,9 @@ ASSUMED: list[tuple[str, str]] = [
     (
         "The ported crates",
         "The kit's crates `itoa`, `lru`, `indexmap`, `smallvec`, `clap`, `sha2` and `hex` are proved in the kit against their "
-        "own statements. Those statements are trusted.",
+        "own statements. Those statements are trusted. A clause says what a call does with the source and the sink that it is "
+        "given, and not that it touches nothing else. Some libraries of the kit reach files and streams by number; `tools/house.py` "
+        "refuses a crate that stands on any but these seven, which reach none.",
     ),
     (
         "Standard input and output",
@@ -142,7 +143,10 @@ ASSUMED: list[tuple[str, str]] = [
     (
         "The first and the last step",
         "`run_program` takes the words behind the program's name and hands them, with standard input and standard output, to "
-        "`serve_to_exit`, whose clauses stand at the end. It is proved safe and has no clause: its four lines are to be read.",
+        "`serve_to_exit`, whose clauses stand at the end. It is proved safe and has no clause: its lines are to be read, "
+        "with those that take the words, in `crates/script_server/src/program.rt`. So are the bodies of `ReadSource` and "
+        "`WriteSink`, in `crates/outside_io/src/adapters.rt`: that they call the reader or the writer once, and tell a fault only "
+        "where it failed, is in no clause.",
     ),
     (
         "These definitions",
@@ -161,7 +165,7 @@ WAY: list[tuple[str, str]] = [
     ("WholeProgram", "the program that tokens write"),
     ("IsMeaning", "what a program means"),
     ("IsBoundary", "when a text is the boundary of a tree"),
-    ("Closed", "when faces leave no hole along their edges"),
+    ("IsClosedSurface", "when faces leave no hole along their edges"),
     ("AreBooks", "what the printed tally tells"),
 ]
 

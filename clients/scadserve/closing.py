@@ -6,6 +6,10 @@ coordinates in whole numbers, and the corners along it are sorted by exact fract
 A corner that only touches an edge, and ends none on the edge's line, stays out of it: the faces at that edge have it
 in common without.
 
+With the corners put in, `open_edges` checks exactly what the law `elementary_edges_pair` of crates/watertight states:
+between two corners with none strictly between them, as many edges run the one way as the other. A corner that only
+touches an edge would cut a piece of it in two, and the same edges run along both.
+
 Then ears are cut off each face until triangles are left, each with an area above 0. The time grows like the number of
 corners, but for the sorting.
 """

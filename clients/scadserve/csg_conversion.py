@@ -29,7 +29,7 @@ UNITS += [Fraction(it * 10**power) for power in range(7) for it in (1, 2, 5)]
 # Below this, in grid steps, a corner hasn't moved: that much its six digits leave open.
 _STILL = 0.02
 # What is left out is tried from little to much, as the size of the design halved so often, and then between two of these.
-_STEPS_BELOW = (14, 12, 10, 8, 6, 5, 4, 3)
+_LEAST_BELOW, _STEPS_BELOW = 18, (14, 12, 10, 8, 6, 5, 4, 3)
 _HALVINGS, _FINE_BELOW = 3, 10
 
 
@@ -145,7 +145,8 @@ class _Converter:
         """The design with the least detail left out by which planes and shapes suffice. Raises CsgFault."""
         corners = [corner for leaf in leaves(solid) for corner in leaf.corners]
         size = math.dist([min(axis) for axis in zip(*corners)], [max(axis) for axis in zip(*corners)])
-        low = high = math.log2(size)
+        # (between what is known to be too little and what suffices; nothing at all is too little)
+        low = high = math.log2(size) - _LEAST_BELOW
         best, below = None, _STEPS_BELOW[0]
         coarsest = Detail(size / 2 ** _STEPS_BELOW[-1])
         self._solid(coarsest)

@@ -12,9 +12,10 @@ from typing import Callable, Sequence
 
 from . import convex_pieces
 from .convex_pieces import Flat, Loop, NotSimple
+from .csg_bays import Carving, carved, sides
 from .csg_flat import FINE, Outline, Plan, Plane, built
 from .csg_reader import Node
-from .csg_tree import DIFFERENCE, INTERSECTION, UNION, Detail, Join, Leaf, Matrix, Solid, Vector, frame_of, fragments
+from .csg_tree import DIFFERENCE, INTERSECTION, UNION, Carved, Detail, Join, Leaf, Matrix, Solid, Vector, frame_of, fragments
 from .csg_tree import is_level, joined, leaves, moved
 
 # By which part of its height what cuts a slanted extrusion goes on past both ends, since these may not stay flat.
@@ -74,10 +75,34 @@ class Extrusion:
         longer = [levels[0] - past, *levels[1:-1], levels[-1] + past]
         parts = []
         for loop, holes in self._plane.sound(outline):
-            filled = [self._piece(it, longer if is_cut else levels) for it in _pieces(outline, loop)]
-            cut = [self._piece(it, longer) for hole in holes for it in _pieces(outline, hole)]
-            parts.append(joined(DIFFERENCE, [joined(UNION, filled), *cut]))
+            filled = self._filled(outline, loop, longer if is_cut else levels)
+            parts.append(joined(DIFFERENCE, [filled, *(self._filled(outline, hole, longer) for hole in holes)]))
         return joined(UNION, parts)
+
+    def _filled(self, outline: Outline, loop: Loop, levels: Sequence[float]) -> Solid | None:
+        """The solid of what a closed line bounds, in the form with fewer planes."""
+        cut = _pieces(outline, loop)
+        pieces = joined(UNION, [self._piece(it, levels) for it in cut])
+        # (what is turned, scaled or slanted on the way has no lids that stay on one plane)
+        is_straight = not self._twist and self._scale == [1, 1] and not self._past
+        if pieces is None or len(cut) < 3 or not is_straight:
+            return pieces
+        carving = carved(loop)
+        if len(carving.lines()) >= len({side for it in cut for side in sides(it)}):
+            return pieces
+        lids: list[tuple[Leaf, list[Vector]]] = []
+        hull = self._carved(carving, levels, lids)
+        return pieces if hull is None else Carved(hull, lids, pieces)
+
+    def _carved(self, carving: Carving, levels: Sequence[float], lids: list[tuple[Leaf, list[Vector]]]) -> Solid | None:
+        """The solid of a hull without its bays, whose lids are noted."""
+        hull = self._piece(carving.hull, levels)
+        assert isinstance(hull, Leaf)
+        bays = []
+        for bay, lid in carving.bays:
+            lids.append((hull, moved(self._matrix, [it for level in levels for it in self._placed(list(lid), level)])))
+            bays.append(self._carved(bay, levels, lids))
+        return joined(DIFFERENCE, [hull, *bays])
 
     def _piece(self, piece: Loop, levels: Sequence[float]) -> Solid | None:
         """The solid of a convex piece, slice by slice."""

@@ -15,7 +15,7 @@ from typing import Iterable, Iterator, List, Mapping, Union
 
 from .csg_frames import Frame, basis, whole
 from .csg_reader import Node
-from .csg_tree import UNION, Join, Leaf, Matrix, Solid, Vector, direction, joined
+from .csg_tree import UNION, Carved, Join, Leaf, Matrix, Solid, Vector, direction, joined
 from .exact_hull import Hull, Plane, Point, hull
 
 #: Coordinates are at most so many grid steps in size.
@@ -68,6 +68,8 @@ class Rounder:
         return found
 
     def _tree(self, solid: Solid, unit: float, found: Rounded) -> "Grid | None":
+        if isinstance(solid, Carved):
+            return self._tree(solid.hull if self._has_lids(solid, unit, found.frames) else solid.pieces, unit, found)
         if isinstance(solid, Join):
             return joined(solid.operation, [self._tree(it, unit, found) for it in solid.parts])
         corners = placed(solid, unit, found)
@@ -82,6 +84,16 @@ class Rounder:
         if len(found.planes) > self._planes or found.shapes > SHAPES:
             raise TooMany("TooManyPlanes" if len(found.planes) > self._planes else "TooManyParts")
         return joined(UNION, [Body(it, solid.node) for it in parts])
+
+    def _has_lids(self, solid: Carved, unit: float, frames: "Mapping[Matrix, Frame]") -> bool:
+        """Whether each lid lies on a side of its hull on the grid: else a thin wall would be left there."""
+        for leaf, lid in solid.lids:
+            aside = Rounded(frames=frames)
+            body = self._hull(placed(leaf, unit, aside))
+            corners = placed(Leaf(lid, leaf.frame, leaf.node), unit, aside)
+            if body is None or not any(all(a * x + b * y + c * z == d for x, y, z in corners) for a, b, c, d in body.facets):
+                return False
+        return True
 
     def _hull(self, corners: "set[Point]") -> "Hull | None":
         x, y, z = low = min(corners)

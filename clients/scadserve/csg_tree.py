@@ -41,7 +41,21 @@ class Join(Generic[L]):
     parts: "List[Union[L, Join[L]]]"
 
 
-Solid = Union[Leaf, "Join[Leaf]"]
+@dataclass(frozen=True)
+class Carved:
+    """A shape in two forms: as a hull without bays, which has fewer planes, and as a union of convex pieces.
+
+    The first is meant on a grid on which each lid of a bay lies on one side of the hull that it belongs to. All but the grid
+    knows the second alone.
+    """
+
+    hull: "Solid"
+    #: By the leaf of a hull the corners of a lid.
+    lids: "List[tuple[Leaf, List[Vector]]]"
+    pieces: "Solid"
+
+
+Solid = Union[Leaf, "Join[Leaf]", Carved]
 
 
 def joined(operation: str, parts: "Sequence[Optional[Union[L, Join[L]]]]") -> "Optional[Union[L, Join[L]]]":
@@ -65,7 +79,9 @@ def _flattened(parts: "Sequence[Union[L, Join[L]]]") -> "List[Union[L, Join[L]]]
 
 def leaves(tree: "Optional[Union[L, Join[L]]]") -> Iterable[L]:
     """The leaves, from left to right."""
-    if isinstance(tree, Join):
+    if isinstance(tree, Carved):
+        yield from leaves(tree.pieces)  # type: ignore[misc]
+    elif isinstance(tree, Join):
         for it in tree.parts:
             yield from leaves(it)
     elif tree is not None:
@@ -74,6 +90,8 @@ def leaves(tree: "Optional[Union[L, Join[L]]]") -> Iterable[L]:
 
 def is_union(tree: "Optional[Union[L, Join[L]]]") -> bool:
     """Whether it is a leaf, a union of leaves, or nothing."""
+    if isinstance(tree, Carved):
+        return is_union(tree.pieces)
     return not isinstance(tree, Join) or (tree.operation == UNION and all(map(is_union, tree.parts)))
 
 

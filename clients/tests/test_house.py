@@ -83,6 +83,10 @@ class House(unittest.TestCase):
         self.list("# ground: words\nlow_words: high_words\n# roof: what is made of words\nhigh_words:\n")
         self.assert_fault("low_words stands on high_words, which is of a higher layer")
 
+    def test_a_crate_that_stands_on_a_library_that_none_may(self):
+        self.list("# ground: words\nlow_words: itoa libc\n\n# roof: what is made of words\nhigh_words may_wait=2: low_words\n")
+        self.assert_fault("low_words stands on libc, which is neither a crate nor a library that crates may stand on")
+
     def test_a_crate_before_the_first_layer(self):
         self.list("low_words:\n# roof: what is made of words\nhigh_words: low_words\n")
         self.assert_fault("low_words stands in no layer")
