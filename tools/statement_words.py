@@ -80,7 +80,7 @@ HEADINGS: list[Heading] = [
 ]
 
 HEAD = (
-    "This page is the whole of what is proved of the program: the contract of the public call `serve`, and each definition "
+    "This page is the whole of what `serve` promises: the contract of the public call `serve`, and each definition "
     "that its clauses reach. Whoever trusts the theorem trusts this page and what is assumed below, and needs no other file. "
     "These are {definitions} definitions and types in {lines} lines, of which most are the language's own. The prover has "
     "checked that the code meets these words. That they say what is meant, only a reader can judge."
