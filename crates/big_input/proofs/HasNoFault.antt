@@ -10,8 +10,8 @@ use Rattle.script_reader.specs.declared.script.Command.{Command}
 use Rattle.script_reader.specs.declared.script.Command.TheVariants.{Put, Export}
 use Rattle.script_reader.specs.declared.script.Script.{Script}
 use Rattle.script_reader.specs.Lines.{newline, IsFirstLine, BeginsWith}
-use Rattle.script_reader.specs.Spelling.{IsNameByte, IsName, Writes}
-use Rattle.script_reader.specs.Scripts.{Entry, IsEntry, IsSound, AreSound, EndsScript, IsScript, clients_of, commands_of}
+use Rattle.script_reader.specs.Spelling.{IsNameByte, IsName, WritesNumber}
+use Rattle.script_reader.specs.Scripts.{ClientLine, IsEntry, IsSoundLine, AreSound, EndsScript, IsScript, clients_of, commands_of}
 use Rattle.big_input.specs.DemoScript.{client_name, client_lines, demo_script}
 
 -- ---- numerals
@@ -81,7 +81,7 @@ first_is bytes line rest plain whole e = record {
 abbrev put_line : List ℕ → ℕ → List ℕ → List ℕ
 put_line name digit text = name ++ (codes " put " ++ (digit ∷ (32 ∷ text)))
 
-put_is : (name text : List ℕ) (digit number : ℕ) → IsName name → Writes (digit ∷ []) number → IsEntry (put_line name digit text) (record { name = name; command = Put number text })
+put_is : (name text : List ℕ) (digit number : ℕ) → IsName name → WritesNumber (digit ∷ []) number → IsEntry (put_line name digit text) (record { name = name; command = Put number text })
 put_is name text digit number named written = (
   codes " put " ++ digit ∷ 32 ∷ text,
   record { spelled = refl; named = named; ended = inr (codes "put " ++ digit ∷ 32 ∷ text, refl) },
@@ -98,10 +98,10 @@ export_is name named = (
   inl (codes "export", refl, refl),
 )
 
-one : Writes (codes "1") 1
+one : WritesNumber (codes "1") 1
 one = (record { some = omega arith; short = omega arith; digits = (omega arith, tt) }, refl)
 
-two : Writes (codes "2") 2
+two : WritesNumber (codes "2") 2
 two = (record { some = omega arith; short = omega arith; digits = (omega arith, tt) }, refl)
 
 -- ---- the lines of one client
@@ -112,13 +112,13 @@ module_text client =
 abbrev loop_text : ℕ → List ℕ
 loop_text n = codes "for (i = [1 : " ++ (numeral n ++ codes "]) part(i);")
 
-abbrev module_entry : ℕ → Entry
+abbrev module_entry : ℕ → ClientLine
 module_entry client = record { name = client_name client; command = Put 1 (module_text client) }
 
-abbrev loop_entry : ℕ → ℕ → Entry
+abbrev loop_entry : ℕ → ℕ → ClientLine
 loop_entry n client = record { name = client_name client; command = Put 2 (loop_text n) }
 
-abbrev export_entry : ℕ → Entry
+abbrev export_entry : ℕ → ClientLine
 export_entry client = record { name = client_name client; command = Export }
 
 regroup : (name a depth b c digits d e rest : List ℕ) →
@@ -192,29 +192,29 @@ few_step : (same : Bool) (command : Command) (commands : List Command) (n : ℕ)
 few_step true command commands n few = omega (arith, few)
 few_step false command commands n few = omega (arith, few)
 
-few_commands : (name : List ℕ) (es : List Entry) → length (commands_of name es) ≤ length es
+few_commands : (name : List ℕ) (es : List ClientLine) → length (commands_of name es) ≤ length es
 few_commands name [] = omega arith
 few_commands name (e ∷ es) = few_step (bytes_eq name e.name) e.command (commands_of name es) (length es) (few_commands name es)
 
 -- the lines of clients, up to the module of the next one, up to its loop, and up to its export
-abbrev with_module : List Entry → ℕ → List Entry
+abbrev with_module : List ClientLine → ℕ → List ClientLine
 with_module before client = before ++ module_entry client ∷ []
 
-abbrev with_loop : ℕ → List Entry → ℕ → List Entry
+abbrev with_loop : ℕ → List ClientLine → ℕ → List ClientLine
 with_loop n before client = with_module before client ++ loop_entry n client ∷ []
 
-abbrev with_export : ℕ → List Entry → ℕ → List Entry
+abbrev with_export : ℕ → List ClientLine → ℕ → List ClientLine
 with_export n before client = with_loop n before client ++ export_entry client ∷ []
 
 -- a client has a name, and before each of its lines stand fewer clients than there may be
-record HasRoomFor (n : ℕ) (before : List Entry) (client : ℕ) : Type 0 where
+record HasRoomFor (n : ℕ) (before : List ClientLine) (client : ℕ) : Type 0 where
   named : IsName (client_name client)
   few : length before ≤ 100
   first : ltb (length (clients_of before)) 16 ≡ true
   second : ltb (length (clients_of (with_module before client))) 16 ≡ true
   third : ltb (length (clients_of (with_loop n before client))) 16 ≡ true
 
-sound_by : (before : List Entry) (line : List ℕ) (e : Entry) → length line ≤ 1024 → IsEntry line e → length before ≤ 102 → ltb (length (clients_of before)) 16 ≡ true → IsSound before line e
+sound_by : (before : List ClientLine) (line : List ℕ) (e : ClientLine) → length line ≤ 1024 → IsEntry line e → length before ≤ 102 → ltb (length (clients_of before)) 16 ≡ true → IsSoundLine before line e
 sound_by before line e short entry few room = record {
   short = short;
   entry = entry;
@@ -236,7 +236,7 @@ loop_short n few = omega (arith, few, numeral_few n, length-append (codes "for (
 export_short : (name : List ℕ) → IsName name → length (export_line name) ≤ 1024
 export_short name named = omega (arith, named.short, length-append name (codes " export"))
 
-client_sound : (n : ℕ) (before all : List Entry) (client : ℕ) (lines : List (List ℕ)) → n ≤ 200 → HasRoomFor n before client
+client_sound : (n : ℕ) (before all : List ClientLine) (client : ℕ) (lines : List (List ℕ)) → n ≤ 200 → HasRoomFor n before client
     → AreSound (with_export n before client) lines all → AreSound before (lines_of n client ++ lines) all
 client_sound n before all client lines small room h =
     let name : List ℕ = client_name client in
@@ -257,11 +257,11 @@ client_sound n before all client lines small room h =
     )
 
 -- ---- all clients
-abbrev HaveRoom : ℕ → List Entry → List ℕ → Type 0
+abbrev HaveRoom : ℕ → List ClientLine → List ℕ → Type 0
 HaveRoom n before [] = Unit {0}
 HaveRoom n before (client ∷ clients) = HasRoomFor n before client × HaveRoom n (with_export n before client) clients
 
-clients_end : (n : ℕ) (before : List Entry) (clients : List ℕ) → n ≤ 200 → HaveRoom n before clients → (script : Script) × EndsScript before (flat_map (client_lines n) clients) script
+clients_end : (n : ℕ) (before : List ClientLine) (clients : List ℕ) → n ≤ 200 → HaveRoom n before clients → (script : Script) × EndsScript before (flat_map (client_lines n) clients) script
 clients_end n before [] small h = (record { clients = clients_of before }, ([], before, refl, refl, refl))
 clients_end n before (client ∷ clients) small h =
     let more = clients_end n (with_export n before client) clients small h.1 in (
@@ -298,7 +298,7 @@ client_short n client small named =
     (three_short (put_line name 49 (module_text client)) (put_line name 50 (loop_text n)) (export_line name)
     (put_short name (module_text client) 49 named (module_short client)) (put_short name (loop_text n) 50 named (loop_short n small)) (export_short name named))
 
-clients_short : (n : ℕ) (before : List Entry) (clients : List ℕ) → n ≤ 200 → HaveRoom n before clients → length (flat_map (client_lines n) clients) ≤ 4000 * length clients
+clients_short : (n : ℕ) (before : List ClientLine) (clients : List ℕ) → n ≤ 200 → HaveRoom n before clients → length (flat_map (client_lines n) clients) ≤ 4000 * length clients
 clients_short n before [] small h = omega arith
 clients_short n before (client ∷ clients) small h =
     omega (

@@ -9,23 +9,23 @@ use Rattle.plane_predicate.proofs.IntegerRing.{sums}
 use Rattle.plane_predicate.proofs.Vectors.{value-opposite}
 use Rattle.plane_polygon.specs.declared.classes.Class.{Class}
 use Rattle.plane_polygon.specs.declared.classes.Class.TheVariants.{Behind}
-use Rattle.plane_polygon.specs.Polygons.{Outline, nowhere, IsPolygon}
-use Rattle.plane_polygon.specs.Parallels.{HasAllOn, IsAlike}
+use Rattle.plane_polygon.specs.Polygons.{Outline, missing_plane, IsPolygon}
+use Rattle.plane_polygon.specs.Parallels.{HasAllOn, HasSameDirection}
 use Rattle.plane_polygon.specs.Parts.{class_of}
 use Rattle.plane_polygon.specs.Boxes.{high_x, low_x, high_y, low_y, high_z, low_z, trimmed_outline, outline_trimmed_to, box_outline}
 use Rattle.plane_polygon.proofs.BoxStarts.{four, four_polygon, over_x_above, over_x_below, over_y_above, over_y_below, over_z_above, over_z_below}
 use Rattle.plane_polygon.proofs.ParallelPlanes.{below_is_behind, above_is_ahead, same_direction}
 use Rattle.plane_table.specs.declared.faces.Face.{Face}
-use Rattle.plane_table.specs.Tables.{oriented_by_number, HasNoTwoAlike, IsNumberIn}
+use Rattle.plane_table.specs.Tables.{oriented_by_number, HasNoTwoAlike, NamesPlaneIn}
 use Rattle.plane_table.specs.Faces.{outline_of, IsFaceOver}
 use Rattle.plane_table.specs.Orders.{normal_form, plane_order}
 use Rattle.plane_table.proofs.Orders.{ascending_apart}
 use Rattle.bsp_tree.specs.Shapes.{SolidParts}
-use Rattle.bsp_tree.specs.Trees.{Tree, inside}
+use Rattle.bsp_tree.specs.Trees.{BspTree, inside}
 use Rattle.bsp_boolean.specs.declared.leaf_building.BuildStop.{BuildStop}
 use Rattle.bsp_boolean.specs.Chains.{behind_all, chain_of, outlines_of}
 use Rattle.bsp_boolean.specs.LeafSolids.{solid_of_leaf, IsBuilt}
-use Rattle.bsp_boolean.specs.UprightBoxes.{box_faces, table_of, wall, HasRoom, IsBox, IsPair}
+use Rattle.bsp_boolean.specs.UprightBoxes.{upright_box_faces, table_of, wall, HasRoomBetween, IsBox, IsPair}
 use Rattle.bsp_boolean.proofs.Rectangles.{lies_behind}
 use Rattle.bsp_boolean.proofs.BoxRows.{boxed, Axis, IsApart, AreApartPairs}
 use Rattle.bsp_boolean.proofs.Convex.{all_is_convex}
@@ -34,7 +34,7 @@ use Rattle.bsp_boolean.proofs.Convex.{all_is_convex}
 abbrev upright : ℤ → ℤ → ℤ → ℤ → Coefficients
 upright a b c d = record { a = a; b = b; c = c; d = d }
 
-upright_is : (m n : Coefficients) → IsAlike m n → m ≡ upright n.a n.b n.c m.d
+upright_is : (m n : Coefficients) → HasSameDirection m n → m ≡ upright n.a n.b n.c m.d
 upright_is m n h =
     let a = h.a in
     let b = h.b in
@@ -67,7 +67,7 @@ facing_back a b c d e k =
     subst (λ (m : Coefficients). HasAllOn (upright (neg_ℤ a) (neg_ℤ b) (neg_ℤ c) d) m lying.Behind) same
     (facing_it (upright (neg_ℤ a) (neg_ℤ b) (neg_ℤ c) d) e k)
 
-axis : (a b c p q : ℤ) → HasRoom p q →
+axis : (a b c p q : ℤ) → HasRoomBetween p q →
     Axis (upright (neg_ℤ a) (neg_ℤ b) (neg_ℤ c) (pos 4096)) (upright (neg_ℤ a) (neg_ℤ b) (neg_ℤ c) p) (upright a b c q) (upright a b c (pos 4096))
 axis a b c p q h =
     let low = h.low_within in
@@ -106,7 +106,7 @@ abbrev z_high : ℤ → Coefficients
 z_high d = upright (pos 0) (pos 0) (pos 1) d
 
 -- the offsets aren't opposite
-differ : (p q : ℤ) → HasRoom p q → int_eq q (neg_ℤ p) ≡ false
+differ : (p q : ℤ) → HasRoomBetween p q → int_eq q (neg_ℤ p) ≡ false
 differ p q h =
     let room = h.between in
     elim (int_eq q (neg_ℤ p)) as (λ b. int_eq q (neg_ℤ p) ≡ b → b ≡ false) [
@@ -114,13 +114,13 @@ differ p q h =
       | false ↦ λ e. refl
     ] refl
 
-x_apart : (p q : ℤ) → HasRoom p q → IsApart (x_high q) (x_low p)
+x_apart : (p q : ℤ) → HasRoomBetween p q → IsApart (x_high q) (x_low p)
 x_apart p q h = record { same = refl; opposite = differ p q h }
 
-y_apart : (p q : ℤ) → HasRoom p q → IsApart (y_high q) (y_low p)
+y_apart : (p q : ℤ) → HasRoomBetween p q → IsApart (y_high q) (y_low p)
 y_apart p q h = record { same = refl; opposite = differ p q h }
 
-z_apart : (p q : ℤ) → HasRoom p q → IsApart (z_high q) (z_low p)
+z_apart : (p q : ℤ) → HasRoomBetween p q → IsApart (z_high q) (z_low p)
 z_apart p q h = record { same = refl; opposite = differ p q h }
 
 -- ---- box polygons
@@ -144,14 +144,14 @@ Rises [] = Unit {0}
 Rises (m ∷ []) = Unit {0}
 Rises (m ∷ n ∷ ms) = (plane_order m n ≡ Less) × Rises (n ∷ ms)
 
-next_rises : (ms : List Coefficients) (i : ℕ) → Rises ms → i + 1 < length ms → plane_order (get_or ms i nowhere) (get_or ms (i + 1) nowhere) ≡ Less
+next_rises : (ms : List Coefficients) (i : ℕ) → Rises ms → i + 1 < length ms → plane_order (get_or ms i missing_plane) (get_or ms (i + 1) missing_plane) ≡ Less
 next_rises [] i h l = absurd (omega arith)
 next_rises (m ∷ []) i h l = absurd (omega arith)
 next_rises (m ∷ n ∷ ms) zero h l = h.0
 next_rises (m ∷ n ∷ ms) (suc i) h l =
-    let e : get_or (m ∷ n ∷ ms) (suc i + 1) nowhere ≡ get_or (n ∷ ms) (i + 1) nowhere =
-    ap (λ (k : ℕ). get_or (m ∷ n ∷ ms) k nowhere) (add-one (suc i)) ∙ ap (λ (k : ℕ). get_or (n ∷ ms) k nowhere) (sym (add-one i)) in
-    ap (plane_order (get_or (n ∷ ms) i nowhere)) e ∙ next_rises (n ∷ ms) i h.1 (omega arith)
+    let e : get_or (m ∷ n ∷ ms) (suc i + 1) missing_plane ≡ get_or (n ∷ ms) (i + 1) missing_plane =
+    ap (λ (k : ℕ). get_or (m ∷ n ∷ ms) k missing_plane) (add-one (suc i)) ∙ ap (λ (k : ℕ). get_or (n ∷ ms) k missing_plane) (sym (add-one i)) in
+    ap (plane_order (get_or (n ∷ ms) i missing_plane)) e ∙ next_rises (n ∷ ms) i h.1 (omega arith)
 
 rising : (ms : List Coefficients) → Rises ms → HasNoTwoAlike ms
 rising ms h = ascending_apart ms (record { next = λ i l. next_rises ms i h l })
@@ -159,7 +159,7 @@ rising ms h = ascending_apart ms (record { next = λ i l. next_rises ms i h l })
 abbrev table : (a b c d e f : ℤ) → List Coefficients
 table a b c d e f = low_z ∷ z_low e ∷ z_high f ∷ high_z ∷ low_y ∷ y_low c ∷ y_high d ∷ high_y ∷ x_low a ∷ x_high b ∷ []
 
-table_rises : (a b c d e f : ℤ) → HasRoom a b → HasRoom c d → HasRoom e f → Rises (table a b c d e f)
+table_rises : (a b c d e f : ℤ) → HasRoomBetween a b → HasRoomBetween c d → HasRoomBetween e f → Rises (table a b c d e f)
 unfolding normal_form
 table_rises a b c d e f x y z =
     let xr = x.between in
@@ -195,11 +195,11 @@ table_rises a b c d e f x y z =
     )
 
 -- ---- the faces
-edges_in : (planes : List Coefficients) (a b c d : ℕ) → IsNumberIn planes a → IsNumberIn planes b → IsNumberIn planes c → IsNumberIn planes d →
-    All (IsNumberIn planes) (a ∷ b ∷ c ∷ d ∷ [])
+edges_in : (planes : List Coefficients) (a b c d : ℕ) → NamesPlaneIn planes a → NamesPlaneIn planes b → NamesPlaneIn planes c → NamesPlaneIn planes d →
+    All (NamesPlaneIn planes) (a ∷ b ∷ c ∷ d ∷ [])
 edges_in planes a b c d ha hb hc hd =
-    All-cons (IsNumberIn planes) a (b ∷ c ∷ d ∷ []) ha (All-cons (IsNumberIn planes) b (c ∷ d ∷ []) hb
-    (All-cons (IsNumberIn planes) c (d ∷ []) hc (All-cons (IsNumberIn planes) d [] hd (All-nil (IsNumberIn planes)))))
+    All-cons (NamesPlaneIn planes) a (b ∷ c ∷ d ∷ []) ha (All-cons (NamesPlaneIn planes) b (c ∷ d ∷ []) hb
+    (All-cons (NamesPlaneIn planes) c (d ∷ []) hc (All-cons (NamesPlaneIn planes) d [] hd (All-nil (NamesPlaneIn planes)))))
 
 six_all : {A : Type 0} (P : A → Type 0) (a b c d e f : A) → P a → P b → P c → P d → P e → P f → All P (a ∷ b ∷ c ∷ d ∷ e ∷ f ∷ [])
 six_all P a b c d e f ha hb hc hd he hf =
@@ -219,15 +219,15 @@ face_over planes n a b c d ten hn ha hb hc hd p = record {
 
 -- ---- all of it, by the six offsets
 record IsKnown (a b c d e f : ℤ) : Type 0 where
-  pub tree : behind_all (map box_outline (x_low a ∷ x_high b ∷ y_low c ∷ y_high d ∷ z_low e ∷ z_high f ∷ [])) ≡ chain_of (outlines_of (table a b c d e f) box_faces) inside
-  pub faces : All (IsFaceOver (table a b c d e f)) box_faces
+  pub tree : behind_all (map box_outline (x_low a ∷ x_high b ∷ y_low c ∷ y_high d ∷ z_low e ∷ z_high f ∷ [])) ≡ chain_of (outlines_of (table a b c d e f) upright_box_faces) inside
+  pub faces : All (IsFaceOver (table a b c d e f)) upright_box_faces
   pub apart : HasNoTwoAlike (table a b c d e f)
 
 six_outlines : (r s t u v w : Outline) (m n o p q k : Coefficients) → box_outline m ≡ r → box_outline n ≡ s → box_outline o ≡ t → box_outline p ≡ u → box_outline q ≡ v → box_outline k ≡ w →
     map box_outline (m ∷ n ∷ o ∷ p ∷ q ∷ k ∷ []) ≡ r ∷ s ∷ t ∷ u ∷ v ∷ w ∷ []
 six_outlines r s t u v w m n o p q k a b c d e f = λ i. a i ∷ b i ∷ c i ∷ d i ∷ e i ∷ f i ∷ []
 
-known : (a b c d e f : ℤ) → HasRoom a b → HasRoom c d → HasRoom e f → IsKnown a b c d e f
+known : (a b c d e f : ℤ) → HasRoomBetween a b → HasRoomBetween c d → HasRoomBetween e f → IsKnown a b c d e f
 unfolding oriented_by_number
 known a b c d e f hx hy hz =
     let x : Axis low_x (x_low a) (x_high b) high_x = axis (pos 1) (pos 0) (pos 0) a b hx in
@@ -296,13 +296,13 @@ six_items (a ∷ b ∷ c ∷ d ∷ e ∷ f ∷ []) h = refl
 six_items (a ∷ b ∷ c ∷ d ∷ e ∷ f ∷ g ∷ ms) h = absurd (omega arith)
 
 pub record HasKnownFaces (planes : List Coefficients) : Type 0 where
-  pub tree : chain_of (outlines_of (table_of planes) box_faces) inside ≡ solid_of_leaf planes
-  pub faces : All (IsFaceOver (table_of planes)) box_faces
+  pub tree : chain_of (outlines_of (table_of planes) upright_box_faces) inside ≡ solid_of_leaf planes
+  pub faces : All (IsFaceOver (table_of planes)) upright_box_faces
   pub apart : HasNoTwoAlike (table_of planes)
 
 pub record HasKnownWalls (m n o p q k : Coefficients) : Type 0 where
-  pub tree : behind_all (map box_outline (m ∷ n ∷ o ∷ p ∷ q ∷ k ∷ [])) ≡ chain_of (outlines_of (low_z ∷ q ∷ k ∷ high_z ∷ low_y ∷ o ∷ p ∷ high_y ∷ m ∷ n ∷ []) box_faces) inside
-  pub faces : All (IsFaceOver (low_z ∷ q ∷ k ∷ high_z ∷ low_y ∷ o ∷ p ∷ high_y ∷ m ∷ n ∷ [])) box_faces
+  pub tree : behind_all (map box_outline (m ∷ n ∷ o ∷ p ∷ q ∷ k ∷ [])) ≡ chain_of (outlines_of (low_z ∷ q ∷ k ∷ high_z ∷ low_y ∷ o ∷ p ∷ high_y ∷ m ∷ n ∷ []) upright_box_faces) inside
+  pub faces : All (IsFaceOver (low_z ∷ q ∷ k ∷ high_z ∷ low_y ∷ o ∷ p ∷ high_y ∷ m ∷ n ∷ [])) upright_box_faces
   pub apart : HasNoTwoAlike (low_z ∷ q ∷ k ∷ high_z ∷ low_y ∷ o ∷ p ∷ high_y ∷ m ∷ n ∷ [])
 
 known_walls : (m n o p q k : Coefficients) → IsPair m n low_x high_x → IsPair o p low_y high_y → IsPair q k low_z high_z → HasKnownWalls m n o p q k
@@ -330,10 +330,10 @@ box_known planes h =
     }
 
 -- what was built of a box's faces
-pub box_built : (planes ms : List Coefficients) (faces : List Face) (most : ℕ) (r : Result SolidParts BuildStop) → IsBox planes → ms ≡ table_of planes → faces ≡ box_faces →
+pub box_built : (planes ms : List Coefficients) (faces : List Face) (most : ℕ) (r : Result SolidParts BuildStop) → IsBox planes → ms ≡ table_of planes → faces ≡ upright_box_faces →
     IsBuilt (chain_of (outlines_of ms faces) inside) most r → IsBuilt (solid_of_leaf planes) most r
 box_built planes ms faces most r h e k built =
-    subst (λ (t : Tree). IsBuilt t most r)
+    subst (λ (t : BspTree). IsBuilt t most r)
     (ap₂ (λ (ps : List Coefficients) (fs : List Face). chain_of (outlines_of ps fs) inside) e k ∙ (box_known planes h).tree) built
 
 -- each plane of a box is a plane

@@ -7,7 +7,7 @@ use Rattle.plane_polygon.specs.Parallels.{HasAllOn}
 use Rattle.plane_polygon.specs.Polygons.{Outline, IsPolygon}
 use Rattle.plane_polygon.specs.Parts.{class_of, part_behind}
 use Rattle.plane_polygon.proofs.BoxStarts.{four}
-use Rattle.bsp_tree.specs.Trees.{Tree, inside, outside, node, make}
+use Rattle.bsp_tree.specs.Trees.{BspTree, inside, outside, node, make}
 use Rattle.bsp_tree.specs.Partitions.{divide, rows}
 use Rattle.bsp_boolean.specs.Chains.{behind_all}
 use Rattle.bsp_boolean.proofs.Rectangles.{CutsTo, cut_first, cut_second, cut_third, cut_fourth, lies_behind}
@@ -18,25 +18,25 @@ pub record IsApart (t s : Coefficients) : Type 0 where
   pub opposite : is_same t (opposite_of s) ≡ false
 
 -- ---- the first face of a chain, behind the plane of one more face
-across : (t s u v : Outline) (b c : Tree) → IsApart t.plane s.plane → CutsTo s t.plane v → CutsTo t s.plane u → (divide b v).0 ≡ c →
+across : (t s u v : Outline) (b c : BspTree) → IsApart t.plane s.plane → CutsTo s t.plane v → CutsTo t s.plane u → (divide b v).0 ≡ c →
     (divide (node t b outside) s).0 ≡ make u c outside
 across t s u v b c k p q e =
     let row : (divide (node t b outside) s).0 ≡ make (part_behind t s.plane) (divide b (part_behind s t.plane)).0 outside =
     λ i. (if k.same i then (b, outside) else (if k.opposite i then (outside, b) else
     rows (p.across i) (q.across i) s t b outside (divide b s) (outside, outside) (divide b (part_behind s t.plane)) (outside, outside))).0 in
-    row ∙ ap₂ (λ (r : Outline) (w : Tree). make r w outside) q.part (ap (λ (r : Outline). (divide b r).0) p.part ∙ e)
+    row ∙ ap₂ (λ (r : Outline) (w : BspTree). make r w outside) q.part (ap (λ (r : Outline). (divide b r).0) p.part ∙ e)
 
-passes : (t s : Outline) (b c : Tree) → IsApart t.plane s.plane → class_of s t.plane ≡ Behind → class_of t s.plane ≡ Behind → (divide b s).0 ≡ c →
+passes : (t s : Outline) (b c : BspTree) → IsApart t.plane s.plane → class_of s t.plane ≡ Behind → class_of t s.plane ≡ Behind → (divide b s).0 ≡ c →
     (divide (node t b outside) s).0 ≡ make t c outside
 passes t s b c k p q e =
     let row : (divide (node t b outside) s).0 ≡ make t (divide b s).0 outside =
     λ i. (if k.same i then (b, outside) else (if k.opposite i then (outside, b) else
     rows (p i) (q i) s t b outside (divide b s) (outside, outside) (divide b (part_behind s t.plane)) (outside, outside))).0 in
-    row ∙ ap (λ (w : Tree). make t w outside) e
+    row ∙ ap (λ (w : BspTree). make t w outside) e
 
 -- one face more
-before : (s : Outline) (b c d : Tree) → b ≡ c → (divide c s).0 ≡ d → make s (divide b s).0 outside ≡ make s d outside
-before s b c d e k = ap (λ (w : Tree). make s w outside) (ap (λ (w : Tree). (divide w s).0) e ∙ k)
+before : (s : Outline) (b c d : BspTree) → b ≡ c → (divide c s).0 ≡ d → make s (divide b s).0 outside ≡ make s d outside
+before s b c d e k = ap (λ (w : BspTree). make s w outside) (ap (λ (w : BspTree). (divide w s).0) e ∙ k)
 
 -- ---- four parallel planes: of the world box, the low and the high one of a box, and of the world box. The low ones face
 -- one way, and the high ones the other
@@ -141,9 +141,9 @@ boxed lx xl xh hx ly yl yh hy lz zl zh hz x y z ax ay az kyx kzx kzy p1 p2 p3 p4
     let s4b : Outline = four yh lx hz xh lz in
     let s5b : Outline = four zl lx yh xh yl in
     let s6b : Outline = four zh lx yl xh yh in
-    let b6 : Tree = node s6b inside outside in
-    let b5 : Tree = node s5b b6 outside in
-    let b4 : Tree = node s4b b5 outside in
+    let b6 : BspTree = node s6b inside outside in
+    let b5 : BspTree = node s5b b6 outside in
+    let b4 : BspTree = node s4b b5 outside in
     let two_six = across t6 (four xh yh hz yl zl) s6b (four xh yh zh yl zl) inside inside kzx.n_v f2 c6 refl in
     let two_five = across t5 (four xh lz yh hz yl) s5b (four xh yh hz yl zl) (node t6 inside outside) b6 kzx.m_v e2 c5 two_six in
     let two_four = across s4 (four xh lz hy hz yl) s4b (four xh lz yh hz yl) (node t5 (node t6 inside outside) outside) b5 kyx.n_v d2 c4 two_five in
@@ -159,10 +159,10 @@ boxed lx xl xh hx ly yl yh hy lz zl zh hz x y z ax ay az kyx kzx kzy p1 p2 p3 p4
     let e4 = cut_first yh lx hz xh lz xl c4.polygon x.l_m x.n_m in
     let e5 = cut_first zl lx yh xh yl xl c5.polygon x.l_m x.n_m in
     let e6 = cut_first zh lx yl xh yh xl c6.polygon x.l_m x.n_m in
-    let a6 : Tree = node (four zh yl xh yh xl) inside outside in
-    let a5 : Tree = node (four zl yh xh yl xl) a6 outside in
-    let a4 : Tree = node (four yh hz xh lz xl) a5 outside in
-    let a3 : Tree = node (four yl lz xh hz xl) a4 outside in
+    let a6 : BspTree = node (four zh yl xh yh xl) inside outside in
+    let a5 : BspTree = node (four zl yh xh yl xl) a6 outside in
+    let a4 : BspTree = node (four yh hz xh lz xl) a5 outside in
+    let a3 : BspTree = node (four yl lz xh hz xl) a4 outside in
     let one_six = across s6b (four xl hz yh zl yl) (four zh yl xh yh xl) (four xl yh zl yl zh) inside inside kzx.n_u f1 e6 refl in
     let one_five = across s5b (four xl hz yh lz yl) (four zl yh xh yl xl) (four xl hz yh zl yl) b6 a6 kzx.m_u e1 e5 one_six in
     let one_four = across s4b (four xl hz hy lz yl) (four yh hz xh lz xl) (four xl hz yh lz yl) b5 a5 kyx.n_u d1 e4 one_five in

@@ -3,8 +3,8 @@ use Rattle.std.proofs.Common.{◌≡◌, ◌⊎◌, inl, inr, Bool, true, false,
 use Rattle.plane_predicate.specs.Space.{Coefficients, Coordinates, value, opposite_of}
 use Rattle.plane_predicate.proofs.Signs.{signs}
 use Rattle.plane_polygon.specs.Polygons.{Outline}
-use Rattle.bsp_tree.specs.Trees.{Tree, inside, outside, node, walk, make}
-use Rattle.bsp_tree.specs.Cells.{IsIn, IsOfCell, IsOff, IsPlaneOf}
+use Rattle.bsp_tree.specs.Trees.{BspTree, inside, outside, node, walk, make}
+use Rattle.bsp_tree.specs.Cells.{IsInCell, IsOfCell, IsOffPlanesOf, IsPlaneOf}
 use Rattle.bsp_tree.proofs.Opposites.{opposite_below}
 use Rattle.bsp_tree.proofs.Walks.{make_walk, walk_behind, walk_ahead}
 use Rattle.bsp_tree.specs.Partitions.{divide}
@@ -18,12 +18,12 @@ abbrev pub either_or_both : Bool → Bool → Bool → Bool
 either_or_both true x y = x || y
 either_or_both false x y = x && y
 
-inside_left : (d : Bool) (r : Tree) (p : Coordinates) → walk (if d then inside else r) p
+inside_left : (d : Bool) (r : BspTree) (p : Coordinates) → walk (if d then inside else r) p
     ≡ either_or_both d true (walk r p)
 inside_left true r p = refl
 inside_left false r p = refl
 
-outside_left : (d : Bool) (r : Tree) (p : Coordinates) → walk (if d then r else outside) p
+outside_left : (d : Bool) (r : BspTree) (p : Coordinates) → walk (if d then r else outside) p
     ≡ either_or_both d false (walk r p)
 outside_left true r p = refl
 outside_left false r p = refl
@@ -44,19 +44,19 @@ never : (x : Bool) → false ≡ (x && false)
 never true = refl
 never false = refl
 
-inside_right : (d : Bool) (l : Tree) (p : Coordinates) → walk (if d then inside else l) p
+inside_right : (d : Bool) (l : BspTree) (p : Coordinates) → walk (if d then inside else l) p
     ≡ either_or_both d (walk l p) true
 inside_right true l p = always (walk l p)
 inside_right false l p = with_true (walk l p)
 
-outside_right : (d : Bool) (l : Tree) (p : Coordinates) → walk (if d then l else outside) p
+outside_right : (d : Bool) (l : BspTree) (p : Coordinates) → walk (if d then l else outside) p
     ≡ either_or_both d (walk l p) false
 outside_right true l p = with_false (walk l p)
 outside_right false l p = never (walk l p)
 
 -- the walk of a node goes on at the side of the point, in the node's solids and in those that are put
 -- together from them
-on_a_side : (d : Bool) (s : Outline) (b a x y : Tree) (r : Bool) (p : Coordinates) →
+on_a_side : (d : Bool) (s : Outline) (b a x y : BspTree) (r : Bool) (p : Coordinates) →
     (value s.plane p ≡ pos 0 → ⊥) →
     (value s.plane p <ℤ pos 0 → walk x p ≡ either_or_both d (walk b p) r) →
     (pos 0 <ℤ value s.plane p → walk y p ≡ either_or_both d (walk a p) r) →
@@ -70,8 +70,8 @@ on_a_side d s b a x y r p off low high = make_walk s x y p ∙ (elim (signs (val
 ])
 
 -- for a point of the cell off all planes of both, the walk is the operation on the two walks
-pub combined_walks : (d : Bool) (l r : Tree) (cell : List Coefficients) → IsOfCell cell l → IsOfCell cell r →
-    (p : Coordinates) → IsIn cell p → IsOff l p → IsOff r p →
+pub combined_walks : (d : Bool) (l r : BspTree) (cell : List Coefficients) → IsOfCell cell l → IsOfCell cell r →
+    (p : Coordinates) → IsInCell cell p → IsOffPlanesOf l p → IsOffPlanesOf r p →
     walk (combination d l r) p ≡ either_or_both d (walk l p) (walk r p)
 combined_walks d inside r cell hl hr p hp ol or = inside_left d r p
 combined_walks d outside r cell hl hr p hp ol or = outside_left d r p
@@ -94,7 +94,7 @@ combined_walks d (node s b a) (node t c e) cell hl hr p hp ol or =
     ∙ ap (either_or_both d (walk a p)) (keeps.high h))
 
 -- what holds of the leaves and of a node holds of what is made of the node
-made : (P : Tree → Type 0) (s : Outline) (b a : Tree) → P inside → P outside → P (node s b a) → P (make s b a)
+made : (P : BspTree → Type 0) (s : Outline) (b a : BspTree) → P inside → P outside → P (node s b a) → P (make s b a)
 made P s inside inside hi ho hn = hi
 made P s outside outside hi ho hn = ho
 made P s inside outside hi ho hn = hn
@@ -103,13 +103,13 @@ made P s inside (node t c d) hi ho hn = hn
 made P s outside (node t c d) hi ho hn = hn
 made P s (node t c d) a hi ho hn = hn
 
-either_cell : (d : Bool) (x y : Tree) (cell : List Coefficients) → IsOfCell cell x → IsOfCell cell y →
+either_cell : (d : Bool) (x y : BspTree) (cell : List Coefficients) → IsOfCell cell x → IsOfCell cell y →
     IsOfCell cell (if d then x else y)
 either_cell true x y cell hx hy = hx
 either_cell false x y cell hx hy = hy
 
 -- of each cell that both are of
-pub combined_cells : (d : Bool) (l r : Tree) (cell : List Coefficients) → IsOfCell cell l → IsOfCell cell r →
+pub combined_cells : (d : Bool) (l r : BspTree) (cell : List Coefficients) → IsOfCell cell l → IsOfCell cell r →
     IsOfCell cell (combination d l r)
 combined_cells d inside r cell hl hr = either_cell d inside r cell tt hr
 combined_cells d outside r cell hl hr = either_cell d r outside cell hr tt
@@ -124,7 +124,7 @@ combined_cells d (node s b a) (node t c e) cell hl hr =
       combined_cells d a parts.1 (opposite_of s.plane ∷ cell) hl.2 halves.1,
     )
 
-either_plane : (d : Bool) (x y : Tree) (m : Coefficients) → IsPlaneOf m (if d then x else y) →
+either_plane : (d : Bool) (x y : BspTree) (m : Coefficients) → IsPlaneOf m (if d then x else y) →
     IsPlaneOf m x ⊎ IsPlaneOf m y
 either_plane true x y m h = inl h
 either_plane false x y m h = inr h
@@ -134,7 +134,7 @@ exchanged (inl h) = inr h
 exchanged (inr h) = inl h
 
 -- no plane is new
-pub combined_planes : (d : Bool) (l r : Tree) (m : Coefficients) → IsPlaneOf m (combination d l r) →
+pub combined_planes : (d : Bool) (l r : BspTree) (m : Coefficients) → IsPlaneOf m (combination d l r) →
     IsPlaneOf m l ⊎ IsPlaneOf m r
 combined_planes d inside r m h = either_plane d inside r m h
 combined_planes d outside r m h = exchanged (either_plane d r outside m h)

@@ -17,7 +17,7 @@ use Rattle.bsp_tree.specs.Trees.{outside, size}
 use Rattle.bsp_tree.specs.Shapes.{tree_of}
 use Rattle.bsp_boolean.specs.Merges.{merge_of}
 use Rattle.bsp_boolean.specs.Solids.{solid_of}
-use Rattle.bsp_boolean.specs.TreeSolids.{most_of_one, most_of_all, solid_size, total_size, AreWithin, is_join, joins, merges_of, solid_over, IsOverSolids, IsGrown}
+use Rattle.bsp_boolean.specs.TreeSolids.{most_of_one, most_of_all, solid_size, total_size, AreWithinSizeLimits, one_if_join, joins, merges_of, solid_over, IsOverSolids, HasFirstSolids}
 use Rattle.bsp_boolean.specs.declared.tree_solids.FirstSolids.{FirstSolids}
 
 pub first_more : (trees : List Formula) (n : ℕ) → IsNumberIn trees n → take n trees ≡ take (n - 1) trees ++ tree_numbered trees n ∷ []
@@ -29,11 +29,11 @@ first_more trees (suc k) h =
 pub size_more : (trees : List Formula) (n : ℕ) → IsNumberIn trees n → total_size (take n trees) ≡ total_size (take (n - 1) trees) + solid_size (tree_numbered trees n)
 size_more trees n h = ap total_size (first_more trees n h) ∙ sum_by_push solid_size (take (n - 1) trees) (tree_numbered trees n)
 
-pub joins_more : (trees : List Formula) (n : ℕ) → IsNumberIn trees n → joins (take n trees) ≡ joins (take (n - 1) trees) + is_join (tree_numbered trees n)
-joins_more trees n h = ap joins (first_more trees n h) ∙ sum_by_push is_join (take (n - 1) trees) (tree_numbered trees n)
+pub joins_more : (trees : List Formula) (n : ℕ) → IsNumberIn trees n → joins (take n trees) ≡ joins (take (n - 1) trees) + one_if_join (tree_numbered trees n)
+joins_more trees n h = ap joins (first_more trees n h) ∙ sum_by_push one_if_join (take (n - 1) trees) (tree_numbered trees n)
 
-pub within_more : (trees : List Formula) (n : ℕ) → IsNumberIn trees n → AreWithin (take (n - 1) trees) →
-    solid_size (tree_numbered trees n) ≤ most_of_one → total_size (take n trees) ≤ most_of_all → AreWithin (take n trees)
+pub within_more : (trees : List Formula) (n : ℕ) → IsNumberIn trees n → AreWithinSizeLimits (take (n - 1) trees) →
+    solid_size (tree_numbered trees n) ≤ most_of_one → total_size (take n trees) ≤ most_of_all → AreWithinSizeLimits (take n trees)
 within_more trees n h w one all = record {
   each = subst (All (λ tree. solid_size tree ≤ most_of_one)) (sym (first_more trees n h))
       (All-append (λ tree. solid_size tree ≤ most_of_one) (take (n - 1) trees) (tree_numbered trees n ∷ []) w.each
@@ -100,9 +100,9 @@ same_solid trees n solids (Join op left right) before is =
     ∙ ap (λ x. merge_of op (solid_of (tree_numbered trees left)) x) (numbered_before trees n right solids before is.2 is.3)
     ∙ sym (ap solid_of is.4)
 
-pub same_merges : (trees : List Formula) (n : ℕ) (node : CsgNode) → IsNodeOf trees n node → merges_of node ≡ is_join (tree_numbered trees n)
-same_merges trees n (Leaf planes) is = sym (ap is_join is)
-same_merges trees n (Join op left right) is = sym (ap is_join is.4)
+pub same_merges : (trees : List Formula) (n : ℕ) (node : CsgNode) → IsNodeOf trees n node → merges_of node ≡ one_if_join (tree_numbered trees n)
+same_merges trees n (Leaf planes) is = sym (ap one_if_join is)
+same_merges trees n (Join op left right) is = sym (ap one_if_join is.4)
 
 pub made_solid : (trees : List Formula) (n : ℕ) (solids lent : List SolidParts) (node : CsgNode) (solid : SolidParts) →
     map tree_of solids ≡ map solid_of (take (n - 1) trees) → lent ≡ solids → IsNodeOf trees n node →
@@ -111,7 +111,7 @@ made_solid trees n solids lent node solid before same is made =
     made ∙ ap (λ x. solid_over (map tree_of x) node) same ∙ same_solid trees n solids node before is
 
 pub too_much : (trees : List Formula) (n sum : ℕ) (solid : SolidParts) → IsNumberIn trees n → sum ≡ total_size (take (n - 1) trees) →
-    AreWithin (take (n - 1) trees) → tree_of solid ≡ solid_of (tree_numbered trees n) → most_of_all - sum < size (tree_of solid) →
+    AreWithinSizeLimits (take (n - 1) trees) → tree_of solid ≡ solid_of (tree_numbered trees n) → most_of_all - sum < size (tree_of solid) →
     most_of_all < total_size (take n trees)
 too_much trees n sum solid h is within same past =
     let more = size_more trees n h in
@@ -120,9 +120,9 @@ too_much trees n sum solid h is within same past =
     omega arith
 
 pub grown_by : (trees : List Formula) (n : ℕ) (growth new : FirstSolids) (solid : SolidParts) → IsNumberIn trees n →
-    IsGrown trees (n - 1) growth → new.solids.items ≡ growth.solids.items ++ solid ∷ [] → new.sum ≡ growth.sum + size (tree_of solid) →
+    HasFirstSolids trees (n - 1) growth → new.solids.items ≡ growth.solids.items ++ solid ∷ [] → new.sum ≡ growth.sum + size (tree_of solid) →
     tree_of solid ≡ solid_of (tree_numbered trees n) → size (tree_of solid) ≤ most_of_one → size (tree_of solid) ≤ most_of_all - growth.sum →
-    IsGrown trees n new
+    HasFirstSolids trees n new
 grown_by trees n growth new solid h grown items added same small fits =
     let more = size_more trees n h in
     let own = ap size same in
@@ -136,22 +136,22 @@ grown_by trees n growth new solid h grown items added same small fits =
       within = within_more trees n h grown.within one all;
     }
 
-pub none_grown : (trees : List Formula) (growth : FirstSolids) → growth.solids.items ≡ [] → growth.sum ≡ 0 → IsGrown trees 0 growth
+pub none_grown : (trees : List Formula) (growth : FirstSolids) → growth.solids.items ≡ [] → growth.sum ≡ 0 → HasFirstSolids trees 0 growth
 none_grown trees growth none none_yet = record {
   solids = ap (map tree_of) none;
   sum = none_yet;
   within = record { each = All-nil (λ tree. solid_size tree ≤ most_of_one); together = omega arith };
 }
 
-one_at_most : (tree : Formula) → is_join tree ≤ 1
+one_at_most : (tree : Formula) → one_if_join tree ≤ 1
 one_at_most nothing = omega arith
 one_at_most (leaf planes) = omega arith
 one_at_most (joined op left right) = omega arith
 
 pub few_joins : (trees : List Formula) (n : ℕ) → joins (take n trees) ≤ length trees
 few_joins trees n =
-    let all = sum_by-take-le is_join trees n in
-    let each = sum_by-le is_join 1 trees (λ k d lt. one_at_most (get_or trees k d)) in
+    let all = sum_by-take-le one_if_join trees n in
+    let each = sum_by-le one_if_join 1 trees (λ k d lt. one_at_most (get_or trees k d)) in
     omega arith
 
 pub last_solid : (trees : List Formula) (n : ℕ) (rest : List SolidParts) (solid : SolidParts) →

@@ -4,7 +4,7 @@ use Rattle.plane_predicate.specs.Space.{Coefficients, Coordinates, value, IsInWo
 use Rattle.csg_tree.specs.Formulas.{Formula, holds, sides_of}
 use Rattle.csg_tree.specs.Formulas as formulas
 use Rattle.bsp_tree.specs.Shapes.{SolidParts}
-use Rattle.bsp_tree.specs.Trees.{Tree, inside, walk, size, half_space}
+use Rattle.bsp_tree.specs.Trees.{BspTree, inside, walk, size, half_space}
 use Rattle.bsp_tree.specs.Cells.{IsOfWorld, IsPlaneOf}
 use Rattle.bsp_tree.specs.Shapes.{tree_of}
 use Rattle.bsp_tree.specs.declared.growing.GrowStop.{GrowStop}
@@ -14,21 +14,20 @@ use Rattle.bsp_boolean.specs.declared.leaf_building.BuildStop.TheVariants.{TooBi
 use Rattle.bsp_boolean.specs.Combined.{combination}
 
 -- the solid of a leaf: the half space behind its first plane, intersected with the solid of the others
-abbrev pub solid_of_leaf : List Coefficients → Tree
+abbrev pub solid_of_leaf : List Coefficients → BspTree
 solid_of_leaf [] = inside
 solid_of_leaf (m ∷ []) = half_space m
 solid_of_leaf (m ∷ n ∷ planes) = combination false (half_space m) (solid_of_leaf (n ∷ planes))
 
 -- a solid is built: the one that is wanted where its size is at most the limit, and else it is too big
-abbrev pub IsBuilt : Tree → ℕ → Result SolidParts BuildStop → Type 0
+abbrev pub IsBuilt : BspTree → ℕ → Result SolidParts BuildStop → Type 0
 IsBuilt wanted most (Ok solid) = (tree_of solid ≡ wanted) × (size wanted ≤ most)
 IsBuilt wanted most (Err TooBig) = most < size wanted
 IsBuilt wanted most (Err NoMemory) = Unit {0}
 
--- a solid is the tree: it is of the world box, has no other planes than those of the tree, and for each point
--- strictly inside the world box and off all planes of the tree its walk is whether the tree holds with the
--- point's sides
-pub record IsSolidOf (f : Formula) (t : Tree) : Type 0 where
+-- a solid is the tree's: of the world box, with planes of the tree alone, and inside at a point of the box off the tree's
+-- planes exactly where the tree holds with the point's sides
+pub record IsSolidOf (f : Formula) (t : BspTree) : Type 0 where
   pub world : IsOfWorld t
   pub planes : (m : Coefficients) → IsPlaneOf m t → formulas.IsPlaneOf m f
   pub walks : (p : Coordinates) → IsInWorld p →
@@ -36,6 +35,6 @@ pub record IsSolidOf (f : Formula) (t : Tree) : Type 0 where
       walk t p ≡ holds f (sides_of p)
 
 -- what stops a solid from growing stops it from being built
-abbrev pub stop_of : GrowStop → BuildStop
-stop_of growing.TooBig = TooBig
-stop_of growing.NoMemory = NoMemory
+abbrev pub build_stop_of : GrowStop → BuildStop
+build_stop_of growing.TooBig = TooBig
+build_stop_of growing.NoMemory = NoMemory

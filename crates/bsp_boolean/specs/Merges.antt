@@ -4,28 +4,27 @@ use Rattle.plane_predicate.specs.Space.{Coefficients, Coordinates}
 use Rattle.csg_tree.specs.declared.op.Op.{Op}
 use Rattle.csg_tree.specs.declared.op.Op.TheVariants.{Union, Intersection, Difference}
 use Rattle.csg_tree.specs.Formulas.{truth_of_join}
-use Rattle.bsp_tree.specs.Trees.{Tree, walk, complement}
-use Rattle.bsp_tree.specs.Cells.{IsIn, IsOfCell, IsOff, IsPlaneOf}
+use Rattle.bsp_tree.specs.Trees.{BspTree, walk, complement}
+use Rattle.bsp_tree.specs.Cells.{IsInCell, IsOfCell, IsOffPlanesOf, IsPlaneOf}
 use Rattle.bsp_boolean.specs.Combined.{combination}
 
 -- the merge of two solids. A difference is the intersection with the inside and the outside of the right
 -- solid exchanged
-abbrev pub merge_of : Op → Tree → Tree → Tree
+abbrev pub merge_of : Op → BspTree → BspTree → BspTree
 merge_of Union left right = combination true left right
 merge_of Intersection left right = combination false left right
 merge_of Difference left right = combination false left (complement right)
 
 -- two solids are of one cell
-pub record AreOfOneCell (cell : List Coefficients) (left right : Tree) : Type 0 where
+pub record AreSolidsOfOneCell (cell : List Coefficients) (left right : BspTree) : Type 0 where
   pub left_cell : IsOfCell cell left
   pub right_cell : IsOfCell cell right
 
--- a solid is the operation on two solids: for each cell that both are of, it is of that cell, and for each
--- point of the cell off all planes of both, its walk is the operation on the two walks. None of its planes is
--- new
-pub record IsOperationOn (op : Op) (left right t : Tree) : Type 0 where
-  pub walks : (cell : List Coefficients) → AreOfOneCell cell left right →
-      (p : Coordinates) → IsIn cell p → IsOff left p → IsOff right p →
+-- a solid is the operation on two solids: of each cell that both are of, with the operation on their two walks at each point of
+-- the cell off their planes, and with no new plane
+pub record IsOperationOn (op : Op) (left right t : BspTree) : Type 0 where
+  pub walks : (cell : List Coefficients) → AreSolidsOfOneCell cell left right →
+      (p : Coordinates) → IsInCell cell p → IsOffPlanesOf left p → IsOffPlanesOf right p →
       walk t p ≡ truth_of_join op (walk left p) (walk right p)
-  pub cells : (cell : List Coefficients) → AreOfOneCell cell left right → IsOfCell cell t
+  pub cells : (cell : List Coefficients) → AreSolidsOfOneCell cell left right → IsOfCell cell t
   pub planes : (m : Coefficients) → IsPlaneOf m t → IsPlaneOf m left ⊎ IsPlaneOf m right

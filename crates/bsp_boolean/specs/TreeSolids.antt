@@ -6,7 +6,7 @@ use Rattle.csg_tree.specs.declared.node.CsgNode.TheVariants.{Leaf, Join}
 use Rattle.csg_tree.specs.Formulas.{Formula, nothing, leaf, joined}
 use Rattle.csg_tree.specs.Numberings.{tree_numbered, IsNumberIn}
 use Rattle.bsp_tree.specs.Shapes.{SolidParts}
-use Rattle.bsp_tree.specs.Trees.{Tree, outside, size}
+use Rattle.bsp_tree.specs.Trees.{BspTree, outside, size}
 use Rattle.bsp_tree.specs.Shapes.{tree_of}
 use Rattle.bsp_boolean.specs.Merges.{merge_of}
 use Rattle.bsp_boolean.specs.LeafSolids.{solid_of_leaf}
@@ -32,37 +32,37 @@ abbrev pub total_size : List Formula → ℕ
 total_size trees = sum_by solid_size trees
 
 -- the solids of some trees are within both limits
-pub record AreWithin (trees : List Formula) : Type 0 where
+pub record AreWithinSizeLimits (trees : List Formula) : Type 0 where
   pub each : All (λ tree. solid_size tree ≤ most_of_one) trees
   pub together : total_size trees ≤ most_of_all
 
--- how many of some trees are joins
-abbrev pub is_join : Formula → ℕ
-is_join nothing = 0
-is_join (leaf planes) = 0
-is_join (joined op left right) = 1
+-- 1 where the tree is a join, else 0
+abbrev pub one_if_join : Formula → ℕ
+one_if_join nothing = 0
+one_if_join (leaf planes) = 0
+one_if_join (joined op left right) = 1
 
 -- how many joins there are among trees
 abbrev pub joins : List Formula → ℕ
-joins trees = sum_by is_join trees
+joins trees = sum_by one_if_join trees
 
 -- Why the nodes of a tree, in order of number, give no solid: at the first node at which a limit is passed, its own
 -- solid is too big, or it isn't and the sum up to it is.
 abbrev pub IsTreeStop : List Formula → TreeStop → Type 0
-IsTreeStop trees (TooBig number) = IsNumberIn trees number × AreWithin (take (number - 1) trees)
+IsTreeStop trees (TooBig number) = IsNumberIn trees number × AreWithinSizeLimits (take (number - 1) trees)
     × (most_of_one < solid_size (tree_numbered trees number))
-IsTreeStop trees (SumTooBig number) = IsNumberIn trees number × AreWithin (take (number - 1) trees)
+IsTreeStop trees (SumTooBig number) = IsNumberIn trees number × AreWithinSizeLimits (take (number - 1) trees)
     × (solid_size (tree_numbered trees number) ≤ most_of_one) × (most_of_all < total_size (take number trees))
 IsTreeStop trees NoMemory = Unit {0}
 
 -- the first n nodes have their solids, which are within the limits
-pub record IsGrown (trees : List Formula) (n : ℕ) (growth : FirstSolids) : Type 0 where
+pub record HasFirstSolids (trees : List Formula) (n : ℕ) (growth : FirstSolids) : Type 0 where
   pub solids : map tree_of growth.solids.items ≡ map solid_of (take n trees)
   pub sum : growth.sum ≡ total_size (take n trees)
-  pub within : AreWithin (take n trees)
+  pub within : AreWithinSizeLimits (take n trees)
 
 -- the solid of a node, over those of the nodes before it
-abbrev pub solid_over : List Tree → CsgNode → Tree
+abbrev pub solid_over : List BspTree → CsgNode → BspTree
 solid_over solids (Leaf planes) = solid_of_leaf planes.now
 solid_over solids (Join op left right) = merge_of op (get_or solids (left - 1) outside) (get_or solids (right - 1) outside)
 

@@ -2,14 +2,14 @@
 
 ghost use Rattle.std.specs.Prelude.{◌≡◌, ◌+◌, ◌<◌, length, All, IfOk, IsTrue};
 ghost use Rattle.plane_predicate.specs.Space.{ComesInReach, IsPlane};
-ghost use Rattle.plane_polygon.specs.Parallels.{IsAlike};
+ghost use Rattle.plane_polygon.specs.Parallels.{HasSameDirection};
 ghost use Rattle.plane_table.specs.Faces.{IsFaceOver};
 ghost use Rattle.csg_tree.specs.Formulas.{leaf};
 ghost use Rattle.bsp_tree.specs.Trees.{inside};
 ghost use Rattle.bsp_tree.specs.Shapes.{tree_of};
 ghost use Rattle.bsp_boolean.specs.Chains.{chain_of, outlines_of};
 ghost use Rattle.bsp_boolean.specs.LeafSolids.{solid_of_leaf, IsBuilt, IsSolidOf};
-ghost use Rattle.bsp_boolean.specs.UprightBoxes.{box_faces, table_of, wall, world_walls, HasRoom, IsBox, IsPair, IsPairAt};
+ghost use Rattle.bsp_boolean.specs.UprightBoxes.{upright_box_faces, table_of, wall, world_walls, HasRoomBetween, IsBox, IsPair, IsPairAt};
 
 use crate::chains::grow_faces;
 use crate::leaf_building::BuildStop;
@@ -66,7 +66,7 @@ fn is_pair(low: &Plane, high: &Plane, low_world: &Plane, high_world: &Plane) -> 
 
 // Whether a plane has the direction of another one.
 fn is_along(plane: &Plane, world: &Plane) -> bool
-    ensures alike { IsTrue result → IsAlike plane.now world.now }
+    ensures alike { IsTrue result → HasSameDirection plane.now world.now }
     ensures plane { IsPlane plane.now }
 {
     // Reading a number shows the proof what each plane keeps.
@@ -77,14 +77,14 @@ fn is_along(plane: &Plane, world: &Plane) -> bool
 // Whether there is room between two planes that face away from each other, and both lie within the
 // world box.
 fn have_room(low: &Plane, high: &Plane) -> bool
-    ensures { IsTrue result → HasRoom low.now.d high.now.d }
+    ensures { IsTrue result → HasRoomBetween low.now.d high.now.d }
 {
     has_room(low.d, high.d)
 }
 
 // The same, by their offsets.
 fn has_room(low: i64, high: i64) -> bool
-    ensures { IsTrue result → HasRoom low high }
+    ensures { IsTrue result → HasRoomBetween low high }
 {
     -WORLD < low && low < WORLD && -WORLD < high && high < WORLD && 0 < low + high
 }
@@ -138,7 +138,7 @@ fn box_table(alloc: Global, planes: &[Plane], world: &[Plane]) -> Result<Vec<Pla
 
 // The faces of a box over that list, in the order of its planes.
 fn faces_of_box(alloc: Global) -> Result<Vec<Face>, NoMemory>
-    ensures { IfOk result (λ v. v.items ≡ box_faces) }
+    ensures { IfOk result (λ v. v.items ≡ upright_box_faces) }
 {
     let mut faces = Vec::with_capacity(alloc, 6)?;
     faces.push(face(alloc, 16, &[8, 6, 14, 0])?)?;

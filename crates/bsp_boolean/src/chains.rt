@@ -2,10 +2,10 @@
 
 ghost use Rattle.std.specs.Prelude.{◌≡◌, ◌++◌, [], ◌∷◌, map, All, IfOk, OnOk};
 ghost use Rattle.plane_table.specs.Faces.{outline_of, IsFaceOver};
-ghost use Rattle.bsp_tree.specs.Trees.{Tree, inside, make, node, outside};
+ghost use Rattle.bsp_tree.specs.Trees.{BspTree, inside, make, node, outside};
 ghost use Rattle.bsp_tree.specs.Growths.{GrowsBy};
 ghost use Rattle.bsp_tree.specs.Partitions.{divide};
-ghost use Rattle.bsp_boolean.specs.Chains.{after_step, behind_all, chain_of, kept_items, outlines_of, part_by, IsChainOf, IsKeptOver, IsStepOver};
+ghost use Rattle.bsp_boolean.specs.Chains.{solid_after_step, behind_all, chain_of, kept_items, outlines_of, part_by, IsChainOf, IsKeptOver, IsStepOver};
 
 use bsp_tree::{GrowStop, Growing, Link};
 use plane_polygon::Class;
@@ -101,9 +101,9 @@ fn next_step(
     requires by { IsKeptOver table.now by }
     ensures over { IfOk result (IsStepOver table.now) }
     ensures gives { IfOk result
-        (λ r. (t : Tree) →
+        (λ r. (t : BspTree) →
         part_by table.now by (make (outline_of table.now face) t outside)
-        ≡ after_step table.now r t) }
+        ≡ solid_after_step table.now r t) }
 {
     match by {
         Some(by) => step_behind(alloc, table, face, by),
@@ -117,9 +117,9 @@ fn step_behind(alloc: Global, table: &PlaneTable, face: Face, by: Face) -> Resul
     requires by { IsFaceOver table.now by }
     ensures over { IfOk result (IsStepOver table.now) }
     ensures gives { IfOk result
-        (λ r. (t : Tree) →
+        (λ r. (t : BspTree) →
         (divide (node (outline_of table.now face) t outside) (outline_of table.now by)).0
-        ≡ after_step table.now r t) }
+        ≡ solid_after_step table.now r t) }
 {
     if table.is_same(face.plane, by.plane) {
         return Ok(Step::Whole(None));
@@ -175,8 +175,8 @@ fn grow_chain(
     growing: &mut Growing<'_>,
     chain: &Option<Vec<Face>>,
 ) -> Result<Link, GrowStop>
-    requires { (t : Tree) × IsChainOf growing.old.sheet.planes t chain.now }
-    ensures { (t : Tree) → IsChainOf growing.old.sheet.planes t chain.now →
+    requires { (t : BspTree) × IsChainOf growing.old.sheet.planes t chain.now }
+    ensures { (t : BspTree) → IsChainOf growing.old.sheet.planes t chain.now →
         GrowsBy growing.old growing.new t result }
 {
     match chain {

@@ -5,16 +5,16 @@ ghost use Rattle.csg_tree.specs.declared.op.Op.{Op};
 ghost use Rattle.csg_tree.specs.Formulas.{Formula};
 ghost use Rattle.csg_tree.specs.ProperTrees.{IsProper};
 ghost use Rattle.csg_tree.specs.Numberings.{tree_numbered, IsNumberIn};
-ghost use Rattle.bsp_tree.specs.Trees.{Tree, outside};
+ghost use Rattle.bsp_tree.specs.Trees.{BspTree, outside};
 ghost use Rattle.bsp_boolean.specs.Merges.{merge_of, IsOperationOn};
 ghost use Rattle.bsp_boolean.specs.LeafSolids.{IsSolidOf};
 ghost use Rattle.bsp_boolean.specs.Solids.{solid_of};
-ghost use Rattle.bsp_boolean.specs.TreeSolids.{most_of_one, most_of_all, solid_size, total_size, AreWithin, is_join, joins};
+ghost use Rattle.bsp_boolean.specs.TreeSolids.{most_of_one, most_of_all, solid_size, total_size, AreWithinSizeLimits, one_if_join, joins};
 
 /// The merge of two solids is the operation on them, at each point of a cell that both are of off
 /// all their planes; it is of that cell, and none of its planes is new.
 pub fn merges_are_operations()
-    ensures { (op : Op) (left right : Tree) → IsOperationOn op left right (merge_of op left right) }
+    ensures { (op : Op) (left right : BspTree) → IsOperationOn op left right (merge_of op left right) }
 {}
 
 /// The solid of a proper tree is of the world box, has no other planes than the tree, and holds at
@@ -34,10 +34,10 @@ pub fn one_tree_more()
         total_size (take n trees)
         ≡ total_size (take (n - 1) trees) + solid_size (tree_numbered trees n) }
     ensures joins { (trees : List Formula) (n : ℕ) → IsNumberIn trees n →
-        joins (take n trees) ≡ joins (take (n - 1) trees) + is_join (tree_numbered trees n) }
+        joins (take n trees) ≡ joins (take (n - 1) trees) + one_if_join (tree_numbered trees n) }
     ensures within { (trees : List Formula) (n : ℕ) → IsNumberIn trees n →
-        AreWithin (take (n - 1) trees) → solid_size (tree_numbered trees n) ≤ most_of_one →
-        total_size (take n trees) ≤ most_of_all → AreWithin (take n trees) }
+        AreWithinSizeLimits (take (n - 1) trees) → solid_size (tree_numbered trees n) ≤ most_of_one →
+        total_size (take n trees) ≤ most_of_all → AreWithinSizeLimits (take n trees) }
     ensures numbered { (trees : List Formula) (n m : ℕ) → 1 ≤ m → m ≤ n →
         get_or (map solid_of (take n trees)) (m - 1) outside ≡ solid_of (tree_numbered trees m) }
     ensures few { (trees : List Formula) (n : ℕ) → joins (take n trees) ≤ length trees }

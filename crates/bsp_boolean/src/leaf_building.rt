@@ -25,9 +25,9 @@ impl From<NoMemory> for BuildStop {
 }
 
 impl From<GrowStop> for BuildStop {
-    ghost use Rattle.bsp_boolean.specs.LeafSolids.{stop_of};
+    ghost use Rattle.bsp_boolean.specs.LeafSolids.{build_stop_of};
 
-    ghost from_gives = { λ given stop. stop ≡ stop_of given };
+    ghost from_gives = { λ given stop. stop ≡ build_stop_of given };
 
     fn from(given: GrowStop) -> BuildStop {
         match given {

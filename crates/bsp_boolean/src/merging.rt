@@ -1,10 +1,10 @@
 //! Merges of solids.
 
 ghost use Rattle.std.specs.Prelude.{◌≡◌, ◌-◌, ◌^◌, IfOk};
-ghost use Rattle.bsp_tree.specs.Trees.{Tree};
+ghost use Rattle.bsp_tree.specs.Trees.{BspTree};
 ghost use Rattle.bsp_tree.specs.Shapes.{tree_of};
 ghost use Rattle.bsp_boolean.specs.Merges.{merge_of, IsOperationOn};
-ghost use Rattle.bsp_boolean.specs.Branches.{inside_decides, exchanges};
+ghost use Rattle.bsp_boolean.specs.Branches.{inside_decides, exchanges_right_sides};
 ghost use Rattle.bsp_boolean.specs.LeafSolids.{IsBuilt};
 
 use crate::BuildStop;
@@ -47,7 +47,7 @@ pub fn merge_within(
 // What was built within the limit of all numbers. A solid above that limit is larger than any
 // memory: each node and each edge takes more than one byte.
 fn in_all_memory(built: Result<Solid, BuildStop>) -> Result<Solid, NoMemory>
-    requires { (wanted : Tree) × IsBuilt wanted (2 ^ 64 - 1) built }
+    requires { (wanted : BspTree) × IsBuilt wanted (2 ^ 64 - 1) built }
     ensures { IfOk result (λ s. built ≡ Ok s) }
 {
     match built {
@@ -110,7 +110,7 @@ fn is_union(op: Op) -> bool
 
 // Whether an operation is a difference, in which the right solid's inside and outside are exchanged.
 fn is_difference(op: Op) -> bool
-    ensures { result ≡ exchanges op }
+    ensures { result ≡ exchanges_right_sides op }
 {
     match op {
         Op::Difference => true,

@@ -8,7 +8,7 @@ ghost use Rattle.csg_tree.specs.Nodes.{IsNodeOf};
 ghost use Rattle.bsp_tree.specs.Shapes.{tree_of};
 ghost use Rattle.bsp_boolean.specs.LeafSolids.{IsBuilt};
 ghost use Rattle.bsp_boolean.specs.Solids.{solid_of};
-ghost use Rattle.bsp_boolean.specs.TreeSolids.{most_of_one, joins, merges_of, solid_over, AreWithin, IsGrown, IsOverSolids, IsTreeStop};
+ghost use Rattle.bsp_boolean.specs.TreeSolids.{most_of_one, joins, merges_of, solid_over, AreWithinSizeLimits, HasFirstSolids, IsOverSolids, IsTreeStop};
 
 use crate::building::Builder;
 use crate::{BuildStop, leaf_solid};
@@ -62,7 +62,7 @@ pub fn tree_solid<B: Builder>(
     requires counts { B.builds builder.old ≤ 2 ^ 46 }
     ensures solid { IfOk result
         (λ s. tree_of s ≡ solid_of (tree_numbered store.now (length store.now))) }
-    ensures within { OnOk result (AreWithin store.now) }
+    ensures within { OnOk result (AreWithinSizeLimits store.now) }
     ensures stop { IfErr result (IsTreeStop store.now) }
     ensures counted { OnOk result (B.builds builder.new ≡ B.builds builder.old + joins store.now) }
     ensures bounded { B.builds builder.new ≤ B.builds builder.old + joins store.now }
@@ -86,9 +86,9 @@ fn grow<B: Builder>(
     builder: &mut B,
 ) -> Result<(), TreeStop>
     requires number { IsNumberIn store.now number }
-    requires grown { IsGrown store.now (number - 1) growth.old }
+    requires grown { HasFirstSolids store.now (number - 1) growth.old }
     requires counts { B.builds builder.old < 2 ^ 48 }
-    ensures grown { OnOk result (IsGrown store.now number growth.new) }
+    ensures grown { OnOk result (HasFirstSolids store.now number growth.new) }
     ensures stop { IfErr result (IsTreeStop store.now) }
     ensures counted { B.builds builder.new + joins (take (number - 1) store.now)
         ≡ B.builds builder.old + joins (take number store.now) }

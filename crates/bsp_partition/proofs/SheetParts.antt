@@ -8,7 +8,7 @@ use Rattle.link_forest.specs.declared.link.NodeId.{NodeId}
 use Rattle.link_forest.specs.Forests.{Adds, IsLinkOf}
 use Rattle.plane_table.specs.declared.faces.Face.{Face}
 use Rattle.plane_table.specs.Faces.{outline_of}
-use Rattle.bsp_tree.specs.Trees.{Tree, node, make}
+use Rattle.bsp_tree.specs.Trees.{BspTree, node, make}
 use Rattle.bsp_tree.specs.Links.{same_leaf}
 use Rattle.bsp_tree.specs.Shapes.{leaf_of}
 use Rattle.bsp_tree.specs.Growths.{Sheet, tree_on, HasTree}
@@ -16,14 +16,14 @@ use Rattle.bsp_tree.proofs.Sheets.{longer_itself, longer_twice, still, stood_on,
 use Rattle.bsp_tree.proofs.Wholes.{leaf_tree}
 use Rattle.bsp_tree.specs.declared.part.Part.TheVariants.{Low, High}
 use Rattle.bsp_tree.specs.Partitions.{across_row, ahead_row, behind_row, divide}
-use Rattle.bsp_partition.specs.Parts.{trees_on, AreLinksOf, HasMade, HasParts, HasSideParts}
+use Rattle.bsp_partition.specs.Parts.{trees_on, AreLinksOf, HasAddedTree, HasParts, HasSideParts}
 
 -- the tree at a link stands there
 pub stands : (sheet : Sheet) (link : Link) → IsLinkOf sheet.nodes link → HasTree sheet link (tree_on sheet link)
 stands sheet link h = record { there = h; same = refl }
 
 -- two links of a sheet, and the trees at them
-pub links_are_parts : (sheet : Sheet) (links : Link × Link) (parts : Tree × Tree) → IsLinkOf sheet.nodes links.0 → IsLinkOf sheet.nodes links.1 →
+pub links_are_parts : (sheet : Sheet) (links : Link × Link) (parts : BspTree × BspTree) → IsLinkOf sheet.nodes links.0 → IsLinkOf sheet.nodes links.1 →
     trees_on sheet links ≡ parts → HasParts sheet sheet links parts
 links_are_parts sheet links parts l h e = subst (HasParts sheet sheet links) e (record { longer = longer_itself sheet; low = stands sheet links.0 l; high = stands sheet links.1 h })
 
@@ -35,7 +35,7 @@ leaf_divided false s = refl
 pub end_divided : (sheet : Sheet) (side : Bool) (s : Outline) → trees_on sheet (End side, End side) ≡ divide (tree_on sheet (End side)) s
 end_divided sheet side s =
     let e = leaf_tree sheet.planes sheet.nodes side in
-    ap (λ (t : Tree). (t, t)) e ∙ leaf_divided side s ∙ sym (ap (λ (t : Tree). divide t s) e)
+    ap (λ (t : BspTree). (t, t)) e ∙ leaf_divided side s ∙ sym (ap (λ (t : BspTree). divide t s) e)
 
 pub end_parts : (sheet : Sheet) (side : Bool) (s : Outline) → HasParts sheet sheet (End side, End side) (divide (tree_on sheet (End side)) s)
 end_parts sheet side s = links_are_parts sheet (End side, End side) (divide (tree_on sheet (End side)) s) (omega arith) (omega arith) (end_divided sheet side s)
@@ -47,7 +47,7 @@ make_leaf s false = refl
 
 same_ends : (sheet : Sheet) (side : Bool) (s : Outline) → tree_on sheet (End side) ≡ make s (tree_on sheet (End side)) (tree_on sheet (End side))
 same_ends sheet side s =
-    let e = leaf_tree sheet.planes sheet.nodes side in e ∙ make_leaf s side ∙ sym (ap (λ (t : Tree). make s t t) e)
+    let e = leaf_tree sheet.planes sheet.nodes side in e ∙ make_leaf s side ∙ sym (ap (λ (t : BspTree). make s t t) e)
 
 pub same_tree : (sheet : Sheet) (behind ahead : Link) (s : Outline) → same_leaf behind ahead ≡ true →
     tree_on sheet behind ≡ make s (tree_on sheet behind) (tree_on sheet ahead)
@@ -59,7 +59,7 @@ same_tree sheet (End side) (To id) s e = absurd (false≢true e)
 same_tree sheet (To id) ahead s e = absurd (false≢true e)
 
 pub same_made : (sheet : Sheet) (behind ahead : Link) (s : Outline) → IsLinkOf sheet.nodes behind → same_leaf behind ahead ≡ true →
-    HasMade sheet sheet behind (make s (tree_on sheet behind) (tree_on sheet ahead))
+    HasAddedTree sheet sheet behind (make s (tree_on sheet behind) (tree_on sheet ahead))
 same_made sheet behind ahead s h e = record {
   longer = longer_itself sheet;
   stands = record { there = h; same = same_tree sheet behind ahead s e };
@@ -68,16 +68,16 @@ same_made sheet behind ahead s h e = record {
 -- a node that was added
 pub node_made : (old new : Sheet) (face : Face) (behind ahead : Link) (id : NodeId) → new.planes ≡ old.planes →
     Adds old.nodes new.nodes face behind ahead id →
-    HasMade old new (To id) (node (outline_of old.planes face) (tree_on old behind) (tree_on old ahead))
+    HasAddedTree old new (To id) (node (outline_of old.planes face) (tree_on old behind) (tree_on old ahead))
 node_made old new face behind ahead id p d = record {
   longer = adds_longer old new face behind ahead id p d;
   stands = adds_tree old new face behind ahead id (tree_on old behind) (tree_on old ahead) p d refl refl;
 }
 
 -- the part in which the node's own face lies is made of one part of its side and of its other side
-pub low_made : (old middle new : Sheet) (links : Link × Link) (parts : Tree × Tree) (made : Link) (s : Outline) (ahead : Link) →
+pub low_made : (old middle new : Sheet) (links : Link × Link) (parts : BspTree × BspTree) (made : Link) (s : Outline) (ahead : Link) →
     HasParts old middle links parts → IsLinkOf old.nodes ahead →
-    HasMade middle new made (make s (tree_on middle links.0) (tree_on middle ahead)) →
+    HasAddedTree middle new made (make s (tree_on middle links.0) (tree_on middle ahead)) →
     HasParts old new (made, links.1) (behind_row Low s parts (tree_on old ahead))
 low_made old middle new links parts made s ahead h k m = record {
   longer = longer_twice old middle new h.longer m.longer;
@@ -85,9 +85,9 @@ low_made old middle new links parts made s ahead h k m = record {
   high = still middle new links.1 parts.1 m.longer h.high;
 }
 
-pub high_made : (old middle new : Sheet) (links : Link × Link) (parts : Tree × Tree) (made : Link) (s : Outline) (ahead : Link) →
+pub high_made : (old middle new : Sheet) (links : Link × Link) (parts : BspTree × BspTree) (made : Link) (s : Outline) (ahead : Link) →
     HasParts old middle links parts → IsLinkOf old.nodes ahead →
-    HasMade middle new made (make s (tree_on middle links.1) (tree_on middle ahead)) →
+    HasAddedTree middle new made (make s (tree_on middle links.1) (tree_on middle ahead)) →
     HasParts old new (links.0, made) (behind_row High s parts (tree_on old ahead))
 high_made old middle new links parts made s ahead h k m = record {
   longer = longer_twice old middle new h.longer m.longer;
@@ -95,9 +95,9 @@ high_made old middle new links parts made s ahead h k m = record {
   high = record { there = m.stands.there; same = m.stands.same ∙ ap₂ (make s) h.high.same (stood_on old middle ahead h.longer k) };
 }
 
-pub low_made_ahead : (old middle new : Sheet) (links : Link × Link) (parts : Tree × Tree) (made : Link) (s : Outline) (behind : Link) →
+pub low_made_ahead : (old middle new : Sheet) (links : Link × Link) (parts : BspTree × BspTree) (made : Link) (s : Outline) (behind : Link) →
     HasParts old middle links parts → IsLinkOf old.nodes behind →
-    HasMade middle new made (make s (tree_on middle behind) (tree_on middle links.0)) →
+    HasAddedTree middle new made (make s (tree_on middle behind) (tree_on middle links.0)) →
     HasParts old new (made, links.1) (ahead_row Low s (tree_on old behind) parts)
 low_made_ahead old middle new links parts made s behind h k m = record {
   longer = longer_twice old middle new h.longer m.longer;
@@ -105,9 +105,9 @@ low_made_ahead old middle new links parts made s behind h k m = record {
   high = still middle new links.1 parts.1 m.longer h.high;
 }
 
-pub high_made_ahead : (old middle new : Sheet) (links : Link × Link) (parts : Tree × Tree) (made : Link) (s : Outline) (behind : Link) →
+pub high_made_ahead : (old middle new : Sheet) (links : Link × Link) (parts : BspTree × BspTree) (made : Link) (s : Outline) (behind : Link) →
     HasParts old middle links parts → IsLinkOf old.nodes behind →
-    HasMade middle new made (make s (tree_on middle behind) (tree_on middle links.1)) →
+    HasAddedTree middle new made (make s (tree_on middle behind) (tree_on middle links.1)) →
     HasParts old new (links.0, made) (ahead_row High s (tree_on old behind) parts)
 high_made_ahead old middle new links parts made s behind h k m = record {
   longer = longer_twice old middle new h.longer m.longer;
@@ -118,8 +118,8 @@ high_made_ahead old middle new links parts made s behind h k m = record {
 -- two nodes that were added one after the other
 pub both_made : (old middle new : Sheet) (first second : Link) (s t : Outline) (links : (Link × Link) × (Link × Link)) →
     AreLinksOf old links →
-    HasMade old middle first (make s (tree_on old links.0.0) (tree_on old links.1.0)) →
-    HasMade middle new second (make t (tree_on middle links.0.1) (tree_on middle links.1.1)) →
+    HasAddedTree old middle first (make s (tree_on old links.0.0) (tree_on old links.1.0)) →
+    HasAddedTree middle new second (make t (tree_on middle links.0.1) (tree_on middle links.1.1)) →
     HasParts old new (first, second) (make s (tree_on old links.0.0) (tree_on old links.1.0), make t (tree_on old links.0.1) (tree_on old links.1.1))
 both_made old middle new first second s t links h f g = record {
   longer = longer_twice old middle new f.longer g.longer;
@@ -131,7 +131,7 @@ both_made old middle new first second s t links h f g = record {
 }
 
 -- the parts of both sides, one after the other
-pub sides_parted : (old middle new : Sheet) (behind ahead : Link) (low high : Link × Link) (parts others : Tree × Tree) →
+pub sides_parted : (old middle new : Sheet) (behind ahead : Link) (low high : Link × Link) (parts others : BspTree × BspTree) →
     HasParts old middle low parts → HasParts middle new high others → HasSideParts old new (low, high) parts others
 sides_parted old middle new behind ahead low high parts others h k = record {
   longer = longer_twice old middle new h.longer k.longer;
@@ -141,7 +141,7 @@ sides_parted old middle new behind ahead low high parts others h k = record {
   high_ahead = k.high;
 }
 
-pub side_links : (old new : Sheet) (links : (Link × Link) × (Link × Link)) (low high : Tree × Tree) → HasSideParts old new links low high → AreLinksOf new links
+pub side_links : (old new : Sheet) (links : (Link × Link) × (Link × Link)) (low high : BspTree × BspTree) → HasSideParts old new links low high → AreLinksOf new links
 side_links old new links low high h = record {
   low_behind = h.low_behind.there;
   low_ahead = h.low_ahead.there;
@@ -150,12 +150,12 @@ side_links old new links low high h = record {
 }
 
 -- the parts of a node by a polygon that is across its plane
-pub across_parted : (old middle new : Sheet) (links : (Link × Link) × (Link × Link)) (low high : Tree × Tree) (made : Link × Link) (s t : Outline) →
+pub across_parted : (old middle new : Sheet) (links : (Link × Link) × (Link × Link)) (low high : BspTree × BspTree) (made : Link × Link) (s t : Outline) →
     HasSideParts old middle links low high → HasParts middle new made (across_row s t (trees_on middle links.0) (trees_on middle links.1)) →
     HasParts old new made (across_row s t low high)
 across_parted old middle new links low high made s t h m =
-    let el = ap₂ (λ (x y : Tree). (x, y)) h.low_behind.same h.low_ahead.same in
-    let eh = ap₂ (λ (x y : Tree). (x, y)) h.high_behind.same h.high_ahead.same in
+    let el = ap₂ (λ (x y : BspTree). (x, y)) h.low_behind.same h.low_ahead.same in
+    let eh = ap₂ (λ (x y : BspTree). (x, y)) h.high_behind.same h.high_ahead.same in
     subst (HasParts old new made) (ap₂ (across_row s t) el eh)
     (record { longer = longer_twice old middle new h.longer m.longer; low = m.low; high = m.high })
 

@@ -10,7 +10,7 @@ ghost use Rattle.plane_table.specs.Faces.{AreSidesWhereAcross, IsFaceOver};
 ghost use Rattle.bsp_tree.specs.Trees.{make};
 ghost use Rattle.bsp_tree.specs.Growths.{tree_on};
 ghost use Rattle.bsp_tree.specs.Partitions.{across_row, ahead_row, behind_row, divide};
-ghost use Rattle.bsp_partition.specs.Parts.{half_on, high_division, low_division, outline_on, row_parts, trees_on, AreLinksOf, HasMade, HasParts, HasSideParts, IsForkOn};
+ghost use Rattle.bsp_partition.specs.Parts.{half_on, high_division, low_division, outline_on, row_parts, trees_on, AreLinksOf, HasAddedTree, HasParts, HasSideParts, IsForkOn};
 
 use crate::fork::Fork;
 use bsp_tree::{Face, Link, NodeId, Nodes, Part, is_same_leaf};
@@ -200,7 +200,7 @@ fn make_half(
     requires behind { IsLinkOf nodes.old.nodes behind }
     requires ahead { IsLinkOf nodes.old.nodes ahead }
     ensures { IfOk result
-        (λ l. HasMade nodes.old nodes.new l
+        (λ l. HasAddedTree nodes.old nodes.new l
         (make (half_on nodes.old half own.entry) (tree_on nodes.old behind)
         (tree_on nodes.old ahead))) }
 {
@@ -264,7 +264,7 @@ fn make_node(nodes: &mut Nodes<'_>, face: Face, behind: Link, ahead: Link) -> Re
     requires behind { IsLinkOf nodes.old.nodes behind }
     requires ahead { IsLinkOf nodes.old.nodes ahead }
     ensures { IfOk result
-        (λ l. HasMade nodes.old nodes.new l
+        (λ l. HasAddedTree nodes.old nodes.new l
         (make (outline_on nodes.old face) (tree_on nodes.old behind) (tree_on nodes.old ahead))) }
 {
     if is_same_leaf(behind, ahead) {

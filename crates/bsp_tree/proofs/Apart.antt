@@ -8,7 +8,7 @@ use Rattle.plane_predicate.proofs.Identities.{combine, value_combine}
 use Rattle.plane_predicate.proofs.Signs.{pos_pos, signs}
 use Rattle.plane_polygon.specs.Polygons.{Outline}
 use Rattle.plane_polygon.proofs.Cuts.{turned}
-use Rattle.bsp_tree.specs.Cells.{IsIn, IsInClosed, IsAcross}
+use Rattle.bsp_tree.specs.Cells.{IsInCell, IsInClosedCell, IsPolygonOfCell}
 use Rattle.bsp_tree.proofs.Convexity.{in_closed, in_combine}
 use Rattle.bsp_tree.proofs.PolygonsOfCells.{inner_point}
 use Rattle.bsp_tree.proofs.Sides.{LiesBehind, none_ahead}
@@ -36,10 +36,10 @@ above_zero u v x y e hv hy = rw (e, *ℤ-zero u) (plus_zero (v *ℤ y) (pos_pos 
 
 -- y is on p and behind q, and no point of the closed cell on q is ahead of p. So a point x ahead of p isn't ahead of q:
 -- else the way from y to x crosses q at a point ahead of p
-one_sided : (cell : List Coefficients) (p q : Coefficients) (y x : Coordinates) → IsIn cell y →
+one_sided : (cell : List Coefficients) (p q : Coefficients) (y x : Coordinates) → IsInCell cell y →
     value p y ≡ pos 0 → value q y <ℤ pos 0 →
-    ((z : Coordinates) → IsInClosed cell z → value q z ≡ pos 0 → value p z ≤ℤ pos 0) →
-    IsIn cell x → pos 0 <ℤ value p x → value q x ≤ℤ pos 0
+    ((z : Coordinates) → IsInClosedCell cell z → value q z ≡ pos 0 → value p z ≤ℤ pos 0) →
+    IsInCell cell x → pos 0 <ℤ value p x → value q x ≤ℤ pos 0
 one_sided cell p q y x hy py qy h hx px =
     elim (signs (value q x)) [
       | inl k ↦ lt_most (value q x) k
@@ -59,14 +59,14 @@ one_sided cell p q y x hy py qy h hx px =
 
 -- s lies behind q, the plane of t or its opposite, and t behind m, the plane of s or its opposite: what is ahead of m is
 -- behind q
-pub apart : (cell : List Coefficients) (s t : Outline) (q m : Coefficients) → IsAcross cell s →
-    IsAcross cell t → LiesBehind s q → LiesBehind t m →
+pub apart : (cell : List Coefficients) (s t : Outline) (q m : Coefficients) → IsPolygonOfCell cell s →
+    IsPolygonOfCell cell t → LiesBehind s q → LiesBehind t m →
     ((z : Coordinates) → value q z ≡ pos 0 → value t.plane z ≡ pos 0) → ((z : Coordinates) →
     value s.plane z ≡ pos 0 → value m z ≡ pos 0) →
-    (x : Coordinates) → IsIn cell x → pos 0 <ℤ value m x → value q x <ℤ pos 0
+    (x : Coordinates) → IsInCell cell x → pos 0 <ℤ value m x → value q x <ℤ pos 0
 apart cell s t q m hs ht bs bt onq onm x hx mx =
     let y = inner_point cell s q hs bs.some.index bs.some.index_below bs.some.strict in
-    let most : (z : Coordinates) → IsInClosed cell z → value q z ≡ pos 0 → value m z ≤ℤ pos 0 =
+    let most : (z : Coordinates) → IsInClosedCell cell z → value q z ≡ pos 0 → value m z ≤ℤ pos 0 =
     λ z c e. none_ahead cell t m ht bt z c (onq z e) in
     elim (signs (value q x)) [
       | inl k ↦ k
@@ -76,10 +76,10 @@ apart cell s t q m hs ht bs bt onq onm x hx mx =
     ]
 
 -- no point of the cell is ahead of both
-pub excluded : (cell : List Coefficients) (s t : Outline) (q m : Coefficients) → IsAcross cell s →
-    IsAcross cell t → LiesBehind s q → LiesBehind t m →
+pub excluded : (cell : List Coefficients) (s t : Outline) (q m : Coefficients) → IsPolygonOfCell cell s →
+    IsPolygonOfCell cell t → LiesBehind s q → LiesBehind t m →
     ((z : Coordinates) → value q z ≡ pos 0 → value t.plane z ≡ pos 0) → ((z : Coordinates) →
     value s.plane z ≡ pos 0 → value m z ≡ pos 0) →
-    (x : Coordinates) → IsIn cell x → pos 0 <ℤ value m x → pos 0 <ℤ value q x → ⊥
+    (x : Coordinates) → IsInCell cell x → pos 0 <ℤ value m x → pos 0 <ℤ value q x → ⊥
 excluded cell s t q m hs ht bs bt onq onm x hx mx qx =
     not_both (value q x) qx (lt_most (value q x) (apart cell s t q m hs ht bs bt onq onm x hx mx))

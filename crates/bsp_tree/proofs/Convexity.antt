@@ -4,7 +4,7 @@ use Rattle.plane_predicate.specs.Space.{Coefficients, Coordinates, value}
 use Rattle.plane_predicate.proofs.IntegerRing.{sums}
 use Rattle.plane_predicate.proofs.Identities.{combine, value_combine}
 use Rattle.plane_predicate.proofs.Signs.{pos_pos, pos_neg, least_least, least_most}
-use Rattle.bsp_tree.specs.Cells.{IsIn, IsInClosed, AllBehind, NoneAhead}
+use Rattle.bsp_tree.specs.Cells.{IsInCell, IsInClosedCell, AllBehind, NoneAhead}
 
 lt_most : (x : ℤ) → x <ℤ pos 0 → x ≤ℤ pos 0
 lt_most x h = omega (arith, sums)
@@ -34,13 +34,13 @@ not_ahead [] p h = tt
 not_ahead (m ∷ cell) p h = (lt_most (value m p) h.0, not_ahead cell p h.1)
 
 -- a cell lies in its closure
-pub in_closed : (cell : List Coefficients) (p : Coordinates) → IsIn cell p → IsInClosed cell p
+pub in_closed : (cell : List Coefficients) (p : Coordinates) → IsInCell cell p → IsInClosedCell cell p
 in_closed cell p h = record { weight = h.weight; below = not_ahead cell p h.below }
 
 -- a point of the cell combined with one of the closed cell
 pub in_combine : (cell : List Coefficients) (u : ℤ) (p : Coordinates) (v : ℤ) (q : Coordinates) → pos 0 <ℤ u →
     pos 0 ≤ℤ v →
-    IsIn cell p → IsInClosed cell q → IsIn cell (combine u p v q)
+    IsInCell cell p → IsInClosedCell cell q → IsInCell cell (combine u p v q)
 in_combine cell u p v q hu hv hp hq = record {
   weight = sum_above (u *ℤ p.w) (v *ℤ q.w) (pos_pos u p.w hu hp.weight) (least_least v q.w hv
       (lt_least q.w hq.weight));

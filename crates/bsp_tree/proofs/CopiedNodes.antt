@@ -12,8 +12,8 @@ use Rattle.link_forest.specs.Forests.{entry, least_nodes, Adds, IsNode, IsReache
 use Rattle.link_forest.proofs.Numbers.{stays, behind_all}
 use Rattle.plane_table.specs.declared.faces.Face.{Face}
 use Rattle.plane_table.specs.Faces.{outline_of}
-use Rattle.plane_table.specs.Joins.{AreNumbersOf, AreNumbersOfUsed, IsMarked}
-use Rattle.bsp_tree.specs.Shapes.{tree_of_branch, tree_of, tree_over, AreFacesOver, IsWhole, SolidParts}
+use Rattle.plane_table.specs.Joins.{AreNumbersOf, AreNumbersOfUsed, AreMarkedUsed}
+use Rattle.bsp_tree.specs.Shapes.{tree_of_branch, tree_of, tree_at_link, AreFacesOver, IsWholeSolid, SolidParts}
 use Rattle.bsp_tree.specs.Trees.{size}
 use Rattle.bsp_tree.specs.Growths.{Sheet, tree_on, HasTree, HasGrownWhole}
 use Rattle.bsp_tree.specs.Copies.{AreCopied, AreFoundOver, AreUsed}
@@ -26,14 +26,14 @@ none_copied planes nodes sheet none = record {
   trees = ends planes nodes sheet;
 }
   where
-    ends : (planes : List Coefficients) (nodes : List (Entry Face)) (sheet : Sheet) (link : Link) → least_nodes link ≤ 0 → tree_on sheet link ≡ tree_over planes nodes link
+    ends : (planes : List Coefficients) (nodes : List (Entry Face)) (sheet : Sheet) (link : Link) → least_nodes link ≤ 0 → tree_on sheet link ≡ tree_at_link planes nodes link
     ends planes nodes sheet (End side) h = leaf_tree sheet.planes sheet.nodes side ∙ sym (leaf_tree planes nodes side)
     ends planes nodes sheet (To id) h = absurd (omega arith)
 
 -- the tree of the node that was added
 added_tree : (planes : List Coefficients) (nodes : List (Entry Face)) (old new : Sheet) (face copy : Face) (behind ahead : Link) (at id : NodeId) →
     AreCopied planes nodes at.index old → IsNode nodes at face behind ahead → Adds old.nodes new.nodes copy behind ahead id →
-    new.planes ≡ old.planes → outline_of old.planes copy ≡ outline_of planes face → tree_on new (To id) ≡ tree_over planes nodes (To at)
+    new.planes ≡ old.planes → outline_of old.planes copy ≡ outline_of planes face → tree_on new (To id) ≡ tree_at_link planes nodes (To at)
 added_tree planes nodes old new face copy behind ahead at id h n d p same =
     ap₂ tree_of_branch p d.tree
     ∙ node_same same (h.trees behind n.behind_before) (h.trees ahead n.ahead_before)
@@ -67,7 +67,7 @@ copied_more planes nodes old new face copy behind ahead at id h n d p same = rec
   trees = trees;
 }
   where
-    trees : (link : Link) → least_nodes link ≤ at.index + 1 → tree_on new link ≡ tree_over planes nodes link
+    trees : (link : Link) → least_nodes link ≤ at.index + 1 → tree_on new link ≡ tree_at_link planes nodes link
     trees (End side) k = leaf_tree new.planes new.nodes side ∙ sym (leaf_tree planes nodes side)
     trees (To other) k = elim (cases_lt other.index at.index) [
       | inl low ↦
@@ -77,7 +77,7 @@ copied_more planes nodes old new face copy behind ahead at id h n d p same = rec
           let last : other ≡ id = same_id other id (omega (arith, d.number, h.count_is)) in
           let first : other ≡ at = same_id other at (omega arith) in
           ap (λ (n : NodeId). tree_on new (To n)) last ∙ added_tree planes nodes old new face copy behind ahead at id h n d p same
-          ∙ sym (ap (λ (n : NodeId). tree_over planes nodes (To n)) first)
+          ∙ sym (ap (λ (n : NodeId). tree_at_link planes nodes (To n)) first)
     ]
 
 -- numbers of all planes are numbers of those that faces name
@@ -109,7 +109,7 @@ used_found sheet planes numbers used u h faces = record {
 
 -- what is marked stays so
 pub still_marked : (old new : List Bool) (face : Face) → ((k : ℕ) → get_or old k false ≡ true → get_or new k false ≡ true) →
-    IsMarked old face → IsMarked new face
+    AreMarkedUsed old face → AreMarkedUsed new face
 still_marked old new face others h = record {
   plane = others (face.plane / 2) h.plane;
   edges = λ k d below. others (get_or face.edges k d / 2) (h.edges k d below);
@@ -117,14 +117,14 @@ still_marked old new face others h = record {
 
 -- the node of a number is marked where its face is
 pub marked_at : (nodes : List (Entry Face)) (used : List Bool) (id : NodeId) (face : Face) (behind ahead : Link) (at : ℕ) (other : Entry Face) →
-    at ≡ id.index → IsNode nodes id face behind ahead → slice_get nodes at ≡ Some other → IsMarked used face → IsMarked used other.payload
+    at ≡ id.index → IsNode nodes id face behind ahead → slice_get nodes at ≡ Some other → AreMarkedUsed used face → AreMarkedUsed used other.payload
 marked_at nodes used id face behind ahead at other same n there m =
     let both : Some (entry face behind ahead) ≡ Some other = sym n.node ∙ ap (slice_get nodes) (sym same) ∙ there in
     let one : entry face behind ahead ≡ other = cc in
     rw (← one) m
 
 -- the tree of a solid whose nodes were all copied
-pub copied_stands : (solid : SolidParts) (sheet : Sheet) → IsWhole solid → AreCopied solid.planes solid.nodes (length solid.nodes) sheet →
+pub copied_stands : (solid : SolidParts) (sheet : Sheet) → IsWholeSolid solid → AreCopied solid.planes solid.nodes (length solid.nodes) sheet →
     HasTree sheet solid.root (tree_of solid)
 unfolding tree_of
 copied_stands solid sheet h k = record {

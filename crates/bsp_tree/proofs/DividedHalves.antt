@@ -6,8 +6,8 @@ use Rattle.plane_polygon.specs.declared.classes.Class.{Class}
 use Rattle.plane_polygon.specs.declared.classes.Class.TheVariants.{Behind, Ahead, On, Across}
 use Rattle.plane_polygon.specs.Parts.{class_of, part_behind, part_ahead}
 use Rattle.plane_polygon.proofs.CornerSides.{across_opposite}
-use Rattle.bsp_tree.specs.Trees.{Tree, inside, outside, node, make}
-use Rattle.bsp_tree.specs.Cells.{IsIn, IsAcross, IsOfCell}
+use Rattle.bsp_tree.specs.Trees.{BspTree, inside, outside, node, make}
+use Rattle.bsp_tree.specs.Cells.{IsInCell, IsPolygonOfCell, IsOfCell}
 use Rattle.bsp_tree.proofs.Opposites.{opposite_zero, opposite_back, opposite_above, behind_opposite_above, opposite_twice}
 use Rattle.bsp_tree.proofs.SameNumbers.{same_equal}
 use Rattle.bsp_tree.proofs.SamePoints.{same_of_cell, same_exchanged, same_implied}
@@ -19,21 +19,21 @@ use Rattle.bsp_tree.proofs.Apart.{apart}
 use Rattle.bsp_tree.proofs.Ways.{is_way, way_of}
 
 -- ---- cells with one plane more or less
-with_sides_exchanged : (t : Tree) (m n : Coefficients) (cell : List Coefficients) → IsOfCell (m ∷ n ∷ cell) t →
+with_sides_exchanged : (t : BspTree) (m n : Coefficients) (cell : List Coefficients) → IsOfCell (m ∷ n ∷ cell) t →
     IsOfCell (n ∷ m ∷ cell) t
 with_sides_exchanged t m n cell h = same_of_cell t (m ∷ n ∷ cell) (n ∷ m ∷ cell) (same_exchanged m n cell) h
 
-with_plane : (t : Tree) (m n : Coefficients) (cell : List Coefficients) → ((p : Coordinates) → IsIn cell p →
+with_plane : (t : BspTree) (m n : Coefficients) (cell : List Coefficients) → ((p : Coordinates) → IsInCell cell p →
     value n p <ℤ pos 0 → value m p <ℤ pos 0) → IsOfCell (n ∷ cell) t → IsOfCell (n ∷ m ∷ cell) t
 with_plane t m n cell f h = same_of_cell t (n ∷ cell) (n ∷ m ∷ cell) (same_implied m n cell f) h
 
-without_plane : (t : Tree) (m n : Coefficients) (cell : List Coefficients) → ((p : Coordinates) →
-    IsIn cell p → value n p <ℤ pos 0 → value m p <ℤ pos 0) → IsOfCell (n ∷ m ∷ cell) t → IsOfCell (n ∷ cell) t
+without_plane : (t : BspTree) (m n : Coefficients) (cell : List Coefficients) → ((p : Coordinates) →
+    IsInCell cell p → value n p <ℤ pos 0 → value m p <ℤ pos 0) → IsOfCell (n ∷ m ∷ cell) t → IsOfCell (n ∷ cell) t
 without_plane t m n cell f h = same_of_cell t (n ∷ m ∷ cell) (n ∷ cell)
     (λ p. (let e = same_implied m n cell f p in (e.1, e.0))) h
 
 -- folding equal leaves keeps the cell
-make_cell : (cell : List Coefficients) (t : Outline) (b a : Tree) → IsAcross cell t →
+make_cell : (cell : List Coefficients) (t : Outline) (b a : BspTree) → IsPolygonOfCell cell t →
     IsOfCell (t.plane ∷ cell) b → IsOfCell (opposite_of t.plane ∷ cell) a → IsOfCell cell (make t b a)
 make_cell cell t inside inside h hb ha = tt
 make_cell cell t outside outside h hb ha = tt
@@ -45,12 +45,12 @@ make_cell cell t (node s c d) a h hb ha = (h, hb, ha)
 
 -- ---- the rows
 -- both parts are of the two halves by m
-abbrev OfHalves : List Coefficients → Coefficients → Tree × Tree → Type 0
+abbrev OfHalves : List Coefficients → Coefficients → BspTree × BspTree → Type 0
 OfHalves cell m parts = IsOfCell (m ∷ cell) parts.0 × IsOfCell (opposite_of m ∷ cell) parts.1
 
-row_cells : (cell : List Coefficients) (s t : Outline) (b a : Tree) (low high low_part high_part : Tree ×
-    Tree) (x y : Class) →
-    class_of s t.plane ≡ x → class_of t s.plane ≡ y → is_way x y ≡ true → IsAcross cell s → IsAcross cell t →
+row_cells : (cell : List Coefficients) (s t : Outline) (b a : BspTree) (low high low_part high_part : BspTree ×
+    BspTree) (x y : Class) →
+    class_of s t.plane ≡ x → class_of t s.plane ≡ y → is_way x y ≡ true → IsPolygonOfCell cell s → IsPolygonOfCell cell t →
     IsOfCell (t.plane ∷ cell) b → IsOfCell (opposite_of t.plane ∷ cell) a →
     (LiesBehind s t.plane → OfHalves (t.plane ∷ cell) s.plane low) → (LiesBehind s (opposite_of t.plane) →
     OfHalves (opposite_of t.plane ∷ cell) s.plane high) →
@@ -127,7 +127,7 @@ row_cells cell s t b a low high low_part high_part On Across ex ey r hs ht hb ha
     absurd (true≢false (sym r))
 
 -- ---- a node on the same plane, or on the opposite
-node_cells : (cell : List Coefficients) (s t : Outline) (b a : Tree) (parts : Tree × Tree) (x y : Bool) →
+node_cells : (cell : List Coefficients) (s t : Outline) (b a : BspTree) (parts : BspTree × BspTree) (x y : Bool) →
     is_same t.plane s.plane ≡ x → is_same t.plane (opposite_of s.plane) ≡ y →
     IsOfCell (t.plane ∷ cell) b → IsOfCell (opposite_of t.plane ∷ cell) a → (x ≡ false → y ≡ false →
     OfHalves cell s.plane parts) → OfHalves cell s.plane (if x then (b, a) else if y then (a, b) else
@@ -145,7 +145,7 @@ node_cells cell s t b a parts false true ex ey hb ha k =
     )
 node_cells cell s t b a parts false false ex ey hb ha k = k refl refl
 
-halves : (t : Tree) (cell : List Coefficients) (s : Outline) → IsOfCell cell t → IsAcross cell s →
+halves : (t : BspTree) (cell : List Coefficients) (s : Outline) → IsOfCell cell t → IsPolygonOfCell cell s →
     OfHalves cell s.plane (divide t s)
 halves inside cell s h hs = (tt, tt)
 halves outside cell s h hs = (tt, tt)
@@ -162,5 +162,5 @@ halves (node t b a) cell s h hs =
     (λ e. halves b (q ∷ cell) (part_behind s q) h.1 (across_part cell s q hs e))
     (λ e. halves a (o ∷ cell) (part_ahead s q) h.2 (across_part cell s o hs (across_opposite s q e))))
 
-pub divide_halves : (t : Tree) (s : Outline) → AreOfHalves t s (divide t s)
+pub divide_halves : (t : BspTree) (s : Outline) → AreOfHalves t s (divide t s)
 divide_halves t s cell h = halves t cell s h.solid h.polygon

@@ -5,12 +5,12 @@ use Rattle.plane_polygon.specs.Polygons.{Outline}
 use Rattle.plane_polygon.specs.declared.classes.Class.{Class}
 use Rattle.plane_polygon.specs.declared.classes.Class.TheVariants.{Behind, Ahead, On, Across}
 use Rattle.plane_polygon.specs.Parts.{class_of, part_behind, part_ahead}
-use Rattle.bsp_tree.specs.Trees.{Tree, inside, outside, node, make}
+use Rattle.bsp_tree.specs.Trees.{BspTree, inside, outside, node, make}
 use Rattle.bsp_tree.specs.Cells.{HasPlanesOf}
 use Rattle.bsp_tree.specs.Partitions.{divide, rows, HaveNoNewPlane}
 
 -- folding equal leaves adds no plane
-make_planes : (t : Outline) (b a : Tree) → HasPlanesOf (make t b a) (node t b a)
+make_planes : (t : Outline) (b a : BspTree) → HasPlanesOf (make t b a) (node t b a)
 make_planes t inside inside m h = absurd h
 make_planes t outside outside m h = absurd h
 make_planes t inside outside m h = h
@@ -20,29 +20,29 @@ make_planes t outside (node s c d) m h = h
 make_planes t (node s c d) a m h = h
 
 -- a node with a polygon on the same plane and with sides that have no new plane
-node_planes : (s t : Outline) (c d b a : Tree) → s.plane ≡ t.plane → HasPlanesOf c b → HasPlanesOf d a →
+node_planes : (s t : Outline) (c d b a : BspTree) → s.plane ≡ t.plane → HasPlanesOf c b → HasPlanesOf d a →
     HasPlanesOf (node s c d) (node t b a)
 node_planes s t c d b a e hb ha m (inl k) = inl (k ∙ e)
 node_planes s t c d b a e hb ha m (inr (inl k)) = inr (inl (hb m k))
 node_planes s t c d b a e hb ha m (inr (inr k)) = inr (inr (ha m k))
 
-made_planes : (s t : Outline) (c d b a : Tree) → s.plane ≡ t.plane → HasPlanesOf c b → HasPlanesOf d a →
+made_planes : (s t : Outline) (c d b a : BspTree) → s.plane ≡ t.plane → HasPlanesOf c b → HasPlanesOf d a →
     HasPlanesOf (make s c d) (node t b a)
 made_planes s t c d b a e hb ha m k = node_planes s t c d b a e hb ha m (make_planes s c d m k)
 
-behind_planes : (t : Outline) (c b a : Tree) → HasPlanesOf c b → HasPlanesOf c (node t b a)
+behind_planes : (t : Outline) (c b a : BspTree) → HasPlanesOf c b → HasPlanesOf c (node t b a)
 behind_planes t c b a h m k = inr (inl (h m k))
 
-ahead_planes : (t : Outline) (c b a : Tree) → HasPlanesOf c a → HasPlanesOf c (node t b a)
+ahead_planes : (t : Outline) (c b a : BspTree) → HasPlanesOf c a → HasPlanesOf c (node t b a)
 ahead_planes t c b a h m k = inr (inr (h m k))
 
-own_planes : (t : Tree) → HasPlanesOf t t
+own_planes : (t : BspTree) → HasPlanesOf t t
 own_planes t m k = k
 
-both_sides : (t : Outline) (b a : Tree) → HaveNoNewPlane (node t b a) (b, a)
+both_sides : (t : Outline) (b a : BspTree) → HaveNoNewPlane (node t b a) (b, a)
 both_sides t b a = (behind_planes t b b a (own_planes b), ahead_planes t a b a (own_planes a))
 
-row_planes : (s t : Outline) (b a : Tree) (low high low_part high_part : Tree × Tree) (x y : Class) →
+row_planes : (s t : Outline) (b a : BspTree) (low high low_part high_part : BspTree × BspTree) (x y : Class) →
     HaveNoNewPlane b low → HaveNoNewPlane a high → HaveNoNewPlane b low_part → HaveNoNewPlane a high_part →
     HaveNoNewPlane (node t b a) (rows x y s t b a low high low_part high_part)
 row_planes s t b a low high low_part high_part Across Across l h lp hp = (
@@ -69,13 +69,13 @@ row_planes s t b a low high low_part high_part On Ahead l h lp hp = both_sides t
 row_planes s t b a low high low_part high_part On On l h lp hp = both_sides t b a
 row_planes s t b a low high low_part high_part On Across l h lp hp = both_sides t b a
 
-chosen_planes : (t : Outline) (b a : Tree) (parts : Tree × Tree) (x y : Bool) → HaveNoNewPlane (node t b a)
+chosen_planes : (t : Outline) (b a : BspTree) (parts : BspTree × BspTree) (x y : Bool) → HaveNoNewPlane (node t b a)
     parts → HaveNoNewPlane (node t b a) (if x then (b, a) else if y then (a, b) else parts)
 chosen_planes t b a parts true y h = both_sides t b a
 chosen_planes t b a parts false true h = let k = both_sides t b a in (k.1, k.0)
 chosen_planes t b a parts false false h = h
 
-pub divide_planes : (t : Tree) (s : Outline) → HaveNoNewPlane t (divide t s)
+pub divide_planes : (t : BspTree) (s : Outline) → HaveNoNewPlane t (divide t s)
 divide_planes inside s = (own_planes inside, own_planes inside)
 divide_planes outside s = (own_planes outside, own_planes outside)
 divide_planes (node t b a) s =

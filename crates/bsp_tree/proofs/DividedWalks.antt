@@ -7,15 +7,15 @@ use Rattle.plane_polygon.specs.declared.classes.Class.{Class}
 use Rattle.plane_polygon.specs.declared.classes.Class.TheVariants.{Behind, Ahead, On, Across}
 use Rattle.plane_polygon.specs.Parts.{class_of, part_behind, part_ahead}
 use Rattle.plane_polygon.proofs.CornerSides.{across_opposite}
-use Rattle.bsp_tree.specs.Trees.{Tree, inside, outside, node}
-use Rattle.bsp_tree.specs.Cells.{IsIn, IsAcross, IsOfCell, IsOff}
+use Rattle.bsp_tree.specs.Trees.{BspTree, inside, outside, node}
+use Rattle.bsp_tree.specs.Cells.{IsInCell, IsPolygonOfCell, IsOfCell, IsOffPlanesOf}
 use Rattle.bsp_tree.proofs.Opposites.{opposite_zero, opposite_back, opposite_above, opposite_below}
 use Rattle.bsp_tree.proofs.SameNumbers.{same_equal}
 use Rattle.bsp_tree.proofs.PolygonsOfCells.{across_part}
 use Rattle.bsp_tree.proofs.Halves.{lying}
 use Rattle.bsp_tree.proofs.Sides.{LiesBehind, lies_behind, lies_ahead}
 use Rattle.bsp_tree.proofs.Walks.{make_walk, walk_behind, walk_ahead}
-use Rattle.bsp_tree.specs.Partitions.{divide, rows, Keeps, KeepWalks}
+use Rattle.bsp_tree.specs.Partitions.{divide, rows, KeepsWalkAt, KeepWalks}
 use Rattle.bsp_tree.proofs.Apart.{excluded}
 use Rattle.bsp_tree.proofs.Ways.{is_way, way_of}
 
@@ -26,12 +26,12 @@ on_never On r = absurd (true≢false (sym r))
 on_never Across r = absurd (true≢false (sym r))
 
 -- a point behind t's plane walks on in b, whose parts keep its walk
-row_behind : (cell : List Coefficients) (s t : Outline) (b a : Tree) (low high low_part high_part : Tree ×
-    Tree) (p : Coordinates) (x y : Class) →
-    class_of s t.plane ≡ x → class_of t s.plane ≡ y → is_way x y ≡ true → IsAcross cell s → IsAcross cell t →
-    IsIn cell p → value t.plane p <ℤ pos 0 →
-    (LiesBehind s t.plane → Keeps b s.plane low p) → (x ≡ Across → Keeps b s.plane low_part p) →
-    Keeps (node t b a) s.plane (rows x y s t b a low high low_part high_part) p
+row_behind : (cell : List Coefficients) (s t : Outline) (b a : BspTree) (low high low_part high_part : BspTree ×
+    BspTree) (p : Coordinates) (x y : Class) →
+    class_of s t.plane ≡ x → class_of t s.plane ≡ y → is_way x y ≡ true → IsPolygonOfCell cell s → IsPolygonOfCell cell t →
+    IsInCell cell p → value t.plane p <ℤ pos 0 →
+    (LiesBehind s t.plane → KeepsWalkAt b s.plane low p) → (x ≡ Across → KeepsWalkAt b s.plane low_part p) →
+    KeepsWalkAt (node t b a) s.plane (rows x y s t b a low high low_part high_part) p
 row_behind cell s t b a low high low_part high_part p Across Across ex ey r hs ht hp q k kp =
     let i = kp refl in record {
       low = λ m. make_walk (part_behind t s.plane) low_part.0 high_part.0 p ∙
@@ -80,13 +80,13 @@ row_behind cell s t b a low high low_part high_part p Ahead On ex ey r hs ht hp 
 row_behind cell s t b a low high low_part high_part p On y ex ey r hs ht hp q k kp = on_never y r
 
 -- a point ahead of t's plane walks on in a
-row_ahead : (cell : List Coefficients) (s t : Outline) (b a : Tree) (low high low_part high_part : Tree ×
-    Tree) (p : Coordinates) (x y : Class) →
-    class_of s t.plane ≡ x → class_of t s.plane ≡ y → is_way x y ≡ true → IsAcross cell s → IsAcross cell t →
-    IsIn cell p → pos 0 <ℤ value t.plane p →
-    (LiesBehind s (opposite_of t.plane) → Keeps a s.plane high p) →
-    (x ≡ Across → Keeps a s.plane high_part p) →
-    Keeps (node t b a) s.plane (rows x y s t b a low high low_part high_part) p
+row_ahead : (cell : List Coefficients) (s t : Outline) (b a : BspTree) (low high low_part high_part : BspTree ×
+    BspTree) (p : Coordinates) (x y : Class) →
+    class_of s t.plane ≡ x → class_of t s.plane ≡ y → is_way x y ≡ true → IsPolygonOfCell cell s → IsPolygonOfCell cell t →
+    IsInCell cell p → pos 0 <ℤ value t.plane p →
+    (LiesBehind s (opposite_of t.plane) → KeepsWalkAt a s.plane high p) →
+    (x ≡ Across → KeepsWalkAt a s.plane high_part p) →
+    KeepsWalkAt (node t b a) s.plane (rows x y s t b a low high low_part high_part) p
 row_ahead cell s t b a low high low_part high_part p Across Across ex ey r hs ht hp q k kp =
     let i = kp refl in record {
       low = λ m. make_walk (part_behind t s.plane) low_part.0 high_part.0 p ∙
@@ -134,9 +134,9 @@ row_ahead cell s t b a low high low_part high_part p Ahead On ex ey r hs ht hp q
 row_ahead cell s t b a low high low_part high_part p On y ex ey r hs ht hp q k kp = on_never y r
 
 -- a node on the same plane, or on the opposite
-node_keeps : (s t : Outline) (b a : Tree) (p : Coordinates) (parts : Tree × Tree) (x y : Bool) →
+node_keeps : (s t : Outline) (b a : BspTree) (p : Coordinates) (parts : BspTree × BspTree) (x y : Bool) →
     is_same t.plane s.plane ≡ x → is_same t.plane (opposite_of s.plane) ≡ y →
-    (x ≡ false → y ≡ false → Keeps (node t b a) s.plane parts p) → Keeps (node t b a) s.plane
+    (x ≡ false → y ≡ false → KeepsWalkAt (node t b a) s.plane parts p) → KeepsWalkAt (node t b a) s.plane
     (if x then (b, a) else if y then (a, b) else parts) p
 node_keeps s t b a p parts true y ex ey k =
     let e = same_equal t.plane s.plane ex in record {
@@ -152,8 +152,8 @@ node_keeps s t b a p parts false true ex ey k =
     }
 node_keeps s t b a p parts false false ex ey k = k refl refl
 
-keeps : (t : Tree) (cell : List Coefficients) (s : Outline) → IsOfCell cell t → IsAcross cell s →
-    (p : Coordinates) → IsIn cell p → IsOff t p → Keeps t s.plane (divide t s) p
+keeps : (t : BspTree) (cell : List Coefficients) (s : Outline) → IsOfCell cell t → IsPolygonOfCell cell s →
+    (p : Coordinates) → IsInCell cell p → IsOffPlanesOf t p → KeepsWalkAt t s.plane (divide t s) p
 keeps inside cell s h hs p hp off = record { low = λ _. refl; high = λ _. refl }
 keeps outside cell s h hs p hp off = record { low = λ _. refl; high = λ _. refl }
 keeps (node t b a) cell s h hs p hp off =
@@ -162,7 +162,7 @@ keeps (node t b a) cell s h hs p hp off =
     (divide b (part_behind s q)) (divide a (part_ahead s q))) (is_same q s.plane)
     (is_same q (opposite_of s.plane)) refl refl
     (λ ex ey. elim (signs (value q p)) [
-      | inl k ↦ (let inside_b : IsIn (q ∷ cell) p = record { weight = hp.weight; below = (k, hp.below) } in
+      | inl k ↦ (let inside_b : IsInCell (q ∷ cell) p = record { weight = hp.weight; below = (k, hp.below) } in
           row_behind cell s t b a (divide b s) (divide a s) (divide b (part_behind s q))
           (divide a (part_ahead s q)) p (class_of s q) (class_of t s.plane) refl refl
           (way_of cell s t hs h.0 ex ey) hs h.0 hp k
@@ -170,7 +170,7 @@ keeps (node t b a) cell s h hs p hp off =
           (λ e. keeps b (q ∷ cell) (part_behind s q) h.1 (across_part cell s q hs e) p inside_b
           (λ m o. off m (inr (inl o)))))
       | inr (inl k) ↦ absurd (off q (inl refl) k)
-      | inr (inr k) ↦ (let inside_a : IsIn (opposite_of q ∷ cell) p = record {
+      | inr (inr k) ↦ (let inside_a : IsInCell (opposite_of q ∷ cell) p = record {
         weight = hp.weight;
         below =
             (opposite_below q p k, hp.below);
@@ -184,5 +184,5 @@ keeps (node t b a) cell s h hs p hp off =
           (across_opposite s q e)) p inside_a (λ m o. off m (inr (inr o)))))
     ])
 
-pub divide_keeps : (t : Tree) (s : Outline) → KeepWalks t s (divide t s)
+pub divide_keeps : (t : BspTree) (s : Outline) → KeepWalks t s (divide t s)
 divide_keeps t s cell h p hp off = keeps t cell s h.solid h.polygon p hp off

@@ -14,10 +14,10 @@ use Rattle.link_forest.proofs.Reaching.{ends_reach_none, reached_by_added}
 use Rattle.plane_table.specs.declared.faces.Face.{Face}
 use Rattle.plane_table.specs.Tables.{plane_named}
 use Rattle.plane_table.specs.Faces.{outline_of, face_size}
-use Rattle.bsp_tree.specs.Trees.{Tree, inside, outside, node, make, size}
+use Rattle.bsp_tree.specs.Trees.{BspTree, inside, outside, node, make, size}
 use Rattle.bsp_tree.specs.Links.{same_leaf}
-use Rattle.bsp_tree.specs.Shapes.{leaf_of, tree_of_branch, tree_over}
-use Rattle.bsp_tree.specs.Growths.{Sheet, Growth, tree_on, HasTree, HasGrown, GrowsBy}
+use Rattle.bsp_tree.specs.Shapes.{leaf_of, tree_of_branch, tree_at_link}
+use Rattle.bsp_tree.specs.Growths.{Sheet, SolidGrowth, tree_on, HasTree, HasGrown, GrowsBy}
 use Rattle.bsp_tree.specs.declared.growing.GrowStop.{GrowStop}
 use Rattle.bsp_tree.specs.declared.growing.GrowStop.TheVariants.{TooBig, NoMemory}
 use Rattle.bsp_tree.proofs.Sheets.{longer_itself, longer_twice, still, stood_on, leaf_stands, adds_longer, adds_tree}
@@ -27,7 +27,7 @@ leaf_size : (side : Bool) → size (leaf_of side) ≡ 0
 leaf_size true = refl
 leaf_size false = refl
 
-pub leaf_grows : (growth : Growth) (side : Bool) → HasGrown growth growth (End side) (leaf_of side)
+pub leaf_grows : (growth : SolidGrowth) (side : Bool) → HasGrown growth growth (End side) (leaf_of side)
 leaf_grows growth side = record {
   longer = longer_itself growth.sheet;
   stands = leaf_stands growth.sheet side;
@@ -37,7 +37,7 @@ leaf_grows growth side = record {
 }
 
 -- a node over two trees that have grown
-pub node_grows : (start middle old new : Growth) (face : Face) (behind ahead : Link) (b a : Tree) (id : NodeId) →
+pub node_grows : (start middle old new : SolidGrowth) (face : Face) (behind ahead : Link) (b a : BspTree) (id : NodeId) →
     HasGrown start middle behind b → HasGrown middle old ahead a →
     Adds old.sheet.nodes new.sheet.nodes face behind ahead id → new.sheet.planes ≡ old.sheet.planes →
     new.size ≡ old.size + face_size face → new.most ≡ old.most →
@@ -53,28 +53,28 @@ node_grows start middle old new face behind ahead b a id hb ha d p s m = record 
 }
 
 -- where the node passes the limit
-pub node_stops : (start middle old : Growth) (face : Face) (behind ahead : Link) (b a : Tree) →
+pub node_stops : (start middle old : SolidGrowth) (face : Face) (behind ahead : Link) (b a : BspTree) →
     HasGrown start middle behind b → HasGrown middle old ahead a → old.most < old.size + face_size face →
     start.most < start.size + size (node (outline_of old.sheet.planes face) b a)
 node_stops start middle old face behind ahead b a hb ha h =
     omega (arith, hb.size, ha.size, hb.most, ha.most, length-map face.edges (plane_named old.sheet.planes))
 
 -- two leaves of one kind are that leaf, and no node was added for them
-leaf_tree : (sheet : Sheet) (side : Bool) (t : Tree) → HasTree sheet (End side) t → t ≡ leaf_of side
+leaf_tree : (sheet : Sheet) (side : Bool) (t : BspTree) → HasTree sheet (End side) t → t ≡ leaf_of side
 leaf_tree sheet side t h = sym h.same ∙ (leaf_stands sheet side).same
 
 make_leaf : (s : Outline) (side : Bool) → make s (leaf_of side) (leaf_of side) ≡ leaf_of side
 make_leaf s true = refl
 make_leaf s false = refl
 
-leaves_grow : (start middle old : Growth) (side : Bool) (s : Outline) (b a : Tree) →
+leaves_grow : (start middle old : SolidGrowth) (side : Bool) (s : Outline) (b a : BspTree) →
     HasGrown start middle (End side) b → HasGrown middle old (End side) a →
     HasGrown start old (End side) (make s b a)
 leaves_grow start middle old side s b a hb ha =
     let eb = leaf_tree middle.sheet side b hb.stands in
     let ea = leaf_tree old.sheet side a ha.stands in
     let whole : make s b a ≡ leaf_of side = ap₂ (make s) eb ea ∙ make_leaf s side in
-    subst (λ (t : Tree). HasGrown start old (End side) t) (sym whole) (record {
+    subst (λ (t : BspTree). HasGrown start old (End side) t) (sym whole) (record {
       longer = longer_twice start.sheet middle.sheet old.sheet hb.longer ha.longer;
       stands = leaf_stands old.sheet side;
       reached = λ id from below. elim (cases_lt id.index (length middle.sheet.nodes)) [
@@ -85,7 +85,7 @@ leaves_grow start middle old side s b a hb ha =
       most = ha.most ∙ hb.most;
     })
 
-pub same_grows : (start middle old : Growth) (behind ahead : Link) (s : Outline) (b a : Tree) →
+pub same_grows : (start middle old : SolidGrowth) (behind ahead : Link) (s : Outline) (b a : BspTree) →
     same_leaf behind ahead ≡ true → HasGrown start middle behind b → HasGrown middle old ahead a →
     HasGrown start old behind (make s b a)
 same_grows start middle old (End true) (End true) s b a e hb ha = leaves_grow start middle old true s b a hb ha
@@ -96,7 +96,7 @@ same_grows start middle old (End side) (To id) s b a e hb ha = absurd (false≢t
 same_grows start middle old (To id) ahead s b a e hb ha = absurd (false≢true e)
 
 -- other trees are put together in a node
-make_node : (s : Outline) (b a : Tree) → (make s b a ≡ node s b a) ⊎ ((side : Bool) × (b ≡ leaf_of side) × (a ≡ leaf_of side))
+make_node : (s : Outline) (b a : BspTree) → (make s b a ≡ node s b a) ⊎ ((side : Bool) × (b ≡ leaf_of side) × (a ≡ leaf_of side))
 make_node s inside inside = inr (true, refl, refl)
 make_node s outside outside = inr (false, refl, refl)
 make_node s inside outside = inl refl
@@ -106,7 +106,7 @@ make_node s outside (node t c d) = inl refl
 make_node s (node t c d) a = inl refl
 
 -- a node is as large as its two trees together, and larger
-pub make_size : (s : Outline) (b a : Tree) → size b + size a ≤ size (make s b a)
+pub make_size : (s : Outline) (b a : BspTree) → size b + size a ≤ size (make s b a)
 make_size s inside inside = omega arith
 make_size s outside outside = omega arith
 make_size s inside outside = omega arith
@@ -118,12 +118,12 @@ make_size s (node t c d) outside = omega arith
 make_size s (node t c d) (node u e f) = omega arith
 
 -- what stops a part stops the whole
-pub stops : (old new other : Growth) (part whole : Tree) (stop : GrowStop) → size part ≤ size whole →
+pub stops : (old new other : SolidGrowth) (part whole : BspTree) (stop : GrowStop) → size part ≤ size whole →
     GrowsBy old new part (Err stop) → GrowsBy old other whole (Err stop)
 stops old new other part whole TooBig within h = omega arith
 stops old new other part whole NoMemory within h = tt
 
-pub stops_after : (old middle new other : Growth) (link : Link) (b a whole : Tree) (stop : GrowStop) →
+pub stops_after : (old middle new other : SolidGrowth) (link : Link) (b a whole : BspTree) (stop : GrowStop) →
     size b + size a ≤ size whole → HasGrown old middle link b → GrowsBy middle new a (Err stop) →
     GrowsBy old other whole (Err stop)
 stops_after old middle new other link b a whole TooBig within hb h = omega (arith, hb.size, hb.most)
@@ -142,7 +142,7 @@ leaf_side false false e = refl
 leaf_side true false e = absurd (not_inside (sym e))
 leaf_side false true e = absurd (not_inside e)
 
-not_leaf : (s : Outline) (b a : Tree) (side : Bool) → node s b a ≡ leaf_of side → ⊥
+not_leaf : (s : Outline) (b a : BspTree) (side : Bool) → node s b a ≡ leaf_of side → ⊥
 not_leaf s b a true e = cc
 not_leaf s b a false e = cc
 
@@ -153,26 +153,26 @@ item (x ∷ xs) zero h = (x, refl)
 item (x ∷ xs) (suc i) h = item xs i (omega arith)
 
 -- at a node's link a node stands
-pub record Fork (t : Tree) : Type 0 where
+pub record Fork (t : BspTree) : Type 0 where
   pub outline : Outline
-  pub behind : Tree
-  pub ahead : Tree
+  pub behind : BspTree
+  pub ahead : BspTree
   pub same : t ≡ node outline behind ahead
 
 pub is_fork : (planes : List Coefficients) (nodes : List (Entry Face)) (id : NodeId) → AreLinked nodes → id.index < length nodes →
-    Fork (tree_over planes nodes (To id))
+    Fork (tree_at_link planes nodes (To id))
 is_fork planes nodes id l below =
     let there = item nodes id.index below in
     let n = is_node nodes id there.0.payload there.0.behind there.0.ahead l there.1 in
     record {
       outline = outline_of planes there.0.payload;
-      behind = tree_over planes nodes there.0.behind;
-      ahead = tree_over planes nodes there.0.ahead;
+      behind = tree_at_link planes nodes there.0.behind;
+      ahead = tree_at_link planes nodes there.0.ahead;
       same = ap (tree_of_branch planes) n.tree;
     }
 
 no_leaf : (planes : List Coefficients) (nodes : List (Entry Face)) (id : NodeId) (side : Bool) → AreLinked nodes → id.index < length nodes →
-    tree_over planes nodes (To id) ≡ leaf_of side → ⊥
+    tree_at_link planes nodes (To id) ≡ leaf_of side → ⊥
 no_leaf planes nodes id side l below e =
     let fork = is_fork planes nodes id l below in not_leaf fork.outline fork.behind fork.ahead side (sym fork.same ∙ e)
 
@@ -192,7 +192,7 @@ other_make sheet behind ahead s l kb ka e = elim (make_node s (tree_on sheet beh
       absurd (false≢true (sym e ∙ ap₂ same_leaf eb ea ∙ same_itself h.0))
 ]
 
-pub other_grows : (start middle old : Growth) (behind ahead : Link) (s : Outline) (b a : Tree) → AreLinked old.sheet.nodes →
+pub other_grows : (start middle old : SolidGrowth) (behind ahead : Link) (s : Outline) (b a : BspTree) → AreLinked old.sheet.nodes →
     same_leaf behind ahead ≡ false → HasGrown start middle behind b → HasGrown middle old ahead a → node s b a ≡ make s b a
 other_grows start middle old behind ahead s b a l e hb ha =
     let there = still middle.sheet old.sheet behind b ha.longer hb.stands in

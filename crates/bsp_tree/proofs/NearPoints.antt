@@ -1,10 +1,10 @@
 -- A point moved a little keeps its side of each plane of a list or of a solid that it isn't on.
 use Rattle.std.proofs.Common.{◌≡◌, inl, inr, ℕ, suc, ◌+◌, ◌≤◌, [], refl, sym, ap, subst, arith, ℤ, pos, ◌*ℤ◌, ◌<ℤ◌, unsigned_abs}
-use Rattle.plane_predicate.specs.Space.{Coefficients, Coordinates, value, inner}
+use Rattle.plane_predicate.specs.Space.{Coefficients, Coordinates, value, inner_product}
 use Rattle.plane_predicate.proofs.Identities.{combine, value_combine}
 use Rattle.plane_predicate.proofs.Polynomials.{num, ring}
 use Rattle.plane_predicate.proofs.Vectors.{form, of_plane, valueP, innerP}
-use Rattle.bsp_tree.specs.Trees.{Tree, inside, outside, node}
+use Rattle.bsp_tree.specs.Trees.{BspTree, inside, outside, node}
 use Rattle.bsp_tree.specs.Cells.{IsPlaneOf}
 use Rattle.bsp_tree.proofs.Openness.{more_below, more_above}
 
@@ -12,7 +12,7 @@ use Rattle.bsp_tree.proofs.Openness.{more_below, more_above}
 abbrev pub direction : Coefficients → Coordinates
 direction n = record { x = n.a; y = n.b; z = n.c; w = pos 0 }
 
-pub value_direction : (m n : Coefficients) → value m (direction n) ≡ inner m n
+pub value_direction : (m n : Coefficients) → value m (direction n) ≡ inner_product m n
 value_direction m n =
     let N = form 4 in
     ring (of_plane m (of_plane n [])) (valueP (form 0) (record {
@@ -35,12 +35,12 @@ near_ahead m k p v u b h = subst (λ (x : ℤ). pos 0 <ℤ x) (sym (value_combin
     (more_above k (value m p) (v *ℤ value m u) h b)
 
 -- how often the point is to be taken, for all planes of a solid
-abbrev pub often_in : Tree → ℤ → Coordinates → ℕ
+abbrev pub often_in : BspTree → ℤ → Coordinates → ℕ
 often_in inside v u = 0
 often_in outside v u = 0
 often_in (node t b a) v u = unsigned_abs (v *ℤ value t.plane u) + often_in b v u + often_in a v u
 
-pub often_each : (t : Tree) (v : ℤ) (u : Coordinates) (m : Coefficients) → IsPlaneOf m t →
+pub often_each : (t : BspTree) (v : ℤ) (u : Coordinates) (m : Coefficients) → IsPlaneOf m t →
     unsigned_abs (v *ℤ value m u) ≤ often_in t v u
 often_each inside v u m h = absurd h
 often_each outside v u m h = absurd h

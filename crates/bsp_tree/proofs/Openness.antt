@@ -5,7 +5,7 @@ use Rattle.plane_predicate.specs.Space.{Coefficients, Coordinates, value}
 use Rattle.plane_predicate.proofs.IntegerRing.{sums}
 use Rattle.plane_predicate.proofs.Identities.{combine, value_combine}
 use Rattle.plane_predicate.proofs.Sizes.{size_parts}
-use Rattle.bsp_tree.specs.Cells.{IsIn, AllBehind}
+use Rattle.bsp_tree.specs.Cells.{IsInCell, AllBehind}
 
 -- how often is often enough, for v u added
 abbrev pub often : List Coefficients → ℤ → Coordinates → ℕ
@@ -35,7 +35,7 @@ weight_often [] v u = omega arith
 weight_often (m ∷ cell) v u = omega (arith, weight_often cell v u)
 
 pub in_near : (cell : List Coefficients) (k : ℕ) (p : Coordinates) (v : ℤ) (u : Coordinates) →
-    often cell v u ≤ k → IsIn cell p → IsIn cell (combine (pos (suc k)) p v u)
+    often cell v u ≤ k → IsInCell cell p → IsInCell cell (combine (pos (suc k)) p v u)
 in_near cell k p v u b h = record {
   weight = more_above k p.w (v *ℤ u.w) h.weight (omega (arith, weight_often cell v u));
   below = all_near cell k p v u b h.below;

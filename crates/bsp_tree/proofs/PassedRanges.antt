@@ -13,11 +13,11 @@ use Rattle.link_forest.specs.declared.forest.Entry.{Entry}
 use Rattle.link_forest.specs.Forests.{entry, node_id, IsLinkOf, IsNode}
 use Rattle.plane_table.specs.declared.faces.Face.{Face}
 use Rattle.plane_table.specs.Faces.{outline_of}
-use Rattle.bsp_tree.specs.Trees.{Tree, node, size}
+use Rattle.bsp_tree.specs.Trees.{BspTree, node, size}
 use Rattle.bsp_tree.specs.Shapes.{tree_of_branch}
-use Rattle.bsp_tree.specs.Growths.{Sheet, Growth, tree_on, HasGrown, GrowsBy}
+use Rattle.bsp_tree.specs.Growths.{Sheet, SolidGrowth, tree_on, HasGrown, GrowsBy}
 use Rattle.bsp_tree.specs.Moves.{MovedSheet, IsMovedNode}
-use Rattle.bsp_tree.specs.Ranges.{Spans, none, all, link_shifted_by, AreFirsts, CanShift, IsNext}
+use Rattle.bsp_tree.specs.Ranges.{Spans, none, all, link_shifted_by, AreFirsts, CanShift, HasOneNodeMore}
 use Rattle.bsp_tree.specs.declared.growing.GrowStop.{GrowStop}
 use Rattle.bsp_tree.proofs.Growths.{leaf_grows, stops, stops_after}
 use Rattle.bsp_tree.proofs.Wholes.{leaf_tree, node_same, same_id}
@@ -87,18 +87,18 @@ inside nodes _ _ _ at payload behind ahead (all first middle id p b a m sb sa) l
 -- ---- ranges that are added to what grows
 -- What was added of a range up to a number: the solid in the making as it was at each number of it. The tree of each range
 -- within that is a tree's has grown between the two numbers, and its node stands last.
-pub record HasPassed (own : Sheet) (first start : ℕ) (old now : Growth) (at : ℕ) : Type 0 where
-  pub history : ℕ → Growth
+pub record HasPassed (own : Sheet) (first start : ℕ) (old now : SolidGrowth) (at : ℕ) : Type 0 where
+  pub history : ℕ → SolidGrowth
   pub began : history first ≡ old
   pub present : history at ≡ now
   pub count : length now.sheet.nodes ≡ start + (at - first)
   pub grown : (s e : ℕ) (link : Link) → first ≤ s → e ≤ at → Spans own.nodes s link e →
       HasGrown (history s) (history e) (link_shifted_by link e (start + (e - first))) (tree_on own link)
 
-end_grows : (own : Sheet) (growth : Growth) (side : Bool) → HasGrown growth growth (End side) (tree_on own (End side))
+end_grows : (own : Sheet) (growth : SolidGrowth) (side : Bool) → HasGrown growth growth (End side) (tree_on own (End side))
 end_grows own growth side = rw (leaf_tree own.planes own.nodes side) (leaf_grows growth side)
 
-pub passed_none : (own : Sheet) (first start : ℕ) (old : Growth) → length old.sheet.nodes ≡ start → HasPassed own first start old old first
+pub passed_none : (own : Sheet) (first start : ℕ) (old : SolidGrowth) → length old.sheet.nodes ≡ start → HasPassed own first start old old first
 passed_none own first start old count = record {
   history = λ k. old;
   began = refl;
@@ -113,8 +113,8 @@ passed_none own first start old count = record {
         absurd (omega (arith, spans_up own.nodes s b middle sb, spans_up own.nodes middle a id.index sa))
 
 -- what is said of the answer where a node is added over two trees
-abbrev pub Adding : Growth → Growth → Face → Link → Link → Result Link GrowStop → Type 0
-Adding old new face behind ahead result = (start middle : Growth) (b a : Tree) → HasGrown start middle behind b → HasGrown middle old ahead a →
+abbrev pub Adding : SolidGrowth → SolidGrowth → Face → Link → Link → Result Link GrowStop → Type 0
+Adding old new face behind ahead result = (start middle : SolidGrowth) (b a : BspTree) → HasGrown start middle behind b → HasGrown middle old ahead a →
     GrowsBy start new (node (outline_of old.sheet.planes face) b a) result
 
 -- a link is moved by the same offset from each number
@@ -124,7 +124,7 @@ shifted_same first start at s (End side) e w low high = refl
 shifted_same first start at s (To id) e w low high = ap (λ (k : ℕ). To (node_id k)) (omega (arith, w.0, w.1))
 
 -- the tree of the next node
-next_grows : (moved : MovedSheet) (first start : ℕ) (old now new : Growth) (at : NodeId) (face : Face) (behind ahead : Link) (result : Result Link GrowStop) (begin : ℕ) →
+next_grows : (moved : MovedSheet) (first start : ℕ) (old now new : SolidGrowth) (at : NodeId) (face : Face) (behind ahead : Link) (result : Result Link GrowStop) (begin : ℕ) →
     now.sheet.planes ≡ moved.planes → IsMovedNode moved at face behind ahead → (p : HasPassed moved.own first start old now at.index) →
     Adding now new face (link_shifted_by behind at.index (length now.sheet.nodes)) (link_shifted_by ahead at.index (length now.sheet.nodes)) result →
     first ≤ begin → IsOver moved.own.nodes begin behind ahead at.index →
@@ -141,28 +141,28 @@ next_grows moved first start old now new at face behind ahead result begin plane
     let hb = subst (λ (l : Link). HasGrown (p.history begin) (p.history over.middle) l (tree_on own behind)) eb
     (p.grown begin over.middle behind low below over.of_behind) in
     let ha = subst (λ (l : Link). HasGrown (p.history over.middle) now l (tree_on own ahead)) ea
-    (subst (λ (g : Growth). HasGrown (p.history over.middle) g (link_shifted_by ahead at.index (start + (at.index - first))) (tree_on own ahead)) p.present
+    (subst (λ (g : SolidGrowth). HasGrown (p.history over.middle) g (link_shifted_by ahead at.index (start + (at.index - first))) (tree_on own ahead)) p.present
     (p.grown over.middle at.index ahead late (omega arith) over.of_ahead)) in
     let outline : outline_of now.sheet.planes face ≡ outline_of own.planes m.own = ap (λ (ps : List Coefficients). outline_of ps face) planes ∙ m.outline in
     let whole : node (outline_of now.sheet.planes face) (tree_on own behind) (tree_on own ahead) ≡ tree_on own (To at) =
     node_same outline refl refl ∙ sym (ap (tree_of_branch own.planes) m.node.tree) in
-    subst (λ (t : Tree). GrowsBy (p.history begin) new t result) whole
+    subst (λ (t : BspTree). GrowsBy (p.history begin) new t result) whole
     (adding (p.history begin) (p.history over.middle) (tree_on own behind) (tree_on own ahead) hb ha)
 
 -- the history with one number more
-abbrev later : (ℕ → Growth) → ℕ → Growth → ℕ → Growth
+abbrev later : (ℕ → SolidGrowth) → ℕ → SolidGrowth → ℕ → SolidGrowth
 later history at new k = if nat_lt at k then new else history k
 
-later_old : (history : ℕ → Growth) (at : ℕ) (new : Growth) (k : ℕ) → k ≤ at → later history at new k ≡ history k
+later_old : (history : ℕ → SolidGrowth) (at : ℕ) (new : SolidGrowth) (k : ℕ) → k ≤ at → later history at new k ≡ history k
 later_old history at new k below = grind (arith, nat_tests)
 
-later_new : (history : ℕ → Growth) (at : ℕ) (new : Growth) (k : ℕ) → at < k → later history at new k ≡ new
+later_new : (history : ℕ → SolidGrowth) (at : ℕ) (new : SolidGrowth) (k : ℕ) → at < k → later history at new k ≡ new
 later_new history at new k above = grind (arith, nat_tests)
 
-pub passed_more : (moved : MovedSheet) (first start : ℕ) (old now new : Growth) (at : NodeId) (face : Face) (behind ahead link : Link) →
+pub passed_more : (moved : MovedSheet) (first start : ℕ) (old now new : SolidGrowth) (at : NodeId) (face : Face) (behind ahead link : Link) →
     first ≤ at.index → now.sheet.planes ≡ moved.planes → IsMovedNode moved at face behind ahead → HasPassed moved.own first start old now at.index →
     Adding now new face (link_shifted_by behind at.index (length now.sheet.nodes)) (link_shifted_by ahead at.index (length now.sheet.nodes)) (Ok link) →
-    IsNext now new link → HasPassed moved.own first start old new (at.index + 1)
+    HasOneNodeMore now new link → HasPassed moved.own first start old new (at.index + 1)
 passed_more moved first start old now new at face behind ahead link low planes m p adding next = record {
   history = later p.history at.index new;
   began = later_old p.history at.index new first low ∙ p.began;
@@ -201,7 +201,7 @@ node_size own id face behind ahead n =
     omega (arith, ap size e)
 
 -- what stops the next node stops each tree in whose range it stands
-whole_stops : (moved : MovedSheet) (first start : ℕ) (old now new : Growth) (at : NodeId) (face : Face) (behind ahead : Link) (stop : GrowStop) →
+whole_stops : (moved : MovedSheet) (first start : ℕ) (old now new : SolidGrowth) (at : NodeId) (face : Face) (behind ahead : Link) (stop : GrowStop) →
     now.sheet.planes ≡ moved.planes → IsMovedNode moved at face behind ahead → (p : HasPassed moved.own first start old now at.index) →
     Adding now new face (link_shifted_by behind at.index (length now.sheet.nodes)) (link_shifted_by ahead at.index (length now.sheet.nodes)) (Err stop) →
     (s e : ℕ) (link : Link) → first ≤ s → s ≤ at.index → at.index < e → Spans moved.own.nodes s link e →
@@ -229,17 +229,17 @@ whole_stops moved first start old now new at face behind ahead stop planes m p a
       ]
     ]
 
-pub range_stops : (moved : MovedSheet) (first start : ℕ) (old now new : Growth) (at : NodeId) (face : Face) (behind ahead : Link) (stop : GrowStop) →
+pub range_stops : (moved : MovedSheet) (first start : ℕ) (old now new : SolidGrowth) (at : NodeId) (face : Face) (behind ahead : Link) (stop : GrowStop) →
     now.sheet.planes ≡ moved.planes → IsMovedNode moved at face behind ahead → HasPassed moved.own first start old now at.index →
     Adding now new face (link_shifted_by behind at.index (length now.sheet.nodes)) (link_shifted_by ahead at.index (length now.sheet.nodes)) (Err stop) →
     (end : ℕ) (link : Link) → first ≤ at.index → at.index < end → Spans moved.own.nodes first link end →
     GrowsBy old new (tree_on moved.own link) (Err stop)
 range_stops moved first start old now new at face behind ahead stop planes m p adding end link low high d =
-    subst (λ (g : Growth). GrowsBy g new (tree_on moved.own link) (Err stop)) p.began
+    subst (λ (g : SolidGrowth). GrowsBy g new (tree_on moved.own link) (Err stop)) p.began
     (whole_stops moved first start old now new at face behind ahead stop planes m p adding first end link (omega arith) low high d)
 
 -- the whole range
-pub passed_whole : (own : Sheet) (first start : ℕ) (old now : Growth) (link : Link) (end : ℕ) → HasPassed own first start old now end →
+pub passed_whole : (own : Sheet) (first start : ℕ) (old now : SolidGrowth) (link : Link) (end : ℕ) → HasPassed own first start old now end →
     Spans own.nodes first link end → HasGrown old now (link_shifted_by link end (length now.sheet.nodes)) (tree_on own link)
 passed_whole own first start old now link end p d =
     let g = p.grown first end link (omega arith) (omega arith) d in
@@ -296,22 +296,22 @@ ahead_passed nodes first link end at face behind ahead d low high n =
       range = i.over.of_ahead;
     }
 
-pub next_shifts : (own : Sheet) (first start : ℕ) (old now : Growth) (at next : ℕ) (link : Link) → HasPassed own first start old now at →
+pub next_shifts : (own : Sheet) (first start : ℕ) (old now : SolidGrowth) (at next : ℕ) (link : Link) → HasPassed own first start old now at →
     IsPassed own.nodes first at link → next ≡ length now.sheet.nodes → CanShift link at next
 next_shifts own first start old now at next link p i same =
     can_shift own.nodes first start i.begin i.end at next link i.range i.late i.early (same ∙ p.count)
 
-pub range_shifts : (own : Sheet) (first start : ℕ) (old now : Growth) (end next : ℕ) (link : Link) → HasPassed own first start old now end →
+pub range_shifts : (own : Sheet) (first start : ℕ) (old now : SolidGrowth) (end next : ℕ) (link : Link) → HasPassed own first start old now end →
     Spans own.nodes first link end → next ≡ length now.sheet.nodes → CanShift link end next
 range_shifts own first start old now end next link p d same =
     can_shift own.nodes first start first end end next link d (omega arith) (omega arith) (same ∙ p.count)
 
-pub next_link : (own : Sheet) (first start : ℕ) (old now : Growth) (at : ℕ) (link : Link) → HasPassed own first start old now at →
+pub next_link : (own : Sheet) (first start : ℕ) (old now : SolidGrowth) (at : ℕ) (link : Link) → HasPassed own first start old now at →
     IsPassed own.nodes first at link → IsLinkOf now.sheet.nodes (link_shifted_by link at (length now.sheet.nodes))
 next_link own first start old now at link p i =
     shifted_link own.nodes now.sheet.nodes first start i.begin i.end at link i.range i.late i.early p.count
 
-pub adding_same : (old new : Growth) (face : Face) (b a behind ahead : Link) (result : Result Link GrowStop) → b ≡ behind → a ≡ ahead →
+pub adding_same : (old new : SolidGrowth) (face : Face) (b a behind ahead : Link) (result : Result Link GrowStop) → b ≡ behind → a ≡ ahead →
     Adding old new face b a result → Adding old new face behind ahead result
 adding_same old new face b a behind ahead result eb ea h =
     subst (λ (l : Link). Adding old new face l ahead result) eb (subst (λ (l : Link). Adding old new face b l result) ea h)

@@ -14,7 +14,7 @@ use Rattle.plane_polygon.proofs.Rounds.{no_edge_behind}
 use Rattle.plane_polygon.proofs.PartPolygons.{below, part_polygon}
 use Rattle.plane_polygon.proofs.PartPoints.{cut_of}
 use Rattle.plane_polygon.proofs.PartCovers.{part_covers_out, part_covers_in, between_within}
-use Rattle.bsp_tree.specs.Cells.{IsIn, IsAcross}
+use Rattle.bsp_tree.specs.Cells.{IsInCell, IsPolygonOfCell}
 use Rattle.bsp_tree.proofs.Convexity.{in_combine}
 
 -- a polygon has its corners
@@ -42,9 +42,9 @@ on_both : (x y k : ℤ) → x ≡ pos 0 → y ≡ pos 0 → pos 1 *ℤ x +ℤ k 
 on_both x y k hx hy = rw (hx, hy, *ℤ-zero (pos 1), *ℤ-zero k) refl
 
 -- a point of the open cell on the polygon, strictly behind q, from a corner strictly behind q
-pub inner_point : (cell : List Coefficients) (s : Outline) (q : Coefficients) → IsAcross cell s → (i : ℕ) →
+pub inner_point : (cell : List Coefficients) (s : Outline) (q : Coefficients) → IsPolygonOfCell cell s → (i : ℕ) →
     i < sides s →
-    value q (corner s i) <ℤ pos 0 → (y : Coordinates) × IsIn cell y × (value s.plane y ≡ pos 0) ×
+    value q (corner s i) <ℤ pos 0 → (y : Coordinates) × IsInCell cell y × (value s.plane y ≡ pos 0) ×
     (value q y <ℤ pos 0)
 inner_point cell s q h i l b =
     let v = corner s i in
@@ -59,8 +59,8 @@ inner_point cell s q h i l b =
     )
 
 -- the part of a polygon of a cell is a polygon of the half of the cell
-pub across_part : (cell : List Coefficients) (s : Outline) (q : Coefficients) → IsAcross cell s →
-    class_of s q ≡ Across → IsAcross (q ∷ cell) (part_behind s q)
+pub across_part : (cell : List Coefficients) (s : Outline) (q : Coefficients) → IsPolygonOfCell cell s →
+    class_of s q ≡ Across → IsPolygonOfCell (q ∷ cell) (part_behind s q)
 across_part cell s q h e =
     let w = cut_of s q h.polygon e in
     let y = inner_point cell s q h w.0 w.2.arc.start (below (value q (corner s w.0))
@@ -86,10 +86,10 @@ across_part cell s q h e =
     }
 
 -- a polygon of a cell that has no corner ahead of q, and one strictly behind q, is a polygon of the half of the cell
-pub across_behind : (cell : List Coefficients) (s : Outline) (q : Coefficients) → IsAcross cell s → (i : ℕ) →
+pub across_behind : (cell : List Coefficients) (s : Outline) (q : Coefficients) → IsPolygonOfCell cell s → (i : ℕ) →
     i < sides s →
     value q (corner s i) <ℤ pos 0 → ((j : ℕ) → j < sides s → value q (corner s j) ≤ℤ pos 0) →
-    IsAcross (q ∷ cell) s
+    IsPolygonOfCell (q ∷ cell) s
 across_behind cell s q h i l b all =
     let y = inner_point cell s q h i l b in
     record {

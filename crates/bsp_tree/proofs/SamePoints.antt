@@ -7,13 +7,13 @@ use Rattle.plane_predicate.proofs.Identities.{combine, value_combine}
 use Rattle.plane_predicate.proofs.Sizes.{size_parts}
 use Rattle.plane_predicate.proofs.Signs.{signs}
 use Rattle.plane_polygon.specs.Polygons.{Outline}
-use Rattle.bsp_tree.specs.Trees.{Tree, inside, outside, node}
-use Rattle.bsp_tree.specs.Cells.{IsIn, IsInClosed, IsAcross, IsOfCell, AllBehind, NoneAhead}
+use Rattle.bsp_tree.specs.Trees.{BspTree, inside, outside, node}
+use Rattle.bsp_tree.specs.Cells.{IsInCell, IsInClosedCell, IsPolygonOfCell, IsOfCell, AllBehind, NoneAhead}
 use Rattle.bsp_tree.proofs.Convexity.{in_combine}
 
 -- two lists of planes give a cell with the same points
 abbrev pub HaveOnePoints : List Coefficients → List Coefficients → Type 0
-HaveOnePoints c d = (p : Coordinates) → IsIn c p ↔ IsIn d p
+HaveOnePoints c d = (p : Coordinates) → IsInCell c p ↔ IsInCell d p
 
 -- ---- the closed cell is told by the points of the cell
 pushed : (x w : ℤ) → pos 0 <ℤ w → (pos 1 *ℤ x +ℤ pos (suc (unsigned_abs x)) *ℤ w) <ℤ pos 0 → ⊥
@@ -44,8 +44,8 @@ all_limits : (d : List Coefficients) (z p : Coordinates) →
 all_limits [] z p h = tt
 all_limits (m ∷ d) z p h = (limit m z p (λ k. (h k).0), all_limits d z p (λ k. (h k).1))
 
-pub closed_within : (c d : List Coefficients) → ((p : Coordinates) → IsIn c p → IsIn d p) →
-    (z : Coordinates) → IsIn c z → (p : Coordinates) → IsInClosed c p → IsInClosed d p
+pub closed_within : (c d : List Coefficients) → ((p : Coordinates) → IsInCell c p → IsInCell d p) →
+    (z : Coordinates) → IsInCell c z → (p : Coordinates) → IsInClosedCell c p → IsInClosedCell d p
 closed_within c d h z hz p hp = record {
   weight = hp.weight;
   below = all_limits d z p (λ k. (h (combine (pos 1) z (pos k) p) (in_combine c (pos 1) z (pos k) p
@@ -53,7 +53,7 @@ closed_within c d h z hz p hp = record {
 }
 
 -- ---- polygons and solids
-pub same_across : (c d : List Coefficients) (s : Outline) → HaveOnePoints c d → IsAcross c s → IsAcross d s
+pub same_across : (c d : List Coefficients) (s : Outline) → HaveOnePoints c d → IsPolygonOfCell c s → IsPolygonOfCell d s
 same_across c d s e h =
     let z = (e h.point).0 h.point_in in record {
       polygon = h.polygon;
@@ -83,7 +83,7 @@ same_more m c d e p = (
   },
 )
 
-pub same_of_cell : (t : Tree) (c d : List Coefficients) → HaveOnePoints c d → IsOfCell c t → IsOfCell d t
+pub same_of_cell : (t : BspTree) (c d : List Coefficients) → HaveOnePoints c d → IsOfCell c t → IsOfCell d t
 same_of_cell inside c d e h = tt
 same_of_cell outside c d e h = tt
 same_of_cell (node s b a) c d e h = (
@@ -101,7 +101,7 @@ same_exchanged m n c p = (
 )
 
 -- a plane that all points of the cell behind n are behind
-pub same_implied : (m n : Coefficients) (c : List Coefficients) → ((p : Coordinates) → IsIn c p →
+pub same_implied : (m n : Coefficients) (c : List Coefficients) → ((p : Coordinates) → IsInCell c p →
     value n p <ℤ pos 0 → value m p <ℤ pos 0) → HaveOnePoints (n ∷ c) (n ∷ m ∷ c)
 same_implied m n c f p = (
   λ h. record {

@@ -6,7 +6,7 @@ use Rattle.text_place.specs.declared.memory.NoMemory.{NoMemory}
 use Rattle.link_forest.specs.declared.link.Link.{Link}
 use Rattle.link_forest.specs.declared.link.NodeId.{NodeId}
 use Rattle.link_forest.specs.declared.forest.Entry.{Entry}
-use Rattle.link_forest.specs.Forests.{entry, Stored, Adds, Extends, IsNode}
+use Rattle.link_forest.specs.Forests.{entry, StoredForest, Adds, Extends, IsNode}
 use Rattle.link_forest.proofs.Numbers.{stays, which}
 use Rattle.plane_table.specs.declared.faces.Face.{Face}
 use Rattle.plane_table.specs.Faces.{IsFaceOver}
@@ -32,7 +32,7 @@ pub face_is : (planes : List Coefficients) (nodes : List (Entry Face)) (id : Nod
 face_is planes nodes id face behind ahead faces n = faces.each id.index (entry face behind ahead) n.node
 
 -- whether a node was added or not
-pub faces_after : (planes : List Coefficients) (old new : Stored Face) (face : Face) (behind ahead : Link) (result : Result NodeId NoMemory) →
+pub faces_after : (planes : List Coefficients) (old new : StoredForest Face) (face : Face) (behind ahead : Link) (result : Result NodeId NoMemory) →
     AreFacesOver planes old.nodes → IsFaceOver planes face → IfOk result (Adds old.nodes new.nodes face behind ahead) →
     OnErr result (new ≡ old) → AreFacesOver planes new.nodes
 faces_after planes old new face behind ahead (Ok id) faces h ok err = faces_more planes old.nodes new.nodes face behind ahead id faces h ok

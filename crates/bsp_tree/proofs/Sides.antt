@@ -6,11 +6,11 @@ use Rattle.plane_predicate.specs.Space.{Coefficients, Coordinates, value, opposi
 use Rattle.plane_predicate.proofs.Vectors.{value-opposite}
 use Rattle.plane_polygon.specs.Polygons.{Outline, sides, corner}
 use Rattle.plane_polygon.specs.declared.classes.Class.TheVariants.{Behind, Ahead, On, Across}
-use Rattle.plane_polygon.specs.Parts.{class_by, class_of, is_behind, is_ahead, some_of, corners, up_to}
+use Rattle.plane_polygon.specs.Parts.{class_by_sides, class_of, is_behind, is_ahead, some_of, corners, indices_below}
 use Rattle.plane_polygon.proofs.Hull.{hull}
 use Rattle.plane_polygon.proofs.PartPoints.{some_index}
 use Rattle.plane_polygon.proofs.PartCovers.{between_within}
-use Rattle.bsp_tree.specs.Cells.{IsInClosed, IsAcross}
+use Rattle.bsp_tree.specs.Cells.{IsInClosedCell, IsPolygonOfCell}
 
 -- ---- where no item passes a test
 or_left : (x y : Bool) → (x || y) ≡ false → (x ≡ false) × (y ≡ false)
@@ -31,11 +31,11 @@ none_append f [] y h = (refl, (or_left (f y) false h).0)
 none_append f (x ∷ xs) y h = none_case (f x) (some_of f (xs ++ y ∷ [])) (some_of f xs) (f y) h
     (none_append f xs y)
 
-none_index : (f : Coordinates → Bool) (g : ℕ → Coordinates) (n : ℕ) → some_of f (map g (up_to n)) ≡ false →
+none_index : (f : Coordinates → Bool) (g : ℕ → Coordinates) (n : ℕ) → some_of f (map g (indices_below n)) ≡ false →
     (i : ℕ) → i < n → f (g i) ≡ false
 none_index f g zero h i l = absurd (omega arith)
 none_index f g (suc n) h i l =
-    let r = none_append f (map g (up_to n)) (g n) (ap (some_of f) (sym (map-append g (up_to n) (n ∷ []))) ∙
+    let r = none_append f (map g (indices_below n)) (g n) (ap (some_of f) (sym (map-append g (indices_below n) (n ∷ []))) ∙
     h) in
     elim (at_most_now i n (omega arith)) [
       | inl e ↦ ap (λ (k : ℕ). f (g k)) e ∙ r.1
@@ -60,25 +60,25 @@ turned_most : (x y : ℤ) → y ≡ neg_ℤ x → int_lt x (pos 0) ≡ false →
 turned_most x y e h = omega (arith, ints)
 
 -- ---- the classes
-of_behind : (x y : Bool) → class_by x y ≡ Behind → (x ≡ true) × (y ≡ false)
+of_behind : (x y : Bool) → class_by_sides x y ≡ Behind → (x ≡ true) × (y ≡ false)
 of_behind true true e = cc
 of_behind true false e = (refl, refl)
 of_behind false true e = cc
 of_behind false false e = cc
 
-of_ahead : (x y : Bool) → class_by x y ≡ Ahead → (x ≡ false) × (y ≡ true)
+of_ahead : (x y : Bool) → class_by_sides x y ≡ Ahead → (x ≡ false) × (y ≡ true)
 of_ahead true true e = cc
 of_ahead true false e = cc
 of_ahead false true e = (refl, refl)
 of_ahead false false e = cc
 
-of_on : (x y : Bool) → class_by x y ≡ On → (x ≡ false) × (y ≡ false)
+of_on : (x y : Bool) → class_by_sides x y ≡ On → (x ≡ false) × (y ≡ false)
 of_on true true e = cc
 of_on true false e = cc
 of_on false true e = cc
 of_on false false e = (refl, refl)
 
-of_across : (x y : Bool) → class_by x y ≡ Across → (x ≡ true) × (y ≡ true)
+of_across : (x y : Bool) → class_by_sides x y ≡ Across → (x ≡ true) × (y ≡ true)
 of_across true true e = (refl, refl)
 of_across true false e = cc
 of_across false true e = cc
@@ -140,8 +140,8 @@ lies_across s q e =
     (found_behind s q b.0, found_ahead s q b.1)
 
 -- no point of a polygon of the cell is ahead of what its corners aren't ahead of
-pub none_ahead : (cell : List Coefficients) (t : Outline) (m : Coefficients) → IsAcross cell t →
-    LiesBehind t m → (z : Coordinates) → IsInClosed cell z → value t.plane z ≡ pos 0 → value m z ≤ℤ pos 0
+pub none_ahead : (cell : List Coefficients) (t : Outline) (m : Coefficients) → IsPolygonOfCell cell t →
+    LiesBehind t m → (z : Coordinates) → IsInClosedCell cell z → value t.plane z ≡ pos 0 → value m z ≤ℤ pos 0
 none_ahead cell t m h b z c e =
     let o = hull t h.polygon z ((h.covers z).1 (c, e)) in
     between_within (corner t 0) (corner t o.0) (corner t (suc o.0)) z m o.2 (b.all 0 (omega (arith, o.1)))

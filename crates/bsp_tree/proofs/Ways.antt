@@ -1,7 +1,7 @@
 -- Polygons of one cell whose planes are neither equal nor opposite lie against one another in one of five ways.
 use Rattle.std.proofs.Common.{◌≡◌, ◌≢◌, inl, inr, ℕ, suc, ◌<◌, Bool, true, false, List, refl, sym, ap, ◌∙◌, subst, arith, ℤ, pos, negsuc, ◌+ℤ◌, ◌-ℤ◌, ◌*ℤ◌, ◌<ℤ◌, ◌≤ℤ◌, neg_ℤ}
 use Rattle.std.proofs.Math.IntN.{*ℤ-zero}
-use Rattle.plane_predicate.specs.Space.{Coefficients, Coordinates, value, turn, opposite_of, HasItsPointsOn, is_same}
+use Rattle.plane_predicate.specs.Space.{Coefficients, Coordinates, value, orientation_seen_from, opposite_of, HasItsPointsOn, is_same}
 use Rattle.plane_predicate.proofs.IntegerRing.{sums}
 use Rattle.plane_predicate.proofs.Identities.{combine, value_combine}
 use Rattle.plane_predicate.proofs.Signs.{zero_cancel, neg_neg}
@@ -13,7 +13,7 @@ use Rattle.plane_polygon.specs.Parts.{class_of}
 use Rattle.plane_polygon.proofs.Hull.{corner_on, plane_directed}
 use Rattle.plane_polygon.proofs.FourPoints.{four_points}
 use Rattle.plane_polygon.proofs.Rounds.{step, step_below, corner_from, any_turn}
-use Rattle.bsp_tree.specs.Cells.{IsIn, IsAcross}
+use Rattle.bsp_tree.specs.Cells.{IsInCell, IsPolygonOfCell}
 use Rattle.bsp_tree.proofs.Opposites.{opposite_zero, opposite_twice, behind_opposite_above}
 use Rattle.bsp_tree.proofs.SameNumbers.{not_same}
 use Rattle.bsp_tree.proofs.Convexity.{in_closed, in_combine}
@@ -52,9 +52,9 @@ on_points s q h e =
     let c = corner_from s 0 2 in
     let zero_below : 0 < k = omega arith in
     record {
-      points = λ p w on. zero_cancel (turn s.plane a b c) (value q p) (any_turn s h 0 0 1 2 zero_below
+      points = λ p w on. zero_cancel (orientation_seen_from s.plane a b c) (value q p) (any_turn s h 0 0 1 2 zero_below
           (omega arith) (omega arith) (omega arith))
-          (fourth_zero (turn s.plane b c p) (turn s.plane a c p) (turn s.plane a b p) (turn s.plane a b c)
+          (fourth_zero (orientation_seen_from s.plane b c p) (orientation_seen_from s.plane a c p) (orientation_seen_from s.plane a b p) (orientation_seen_from s.plane a b c)
           (value q a) (value q b) (value q c) (value q p)
           (e (step k 0 0) (step_below k 0 0 zero_below)) (e (step k 0 1) (step_below k 0 1 zero_below))
           (e (step k 0 2) (step_below k 0 2 zero_below))
@@ -66,7 +66,7 @@ opposite_other : (m n : Coefficients) → m ≡ opposite_of n → n ≡ opposite
 opposite_other m n e = sym (opposite_twice n) ∙ ap opposite_of (sym e)
 
 -- so it is on no plane but its own and its opposite
-not_on : (cell : List Coefficients) (s t : Outline) → IsAcross cell s → IsAcross cell t → t.plane ≢ s.plane →
+not_on : (cell : List Coefficients) (s t : Outline) → IsPolygonOfCell cell s → IsPolygonOfCell cell t → t.plane ≢ s.plane →
     t.plane ≢ opposite_of s.plane → class_of s t.plane ≡ On → ⊥
 not_on cell s t hs ht ne other e =
     elim (equal_or_opposite s.plane t.plane hs.plane ht.plane (on_points s t.plane hs.polygon
@@ -87,9 +87,9 @@ second_above u v x y hx h = subst (λ (z : ℤ). pos 0 <ℤ (u *ℤ z +ℤ v *�
     (omega (arith, sums, *ℤ-zero u))
 
 -- a point of the cell on both planes
-on_both_planes : (cell : List Coefficients) (s : Outline) (q : Coefficients) → IsAcross cell s →
+on_both_planes : (cell : List Coefficients) (s : Outline) (q : Coefficients) → IsPolygonOfCell cell s →
     HasBehind s q → HasBehind s (opposite_of q) →
-    (z : Coordinates) × IsIn cell z × (value s.plane z ≡ pos 0) × (value q z ≡ pos 0)
+    (z : Coordinates) × IsInCell cell z × (value s.plane z ≡ pos 0) × (value q z ≡ pos 0)
 on_both_planes cell s q h b a =
     let y = inner_point cell s q h b.index b.index_below b.strict in
     let x = inner_point cell s (opposite_of q) h a.index a.index_below a.strict in
@@ -103,8 +103,8 @@ on_both_planes cell s q h b a =
     )
 
 -- from it away from a corner of t behind m there are points of t ahead of m
-not_across : (cell : List Coefficients) (s t : Outline) (m : Coefficients) → IsAcross cell s →
-    IsAcross cell t → class_of s t.plane ≡ Across → LiesBehind t m →
+not_across : (cell : List Coefficients) (s t : Outline) (m : Coefficients) → IsPolygonOfCell cell s →
+    IsPolygonOfCell cell t → class_of s t.plane ≡ Across → LiesBehind t m →
     ((z : Coordinates) → value s.plane z ≡ pos 0 → value m z ≡ pos 0) → ⊥
 not_across cell s t m hs ht e b on =
     let both = lies_across s t.plane e in
@@ -123,7 +123,7 @@ not_across cell s t m hs ht e b on =
     not_both (value m x) ahead (none_ahead cell t m ht b x (in_closed cell x inside) on_t)
 
 -- ---- the ways that are left
-pub one_way : (cell : List Coefficients) (s t : Outline) → IsAcross cell s → IsAcross cell t →
+pub one_way : (cell : List Coefficients) (s t : Outline) → IsPolygonOfCell cell s → IsPolygonOfCell cell t →
     t.plane ≢ s.plane → t.plane ≢ opposite_of s.plane →
     (x y : Class) → class_of s t.plane ≡ x → class_of t s.plane ≡ y → is_way x y ≡ true
 one_way cell s t hs ht ne other Across Across ex ey = refl
@@ -148,7 +148,7 @@ one_way cell s t hs ht ne other Ahead On ex ey = absurd (not_on cell t s ht hs (
     (λ e. other (opposite_other s.plane t.plane e)) ey)
 
 -- by the tests of the definition
-pub way_of : (cell : List Coefficients) (s t : Outline) → IsAcross cell s → IsAcross cell t →
+pub way_of : (cell : List Coefficients) (s t : Outline) → IsPolygonOfCell cell s → IsPolygonOfCell cell t →
     is_same t.plane s.plane ≡ false → is_same t.plane (opposite_of s.plane) ≡ false →
     is_way (class_of s t.plane) (class_of t s.plane) ≡ true
 way_of cell s t hs ht e o = one_way cell s t hs ht (not_same t.plane s.plane e)

@@ -13,41 +13,41 @@ use Rattle.link_forest.proofs.Longer.{tree_of_end}
 use Rattle.plane_table.specs.declared.faces.Face.{Face}
 use Rattle.plane_table.specs.Tables.{HasNoTwoAlike}
 use Rattle.plane_table.specs.declared.numbering.OwnFace.{OwnFace}
-use Rattle.plane_table.specs.Joins.{IsFaceOf}
+use Rattle.plane_table.specs.Joins.{IsOwnFaceOf}
 use Rattle.plane_polygon.specs.Polygons.{Outline}
-use Rattle.bsp_tree.specs.Trees.{Tree, inside, outside, node, size, walk}
-use Rattle.bsp_tree.specs.Shapes.{leaf_of, tree_of_branch, tree_over, tree_of, AreFacesOver, IsWhole, SolidParts}
-use Rattle.bsp_tree.specs.Kept.{IsKept}
+use Rattle.bsp_tree.specs.Trees.{BspTree, inside, outside, node, size, walk}
+use Rattle.bsp_tree.specs.Shapes.{leaf_of, tree_of_branch, tree_at_link, tree_of, AreFacesOver, IsWholeSolid, SolidParts}
+use Rattle.bsp_tree.specs.Kept.{KeepsItsSize}
 use Rattle.bsp_tree.specs.Growths.{Sheet, tree_on, with_sides_exchanged, HasGrownWhole}
 use Rattle.bsp_tree.specs.Links.{exchanged_leaf}
 use Rattle.bsp_tree.proofs.SheetFaces.{faces_more}
 
 pub grown_kept : (planes : List Coefficients) (nodes : List (Entry Face)) (root : Link) (kept : ℕ) →
     HasNoTwoAlike planes → AreFacesOver planes nodes → HasGrownWhole (record { planes = planes; nodes = nodes }) root kept →
-    kept < 2 ^ 64 → IsKept (record { planes = planes; nodes = nodes; root = root }) kept
+    kept < 2 ^ 64 → KeepsItsSize (record { planes = planes; nodes = nodes; root = root }) kept
 unfolding tree_of
 grown_kept planes nodes root kept apart faces g small = record {
   whole = record { apart = apart; faces = faces; root = g.there; reached = g.reached };
   size_is = omega (arith, g.size_is);
 }
 
-pub whole_kept : (solid : SolidParts) (kept : ℕ) → IsWhole solid →
-    kept ≡ min (size (tree_over solid.planes solid.nodes solid.root)) (2 ^ 64 - 1) → IsKept solid kept
+pub whole_kept : (solid : SolidParts) (kept : ℕ) → IsWholeSolid solid →
+    kept ≡ min (size (tree_at_link solid.planes solid.nodes solid.root)) (2 ^ 64 - 1) → KeepsItsSize solid kept
 unfolding tree_of
 whole_kept solid kept h e = record { whole = h; size_is = e }
 
 -- the tree of a leaf
-pub leaf_tree : (planes : List Coefficients) (nodes : List (Entry Face)) (side : Bool) → tree_over planes nodes (End side) ≡ leaf_of side
+pub leaf_tree : (planes : List Coefficients) (nodes : List (Entry Face)) (side : Bool) → tree_at_link planes nodes (End side) ≡ leaf_of side
 leaf_tree planes nodes side = ap (tree_of_branch planes) (tree_of_end nodes side)
 
 leaf_size : (side : Bool) → size (leaf_of side) ≡ 0
 leaf_size true = refl
 leaf_size false = refl
 
-pub end_size : (planes : List Coefficients) (nodes : List (Entry Face)) (side : Bool) → size (tree_over planes nodes (End side)) ≡ 0
+pub end_size : (planes : List Coefficients) (nodes : List (Entry Face)) (side : Bool) → size (tree_at_link planes nodes (End side)) ≡ 0
 end_size planes nodes side = ap size (leaf_tree planes nodes side) ∙ leaf_size side
 
-pub leaf_kept : (side : Bool) → IsKept (record { planes = []; nodes = []; root = End side }) 0
+pub leaf_kept : (side : Bool) → KeepsItsSize (record { planes = []; nodes = []; root = End side }) 0
 unfolding tree_of
 leaf_kept side = record {
   whole = record {
@@ -76,13 +76,13 @@ pub same_id : (a b : NodeId) → a.index ≡ b.index → a ≡ b
 same_id a b e = ap node_id e
 
 -- nodes of the same parts
-pub node_same : {s t : Outline} {b c a d : Tree} → s ≡ t → b ≡ c → a ≡ d → node s b a ≡ node t c d
-node_same {s} {t} {b} {c} {a} {d} e eb ea = ap₂ (λ (u : Outline) (v : Tree). node u v a) e eb ∙ ap (node t c) ea
+pub node_same : {s t : Outline} {b c a d : BspTree} → s ≡ t → b ≡ c → a ≡ d → node s b a ≡ node t c d
+node_same {s} {t} {b} {c} {a} {d} e eb ea = ap₂ (λ (u : Outline) (v : BspTree). node u v a) e eb ∙ ap (node t c) ea
 
 -- a solid of one node with two leaves
-pub one_node_whole : (s : Outline) (own : OwnFace) (old new : List (Entry Face)) (id : NodeId) → IsFaceOf s own → old ≡ [] →
+pub one_node_whole : (s : Outline) (own : OwnFace) (old new : List (Entry Face)) (id : NodeId) → IsOwnFaceOf s own → old ≡ [] →
     Adds old new own.face (End true) (End false) id →
-    IsWhole (record { planes = own.planes.items; nodes = new; root = To id })
+    IsWholeSolid (record { planes = own.planes.items; nodes = new; root = To id })
 one_node_whole s own old new id h none d =
     let none_faces : AreFacesOver own.planes.items old = record { each = λ index entry there. absurd (omega (arith, slice_get_within old index entry there, ap length none)) } in
     record {
@@ -95,12 +95,12 @@ one_node_whole s own old new id h none d =
           rw same (itself id);
     }
 
-pub one_node_tree : (s : Outline) (own : OwnFace) (old new : List (Entry Face)) (id : NodeId) (solid : SolidParts) → IsFaceOf s own → old ≡ [] →
+pub one_node_tree : (s : Outline) (own : OwnFace) (old new : List (Entry Face)) (id : NodeId) (solid : SolidParts) → IsOwnFaceOf s own → old ≡ [] →
     Adds old new own.face (End true) (End false) id →
     solid ≡ record { planes = own.planes.items; nodes = new; root = To id } → tree_of solid ≡ node s inside outside
 unfolding tree_of
 one_node_tree s own old new id solid h none d e =
-    ap (λ (t : SolidParts). tree_over t.planes t.nodes t.root) e
+    ap (λ (t : SolidParts). tree_at_link t.planes t.nodes t.root) e
     ∙ ap (tree_of_branch own.planes.items) d.tree
     ∙ node_same h.outline (leaf_tree own.planes.items old true) (leaf_tree own.planes.items old false)
 
@@ -110,20 +110,20 @@ pub whole_tree : (sheet : Sheet) (planes : List Coefficients) (nodes : List (Ent
     tree_of solid ≡ tree_on sheet root
 unfolding tree_of
 whole_tree sheet planes nodes root solid e p n =
-    ap (λ (t : SolidParts). tree_over t.planes t.nodes t.root) e
-    ∙ ap₂ (λ (ps : List Coefficients) (ns : List (Entry Face)). tree_over ps ns root) p n
+    ap (λ (t : SolidParts). tree_at_link t.planes t.nodes t.root) e
+    ∙ ap₂ (λ (ps : List Coefficients) (ns : List (Entry Face)). tree_at_link ps ns root) p n
 
 -- the walk of a leaf
 leaf_walk : (side : Bool) (p : Coordinates) → side ≡ walk (leaf_of side) p
 leaf_walk true p = refl
 leaf_walk false p = refl
 
-pub end_walk : (planes : List Coefficients) (nodes : List (Entry Face)) (side : Bool) (p : Coordinates) → side ≡ walk (tree_over planes nodes (End side)) p
-end_walk planes nodes side p = leaf_walk side p ∙ sym (ap (λ (t : Tree). walk t p) (leaf_tree planes nodes side))
+pub end_walk : (planes : List Coefficients) (nodes : List (Entry Face)) (side : Bool) (p : Coordinates) → side ≡ walk (tree_at_link planes nodes (End side)) p
+end_walk planes nodes side p = leaf_walk side p ∙ sym (ap (λ (t : BspTree). walk t p) (leaf_tree planes nodes side))
 
 -- the leaf that stands where leaves are exchanged
 pub end_exchanged : (planes : List Coefficients) (nodes : List (Entry Face)) (side turn : Bool) →
-    with_sides_exchanged turn (tree_over planes nodes (End side)) ≡ leaf_of (exchanged_leaf side turn)
+    with_sides_exchanged turn (tree_at_link planes nodes (End side)) ≡ leaf_of (exchanged_leaf side turn)
 end_exchanged planes nodes side turn = ap (with_sides_exchanged turn) (leaf_tree planes nodes side) ∙ leaf_exchanged side turn
   where
     leaf_exchanged : (side turn : Bool) → with_sides_exchanged turn (leaf_of side) ≡ leaf_of (exchanged_leaf side turn)
@@ -133,6 +133,6 @@ end_exchanged planes nodes side turn = ap (with_sides_exchanged turn) (leaf_tree
     leaf_exchanged false false = refl
 
 -- a node whose leaves are exchanged
-pub node_exchanged : (s : Outline) (b a : Tree) (turn : Bool) → with_sides_exchanged turn (node s b a) ≡ node s (with_sides_exchanged turn b) (with_sides_exchanged turn a)
+pub node_exchanged : (s : Outline) (b a : BspTree) (turn : Bool) → with_sides_exchanged turn (node s b a) ≡ node s (with_sides_exchanged turn b) (with_sides_exchanged turn a)
 node_exchanged s b a true = refl
 node_exchanged s b a false = refl

@@ -7,13 +7,13 @@ use Rattle.plane_polygon.specs.Polygons.{Outline}
 use Rattle.plane_polygon.specs.declared.classes.Class.{Class}
 use Rattle.plane_polygon.specs.declared.classes.Class.TheVariants.{Behind, Ahead, On, Across}
 use Rattle.plane_polygon.specs.Parts.{class_of}
-use Rattle.plane_polygon.specs.Boxes.{high_x, low_x, high_y, low_y, high_z, low_z, turned, box_outline, box_over_x, box_over_y, box_over_z, trimmed_outline, outline_trimmed_to}
+use Rattle.plane_polygon.specs.Boxes.{high_x, low_x, high_y, low_y, high_z, low_z, counterclockwise_edges, box_outline, box_over_x, box_over_y, box_over_z, trimmed_outline, outline_trimmed_to}
 use Rattle.plane_polygon.proofs.BoxPoints.{value_high_x, value_low_x, value_high_y, value_low_y, value_high_z, value_low_z, in_world, world_in, reach_in, box_polygon_is}
 use Rattle.bsp_tree.specs.Trees.{half_space}
-use Rattle.bsp_tree.specs.Cells.{IsIn, IsInClosed, IsAcross, IsOfWorld, world_box}
+use Rattle.bsp_tree.specs.Cells.{IsInCell, IsInClosedCell, IsPolygonOfCell, IsOfWorld, world_box}
 
 -- ---- the points of the world box
-pub closed_world : (p : Coordinates) → IsInClosed world_box p ↔ IsInClosedWorld p
+pub closed_world : (p : Coordinates) → IsInClosedCell world_box p ↔ IsInClosedWorld p
 closed_world p = (
   λ h. in_world p h.weight (record {
     high_x_side = h.below.0;
@@ -46,7 +46,7 @@ strict_size x (negsuc k) above s = absurd (omega (arith, sums))
 below_by : (x y : ℤ) → x ≡ y → x <ℤ pos 0 → y <ℤ pos 0
 below_by x y e h = subst (λ (z : ℤ). z <ℤ pos 0) e h
 
-pub open_world : (p : Coordinates) → IsIn world_box p ↔ IsInWorld p
+pub open_world : (p : Coordinates) → IsInCell world_box p ↔ IsInWorld p
 open_world p = (
   λ h. (let b = h.below in record {
     weight = h.weight;
@@ -80,7 +80,7 @@ open_world p = (
 )
 
 -- a point in reach is a point of the world box
-pub reach_in_box : (p : Coordinates) → IsInReach p → IsIn world_box p
+pub reach_in_box : (p : Coordinates) → IsInReach p → IsInCell world_box p
 reach_in_box p h = let k = reach_in p h in record {
   weight = h.weight;
   below =
@@ -107,13 +107,13 @@ either_plane false d x y z m hx hy hz = hz
 pub box_plane : (m : Coefficients) → (box_outline m).plane ≡ m
 box_plane m = either_plane (int_eq m.c (pos 0)) (int_eq m.b (pos 0)) (box_over_x m) (box_over_y m)
     (box_over_z m) m
-    (trimmed_twice (record { plane = m; edges = turned m.a low_y low_z high_y high_z }) high_x low_x)
-    (trimmed_twice (record { plane = m; edges = turned m.b low_x high_z high_x low_z }) high_y low_y)
-    (trimmed_twice (record { plane = m; edges = turned m.c low_x low_y high_x high_y }) high_z low_z)
+    (trimmed_twice (record { plane = m; edges = counterclockwise_edges m.a low_y low_z high_y high_z }) high_x low_x)
+    (trimmed_twice (record { plane = m; edges = counterclockwise_edges m.b low_x high_z high_x low_z }) high_y low_y)
+    (trimmed_twice (record { plane = m; edges = counterclockwise_edges m.c low_x low_y high_x high_y }) high_z low_z)
 
 -- ---- half spaces
 -- the box polygon of a plane in reach is of the world box
-pub box_across : (m : Coefficients) → IsPlane m → ComesInReach m → IsAcross world_box (box_outline m)
+pub box_across : (m : Coefficients) → IsPlane m → ComesInReach m → IsPolygonOfCell world_box (box_outline m)
 box_across m h r =
     let b = box_polygon_is m h r in
     let e = box_plane m in record {

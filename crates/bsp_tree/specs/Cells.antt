@@ -3,7 +3,7 @@ use Rattle.std.specs.Prelude.{◌≡◌, ◌↔◌, ◌⊎◌, List, [], ◌∷�
 use Rattle.plane_predicate.specs.Space.{Coefficients, Coordinates, value, opposite_of, IsPlane}
 use Rattle.plane_polygon.specs.Polygons.{Outline, Covers, IsPolygon}
 use Rattle.plane_polygon.specs.Boxes.{high_x, low_x, high_y, low_y, high_z, low_z}
-use Rattle.bsp_tree.specs.Trees.{Tree, inside, outside, node}
+use Rattle.bsp_tree.specs.Trees.{BspTree, inside, outside, node}
 
 -- the planes of the world box, whose points have coordinates below 4096 in size
 abbrev pub world_box : List Coefficients
@@ -20,45 +20,45 @@ NoneAhead [] p = Unit {0}
 NoneAhead (m ∷ cell) p = (value m p ≤ℤ pos 0) × NoneAhead cell p
 
 -- a cell is given by planes: its points are those strictly behind each of them
-pub record IsIn (cell : List Coefficients) (p : Coordinates) : Type 0 where
+pub record IsInCell (cell : List Coefficients) (p : Coordinates) : Type 0 where
   pub weight : pos 0 <ℤ p.w
   pub below : AllBehind cell p
 
 -- the points of the closed cell: those ahead of none of its planes
-pub record IsInClosed (cell : List Coefficients) (p : Coordinates) : Type 0 where
+pub record IsInClosedCell (cell : List Coefficients) (p : Coordinates) : Type 0 where
   pub weight : pos 0 <ℤ p.w
   pub below : NoneAhead cell p
 
 -- a polygon is of a cell where its points are those of the closed cell on its plane, and some of them lie in the cell
-pub record IsAcross (cell : List Coefficients) (s : Outline) : Type 0 where
+pub record IsPolygonOfCell (cell : List Coefficients) (s : Outline) : Type 0 where
   pub polygon : IsPolygon s
   pub plane : IsPlane s.plane
-  pub covers : (p : Coordinates) → Covers s p ↔ (IsInClosed cell p × (value s.plane p ≡ pos 0))
+  pub covers : (p : Coordinates) → Covers s p ↔ (IsInClosedCell cell p × (value s.plane p ≡ pos 0))
   pub point : Coordinates
-  pub point_in : IsIn cell point
+  pub point_in : IsInCell cell point
   pub point_on : value s.plane point ≡ pos 0
 
 -- a solid is of a cell where each node's polygon is of the cell that the planes of the nodes above it leave
-abbrev pub IsOfCell : List Coefficients → Tree → Type 0
+abbrev pub IsOfCell : List Coefficients → BspTree → Type 0
 IsOfCell cell inside = Unit {0}
 IsOfCell cell outside = Unit {0}
-IsOfCell cell (node s b a) = IsAcross cell s × IsOfCell (s.plane ∷ cell) b × IsOfCell (opposite_of s.plane ∷
+IsOfCell cell (node s b a) = IsPolygonOfCell cell s × IsOfCell (s.plane ∷ cell) b × IsOfCell (opposite_of s.plane ∷
     cell) a
 
 -- a solid of the world box
-abbrev pub IsOfWorld : Tree → Type 0
+abbrev pub IsOfWorld : BspTree → Type 0
 IsOfWorld t = IsOfCell world_box t
 
 -- the plane of some node
-abbrev pub IsPlaneOf : Coefficients → Tree → Type 0
+abbrev pub IsPlaneOf : Coefficients → BspTree → Type 0
 IsPlaneOf m inside = ⊥
 IsPlaneOf m outside = ⊥
 IsPlaneOf m (node s b a) = (m ≡ s.plane) ⊎ (IsPlaneOf m b ⊎ IsPlaneOf m a)
 
 -- no plane of the first solid is new: each is one of the second
-abbrev pub HasPlanesOf : Tree → Tree → Type 0
+abbrev pub HasPlanesOf : BspTree → BspTree → Type 0
 HasPlanesOf r t = (m : Coefficients) → IsPlaneOf m r → IsPlaneOf m t
 
 -- the point is on no plane of the solid
-abbrev pub IsOff : Tree → Coordinates → Type 0
-IsOff t p = (m : Coefficients) → IsPlaneOf m t → value m p ≡ pos 0 → ⊥
+abbrev pub IsOffPlanesOf : BspTree → Coordinates → Type 0
+IsOffPlanesOf t p = (m : Coefficients) → IsPlaneOf m t → value m p ≡ pos 0 → ⊥

@@ -5,13 +5,13 @@ use Rattle.plane_polygon.specs.Polygons.{Outline}
 use Rattle.plane_polygon.specs.declared.classes.Class.{Class}
 use Rattle.plane_polygon.specs.declared.classes.Class.TheVariants.{Behind, Ahead, Across}
 use Rattle.plane_polygon.specs.Parts.{class_of, part_behind, part_ahead}
-use Rattle.bsp_tree.specs.Trees.{Tree, inside, outside, node, walk, make}
-use Rattle.bsp_tree.specs.Cells.{HasPlanesOf, IsAcross, IsIn, IsOfCell, IsOff}
+use Rattle.bsp_tree.specs.Trees.{BspTree, inside, outside, node, walk, make}
+use Rattle.bsp_tree.specs.Cells.{HasPlanesOf, IsPolygonOfCell, IsInCell, IsOfCell, IsOffPlanesOf}
 use Rattle.bsp_tree.specs.declared.part.Part.{Part}
 use Rattle.bsp_tree.specs.declared.part.Part.TheVariants.{Low, High}
 
 -- t and s are across each other's planes: both parts of t, with the parts of the sides by the parts of s
-abbrev pub across_row : Outline → Outline → Tree × Tree → Tree × Tree → Tree × Tree
+abbrev pub across_row : Outline → Outline → BspTree × BspTree → BspTree × BspTree → BspTree × BspTree
 across_row s t low high = (
   make (part_behind t s.plane) low.0 high.0,
   make (part_ahead t s.plane) low.1
@@ -20,21 +20,20 @@ across_row s t low high = (
 
 -- s lies behind t's plane, and t in the low part, behind s's, or in the high one, ahead of it: t and the side a stay
 -- whole
-abbrev pub behind_row : Part → Outline → Tree × Tree → Tree → Tree × Tree
+abbrev pub behind_row : Part → Outline → BspTree × BspTree → BspTree → BspTree × BspTree
 behind_row Low t low a = (make t low.0 a, low.1)
 behind_row High t low a = (low.0, make t low.1 a)
 
 -- s lies ahead of t's plane, and t in the low part, behind s's, or in the high one, ahead of it: t and the side b stay
 -- whole
-abbrev pub ahead_row : Part → Outline → Tree → Tree × Tree → Tree × Tree
+abbrev pub ahead_row : Part → Outline → BspTree → BspTree × BspTree → BspTree × BspTree
 ahead_row Low t b high = (make t b high.0, high.1)
 ahead_row High t b high = (high.0, make t b high.1)
 
--- the parts of a node with the polygon t and the solids b and a, by how s lies against t's plane and t against s's:
--- `low` and `high` are the parts of b and of a by s, `low_part` and `high_part` those by the part of s on their side.
--- Polygons of one cell on different planes lie in one of the first five ways
-abbrev pub rows : Class → Class → Outline → Outline → Tree → Tree → Tree × Tree → Tree × Tree → Tree × Tree →
-    Tree × Tree → Tree × Tree
+-- the parts of a node with the polygon t and the solids b and a, by how s and t lie: `low` and `high` are the parts of b and a
+-- by s, `low_part` and `high_part` those by the part of s there
+abbrev pub rows : Class → Class → Outline → Outline → BspTree → BspTree → BspTree × BspTree → BspTree × BspTree → BspTree × BspTree →
+    BspTree × BspTree → BspTree × BspTree
 rows Across Across s t b a low high low_part high_part = across_row s t low_part high_part
 rows Behind Behind s t b a low high low_part high_part = behind_row Low t low a
 rows Behind Ahead s t b a low high low_part high_part = behind_row High t low a
@@ -44,7 +43,7 @@ rows _ _ s t b a low high low_part high_part = (b, a)
 
 -- the parts behind and ahead of s's plane: a leaf is both its parts, a node on the same plane has its two solids as
 -- its parts, and else the rows above say them
-abbrev pub divide : Tree → Outline → Tree × Tree
+abbrev pub divide : BspTree → Outline → BspTree × BspTree
 divide inside s = (inside, inside)
 divide outside s = (outside, outside)
 divide (node t b a) s =
@@ -54,28 +53,28 @@ divide (node t b a) s =
     (divide b s) (divide a s) (divide b (part_behind s t.plane)) (divide a (part_ahead s t.plane))
 
 -- the parts of a solid keep the walk of a point that is off the plane m: the part on its side walks as the solid does
-pub record Keeps (t : Tree) (m : Coefficients) (parts : Tree × Tree) (p : Coordinates) : Type 0 where
+pub record KeepsWalkAt (t : BspTree) (m : Coefficients) (parts : BspTree × BspTree) (p : Coordinates) : Type 0 where
   pub low : value m p <ℤ pos 0 → walk parts.0 p ≡ walk t p
   pub high : pos 0 <ℤ value m p → walk parts.1 p ≡ walk t p
 
 -- a solid and a polygon are of one cell
-pub record AreOfOneCell (cell : List Coefficients) (t : Tree) (s : Outline) : Type 0 where
+pub record AreOfOneCell (cell : List Coefficients) (t : BspTree) (s : Outline) : Type 0 where
   pub solid : IsOfCell cell t
-  pub polygon : IsAcross cell s
+  pub polygon : IsPolygonOfCell cell s
 
 -- for each cell that the solid and the polygon are of, and each point of the cell off the solid's planes, the part on
 -- the point's side of the polygon's plane walks as the solid does
-abbrev pub KeepWalks : Tree → Outline → Tree × Tree → Type 0
+abbrev pub KeepWalks : BspTree → Outline → BspTree × BspTree → Type 0
 KeepWalks t s parts =
-    (cell : List Coefficients) → AreOfOneCell cell t s → (p : Coordinates) → IsIn cell p → IsOff t p →
-    Keeps t s.plane parts p
+    (cell : List Coefficients) → AreOfOneCell cell t s → (p : Coordinates) → IsInCell cell p → IsOffPlanesOf t p →
+    KeepsWalkAt t s.plane parts p
 
 -- for each cell that the solid and the polygon are of, the parts are of its halves behind and ahead of the plane
-abbrev pub AreOfHalves : Tree → Outline → Tree × Tree → Type 0
+abbrev pub AreOfHalves : BspTree → Outline → BspTree × BspTree → Type 0
 AreOfHalves t s parts =
     (cell : List Coefficients) → AreOfOneCell cell t s →
     IsOfCell (s.plane ∷ cell) parts.0 × IsOfCell (opposite_of s.plane ∷ cell) parts.1
 
 -- no plane of the parts is new
-abbrev pub HaveNoNewPlane : Tree → Tree × Tree → Type 0
+abbrev pub HaveNoNewPlane : BspTree → BspTree × BspTree → Type 0
 HaveNoNewPlane t parts = HasPlanesOf parts.0 t × HasPlanesOf parts.1 t

@@ -5,7 +5,7 @@ use Rattle.link_forest.specs.declared.link.Link.TheVariants.{End, To}
 use Rattle.link_forest.specs.declared.link.NodeId.{NodeId}
 use Rattle.link_forest.specs.declared.forest.Entry.{Entry}
 use Rattle.link_forest.specs.Forests.{node_id, IsNode}
-use Rattle.bsp_tree.specs.Growths.{Growth}
+use Rattle.bsp_tree.specs.Growths.{SolidGrowth}
 
 -- The nodes from the first number on and before the second are just those of the tree at the link, in post-order: those
 -- behind, then those ahead, then its own. An end has none.
@@ -30,7 +30,7 @@ CanShift (End side) from to = Unit {0}
 CanShift (To id) from to = (id.index ≤ from) × (from ≤ to + id.index)
 
 -- one node was added after the others, and the link leads to it
-pub record IsNext (old new : Growth) (link : Link) : Type 0 where
+pub record HasOneNodeMore (old new : SolidGrowth) (link : Link) : Type 0 where
   pub planes : new.sheet.planes ≡ old.sheet.planes
   pub leads : link ≡ To (node_id (length old.sheet.nodes))
   pub count : length new.sheet.nodes ≡ length old.sheet.nodes + 1

@@ -7,22 +7,22 @@ use Rattle.link_forest.specs.Forests.{Branch, end, fork, tree_at, IsLinkOf, AreR
 use Rattle.plane_table.specs.declared.faces.Face.{Face}
 use Rattle.plane_table.specs.Tables.{HasNoTwoAlike}
 use Rattle.plane_table.specs.Faces.{outline_of, IsFaceOver}
-use Rattle.bsp_tree.specs.Trees.{Tree, inside, outside, node}
+use Rattle.bsp_tree.specs.Trees.{BspTree, inside, outside, node}
 
 -- a leaf inside or outside a solid
-abbrev pub leaf_of : Bool → Tree
+abbrev pub leaf_of : Bool → BspTree
 leaf_of true = inside
 leaf_of false = outside
 
 -- the tree of a branch of faces, with each number replaced by the plane that it names
-abbrev pub tree_of_branch : List Coefficients → Branch Face → Tree
+abbrev pub tree_of_branch : List Coefficients → Branch Face → BspTree
 tree_of_branch planes (end side) = leaf_of side
 tree_of_branch planes (fork face behind ahead) =
     node (outline_of planes face) (tree_of_branch planes behind) (tree_of_branch planes ahead)
 
 -- the tree at a link of a forest of faces
-abbrev pub tree_over : List Coefficients → List (Entry Face) → Link → Tree
-tree_over planes nodes link = tree_of_branch planes (tree_at nodes link)
+abbrev pub tree_at_link : List Coefficients → List (Entry Face) → Link → BspTree
+tree_at_link planes nodes link = tree_of_branch planes (tree_at nodes link)
 
 -- a solid as contracts see it: a table of planes, a forest of faces over it, and the link at which its tree begins
 pub record SolidParts : Type 0 where
@@ -31,8 +31,8 @@ pub record SolidParts : Type 0 where
   pub root : Link
 
 -- the tree of a solid
-unfoldable pub tree_of : SolidParts → Tree
-tree_of solid = tree_over solid.planes solid.nodes solid.root
+unfoldable pub tree_of : SolidParts → BspTree
+tree_of solid = tree_at_link solid.planes solid.nodes solid.root
 
 -- each node has a face over the planes
 pub record AreFacesOver (planes : List Coefficients) (nodes : List (Entry Face)) : Type 0 where
@@ -40,7 +40,7 @@ pub record AreFacesOver (planes : List Coefficients) (nodes : List (Entry Face))
 
 -- what a solid keeps: no two planes of its table are equal or opposite, each node has a face over them, and is reached
 -- from the root
-pub record IsWhole (solid : SolidParts) : Type 0 where
+pub record IsWholeSolid (solid : SolidParts) : Type 0 where
   pub apart : HasNoTwoAlike solid.planes
   pub faces : AreFacesOver solid.planes solid.nodes
   pub root : IsLinkOf solid.nodes solid.root

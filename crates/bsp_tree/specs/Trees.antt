@@ -7,34 +7,34 @@ use Rattle.plane_polygon.specs.Boxes.{box_outline}
 
 -- a solid: a leaf inside or outside it, or a node with a polygon, on whose plane the node divides space, and with the
 -- solids behind and ahead of that plane
-pub data Tree : Type 0 where
-  inside outside : Tree
-  node : Outline → Tree → Tree → Tree
+pub data BspTree : Type 0 where
+  inside outside : BspTree
+  node : Outline → BspTree → BspTree → BspTree
 
 -- the side of each node's plane on which the point lies, down to a leaf: whether that leaf is inside
-abbrev pub walk : Tree → Coordinates → Bool
+abbrev pub walk : BspTree → Coordinates → Bool
 walk inside p = true
 walk outside p = false
 walk (node t b a) p = if is_behind t.plane p then walk b p else walk a p
 
 -- one for each node, and one for each edge of its polygon
-abbrev pub size : Tree → ℕ
+abbrev pub size : BspTree → ℕ
 size inside = 0
 size outside = 0
 size (node t b a) = 1 + sides t + size b + size a
 
 -- inside and outside exchanged
-abbrev pub complement : Tree → Tree
+abbrev pub complement : BspTree → BspTree
 complement inside = outside
 complement outside = inside
 complement (node t b a) = node t (complement b) (complement a)
 
 -- a node, or the leaf where both sides are the same leaf
-abbrev pub make : Outline → Tree → Tree → Tree
+abbrev pub make : Outline → BspTree → BspTree → BspTree
 make t inside inside = inside
 make t outside outside = outside
 make t b a = node t b a
 
 -- the points behind a plane, in the world box
-abbrev pub half_space : Coefficients → Tree
+abbrev pub half_space : Coefficients → BspTree
 half_space m = node (box_outline m) inside outside

@@ -39,9 +39,9 @@ pub struct Growing<'t> {
 
 impl<'t> Model for Growing<'t> {
     ghost use Rattle.std.specs.Prelude.{◌≤◌};
-    ghost use Rattle.bsp_tree.specs.Growths.{Growth};
+    ghost use Rattle.bsp_tree.specs.Growths.{SolidGrowth};
 
-    ghost Value = { Growth };
+    ghost Value = { SolidGrowth };
 
     ghost view = { λ g. record { sheet = g.nodes; size = g.size; most = g.most } };
 
@@ -52,9 +52,9 @@ impl<'t> Growing<'t> {
     ghost use Rattle.std.specs.Prelude.{◌≡◌, [], length, IfOk};
     ghost use Rattle.link_forest.specs.Forests.{IsLinkOf};
     ghost use Rattle.plane_table.specs.Faces.{outline_of, IsFaceOver};
-    ghost use Rattle.bsp_tree.specs.Trees.{Tree, make, node};
-    ghost use Rattle.bsp_tree.specs.Growths.{Growth, GrowsBy, HasGrown};
-    ghost use Rattle.bsp_tree.specs.Ranges.{IsNext};
+    ghost use Rattle.bsp_tree.specs.Trees.{BspTree, make, node};
+    ghost use Rattle.bsp_tree.specs.Growths.{SolidGrowth, GrowsBy, HasGrown};
+    ghost use Rattle.bsp_tree.specs.Ranges.{HasOneNodeMore};
 
     /// Nothing yet, over a table. What grows is at most `most` in size.
     pub fn new(alloc: Global, table: &'t PlaneTable, most: u64) -> Growing<'t>
@@ -93,10 +93,10 @@ impl<'t> Growing<'t> {
         requires face { IsFaceOver self.old.sheet.planes face }
         requires behind { IsLinkOf self.old.sheet.nodes behind }
         requires ahead { IsLinkOf self.old.sheet.nodes ahead }
-        ensures grows { (start middle : Growth) (b a : Tree) → HasGrown start middle behind b →
+        ensures grows { (start middle : SolidGrowth) (b a : BspTree) → HasGrown start middle behind b →
             HasGrown middle self.old ahead a →
             GrowsBy start self.new (node (outline_of self.old.sheet.planes face) b a) result }
-        ensures next { IfOk result (IsNext self.old self.new) }
+        ensures next { IfOk result (HasOneNodeMore self.old self.new) }
     {
         let edges = face.edges.len() as u64;
         if edges >= self.most - self.size {
@@ -112,7 +112,7 @@ impl<'t> Growing<'t> {
         requires face { IsFaceOver self.old.sheet.planes face }
         requires behind { IsLinkOf self.old.sheet.nodes behind }
         requires ahead { IsLinkOf self.old.sheet.nodes ahead }
-        ensures { (start middle : Growth) (b a : Tree) → HasGrown start middle behind b →
+        ensures { (start middle : SolidGrowth) (b a : BspTree) → HasGrown start middle behind b →
             HasGrown middle self.old ahead a →
             GrowsBy start self.new (make (outline_of self.old.sheet.planes face) b a) result }
     {

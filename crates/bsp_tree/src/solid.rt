@@ -4,7 +4,7 @@ ghost use Rattle.std.specs.Prelude.{◌≡◌, ◌-◌, ◌^◌, min, List, IfOk
 ghost use Rattle.plane_predicate.specs.Space.{Coefficients};
 ghost use Rattle.link_forest.specs.Forests.{IsLinkOf};
 ghost use Rattle.bsp_tree.specs.Trees.{size};
-ghost use Rattle.bsp_tree.specs.Shapes.{tree_over};
+ghost use Rattle.bsp_tree.specs.Shapes.{tree_at_link};
 
 use link_forest::{Forest, Link, NodeId};
 use plane_predicate::Plane;
@@ -29,22 +29,22 @@ pub struct Solid {
 
 impl Model for Solid {
     ghost use Rattle.bsp_tree.specs.Shapes.{SolidParts};
-    ghost use Rattle.bsp_tree.specs.Kept.{IsKept};
+    ghost use Rattle.bsp_tree.specs.Kept.{KeepsItsSize};
 
     ghost Value = { SolidParts };
 
     ghost view = { λ s. record { planes = s.planes.items; nodes = s.forest.nodes; root = s.root } };
 
-    ghost invariant = { λ s. IsKept (record { planes = s.planes.items; nodes = s.forest.nodes; root = s.root }) s.size };
+    ghost invariant = { λ s. KeepsItsSize (record { planes = s.planes.items; nodes = s.forest.nodes; root = s.root }) s.size };
 }
 
 impl Solid {
     ghost use Rattle.std.specs.Prelude.{◌≡◌, ◌-◌, ◌^◌, min, IfOk};
     ghost use Rattle.bsp_tree.specs.Trees.{size};
     ghost use Rattle.plane_table.specs.Tables.{HasNoTwoAlike};
-    ghost use Rattle.bsp_tree.specs.Shapes.{leaf_of, tree_of, tree_over, AreFacesOver, IsWhole};
+    ghost use Rattle.bsp_tree.specs.Shapes.{leaf_of, tree_of, tree_at_link, AreFacesOver, IsWholeSolid};
     ghost use Rattle.bsp_tree.specs.Growths.{HasGrownWhole};
-    ghost use Rattle.bsp_tree.specs.Kept.{IsKept};
+    ghost use Rattle.bsp_tree.specs.Kept.{KeepsItsSize};
 
     /// A leaf: all of the cell is inside, or all of it is outside.
     pub fn leaf(alloc: Global, is_inside: bool) -> Solid
@@ -61,7 +61,7 @@ impl Solid {
     /// The solid with just these parts: a table without two planes that are equal or opposite, faces over
     /// it, and the link from which each node is reached. Takes no memory, and the time of the tree's size.
     pub fn of_parts(planes: Vec<Plane>, forest: Forest<Face>, root: Link) -> Solid
-        requires { IsWhole (record { planes = planes.items; nodes = forest.nodes; root = root }) }
+        requires { IsWholeSolid (record { planes = planes.items; nodes = forest.nodes; root = root }) }
         ensures { result ≡ record { planes = planes.items; nodes = forest.nodes; root = root } }
     {
         let size = size_at(&forest, root);
@@ -99,8 +99,8 @@ impl Solid {
     pub fn parts(&self) -> (&[Plane], &Forest<Face>, Link)
         ensures parts { self.now ≡
             record { planes = result.0.now; nodes = result.1.now.nodes; root = result.2 } }
-        ensures tree { tree_of self.now ≡ tree_over result.0.now result.1.now.nodes result.2 }
-        ensures whole { IsWhole (record {
+        ensures tree { tree_of self.now ≡ tree_at_link result.0.now result.1.now.nodes result.2 }
+        ensures whole { IsWholeSolid (record {
           planes = result.0.now;
           nodes = result.1.now.nodes;
           root = result.2;
@@ -135,7 +135,7 @@ impl Solid {
 fn size_at(forest: &Forest<Face>, at: Link) -> u64
     requires { IsLinkOf forest.now.nodes at }
     ensures { (planes : List Coefficients) →
-        result ≡ min (size (tree_over planes forest.now.nodes at)) (2 ^ 64 - 1) }
+        result ≡ min (size (tree_at_link planes forest.now.nodes at)) (2 ^ 64 - 1) }
 {
     match at {
         Link::End(_) => 0,

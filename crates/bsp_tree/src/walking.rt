@@ -2,10 +2,10 @@
 
 ghost use Rattle.std.specs.Prelude.{◌≡◌};
 ghost use Rattle.link_forest.specs.Forests.{IsLinkOf};
-ghost use Rattle.plane_table.specs.Tables.{plane_named, IsNumberIn};
+ghost use Rattle.plane_table.specs.Tables.{plane_named, NamesPlaneIn};
 ghost use Rattle.plane_polygon.specs.Parts.{is_behind};
 ghost use Rattle.bsp_tree.specs.Trees.{walk};
-ghost use Rattle.bsp_tree.specs.Shapes.{tree_of, tree_over, AreFacesOver};
+ghost use Rattle.bsp_tree.specs.Shapes.{tree_of, tree_at_link, AreFacesOver};
 
 use crate::solid::Solid;
 use link_forest::{Forest, Link};
@@ -25,7 +25,7 @@ pub fn holds(solid: &Solid, point: &Point) -> bool
 fn holds_at(planes: &[Plane], forest: &Forest<Face>, at: Link, point: &Point) -> bool
     requires faces { AreFacesOver planes.now forest.now.nodes }
     requires link { IsLinkOf forest.now.nodes at }
-    ensures { result ≡ walk (tree_over planes.now forest.now.nodes at) point.now }
+    ensures { result ≡ walk (tree_at_link planes.now forest.now.nodes at) point.now }
 {
     match at {
         Link::End(is_inside) => is_inside,
@@ -43,7 +43,7 @@ fn holds_at(planes: &[Plane], forest: &Forest<Face>, at: Link, point: &Point) ->
 // The plane that a number names over a list.
 #[tactic(auto, unfolding(plane_table::specs::Tables::oriented_by_number))]
 fn plane_named(planes: &[Plane], number: u32) -> Plane
-    requires { IsNumberIn planes.now number }
+    requires { NamesPlaneIn planes.now number }
     ensures { result ≡ plane_named planes.now number }
 {
     let plane = planes[(number / 2) as usize];

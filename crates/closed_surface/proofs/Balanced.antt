@@ -5,18 +5,18 @@ use Rattle.plane_predicate.proofs.IntegerRing.{sums}
 use Rattle.plane_predicate.proofs.Signs.{signs}
 use Rattle.plane_polygon.specs.Polygons.{Outline, IsPolygon}
 use Rattle.plane_polygon.specs.Parts.{is_behind, corners}
-use Rattle.bsp_tree.specs.Trees.{Tree}
-use Rattle.bsp_tree.specs.Cells.{world_box, IsIn, AllBehind, IsPlaneOf}
+use Rattle.bsp_tree.specs.Trees.{BspTree}
+use Rattle.bsp_tree.specs.Cells.{world_box, IsInCell, AllBehind, IsPlaneOf}
 use Rattle.bsp_tree.proofs.Opposites.{opposite_twice, opposite_zero, opposite_back}
 use Rattle.facet_cut.specs.Facets.{facets_of}
-use Rattle.facet_cut.specs.Sides.{walk_by, IsOnOnePlane, BoundSolid}
-use Rattle.closed_surface.specs.Ways.{Direction, dot, slope}
-use Rattle.closed_surface.specs.Around.{turn_about, sides_at, IsApartFrom, AreApart, fall, total}
+use Rattle.facet_cut.specs.Sides.{walk_by, IsOnOneNodePlane, BoundSolid}
+use Rattle.closed_surface.specs.Ways.{Direction, dot_product, slope}
+use Rattle.closed_surface.specs.Around.{triple_product_of, sides_at, IsParallelToNone, HaveNoParallels, fall, sum_over}
 use Rattle.closed_surface.specs.Closed.{edges_of, edges_along, edges_against}
 use Rattle.closed_surface.proofs.Turns.{turn_exchanged, turn_itself, turn_opposite, opposite_turn}
 use Rattle.closed_surface.proofs.Sectors.{round}
 use Rattle.closed_surface.proofs.Numbers.{below, not_below, false_by, at_least, not_zero_below, not_zero_above, negative_apart, negative_zero}
-use Rattle.closed_surface.specs.Near.{near_point, direction_beside, is_within, number_of, IsOften, IsClear}
+use Rattle.closed_surface.specs.Near.{near_point, direction_beside, is_strictly_within, indicator, BoundsSlopes, IsClear}
 use Rattle.closed_surface.proofs.Near.{near_on, near_behind, near_ahead, near_weight, zero_near, slope_beside}
 use Rattle.closed_surface.proofs.Covers.{balance, is_within_parts}
 use Rattle.closed_surface.proofs.Each.{Each, each_weaker, each_both, Member, members, each_member, total_same, total_difference, total_exchanged}
@@ -32,35 +32,35 @@ pub record TreePlane (q : Coordinates) (v : Direction) (m : Coefficients) : Type
   pub proper : m ≢ opposite_of m
 
 -- the number is at least how much each plane in question grows along u, in size
-pub record Enough (t : Tree) (number : ℕ) (u : Direction) : Type 0 where
+pub record Enough (t : BspTree) (number : ℕ) (u : Direction) : Type 0 where
   pub tree : Each (λ m. unsigned_abs (slope m u) ≤ number) (planes_of t)
   pub box : Each (λ m. unsigned_abs (slope m u) ≤ number) world_box
-  pub facets : Each (λ f. IsOften number f u) (facets_of t)
+  pub facets : Each (λ f. BoundsSlopes number f u) (facets_of t)
 
 -- for the two halves of a plane
-pub record EnoughBeside (t : Tree) (number : ℕ) (v : Direction) (n : Coefficients) : Type 0 where
+pub record EnoughBeside (t : BspTree) (number : ℕ) (v : Direction) (n : Coefficients) : Type 0 where
   pub first : Enough t number (direction_beside n v)
   pub second : Enough t number (direction_beside (opposite_of n) v)
 
 -- a facet of the solid
-pub record FacetAt (t : Tree) (q : Coordinates) (v : Direction) (f : Outline) : Type 0 where
+pub record FacetAt (t : BspTree) (q : Coordinates) (v : Direction) (f : Outline) : Type 0 where
   pub polygon : IsPolygon f
   pub plane : IsPlaneOf f.plane t ⊎ IsPlaneOf (opposite_of f.plane) t
   pub clear : IsClear f q v
 
 -- ---- planes that are apart, seen from each of them
 abbrev SameOrApart : Direction → Coefficients → Coefficients → Type 0
-SameOrApart v n m = (m ≡ n) ⊎ (turn_about v m n ≢ pos 0)
+SameOrApart v n m = (m ≡ n) ⊎ (triple_product_of v m n ≢ pos 0)
 
-seen_from_first : (v : Direction) (n : Coefficients) (ms : List Coefficients) → IsApartFrom v n ms → Each (SameOrApart v n) ms
+seen_from_first : (v : Direction) (n : Coefficients) (ms : List Coefficients) → IsParallelToNone v n ms → Each (SameOrApart v n) ms
 seen_from_first v n [] a = tt
 seen_from_first v n (m ∷ ms) a = (inr (negative_apart _ _ (turn_exchanged v n m) a.0), seen_from_first v n ms a.1)
 
-first_seen : (v : Direction) (n : Coefficients) (ms : List Coefficients) → IsApartFrom v n ms → Each (λ m. SameOrApart v m n) ms
+first_seen : (v : Direction) (n : Coefficients) (ms : List Coefficients) → IsParallelToNone v n ms → Each (λ m. SameOrApart v m n) ms
 first_seen v n [] a = tt
 first_seen v n (m ∷ ms) a = (inr a.0, first_seen v n ms a.1)
 
-seen : (v : Direction) (ms : List Coefficients) → AreApart v ms → Each (λ n. Each (SameOrApart v n) ms) ms
+seen : (v : Direction) (ms : List Coefficients) → HaveNoParallels v ms → Each (λ n. Each (SameOrApart v n) ms) ms
 seen v [] a = tt
 seen v (n ∷ ms) a = (
   (inl refl, seen_from_first v n ms a.0),
@@ -72,7 +72,7 @@ all_near : (cell : List Coefficients) (number : ℕ) (q : Coordinates) (u : Dire
 all_near [] number q u e h = tt
 all_near (m ∷ cell) number q u e h = (near_behind m number q u e.0 h.0, all_near cell number q u e.1 h.1)
 
-pub in_near : (cell : List Coefficients) (number : ℕ) (q : Coordinates) (u : Direction) → Each (λ m. unsigned_abs (slope m u) ≤ number) cell → IsIn cell q → IsIn cell (near_point number q u)
+pub in_near : (cell : List Coefficients) (number : ℕ) (q : Coordinates) (u : Direction) → Each (λ m. unsigned_abs (slope m u) ≤ number) cell → IsInCell cell q → IsInCell cell (near_point number q u)
 in_near cell number q u e h = record { weight = near_weight number q u h.weight; below = all_near cell number q u e h.below }
 
 -- a plane that the point is off has the point near by on the same side
@@ -111,7 +111,7 @@ either_back : (m n : Coefficients) (p : Coordinates) → IsEither m n → value 
 either_back m n p (inl e) h = subst (λ (k : Coefficients). value k p ≡ pos 0) e h
 either_back m n p (inr e) h = opposite_back n p (subst (λ (k : Coefficients). value k p ≡ pos 0) e h)
 
-module _ (t : Tree) (bounded : BoundSolid world_box t (facets_of t)) (q : Coordinates) (hq : IsIn world_box q) (v : Direction) (hv : pos 0 <ℤ dot v v) (number : ℕ)
+module _ (t : BspTree) (bounded : BoundSolid world_box t (facets_of t)) (q : Coordinates) (hq : IsInCell world_box q) (v : Direction) (hv : pos 0 <ℤ dot_product v v) (number : ℕ)
     (planes : Each (TreePlane q v) (planes_of t)) (enough : Each (EnoughBeside t number v) (planes_of t)) (facets : Each (FacetAt t q v) (facets_of t)) where
   abbrev spot : Coefficients → Coordinates
   spot half = near_point number q (direction_beside half v)
@@ -137,7 +137,7 @@ module _ (t : Tree) (bounded : BoundSolid world_box t (facets_of t)) (q : Coordi
   enough_through : Each (EnoughBeside t number v) through
   enough_through = pick_each (EnoughBeside t number v) q (planes_of t) (each_weaker (EnoughBeside t number v) (λ m. value m q ≡ pos 0 → EnoughBeside t number v m) (λ m h e. h) (planes_of t) enough)
 
-  apart : AreApart v through
+  apart : HaveNoParallels v through
   apart = pick_apart q hq.weight v hv (planes_of t) holds_where
 
   among : (m : Coefficients) → IsPlaneOf m t → value m q ≡ pos 0 → AmongEither m through
@@ -145,21 +145,21 @@ module _ (t : Tree) (bounded : BoundSolid world_box t (facets_of t)) (q : Coordi
 
   -- ---- a half of one of the planes through the line
   abbrev Value : List Bool → ℤ
-  Value sides = number_of (walk_by t (extend q through sides))
+  Value sides = indicator (walk_by t (extend q through sides))
 
   module _ (n : Coefficients) (hn : Held n) (proper_n : n ≢ opposite_of n) (all_seen : Each (SameOrApart v n) through) (half : Coefficients) (is_half : IsEither half n) (sizes : Enough t number (direction_beside half v)) where
-    off_by : (m : Coefficients) → IsEither half n → turn_about v m n ≢ pos 0 → turn_about v m half ≢ pos 0
-    off_by m (inl e) h = subst (λ (x : Coefficients). turn_about v m x ≢ pos 0) (sym e) h
-    off_by m (inr e) h = subst (λ (x : Coefficients). turn_about v m x ≢ pos 0) (sym e) (negative_apart _ _ (turn_opposite v m n) h)
+    off_by : (m : Coefficients) → IsEither half n → triple_product_of v m n ≢ pos 0 → triple_product_of v m half ≢ pos 0
+    off_by m (inl e) h = subst (λ (x : Coefficients). triple_product_of v m x ≢ pos 0) (sym e) h
+    off_by m (inr e) h = subst (λ (x : Coefficients). triple_product_of v m x ≢ pos 0) (sym e) (negative_apart _ _ (turn_opposite v m n) h)
 
-    off_half : (m : Coefficients) → turn_about v m n ≢ pos 0 → turn_about v m half ≢ pos 0
+    off_half : (m : Coefficients) → triple_product_of v m n ≢ pos 0 → triple_product_of v m half ≢ pos 0
     off_half m h = off_by m is_half h
 
-    on_by : IsEither half n → turn_about v n half ≡ pos 0
-    on_by (inl e) = ap (turn_about v n) e ∙ turn_itself v n
-    on_by (inr e) = ap (turn_about v n) e ∙ negative_zero _ _ (turn_opposite v n n) (turn_itself v n)
+    on_by : IsEither half n → triple_product_of v n half ≡ pos 0
+    on_by (inl e) = ap (triple_product_of v n) e ∙ turn_itself v n
+    on_by (inr e) = ap (triple_product_of v n) e ∙ negative_zero _ _ (turn_opposite v n n) (turn_itself v n)
 
-    at_spot : (m : Coefficients) → value m q ≡ pos 0 → value m (spot half) ≡ turn_about v m half
+    at_spot : (m : Coefficients) → value m q ≡ pos 0 → value m (spot half) ≡ triple_product_of v m half
     at_spot m e = near_on m number q (direction_beside half v) e ∙ slope_beside m half v
 
     on_plane : value n (spot half) ≡ pos 0
@@ -179,10 +179,10 @@ module _ (t : Tree) (bounded : BoundSolid world_box t (facets_of t)) (q : Coordi
         let on_q = zero_near m number q (direction_beside half v) (each_of (λ x. unsigned_abs (slope x (direction_beside half v)) ≤ number) t sizes.tree m k) z in
         find through all_seen held m (among m k on_q) z
 
-    one_plane : IsOnOnePlane world_box t n (spot half)
+    one_plane : IsOnOneNodePlane world_box t n (spot half)
     one_plane = record { point_in = in_near world_box number q (direction_beside half v) sizes.box hq; on = on_plane; alone = alone }
 
-    one_opposite : IsOnOnePlane world_box t (opposite_of n) (spot half)
+    one_opposite : IsOnOneNodePlane world_box t (opposite_of n) (spot half)
     one_opposite = record {
       point_in = in_near world_box number q (direction_beside half v) sizes.box hq;
       on = opposite_zero n (spot half) on_plane;
@@ -196,8 +196,8 @@ module _ (t : Tree) (bounded : BoundSolid world_box t (facets_of t)) (q : Coordi
       hm.on,
       inr (record {
         apart = off_half m off;
-        other = λ e. off (ap (λ (x : Coefficients). turn_about v x n) e ∙ turn_itself v n);
-        no_opposite = λ e. off (ap (λ (x : Coefficients). turn_about v x n) e ∙ negative_zero _ _ (opposite_turn v n n) (turn_itself v n));
+        other = λ e. off (ap (λ (x : Coefficients). triple_product_of v x n) e ∙ turn_itself v n);
+        no_opposite = λ e. off (ap (λ (x : Coefficients). triple_product_of v x n) e ∙ negative_zero _ _ (opposite_turn v n n) (turn_itself v n));
       }),
     )
 
@@ -215,9 +215,9 @@ module _ (t : Tree) (bounded : BoundSolid world_box t (facets_of t)) (q : Coordi
       })
     ]
 
-    walks : (b : Bool) → number_of (walk_by t (sides_beside n b (spot half))) ≡ Value (sides_at v through n half b)
+    walks : (b : Bool) → indicator (walk_by t (sides_beside n b (spot half))) ≡ Value (sides_at v through n half b)
     walks b =
-        sym (ap number_of (walk_alike t (extend q through (sides_at v through n half b)) (sides_beside n b (spot half))
+        sym (ap indicator (walk_alike t (extend q through (sides_at v through n half b)) (sides_beside n b (spot half))
         (λ m k. extended v number q n half proper_n b through (fits b through all_seen held) m (keeps m k))))
 
     abbrev low : Bool
@@ -226,17 +226,17 @@ module _ (t : Tree) (bounded : BoundSolid world_box t (facets_of t)) (q : Coordi
     abbrev high : Bool
     high = walk_by t (sides_beside n false (spot half))
 
-    first_count : total (covering n (spot half)) (facets_of t) ≡ number_of (low && not high)
+    first_count : sum_over (covering n (spot half)) (facets_of t) ≡ indicator (low && not high)
     first_count =
         counted n (spot half) (facets_of t) (low && not high)
         (bounded n (spot half) one_plane (sides_beside n true (spot half)) (sides_beside n false (spot half)) (just_behind n (spot half) proper_n) (just_ahead n (spot half) proper_n))
 
-    second_count : total (covering (opposite_of n) (spot half)) (facets_of t) ≡ number_of (high && not low)
+    second_count : sum_over (covering (opposite_of n) (spot half)) (facets_of t) ≡ indicator (high && not low)
     second_count =
         counted (opposite_of n) (spot half) (facets_of t) (high && not low)
         (bounded (opposite_of n) (spot half) one_opposite (sides_beside n false (spot half)) (sides_beside n true (spot half)) (opposite_behind n (spot half) proper_n) (opposite_ahead n (spot half) proper_n))
 
-    pub difference : total (covering n (spot half)) (facets_of t) -ℤ total (covering (opposite_of n) (spot half)) (facets_of t) ≡ Value (sides_at v through n half true) -ℤ Value (sides_at v through n half false)
+    pub difference : sum_over (covering n (spot half)) (facets_of t) -ℤ sum_over (covering (opposite_of n) (spot half)) (facets_of t) ≡ Value (sides_at v through n half true) -ℤ Value (sides_at v through n half false)
     difference =
         ap₂ (λ (x y : ℤ). x -ℤ y) first_count second_count ∙ number_differs low high ∙ ap₂ (λ (x y : ℤ). x -ℤ y) (walks true) (walks false)
 
@@ -257,15 +257,15 @@ module _ (t : Tree) (bounded : BoundSolid world_box t (facets_of t)) (q : Coordi
   at_line [] a b c e = tt
   at_line (m ∷ ms) a b c e = (record { held_n = a.0; proper_n = b.0; seen_n = c.0; sizes_n = e.0 }, at_line ms a.1 b.1 c.1 e.1)
 
-  shares_fall : (n : Coefficients) → AtLine n → total (share_of n) (facets_of t) ≡ fall v through Value n
+  shares_fall : (n : Coefficients) → AtLine n → sum_over (share_of n) (facets_of t) ≡ fall v through Value n
   shares_fall n h =
       total_difference (λ f. covering n (spot n) f -ℤ covering (opposite_of n) (spot n) f) (λ f. covering n (spot (opposite_of n)) f -ℤ covering (opposite_of n) (spot (opposite_of n)) f) (facets_of t)
       ∙ ap₂ (λ (x y : ℤ). x -ℤ y)
       (total_difference (covering n (spot n)) (covering (opposite_of n) (spot n)) (facets_of t))
       (total_difference (covering n (spot (opposite_of n))) (covering (opposite_of n) (spot (opposite_of n))) (facets_of t))
       ∙ two_falls (Value (sides_at v through n n true)) (Value (sides_at v through n n false))
-      (total (covering n (spot n)) (facets_of t)) (total (covering (opposite_of n) (spot n)) (facets_of t))
-      (total (covering n (spot (opposite_of n))) (facets_of t)) (total (covering (opposite_of n) (spot (opposite_of n))) (facets_of t))
+      (sum_over (covering n (spot n)) (facets_of t)) (sum_over (covering (opposite_of n) (spot n)) (facets_of t))
+      (sum_over (covering n (spot (opposite_of n))) (facets_of t)) (sum_over (covering (opposite_of n) (spot (opposite_of n))) (facets_of t))
       (difference n h.held_n h.proper_n h.seen_n n (inl refl) h.sizes_n.first)
       (Value (sides_at v through n (opposite_of n) true)) (Value (sides_at v through n (opposite_of n) false)) (difference n h.held_n h.proper_n h.seen_n (opposite_of n) (inr refl) h.sizes_n.second)
 
@@ -284,28 +284,28 @@ module _ (t : Tree) (bounded : BoundSolid world_box t (facets_of t)) (q : Coordi
   no_either f off [] h = tt
   no_either f off (n ∷ ms) h = ((λ e. off (either_zero f.plane n q e h.0.on)), no_either f off ms h.1)
 
-  not_within : (f : Outline) (u : Direction) → value f.plane q ≢ pos 0 → IsOften number f u → number_of (is_within f (near_point number q u)) ≡ pos 0
-  not_within f u off often = ap number_of (false_by _ (λ e. off (zero_near f.plane number q u often.plane (is_within_parts f (near_point number q u) e).on)))
+  not_within : (f : Outline) (u : Direction) → value f.plane q ≢ pos 0 → BoundsSlopes number f u → indicator (is_strictly_within f (near_point number q u)) ≡ pos 0
+  not_within f u off often = ap indicator (false_by _ (λ e. off (zero_near f.plane number q u often.plane (is_within_parts f (near_point number q u) e).on)))
 
-  gain_by : (f : Outline) → Member f (facets_of t) → FacetAt t q v f → EnoughBeside t number v f.plane → (value f.plane q ≡ pos 0) ⊎ (value f.plane q ≢ pos 0) → total (share v spot f) through ≡ gain v spot f
+  gain_by : (f : Outline) → Member f (facets_of t) → FacetAt t q v f → EnoughBeside t number v f.plane → (value f.plane q ≡ pos 0) ⊎ (value f.plane q ≢ pos 0) → sum_over (share v spot f) through ≡ gain v spot f
   gain_by f m h e (inl on) = shares_are_gain v spot f through apart proper (plane_among f h.plane on)
   gain_by f m h e (inr off) =
       shares_are_none v spot f through (no_either f off through held)
       (ap₂ (λ (x y : ℤ). x -ℤ y)
-      (not_within f (direction_beside f.plane v) off (each_member (λ s. IsOften number s (direction_beside f.plane v)) (facets_of t) e.first.facets f m))
-      (not_within f (direction_beside (opposite_of f.plane) v) off (each_member (λ s. IsOften number s (direction_beside (opposite_of f.plane) v)) (facets_of t) e.second.facets f m)))
+      (not_within f (direction_beside f.plane v) off (each_member (λ s. BoundsSlopes number s (direction_beside f.plane v)) (facets_of t) e.first.facets f m))
+      (not_within f (direction_beside (opposite_of f.plane) v) off (each_member (λ s. BoundsSlopes number s (direction_beside (opposite_of f.plane) v)) (facets_of t) e.second.facets f m)))
 
-  facet_shares : (f : Outline) → Member f (facets_of t) × FacetAt t q v f → pos (edges_along (edges_of (corners f)) q v) -ℤ pos (edges_against (edges_of (corners f)) q v) ≡ total (share v spot f) through
+  facet_shares : (f : Outline) → Member f (facets_of t) × FacetAt t q v f → pos (edges_along (edges_of (corners f)) q v) -ℤ pos (edges_against (edges_of (corners f)) q v) ≡ sum_over (share v spot f) through
   facet_shares f (m, h) =
       let e = sizes_of f h h.plane in
       balance f h.polygon number q hq.weight v hv h.clear
-      (each_member (λ s. IsOften number s (direction_beside f.plane v)) (facets_of t) e.first.facets f m)
-      (each_member (λ s. IsOften number s (direction_beside (opposite_of f.plane) v)) (facets_of t) e.second.facets f m)
+      (each_member (λ s. BoundsSlopes number s (direction_beside f.plane v)) (facets_of t) e.first.facets f m)
+      (each_member (λ s. BoundsSlopes number s (direction_beside (opposite_of f.plane) v)) (facets_of t) e.second.facets f m)
       ∙ sym (gain_by f m h e (zero_or_not (value f.plane q)))
 
-  pub balanced : total (λ f. pos (edges_along (edges_of (corners f)) q v) -ℤ pos (edges_against (edges_of (corners f)) q v)) (facets_of t) ≡ pos 0
+  pub balanced : sum_over (λ f. pos (edges_along (edges_of (corners f)) q v) -ℤ pos (edges_against (edges_of (corners f)) q v)) (facets_of t) ≡ pos 0
   balanced =
-      total_same (λ f. Member f (facets_of t) × FacetAt t q v f) _ (λ f. total (share v spot f) through) facet_shares (facets_of t) (each_both (λ f. Member f (facets_of t)) (FacetAt t q v) (facets_of t) (members (facets_of t)) facets)
+      total_same (λ f. Member f (facets_of t) × FacetAt t q v f) _ (λ f. sum_over (share v spot f) through) facet_shares (facets_of t) (each_both (λ f. Member f (facets_of t)) (FacetAt t q v) (facets_of t) (members (facets_of t)) facets)
       ∙ total_exchanged (λ f n. share v spot f n) (facets_of t) through
-      ∙ total_same AtLine (λ n. total (share_of n) (facets_of t)) (fall v through Value) shares_fall through (at_line through held proper (seen v through apart) enough_through)
+      ∙ total_same AtLine (λ n. sum_over (share_of n) (facets_of t)) (fall v through Value) shares_fall through (at_line through held proper (seen v through apart) enough_through)
       ∙ round v through apart Value

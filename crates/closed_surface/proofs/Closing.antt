@@ -12,20 +12,20 @@ use Rattle.plane_predicate.proofs.InUnits.{whole_steps}
 use Rattle.plane_predicate.proofs.Signs.{signs}
 use Rattle.plane_predicate.proofs.SamePlanes.{directed_above}
 use Rattle.plane_predicate.proofs.Vectors.{value-opposite}
-use Rattle.plane_polygon.specs.Polygons.{Outline, sides, edge, corner, nowhere}
-use Rattle.plane_polygon.specs.Parts.{up_to, corners}
-use Rattle.bsp_tree.specs.Trees.{Tree}
-use Rattle.bsp_tree.specs.Cells.{world_box, IsIn, IsOfWorld}
+use Rattle.plane_polygon.specs.Polygons.{Outline, sides, edge, corner, missing_plane}
+use Rattle.plane_polygon.specs.Parts.{indices_below, corners}
+use Rattle.bsp_tree.specs.Trees.{BspTree}
+use Rattle.bsp_tree.specs.Cells.{world_box, IsInCell, IsOfWorld}
 use Rattle.bsp_tree.proofs.NearPoints.{direction, value_direction}
 use Rattle.bsp_tree.proofs.Worlds.{open_world}
 use Rattle.facet_cut.specs.Facets.{facets_of}
 use Rattle.facet_cut.specs.Sides.{IsFacetOf, BoundSolid}
-use Rattle.closed_surface.specs.Ways.{Direction, way, dot, slope, is_same_place, is_same_way, is_opposite_way}
-use Rattle.closed_surface.specs.Around.{total}
+use Rattle.closed_surface.specs.Ways.{Direction, way, dot_product, slope, is_same_place, is_same_way, is_opposite_way}
+use Rattle.closed_surface.specs.Around.{sum_over}
 use Rattle.closed_surface.specs.Closed.{Edge, edges_of, runs_through, edges_along, edges_against, is_corner, AreClosed}
 use Rattle.closed_surface.proofs.Parallels.{dot_above, same_way_parts, opposite_way_parts}
 use Rattle.closed_surface.proofs.Numbers.{false_by, not_both, not_zero_below, not_zero_above}
-use Rattle.closed_surface.specs.Near.{near_point, direction_beside, IsOften, IsNoCorner}
+use Rattle.closed_surface.specs.Near.{near_point, direction_beside, BoundsSlopes, IsNoCorner}
 use Rattle.closed_surface.proofs.Edges.{same_or_not}
 use Rattle.closed_surface.proofs.Near.{near_on, zero_near}
 use Rattle.closed_surface.proofs.Slides.{along_near, against_near}
@@ -42,10 +42,10 @@ abbrev size_facets : List Outline → Direction → ℕ
 size_facets [] u = 0
 size_facets (f ∷ fs) u = (unsigned_abs (slope f.plane u) + size_planes f.edges u) + size_facets fs u
 
-abbrev size_all : Tree → Direction → ℕ
+abbrev size_all : BspTree → Direction → ℕ
 size_all t u = (size_planes (planes_of t) u + size_planes world_box u) + size_facets (facets_of t) u
 
-abbrev size_beside : Tree → List Coefficients → Direction → ℕ
+abbrev size_beside : BspTree → List Coefficients → Direction → ℕ
 size_beside t [] v = 0
 size_beside t (n ∷ ns) v = (size_all t (direction_beside n v) + size_all t (direction_beside (opposite_of n) v)) + size_beside t ns v
 
@@ -53,12 +53,12 @@ each_size : (ms : List Coefficients) (u : Direction) (number : ℕ) → size_pla
 each_size [] u number h = tt
 each_size (m ∷ ms) u number h = (omega arith, each_size ms u number (omega arith))
 
-edge_size : (ms : List Coefficients) (u : Direction) (number : ℕ) → size_planes ms u ≤ number → (l : ℕ) → l < length ms → unsigned_abs (slope (get_or ms l nowhere) u) ≤ number
+edge_size : (ms : List Coefficients) (u : Direction) (number : ℕ) → size_planes ms u ≤ number → (l : ℕ) → l < length ms → unsigned_abs (slope (get_or ms l missing_plane) u) ≤ number
 edge_size [] u number h l k = absurd (omega arith)
 edge_size (m ∷ ms) u number h zero k = omega arith
 edge_size (m ∷ ms) u number h (suc l) k = edge_size ms u number (omega arith) l (omega arith)
 
-each_often : (fs : List Outline) (u : Direction) (number : ℕ) → size_facets fs u ≤ number → Each (λ f. IsOften number f u) fs
+each_often : (fs : List Outline) (u : Direction) (number : ℕ) → size_facets fs u ≤ number → Each (λ f. BoundsSlopes number f u) fs
 each_often [] u number h = tt
 each_often (f ∷ fs) u number h = (record { plane = omega arith; edges = edge_size f.edges u number (omega arith) }, each_often fs u number (omega arith))
 
@@ -71,14 +71,14 @@ part_two a b c n h = omega arith
 part_three : (a b c n : ℕ) → (a + b) + c ≤ n → c ≤ n
 part_three a b c n h = omega arith
 
-enough_by : (t : Tree) (u : Direction) (number : ℕ) → size_all t u ≤ number → Enough t number u
+enough_by : (t : BspTree) (u : Direction) (number : ℕ) → size_all t u ≤ number → Enough t number u
 enough_by t u number h = record {
   tree = each_size (planes_of t) u number (part_one (size_planes (planes_of t) u) (size_planes world_box u) (size_facets (facets_of t) u) number h);
   box = each_size world_box u number (part_two (size_planes (planes_of t) u) (size_planes world_box u) (size_facets (facets_of t) u) number h);
   facets = each_often (facets_of t) u number (part_three (size_planes (planes_of t) u) (size_planes world_box u) (size_facets (facets_of t) u) number h);
 }
 
-enough_beside : (t : Tree) (ns : List Coefficients) (v : Direction) (number : ℕ) → size_beside t ns v ≤ number → Each (EnoughBeside t number v) ns
+enough_beside : (t : BspTree) (ns : List Coefficients) (v : Direction) (number : ℕ) → size_beside t ns v ≤ number → Each (EnoughBeside t number v) ns
 enough_beside t [] v number h = tt
 enough_beside t (n ∷ ns) v number h = (
   record {
@@ -110,10 +110,10 @@ any_none p [] ys h = (refl, h)
 any_none p (x ∷ xs) ys h =
     let w = or_parts (p x) (list_any p (xs ++ ys)) h in let r = any_none p xs ys w.1 in (or_from (p x) (list_any p xs) w.0 r.0, r.1)
 
-any_last : {X : Type 0} (p : X → Bool) (g : ℕ → X) (k : ℕ) → list_any p (map g (up_to k)) ≡ false → (i : ℕ) → i < k → p (g i) ≡ false
+any_last : {X : Type 0} (p : X → Bool) (g : ℕ → X) (k : ℕ) → list_any p (map g (indices_below k)) ≡ false → (i : ℕ) → i < k → p (g i) ≡ false
 any_last p g zero h i l = absurd (omega arith)
 any_last p g (suc k) h i l =
-    let w = any_none p (map g (up_to k)) (g k ∷ []) (ap (list_any p) (sym (map-append g (up_to k) (k ∷ []))) ∙ h) in
+    let w = any_none p (map g (indices_below k)) (g k ∷ []) (ap (list_any p) (sym (map-append g (indices_below k) (k ∷ []))) ∙ h) in
     elim (same_or_not i k) [
       | inl e ↦ ap (λ (n : ℕ). p (g n)) e ∙ (or_parts (p (g k)) false w.1).0
       | inr a ↦ any_last p g k w.0 i (omega arith)
@@ -132,19 +132,19 @@ difference_at q v f = pos (edges_along (edges_of (corners f)) q v) -ℤ pos (edg
 more_apart : (a b c d : ℕ) (s : ℤ) → pos c -ℤ pos d ≡ s → pos (a + c) -ℤ pos (b + d) ≡ (pos a -ℤ pos b) +ℤ s
 more_apart a b c d s e = omega (arith, sums)
 
-all_edges : (fs : List Outline) (q : Coordinates) (v : Direction) → pos (edges_along (flat_map edges_of (map corners fs)) q v) -ℤ pos (edges_against (flat_map edges_of (map corners fs)) q v) ≡ total (difference_at q v) fs
+all_edges : (fs : List Outline) (q : Coordinates) (v : Direction) → pos (edges_along (flat_map edges_of (map corners fs)) q v) -ℤ pos (edges_against (flat_map edges_of (map corners fs)) q v) ≡ sum_over (difference_at q v) fs
 all_edges [] q v = refl
 all_edges (f ∷ fs) q v =
     ap₂ (λ (m n : ℕ). pos m -ℤ pos n)
     (sum_by-append (λ e. cond (runs_through e q && is_same_way (way e.0 e.1) v) 1 0) (edges_of (corners f)) (flat_map edges_of (map corners fs)))
     (sum_by-append (λ e. cond (runs_through e q && is_opposite_way (way e.0 e.1) v) 1 0) (edges_of (corners f)) (flat_map edges_of (map corners fs)))
-    ∙ more_apart (edges_along (edges_of (corners f)) q v) (edges_against (edges_of (corners f)) q v) (edges_along (flat_map edges_of (map corners fs)) q v) (edges_against (flat_map edges_of (map corners fs)) q v) (total (difference_at q v) fs) (all_edges fs q v)
+    ∙ more_apart (edges_along (edges_of (corners f)) q v) (edges_against (edges_of (corners f)) q v) (edges_along (flat_map edges_of (map corners fs)) q v) (edges_against (flat_map edges_of (map corners fs)) q v) (sum_over (difference_at q v) fs) (all_edges fs q v)
 
 same_number : (m n : ℕ) → pos m -ℤ pos n ≡ pos 0 → m ≡ n
 same_number m n e = omega (arith, sums)
 
 -- ---- no direction
-dot_exchanged : (u v : Direction) → dot u v ≡ dot v u
+dot_exchanged : (u v : Direction) → dot_product u v ≡ dot_product v u
 dot_exchanged u v = omega (arith, sums, mul_comm_ℤ u.x v.x, mul_comm_ℤ u.y v.y, mul_comm_ℤ u.z v.z)
 
 least_itself : (n : ℕ) → n ≤ n
@@ -155,7 +155,7 @@ count_none_by p [] h = refl
 count_none_by p (x ∷ xs) h =
     sum_by-append (λ y. cond (p y) 1 0) (x ∷ []) xs ∙ ap₂ (λ (m n : ℕ). m + n) (ap (λ (b : Bool). 0 + cond b 1 0) (h x)) (count_none_by p xs h)
 
-nothing_runs : (edges : List Edge) (q : Coordinates) (v : Direction) → (pos 0 <ℤ dot v v → ⊥) → edges_along edges q v ≡ edges_against edges q v
+nothing_runs : (edges : List Edge) (q : Coordinates) (v : Direction) → (pos 0 <ℤ dot_product v v → ⊥) → edges_along edges q v ≡ edges_against edges q v
 nothing_runs edges q v none =
     count_none_by (λ e. runs_through e q && is_same_way (way e.0 e.1) v) edges
     (λ e. false_by _ (λ r. none (dot_above v (way e.0 e.1) (λ z. not_zero_above _ (same_way_parts (way e.0 e.1) v (and_parts (runs_through e q) (is_same_way (way e.0 e.1) v) r).1).1 (dot_exchanged (way e.0 e.1) v ∙ z)))))
@@ -163,8 +163,8 @@ nothing_runs edges q v none =
     (λ e. false_by _ (λ r. none (dot_above v (way e.0 e.1) (λ z. not_zero_below _ (opposite_way_parts (way e.0 e.1) v (and_parts (runs_through e q) (is_opposite_way (way e.0 e.1) v) r).1).1 (dot_exchanged (way e.0 e.1) v ∙ z))))))
 
 -- ---- from the point to one beside it on the line, which is on no plane that doesn't hold the line
-module _ (t : Tree) (h : IsOfWorld t) (bounded : BoundSolid world_box t (facets_of t)) (facets : All (IsFacetOf world_box t) (facets_of t))
-    (q : Coordinates) (hq : IsIn world_box q) (corner_free : Each (λ f. IsNoCorner f q) (facets_of t)) (v : Direction) (hv : pos 0 <ℤ dot v v) where
+module _ (t : BspTree) (h : IsOfWorld t) (bounded : BoundSolid world_box t (facets_of t)) (facets : All (IsFacetOf world_box t) (facets_of t))
+    (q : Coordinates) (hq : IsInCell world_box q) (corner_free : Each (λ f. IsNoCorner f q) (facets_of t)) (v : Direction) (hv : pos 0 <ℤ dot_product v v) where
   abbrev steps : ℕ
   steps = size_all t v
 
@@ -184,26 +184,26 @@ module _ (t : Tree) (h : IsOfWorld t) (bounded : BoundSolid world_box t (facets_
 
   facets_there : Each (FacetAt t on_it v) (facets_of t)
   facets_there =
-      each_weaker (λ f. IsFacetOf world_box t f × IsOften steps f v) (FacetAt t on_it v)
+      each_weaker (λ f. IsFacetOf world_box t f × BoundsSlopes steps f v) (FacetAt t on_it v)
       (λ f k. record { polygon = k.0.polygon; plane = k.0.plane; clear = record { plane = clear_beside f.plane k.1.plane; edges = λ l m. clear_beside (edge f l) (k.1.edges l m) } })
-      (facets_of t) (each_both (IsFacetOf world_box t) (λ f. IsOften steps f v) (facets_of t) (each_from_all (IsFacetOf world_box t) (facets_of t) facets) enough.facets)
+      (facets_of t) (each_both (IsFacetOf world_box t) (λ f. BoundsSlopes steps f v) (facets_of t) (each_from_all (IsFacetOf world_box t) (facets_of t) facets) enough.facets)
 
-  there : total (difference_at on_it v) (facets_of t) ≡ pos 0
+  there : sum_over (difference_at on_it v) (facets_of t) ≡ pos 0
   there =
       balanced t bounded on_it (in_near world_box steps q v enough.box hq) v hv (size_beside t (planes_of t) v) planes
       (enough_beside t (planes_of t) v (size_beside t (planes_of t) v) (least_itself (size_beside t (planes_of t) v))) facets_there
 
-  pub here : total (difference_at q v) (facets_of t) ≡ pos 0
+  pub here : sum_over (difference_at q v) (facets_of t) ≡ pos 0
   here =
-      total_same (λ f. IsFacetOf world_box t f × (IsOften steps f v × IsNoCorner f q)) (difference_at q v) (difference_at on_it v)
+      total_same (λ f. IsFacetOf world_box t f × (BoundsSlopes steps f v × IsNoCorner f q)) (difference_at q v) (difference_at on_it v)
       (λ f k. sym (ap₂ (λ (m n : ℕ). pos m -ℤ pos n) (along_near f k.0.polygon steps q hq.weight k.1.1 v k.1.0) (against_near f k.0.polygon steps q hq.weight k.1.1 v k.1.0)))
       (facets_of t)
-      (each_both (IsFacetOf world_box t) (λ f. IsOften steps f v × IsNoCorner f q) (facets_of t) (each_from_all (IsFacetOf world_box t) (facets_of t) facets)
-      (each_both (λ f. IsOften steps f v) (λ f. IsNoCorner f q) (facets_of t) enough.facets corner_free))
+      (each_both (IsFacetOf world_box t) (λ f. BoundsSlopes steps f v × IsNoCorner f q) (facets_of t) (each_from_all (IsFacetOf world_box t) (facets_of t) facets)
+      (each_both (λ f. BoundsSlopes steps f v) (λ f. IsNoCorner f q) (facets_of t) enough.facets corner_free))
       ∙ there
 
-pub facets_closed : (t : Tree) → IsOfWorld t → BoundSolid world_box t (facets_of t) → All (IsFacetOf world_box t) (facets_of t) → AreClosed Whole (map corners (facets_of t))
-facets_closed t h bounded facets q v world free = elim (signs (dot v v)) [
+pub facets_closed : (t : BspTree) → IsOfWorld t → BoundSolid world_box t (facets_of t) → All (IsFacetOf world_box t) (facets_of t) → AreClosed Whole (map corners (facets_of t))
+facets_closed t h bounded facets q v world free = elim (signs (dot_product v v)) [
   | inl x ↦ nothing_runs (flat_map edges_of (map corners (facets_of t))) q v (λ y. not_both _ y x)
   | inr (inl x) ↦ nothing_runs (flat_map edges_of (map corners (facets_of t))) q v (λ y. not_zero_above _ y x)
   | inr (inr x) ↦ same_number _ _ (all_edges (facets_of t) q v

@@ -3,7 +3,7 @@ use Rattle.std.proofs.Common.{◌≡◌, ◌⊎◌, inl, inr, List, [], ◌∷�
 use Rattle.std.specs.List.{All}
 use Rattle.std.proofs.lemmas.List.Elements.{All-head, All-tail}
 use Rattle.plane_predicate.proofs.IntegerRing.{sums}
-use Rattle.closed_surface.specs.Around.{total}
+use Rattle.closed_surface.specs.Around.{sum_over}
 
 abbrev pub Each : {A : Type 0} → (A → Type 0) → List A → Type 0
 Each P [] = Unit {0}
@@ -48,34 +48,34 @@ members [] = tt
 members (x ∷ xs) = (inl refl, each_weaker (λ y. Member y xs) (λ y. Member y (x ∷ xs)) (λ y h. inr h) xs (members xs))
 
 -- ---- sums
-pub total_same : {A : Type 0} (P : A → Type 0) (f g : A → ℤ) → ((x : A) → P x → f x ≡ g x) → (xs : List A) → Each P xs → total f xs ≡ total g xs
+pub total_same : {A : Type 0} (P : A → Type 0) (f g : A → ℤ) → ((x : A) → P x → f x ≡ g x) → (xs : List A) → Each P xs → sum_over f xs ≡ sum_over g xs
 total_same P f g h [] e = refl
 total_same P f g h (x ∷ xs) e = ap₂ (λ (a b : ℤ). a +ℤ b) (h x e.0) (total_same P f g h xs e.1)
 
 four_sums : (a b c d s : ℤ) → s ≡ c +ℤ d → (a +ℤ b) +ℤ s ≡ (a +ℤ c) +ℤ (b +ℤ d)
 four_sums a b c d s e = omega (arith, sums)
 
-pub total_sum : {A : Type 0} (f g : A → ℤ) (xs : List A) → total (λ x. f x +ℤ g x) xs ≡ total f xs +ℤ total g xs
+pub total_sum : {A : Type 0} (f g : A → ℤ) (xs : List A) → sum_over (λ x. f x +ℤ g x) xs ≡ sum_over f xs +ℤ sum_over g xs
 total_sum f g [] = refl
-total_sum f g (x ∷ xs) = four_sums (f x) (g x) (total f xs) (total g xs) (total (λ y. f y +ℤ g y) xs) (total_sum f g xs)
+total_sum f g (x ∷ xs) = four_sums (f x) (g x) (sum_over f xs) (sum_over g xs) (sum_over (λ y. f y +ℤ g y) xs) (total_sum f g xs)
 
 four_differences : (a b c d s : ℤ) → s ≡ c -ℤ d → (a -ℤ b) +ℤ s ≡ (a +ℤ c) -ℤ (b +ℤ d)
 four_differences a b c d s e = omega (arith, sums)
 
-pub total_difference : {A : Type 0} (f g : A → ℤ) (xs : List A) → total (λ x. f x -ℤ g x) xs ≡ total f xs -ℤ total g xs
+pub total_difference : {A : Type 0} (f g : A → ℤ) (xs : List A) → sum_over (λ x. f x -ℤ g x) xs ≡ sum_over f xs -ℤ sum_over g xs
 total_difference f g [] = refl
-total_difference f g (x ∷ xs) = four_differences (f x) (g x) (total f xs) (total g xs) (total (λ y. f y -ℤ g y) xs) (total_difference f g xs)
+total_difference f g (x ∷ xs) = four_differences (f x) (g x) (sum_over f xs) (sum_over g xs) (sum_over (λ y. f y -ℤ g y) xs) (total_difference f g xs)
 
-pub total_zero : {A : Type 0} (P : A → Type 0) (f : A → ℤ) → ((x : A) → P x → f x ≡ pos 0) → (xs : List A) → Each P xs → total f xs ≡ pos 0
+pub total_zero : {A : Type 0} (P : A → Type 0) (f : A → ℤ) → ((x : A) → P x → f x ≡ pos 0) → (xs : List A) → Each P xs → sum_over f xs ≡ pos 0
 total_zero P f h [] e = refl
 total_zero P f h (x ∷ xs) e = ap₂ (λ (a b : ℤ). a +ℤ b) (h x e.0) (total_zero P f h xs e.1)
 
-nothing_out : {A : Type 0} (xs : List A) → total (λ (x : A). pos 0) xs ≡ pos 0
+nothing_out : {A : Type 0} (xs : List A) → sum_over (λ (x : A). pos 0) xs ≡ pos 0
 nothing_out [] = refl
 nothing_out (x ∷ xs) = ap (λ (a : ℤ). pos 0 +ℤ a) (nothing_out xs)
 
 -- a sum of sums in the other order
-pub total_exchanged : {A B : Type 0} (f : A → B → ℤ) (xs : List A) (ys : List B) → total (λ x. total (f x) ys) xs ≡ total (λ y. total (λ x. f x y) xs) ys
+pub total_exchanged : {A B : Type 0} (f : A → B → ℤ) (xs : List A) (ys : List B) → sum_over (λ x. sum_over (f x) ys) xs ≡ sum_over (λ y. sum_over (λ x. f x y) xs) ys
 total_exchanged f [] ys = sym (nothing_out ys)
 total_exchanged f (x ∷ xs) ys =
-    ap (λ (a : ℤ). total (f x) ys +ℤ a) (total_exchanged f xs ys) ∙ sym (total_sum (f x) (λ y. total (λ z. f z y) xs) ys)
+    ap (λ (a : ℤ). sum_over (f x) ys +ℤ a) (total_exchanged f xs ys) ∙ sym (total_sum (f x) (λ y. sum_over (λ z. f z y) xs) ys)

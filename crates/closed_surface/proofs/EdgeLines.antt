@@ -2,12 +2,12 @@
 -- of the edge behind it.
 use Rattle.std.proofs.Common.{◌≡◌, ◌≢◌, ◌⊎◌, inl, inr, true, refl, sym, ap, ◌∙◌, subst, arith, ℤ, pos, ◌-ℤ◌, ◌*ℤ◌, neg_ℤ, ◌<ℤ◌, ◌≤ℤ◌}
 use Rattle.std.proofs.Math.IntN.{*ℤ-zero, zero-*ℤ}
-use Rattle.plane_predicate.specs.Space.{Coefficients, Coordinates, value, cramer}
+use Rattle.plane_predicate.specs.Space.{Coefficients, Coordinates, value, meeting_by_cramers_rule}
 use Rattle.plane_predicate.proofs.IntegerRing.{sums, mul_comm_ℤ}
 use Rattle.plane_predicate.proofs.Identities.{cramer_on_first, cramer_on_second, cramer_on_third, weight_swapped}
 use Rattle.plane_predicate.proofs.Signs.{signs, pos_pos, pos_neg, neg_neg, least_least, least_most, pos_cancel, neg_cancel, zero_cancel}
-use Rattle.closed_surface.specs.Ways.{Direction, way, dot, cross, slope, line_of, is_same_place, is_same_way, is_opposite_way}
-use Rattle.closed_surface.specs.Around.{turn_about}
+use Rattle.closed_surface.specs.Ways.{Direction, way, dot_product, cross_product, slope, line_of, is_same_place, is_same_way, is_opposite_way}
+use Rattle.closed_surface.specs.Around.{triple_product_of}
 use Rattle.closed_surface.proofs.Numbers.{at_least, not_zero_above, not_zero_below, negative_below}
 use Rattle.closed_surface.proofs.Parallels.{IsZero, slope_way, line_turn, line_slope, along_dot, along_slope, along_cross, in_planes, dot_above, same_place_is, same_way_is, same_way_parts, opposite_way_is, opposite_way_parts}
 
@@ -17,7 +17,7 @@ zero_times x y h = ap (λ (z : ℤ). z *ℤ y) h ∙ zero-*ℤ y
 times_zero : (x y : ℤ) → y ≡ pos 0 → x *ℤ y ≡ pos 0
 times_zero x y h = ap (λ (z : ℤ). x *ℤ z) h ∙ *ℤ-zero x
 
-exchanged : (g : Direction) (m : Coefficients) → slope m g ≡ dot g (record { x = m.a; y = m.b; z = m.c })
+exchanged : (g : Direction) (m : Coefficients) → slope m g ≡ dot_product g (record { x = m.a; y = m.b; z = m.c })
 exchanged g m = omega (arith, sums, mul_comm_ℤ m.a g.x, mul_comm_ℤ m.b g.y, mul_comm_ℤ m.c g.z)
 
 -- ---- signs of factors
@@ -104,40 +104,40 @@ between_behind k l aw bw qw first last x hk hl ha hb hq e hf hz one = elim (sign
 ]
 
 -- what a plane says of a point through which the way from a to b runs
-pub between : (p : Coefficients) (a b q : Coordinates) → IsZero (cross (way a q) (way q b)) →
-    dot (way a q) (way a q) *ℤ (q.w *ℤ value p b -ℤ b.w *ℤ value p q) ≡ dot (way a q) (way q b) *ℤ (a.w *ℤ value p q -ℤ q.w *ℤ value p a)
+pub between : (p : Coefficients) (a b q : Coordinates) → IsZero (cross_product (way a q) (way q b)) →
+    dot_product (way a q) (way a q) *ℤ (q.w *ℤ value p b -ℤ b.w *ℤ value p q) ≡ dot_product (way a q) (way q b) *ℤ (a.w *ℤ value p q -ℤ q.w *ℤ value p a)
 between p a b q h =
-    ap (λ (x : ℤ). dot (way a q) (way a q) *ℤ x) (sym (slope_way p q b))
+    ap (λ (x : ℤ). dot_product (way a q) (way a q) *ℤ x) (sym (slope_way p q b))
     ∙ along_slope p (way a q) (way q b) h
-    ∙ ap (λ (x : ℤ). dot (way a q) (way q b) *ℤ x) (slope_way p a q)
+    ∙ ap (λ (x : ℤ). dot_product (way a q) (way q b) *ℤ x) (slope_way p a q)
 
 pub runs_zero : (p : Coefficients) (a b q : Coordinates) → pos 0 <ℤ a.w → pos 0 <ℤ b.w → is_same_way (way a q) (way q b) ≡ true →
     value p a ≡ pos 0 → value p b ≡ pos 0 → value p q ≡ pos 0
 runs_zero p a b q ha hb r za zb =
     let w = same_way_parts (way a q) (way q b) r in
-    between_zero (dot (way a q) (way a q)) (dot (way a q) (way q b)) a.w b.w q.w (value p a) (value p b) (value p q)
+    between_zero (dot_product (way a q) (way a q)) (dot_product (way a q) (way q b)) a.w b.w q.w (value p a) (value p b) (value p q)
     (dot_above (way a q) (way q b) (not_zero_above _ w.1)) w.1 ha hb (between p a b q w.0) za zb
 
 pub runs_behind : (p : Coefficients) (a b q : Coordinates) → pos 0 <ℤ a.w → pos 0 <ℤ b.w → pos 0 <ℤ q.w → is_same_way (way a q) (way q b) ≡ true →
     value p a ≤ℤ pos 0 → value p b ≤ℤ pos 0 → (value p a <ℤ pos 0) ⊎ (value p b <ℤ pos 0) → value p q <ℤ pos 0
 runs_behind p a b q ha hb hq r la lb one =
     let w = same_way_parts (way a q) (way q b) r in
-    between_behind (dot (way a q) (way a q)) (dot (way a q) (way q b)) a.w b.w q.w (value p a) (value p b) (value p q)
+    between_behind (dot_product (way a q) (way a q)) (dot_product (way a q) (way q b)) a.w b.w q.w (value p a) (value p b) (value p q)
     (dot_above (way a q) (way q b) (not_zero_above _ w.1)) w.1 ha hb hq (between p a b q w.0) la lb one
 
 -- ---- the edge
 pub record IsSide (n i j m : Coefficients) : Type 0 where
-  pub first : pos 0 <ℤ (cramer n i j).w
-  pub second : pos 0 <ℤ (cramer n j m).w
-  pub far : value m (cramer n i j) <ℤ pos 0
-  pub back : value i (cramer n j m) <ℤ pos 0
+  pub first : pos 0 <ℤ (meeting_by_cramers_rule n i j).w
+  pub second : pos 0 <ℤ (meeting_by_cramers_rule n j m).w
+  pub far : value m (meeting_by_cramers_rule n i j) <ℤ pos 0
+  pub back : value i (meeting_by_cramers_rule n j m) <ℤ pos 0
 
 module _ (n i j m : Coefficients) (h : IsSide n i j m) where
   abbrev a : Coordinates
-  a = cramer n i j
+  a = meeting_by_cramers_rule n i j
 
   abbrev b : Coordinates
-  b = cramer n j m
+  b = meeting_by_cramers_rule n j m
 
   abbrev g : Direction
   g = line_of n j
@@ -148,19 +148,19 @@ module _ (n i j m : Coefficients) (h : IsSide n i j m) where
   behind : slope i g <ℤ pos 0
   behind = negative_below _ _ (line_slope i n j ∙ weight_swapped n i j) h.first
 
-  long : pos 0 <ℤ dot g g
+  long : pos 0 <ℤ dot_product g g
   long = dot_above g (record { x = m.a; y = m.b; z = m.c }) (λ e. not_zero_above (slope m g) ahead (exchanged g m ∙ e))
 
-  way_along : (p q : Coordinates) → value n p ≡ pos 0 → value n q ≡ pos 0 → value j p ≡ pos 0 → value j q ≡ pos 0 → IsZero (cross g (way p q))
+  way_along : (p q : Coordinates) → value n p ≡ pos 0 → value n q ≡ pos 0 → value j p ≡ pos 0 → value j q ≡ pos 0 → IsZero (cross_product g (way p q))
   way_along p q np nq jp jq =
       in_planes n j (way p q) (slope_way n p q ∙ both_zero p.w (value n q) q.w (value n p) nq np) (slope_way j p q ∙ both_zero p.w (value j q) q.w (value j p) jq jp)
 
-  edge_along : IsZero (cross g (way a b))
+  edge_along : IsZero (cross_product g (way a b))
   edge_along = way_along a b (cramer_on_first n i j) (cramer_on_first n j m) (cramer_on_third n i j) (cramer_on_second n j m)
 
-  edge_forward : pos 0 <ℤ dot g (way a b)
+  edge_forward : pos 0 <ℤ dot_product g (way a b)
   edge_forward =
-      above_factor (dot g g) (slope m (way a b)) (dot g (way a b)) (slope m g) long (along_slope m g (way a b) edge_along) ahead
+      above_factor (dot_product g g) (slope m (way a b)) (dot_product g (way a b)) (slope m g) long (along_slope m g (way a b) edge_along) ahead
       (subst (λ (x : ℤ). pos 0 <ℤ x) (sym (slope_way m a b ∙ grown_to_zero a.w (value m b) b.w (value m a) (cramer_on_third n j m))) (negated_above _ (pos_neg b.w (value m a) h.second h.far)))
 
   -- a point on both planes, strictly behind the planes of the neighbours
@@ -168,64 +168,64 @@ module _ (n i j m : Coefficients) (h : IsSide n i j m) where
   runs q hw nq jq iq mq =
       let u = way_along a q (cramer_on_first n i j) nq (cramer_on_third n i j) jq in
       let v = way_along q b nq (cramer_on_first n j m) jq (cramer_on_second n j m) in
-      let gu = below_factor (dot g g) (slope i (way a q)) (dot g (way a q)) (slope i g) long (along_slope i g (way a q) u) behind
+      let gu = below_factor (dot_product g g) (slope i (way a q)) (dot_product g (way a q)) (slope i g) long (along_slope i g (way a q) u) behind
       (subst (λ (x : ℤ). x <ℤ pos 0) (sym (slope_way i a q ∙ grown_from_zero a.w (value i q) q.w (value i a) (cramer_on_second n i j))) (pos_neg a.w (value i q) h.first iq)) in
-      let gv = above_factor (dot g g) (slope m (way q b)) (dot g (way q b)) (slope m g) long (along_slope m g (way q b) v) ahead
+      let gv = above_factor (dot_product g g) (slope m (way q b)) (dot_product g (way q b)) (slope m g) long (along_slope m g (way q b) v) ahead
       (subst (λ (x : ℤ). pos 0 <ℤ x) (sym (slope_way m q b ∙ grown_to_zero q.w (value m b) b.w (value m q) (cramer_on_third n j m))) (negated_above _ (pos_neg b.w (value m q) h.second mq))) in
       same_way_is (way a q) (way q b) (along_cross g (way a q) (way q b) long u v)
-      (product_above (dot g g) (dot (way a q) (way q b)) (dot g (way a q)) (dot g (way q b)) long (along_dot g (way a q) (way q b) u) gu gv)
+      (product_above (dot_product g g) (dot_product (way a q) (way q b)) (dot_product g (way a q)) (dot_product g (way q b)) long (along_dot g (way a q) (way q b) u) gu gv)
 
   -- ---- the way of the edge
   pub record IsInPlanes (v : Direction) : Type 0 where
     pub plane : slope n v ≡ pos 0
     pub edge : slope j v ≡ pos 0
 
-  parallel_in : (v : Direction) → IsZero (cross (way a b) v) → pos 0 <ℤ dot (way a b) (way a b) → IsInPlanes v
+  parallel_in : (v : Direction) → IsZero (cross_product (way a b) v) → pos 0 <ℤ dot_product (way a b) (way a b) → IsInPlanes v
   parallel_in v z l = record {
-    plane = second_zero (dot (way a b) (way a b)) (slope n v) (dot (way a b) v) (slope n (way a b)) l (along_slope n (way a b) v z)
+    plane = second_zero (dot_product (way a b) (way a b)) (slope n v) (dot_product (way a b) v) (slope n (way a b)) l (along_slope n (way a b) v z)
         (slope_way n a b ∙ both_zero a.w (value n b) b.w (value n a) (cramer_on_first n j m) (cramer_on_first n i j));
-    edge = second_zero (dot (way a b) (way a b)) (slope j v) (dot (way a b) v) (slope j (way a b)) l (along_slope j (way a b) v z)
+    edge = second_zero (dot_product (way a b) (way a b)) (slope j v) (dot_product (way a b) v) (slope j (way a b)) l (along_slope j (way a b) v z)
         (slope_way j a b ∙ both_zero a.w (value j b) b.w (value j a) (cramer_on_second n j m) (cramer_on_third n i j));
   }
 
-  pub same_way_turns : (v : Direction) → is_same_way (way a b) v ≡ true → IsInPlanes v × (pos 0 <ℤ turn_about v n j)
+  pub same_way_turns : (v : Direction) → is_same_way (way a b) v ≡ true → IsInPlanes v × (pos 0 <ℤ triple_product_of v n j)
   same_way_turns v r =
       let w = same_way_parts (way a b) v r in (
         parallel_in v w.0 (dot_above (way a b) v (not_zero_above _ w.1)),
         subst (λ (x : ℤ). pos 0 <ℤ x) (line_turn n j v)
-            (second_above (dot g g) (dot (way a b) v) (dot g (way a b)) (dot g v) long (along_dot g (way a b) v edge_along) edge_forward w.1),
+            (second_above (dot_product g g) (dot_product (way a b) v) (dot_product g (way a b)) (dot_product g v) long (along_dot g (way a b) v edge_along) edge_forward w.1),
       )
 
-  pub opposite_way_turns : (v : Direction) → is_opposite_way (way a b) v ≡ true → IsInPlanes v × (turn_about v n j <ℤ pos 0)
+  pub opposite_way_turns : (v : Direction) → is_opposite_way (way a b) v ≡ true → IsInPlanes v × (triple_product_of v n j <ℤ pos 0)
   opposite_way_turns v r =
       let w = opposite_way_parts (way a b) v r in (
         parallel_in v w.0 (dot_above (way a b) v (not_zero_below _ w.1)),
         subst (λ (x : ℤ). x <ℤ pos 0) (line_turn n j v)
-            (second_below (dot g g) (dot (way a b) v) (dot g (way a b)) (dot g v) long (along_dot g (way a b) v edge_along) edge_forward w.1),
+            (second_below (dot_product g g) (dot_product (way a b) v) (dot_product g (way a b)) (dot_product g v) long (along_dot g (way a b) v edge_along) edge_forward w.1),
       )
 
-  pub turns_same_way : (v : Direction) → IsInPlanes v → pos 0 <ℤ turn_about v n j → is_same_way (way a b) v ≡ true
+  pub turns_same_way : (v : Direction) → IsInPlanes v → pos 0 <ℤ triple_product_of v n j → is_same_way (way a b) v ≡ true
   turns_same_way v p t =
       same_way_is (way a b) v (along_cross g (way a b) v long edge_along (in_planes n j v p.plane p.edge))
-      (product_above (dot g g) (dot (way a b) v) (dot g (way a b)) (dot g v) long (along_dot g (way a b) v edge_along) edge_forward (subst (λ (x : ℤ). pos 0 <ℤ x) (sym (line_turn n j v)) t))
+      (product_above (dot_product g g) (dot_product (way a b) v) (dot_product g (way a b)) (dot_product g v) long (along_dot g (way a b) v edge_along) edge_forward (subst (λ (x : ℤ). pos 0 <ℤ x) (sym (line_turn n j v)) t))
 
-  pub turns_opposite_way : (v : Direction) → IsInPlanes v → turn_about v n j <ℤ pos 0 → is_opposite_way (way a b) v ≡ true
+  pub turns_opposite_way : (v : Direction) → IsInPlanes v → triple_product_of v n j <ℤ pos 0 → is_opposite_way (way a b) v ≡ true
   turns_opposite_way v p t =
       opposite_way_is (way a b) v (along_cross g (way a b) v long edge_along (in_planes n j v p.plane p.edge))
-      (product_below (dot g g) (dot (way a b) v) (dot g (way a b)) (dot g v) long (along_dot g (way a b) v edge_along) edge_forward (subst (λ (x : ℤ). x <ℤ pos 0) (sym (line_turn n j v)) t))
+      (product_below (dot_product g g) (dot_product (way a b) v) (dot_product g (way a b)) (dot_product g v) long (along_dot g (way a b) v edge_along) edge_forward (subst (λ (x : ℤ). x <ℤ pos 0) (sym (line_turn n j v)) t))
 
   -- ---- the ends of the edge
   -- a way that all three planes of an end hold is none
-  none_held : (u : Direction) (p : Coefficients) → slope n u ≡ pos 0 → slope j u ≡ pos 0 → slope p u ≡ pos 0 → slope p g ≢ pos 0 → dot u u ≡ pos 0
+  none_held : (u : Direction) (p : Coefficients) → slope n u ≡ pos 0 → slope j u ≡ pos 0 → slope p u ≡ pos 0 → slope p g ≢ pos 0 → dot_product u u ≡ pos 0
   none_held u p un uj up apart =
       let z = in_planes n j u un uj in
-      let gu = zero_factor (dot g u) (slope p g) (sym (along_slope p g u z) ∙ times_zero (dot g g) (slope p u) up) apart in
-      zero_cancel (dot g g) (dot u u) long (along_dot g u u z ∙ zero_times (dot g u) (dot g u) gu)
+      let gu = zero_factor (dot_product g u) (slope p g) (sym (along_slope p g u z) ∙ times_zero (dot_product g g) (slope p u) up) apart in
+      zero_cancel (dot_product g g) (dot_product u u) long (along_dot g u u z ∙ zero_times (dot_product g u) (dot_product g u) gu)
 
-  pub none_held_first : (u : Direction) → slope n u ≡ pos 0 → slope i u ≡ pos 0 → slope j u ≡ pos 0 → dot u u ≡ pos 0
+  pub none_held_first : (u : Direction) → slope n u ≡ pos 0 → slope i u ≡ pos 0 → slope j u ≡ pos 0 → dot_product u u ≡ pos 0
   none_held_first u un ui uj = none_held u i un uj ui (λ e. not_zero_below (slope i g) behind e)
 
-  pub none_held_second : (u : Direction) → slope n u ≡ pos 0 → slope j u ≡ pos 0 → slope m u ≡ pos 0 → dot u u ≡ pos 0
+  pub none_held_second : (u : Direction) → slope n u ≡ pos 0 → slope j u ≡ pos 0 → slope m u ≡ pos 0 → dot_product u u ≡ pos 0
   none_held_second u un uj um = none_held u m un uj um (λ e. not_zero_above (slope m g) ahead e)
 
   -- a point on all three planes of an end is that end
@@ -244,8 +244,8 @@ module _ (n i j m : Coefficients) (h : IsSide n i j m) where
       (slope_way m b q ∙ both_zero b.w (value m q) q.w (value m b) mq (cramer_on_third n j m)))
 
   -- a direction that both planes hold is along the edge: it has a turn about it where there is one
-  pub turn_apart : (v : Direction) → pos 0 <ℤ dot v v → IsInPlanes v → turn_about v n j ≢ pos 0
+  pub turn_apart : (v : Direction) → pos 0 <ℤ dot_product v v → IsInPlanes v → triple_product_of v n j ≢ pos 0
   turn_apart v hv p e =
       let z = in_planes n j v p.plane p.edge in
       let gv = line_turn n j v ∙ e in
-      not_zero_above (dot v v) hv (zero_cancel (dot g g) (dot v v) long (along_dot g v v z ∙ zero_times (dot g v) (dot g v) gv))
+      not_zero_above (dot_product v v) hv (zero_cancel (dot_product g g) (dot_product v v) long (along_dot g v v z ∙ zero_times (dot_product g v) (dot_product g v) gv))

@@ -9,10 +9,10 @@ use Rattle.plane_predicate.specs.Space.{Coefficients, Coordinates, value, opposi
 use Rattle.plane_predicate.proofs.IntegerRing.{sums, mul_comm_ℤ}
 use Rattle.plane_predicate.proofs.Signs.{zero_cancel}
 use Rattle.plane_predicate.proofs.SamePlanes.{directed_above, equal_or_opposite}
-use Rattle.bsp_tree.specs.Trees.{Tree, inside, outside, node}
+use Rattle.bsp_tree.specs.Trees.{BspTree, inside, outside, node}
 use Rattle.bsp_tree.specs.Cells.{IsOfCell, IsPlaneOf}
-use Rattle.closed_surface.specs.Ways.{Direction, way, dot, slope, line_of}
-use Rattle.closed_surface.specs.Around.{turn_about, IsApartFrom, AreApart}
+use Rattle.closed_surface.specs.Ways.{Direction, way, dot_product, slope, line_of}
+use Rattle.closed_surface.specs.Around.{triple_product_of, IsParallelToNone, HaveNoParallels}
 use Rattle.closed_surface.proofs.Parallels.{IsZero, in_planes, along_dot, line_turn, slope_way, zero_by_length}
 use Rattle.closed_surface.proofs.Sectors.{same_plane, same_itself}
 use Rattle.closed_surface.proofs.Each.{Each, each_weaker, each_append, each_left, each_right}
@@ -45,17 +45,17 @@ either_is m n (inl e) = ap (λ (b : Bool). b || is_same m (opposite_of n)) (ap (
 either_is m n (inr e) = or_right (is_same m n) _ (ap (λ (k : Coefficients). is_same m k) (sym e) ∙ same_itself m)
 
 -- ---- the planes of a solid
-abbrev pub planes_of : Tree → List Coefficients
+abbrev pub planes_of : BspTree → List Coefficients
 planes_of inside = []
 planes_of outside = []
 planes_of (node s b a) = s.plane ∷ (planes_of b ++ planes_of a)
 
-pub each_plane : (t : Tree) (cell : List Coefficients) → IsOfCell cell t → Each IsPlane (planes_of t)
+pub each_plane : (t : BspTree) (cell : List Coefficients) → IsOfCell cell t → Each IsPlane (planes_of t)
 each_plane inside cell h = tt
 each_plane outside cell h = tt
 each_plane (node s b a) cell h = (h.0.plane, each_append IsPlane (planes_of b) (planes_of a) (each_plane b _ h.1) (each_plane a _ h.2))
 
-pub each_of : (P : Coefficients → Type 0) (t : Tree) → Each P (planes_of t) → (m : Coefficients) → IsPlaneOf m t → P m
+pub each_of : (P : Coefficients → Type 0) (t : BspTree) → Each P (planes_of t) → (m : Coefficients) → IsPlaneOf m t → P m
 each_of P inside e m k = absurd k
 each_of P outside e m k = absurd k
 each_of P (node s b a) e m (inl k) = subst P (sym k) e.0
@@ -125,7 +125,7 @@ pick_among q (m ∷ ms) = (
 )
 
 -- ---- two planes through a line are equal or opposite, or apart
-module _ (q : Coordinates) (hw : pos 0 <ℤ q.w) (v : Direction) (hv : pos 0 <ℤ dot v v) where
+module _ (q : Coordinates) (hw : pos 0 <ℤ q.w) (v : Direction) (hv : pos 0 <ℤ dot_product v v) where
   -- a plane that goes through the line
   pub record Holds (m : Coefficients) : Type 0 where
     pub plane : IsPlane m
@@ -136,12 +136,12 @@ module _ (q : Coordinates) (hw : pos 0 <ℤ q.w) (v : Direction) (hv : pos 0 <�
   zero_square x y e h = zero_cancel y x h (mul_comm_ℤ y x ∙ e)
 
   -- the two directions are multiples of one another
-  no_line : (m n : Coefficients) → slope m v ≡ pos 0 → slope n v ≡ pos 0 → turn_about v m n ≡ pos 0 → IsZero (line_of m n)
+  no_line : (m n : Coefficients) → slope m v ≡ pos 0 → slope n v ≡ pos 0 → triple_product_of v m n ≡ pos 0 → IsZero (line_of m n)
   no_line m n hm hn e =
       let z = in_planes m n v hm hn in
       let lv = line_turn m n v ∙ e in
       zero_by_length (line_of m n)
-      (zero_square (dot (line_of m n) (line_of m n)) (dot v v) (along_dot (line_of m n) v v z ∙ ap (λ (x : ℤ). x *ℤ dot (line_of m n) v) lv ∙ zero-*ℤ (dot (line_of m n) v)) hv)
+      (zero_square (dot_product (line_of m n) (line_of m n)) (dot_product v v) (along_dot (line_of m n) v v z ∙ ap (λ (x : ℤ). x *ℤ dot_product (line_of m n) v) lv ∙ zero-*ℤ (dot_product (line_of m n) v)) hv)
 
   minus_zero : (u x w y : ℤ) → x ≡ pos 0 → y ≡ pos 0 → u *ℤ x -ℤ w *ℤ y ≡ pos 0
   minus_zero u x w y hx hy = rw (hx, hy, *ℤ-zero u, *ℤ-zero w) refl
@@ -156,22 +156,22 @@ module _ (q : Coordinates) (hw : pos 0 <ℤ q.w) (v : Direction) (hv : pos 0 <�
         let b : Direction = record { x = n.a; y = n.b; z = n.c } in
         let u = way q p in
         let flat : slope m u ≡ pos 0 = slope_way m q p ∙ minus_zero q.w (value m p) p.w (value m q) e hm.on in
-        let same : slope n u ≡ pos 0 = zero_cancel (dot a a) (dot b u) (directed_above m hm.plane.directed) (along_dot a b u z ∙ ap (λ (x : ℤ). dot a b *ℤ x) flat ∙ *ℤ-zero (dot a b)) in
+        let same : slope n u ≡ pos 0 = zero_cancel (dot_product a a) (dot_product b u) (directed_above m hm.plane.directed) (along_dot a b u z ∙ ap (λ (x : ℤ). dot_product a b *ℤ x) flat ∙ *ℤ-zero (dot_product a b)) in
         zero_cancel q.w (value n p) hw (only_first q.w (value n p) p.w (value n q) (sym (slope_way n q p) ∙ same) hn.on);
   }
 
-  pub parallel_same : (m n : Coefficients) → Holds m → Holds n → turn_about v m n ≡ pos 0 → IsEither m n
+  pub parallel_same : (m n : Coefficients) → Holds m → Holds n → triple_product_of v m n ≡ pos 0 → IsEither m n
   parallel_same m n hm hn e = equal_or_opposite m n hm.plane hn.plane (points_too m n hm hn (no_line m n hm.along hn.along e))
 
-  apart_from : (m : Coefficients) → Holds m → (ms : List Coefficients) → Each Holds ms → Each (λ n. IsEither m n → ⊥) ms → IsApartFrom v m ms
+  apart_from : (m : Coefficients) → Holds m → (ms : List Coefficients) → Each Holds ms → Each (λ n. IsEither m n → ⊥) ms → IsParallelToNone v m ms
   apart_from m hm [] e f = tt
   apart_from m hm (n ∷ ms) e f = ((λ z. f.0 (parallel_same m n hm e.0 z)), apart_from m hm ms e.1 f.1)
 
-  keep_apart : (b : Bool) (m : Coefficients) (ms : List Coefficients) → AreApart v ms → (b ≡ true → IsApartFrom v m ms) → AreApart v (keep b m ms)
+  keep_apart : (b : Bool) (m : Coefficients) (ms : List Coefficients) → HaveNoParallels v ms → (b ≡ true → IsParallelToNone v m ms) → HaveNoParallels v (keep b m ms)
   keep_apart true m ms a h = (h refl, a)
   keep_apart false m ms a h = a
 
-  pub pick_apart : (ms : List Coefficients) → Each (λ m. value m q ≡ pos 0 → Holds m) ms → AreApart v (pick q ms)
+  pub pick_apart : (ms : List Coefficients) → Each (λ m. value m q ≡ pos 0 → Holds m) ms → HaveNoParallels v (pick q ms)
   pick_apart [] e = tt
   pick_apart (m ∷ ms) e =
       keep_apart (is_new q m (pick q ms)) m (pick q ms) (pick_apart ms e.1)

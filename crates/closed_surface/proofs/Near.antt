@@ -8,7 +8,7 @@ use Rattle.plane_predicate.proofs.Vectors.{form, place, of_plane, of_point, valu
 use Rattle.plane_predicate.proofs.Signs.{signs, pos_pos}
 use Rattle.bsp_tree.proofs.Openness.{more_below, more_above}
 use Rattle.closed_surface.specs.Ways.{Direction, slope}
-use Rattle.closed_surface.specs.Around.{turn_about}
+use Rattle.closed_surface.specs.Around.{triple_product_of}
 use Rattle.closed_surface.proofs.Numbers.{not_zero_below, not_zero_above, not_both}
 use Rattle.closed_surface.specs.Near.{near_point, direction_beside}
 
@@ -19,7 +19,7 @@ value_near m number q v =
     (valueP M (record { x = plus (times (var 11) Q.x) (var 8); y = plus (times (var 11) Q.y) (var 9); z = plus (times (var 11) Q.z) (var 10); w = times (var 11) Q.w }))
     (plus (times (var 11) (valueP M Q)) (plus (plus (times M.a (var 8)) (times M.b (var 9))) (times M.c (var 10)))) refl
 
-pub slope_beside : (m half : Coefficients) (v : Direction) → slope m (direction_beside half v) ≡ turn_about v m half
+pub slope_beside : (m half : Coefficients) (v : Direction) → slope m (direction_beside half v) ≡ triple_product_of v m half
 slope_beside m half v =
     let M = form 0 in let H = form 4 in
     ring (of_plane m (of_plane half (v.x ∷ v.y ∷ v.z ∷ [])))

@@ -5,12 +5,12 @@ use Rattle.plane_predicate.proofs.IntegerRing.{sums}
 use Rattle.plane_predicate.proofs.Signs.{signs}
 use Rattle.plane_predicate.proofs.Vectors.{value-opposite}
 use Rattle.plane_polygon.specs.Parts.{is_behind}
-use Rattle.bsp_tree.specs.Trees.{Tree, inside, outside, node}
+use Rattle.bsp_tree.specs.Trees.{BspTree, inside, outside, node}
 use Rattle.bsp_tree.specs.Cells.{IsPlaneOf}
 use Rattle.bsp_tree.proofs.Opposites.{opposite_twice}
 use Rattle.facet_cut.specs.Sides.{walk_by, AreJustBehind, AreJustAhead}
 use Rattle.closed_surface.specs.Ways.{Direction}
-use Rattle.closed_surface.specs.Around.{turn_about, sides_at}
+use Rattle.closed_surface.specs.Around.{triple_product_of, sides_at}
 use Rattle.closed_surface.proofs.Sectors.{same_plane, same_itself}
 use Rattle.closed_surface.proofs.Numbers.{below, not_below, false_by}
 use Rattle.closed_surface.specs.Near.{near_point, direction_beside}
@@ -22,7 +22,7 @@ use Rattle.closed_surface.proofs.Lines.{AmongEither}
 either_alike : (x y : Bool) (a b c d : Bool) → x ≡ y → a ≡ c → b ≡ d → (if x then a else b) ≡ (if y then c else d)
 either_alike x y a b c d hx ha hb = rw (hx, ha, hb) refl
 
-pub walk_alike : (t : Tree) (sides other : Coefficients → Bool) → ((m : Coefficients) → IsPlaneOf m t → sides m ≡ other m) → walk_by t sides ≡ walk_by t other
+pub walk_alike : (t : BspTree) (sides other : Coefficients → Bool) → ((m : Coefficients) → IsPlaneOf m t → sides m ≡ other m) → walk_by t sides ≡ walk_by t other
 walk_alike inside sides other h = refl
 walk_alike outside sides other h = refl
 walk_alike (node s b a) sides other h =
@@ -104,7 +104,7 @@ pub record KeepsSide (n : Coefficients) (q p : Coordinates) (m : Coefficients) :
 
 -- a plane through the line that is n, or turns off its half
 pub record Turns (v : Direction) (n half m : Coefficients) : Type 0 where
-  pub apart : turn_about v m half ≢ pos 0
+  pub apart : triple_product_of v m half ≢ pos 0
   pub other : m ≢ n
   pub no_opposite : m ≢ opposite_of n
 
@@ -113,7 +113,7 @@ module _ (v : Direction) (number : ℕ) (q : Coordinates) (n half : Coefficients
   spot = near_point number q (direction_beside half v)
 
   abbrev given : Coefficients → Bool
-  given m = if is_same m n then b else int_lt (turn_about v m half) (pos 0)
+  given m = if is_same m n then b else int_lt (triple_product_of v m half) (pos 0)
 
   -- a plane through the line that is n, or turns off its half
   abbrev pub Fits : Coefficients → Type 0
@@ -141,7 +141,7 @@ module _ (v : Direction) (number : ℕ) (q : Coordinates) (n half : Coefficients
   given_opposite k (on, inr t) =
       let e = near_on k number q (direction_beside half v) on ∙ slope_beside k half v in
       ap not (chosen_other (is_same k n) b _ (not_same k n t.other))
-      ∙ negative_tests (turn_about v k half) (value (opposite_of k) spot) (value-opposite k spot ∙ ap neg_ℤ e) t.apart
+      ∙ negative_tests (triple_product_of v k half) (value (opposite_of k) spot) (value-opposite k spot ∙ ap neg_ℤ e) t.apart
       ∙ sym (beside_other n b spot (opposite_of k) (λ f. t.no_opposite (sym (opposite_twice k) ∙ ap opposite_of f)) (λ f. t.other (sym (opposite_twice k) ∙ ap opposite_of f ∙ opposite_twice n)))
 
   left_over : (m k : Coefficients) (ks : List Coefficients) → is_same m k ≡ false → is_same m (opposite_of k) ≡ false → AmongEither m (k ∷ ks) → AmongEither m ks

@@ -3,25 +3,25 @@ use Rattle.std.specs.Prelude.{◌≢◌, Bool, true, false, not, if◌then◌els
 use Rattle.plane_predicate.specs.Space.{Coefficients, opposite_of, is_same, determinant}
 use Rattle.closed_surface.specs.Ways.{Direction}
 
--- the value of m's direction at n x d, which points from a line along d into the half of n that lies left of the way of d, seen
--- from ahead of n: below 0 where that half is behind m, and 0 where m and n are parallel
-abbrev pub turn_about : Direction → Coefficients → Coefficients → ℤ
-turn_about d m n = determinant m.a m.b m.c n.a n.b n.c d.x d.y d.z
+-- the value of m's direction at n x d: below 0 where the half of n left of the way of d, seen from ahead of n, is behind m, and
+-- 0 where m and n are parallel
+abbrev pub triple_product_of : Direction → Coefficients → Coefficients → ℤ
+triple_product_of d m n = determinant m.a m.b m.c n.a n.b n.c d.x d.y d.z
 
 -- n is parallel to none of the planes, all of which go through a line of this direction
-abbrev pub IsApartFrom : Direction → Coefficients → List Coefficients → Type 0
-IsApartFrom d n [] = Unit {0}
-IsApartFrom d n (m ∷ planes) = (turn_about d n m ≢ pos 0) × IsApartFrom d n planes
+abbrev pub IsParallelToNone : Direction → Coefficients → List Coefficients → Type 0
+IsParallelToNone d n [] = Unit {0}
+IsParallelToNone d n (m ∷ planes) = (triple_product_of d n m ≢ pos 0) × IsParallelToNone d n planes
 
 -- no two of the planes, all of which go through a line of this direction, are parallel
-abbrev pub AreApart : Direction → List Coefficients → Type 0
-AreApart d [] = Unit {0}
-AreApart d (n ∷ planes) = IsApartFrom d n planes × AreApart d planes
+abbrev pub HaveNoParallels : Direction → List Coefficients → Type 0
+HaveNoParallels d [] = Unit {0}
+HaveNoParallels d (n ∷ planes) = IsParallelToNone d n planes × HaveNoParallels d planes
 
 -- whether the half of n that lies left of the way, seen from ahead of `half`, is behind each of the planes. `half` is n or its
 -- opposite, and the side of n itself is given
 abbrev pub sides_at : Direction → List Coefficients → Coefficients → Coefficients → Bool → List Bool
-sides_at d planes n half behind = map (λ m. if is_same m n then behind else int_lt (turn_about d m half) (pos 0)) planes
+sides_at d planes n half behind = map (λ m. if is_same m n then behind else int_lt (triple_product_of d m half) (pos 0)) planes
 
 -- what the value falls by at a half of n, from the one side of n to the other
 abbrev pub fall_at : Direction → List Coefficients → (List Bool → ℤ) → Coefficients → Coefficients → Bool → ℤ
@@ -33,6 +33,6 @@ abbrev pub fall : Direction → List Coefficients → (List Bool → ℤ) → Co
 fall d planes value n = fall_at d planes value n n true +ℤ fall_at d planes value n (opposite_of n) false
 
 -- a sum over a list
-abbrev pub total : {A : Type 0} → (A → ℤ) → List A → ℤ
-total f [] = pos 0
-total f (x ∷ xs) = f x +ℤ total f xs
+abbrev pub sum_over : {A : Type 0} → (A → ℤ) → List A → ℤ
+sum_over f [] = pos 0
+sum_over f (x ∷ xs) = f x +ℤ sum_over f xs

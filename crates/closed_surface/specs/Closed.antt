@@ -34,8 +34,8 @@ is_corner faces q = list_any (λ p. is_same_place p q) (flat_map (λ corners. co
 abbrev pub corners_at : List Coordinates → List ℕ → List Coordinates
 corners_at vertices face = map (λ i. slice_index_or vertices i (record { x = pos 0; y = pos 0; z = pos 0; w = pos 1 })) face
 
--- faces, given by their corners, are closed: through each point strictly inside the world box that is no corner of a face,
--- as many of their edges run one way as the opposite way. In particular as many run the way of an edge as the opposite way
+-- faces, given by their corners, are closed: through each point strictly inside the world box that is no corner of a face, as
+-- many of their edges run one way as the opposite way
 abbrev pub AreClosed : LengthUnit → List (List Coordinates) → Type 0
 AreClosed unit faces = (q : Coordinates) (v : Direction) → IsInWorld (in_steps unit q) → is_corner faces q ≡ false →
     edges_along (flat_map edges_of faces) q v ≡ edges_against (flat_map edges_of faces) q v

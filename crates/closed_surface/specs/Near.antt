@@ -16,7 +16,7 @@ abbrev pub direction_beside : Coefficients → Direction → Direction
 direction_beside half v = record { x = minor half.b half.c v.y v.z; y = minor half.c half.a v.z v.x; z = minor half.a half.b v.x v.y }
 
 -- the number is at least how much the polygon's planes grow along v, in size
-pub record IsOften (number : ℕ) (s : Outline) (v : Direction) : Type 0 where
+pub record BoundsSlopes (number : ℕ) (s : Outline) (v : Direction) : Type 0 where
   pub plane : unsigned_abs (slope s.plane v) ≤ number
   pub edges : (l : ℕ) → l < sides s → unsigned_abs (slope (edge s l) v) ≤ number
 
@@ -30,10 +30,10 @@ pub record IsClear (s : Outline) (q : Coordinates) (v : Direction) : Type 0 wher
   pub edges : (l : ℕ) → l < sides s → value (edge s l) q ≡ pos 0 → slope (edge s l) v ≡ pos 0
 
 -- the point is on the polygon's plane and strictly behind every edge
-abbrev pub is_within : Outline → Coordinates → Bool
-is_within s p = int_eq (value s.plane p) (pos 0) && list_all (λ e. int_lt (value e p) (pos 0)) s.edges
+abbrev pub is_strictly_within : Outline → Coordinates → Bool
+is_strictly_within s p = int_eq (value s.plane p) (pos 0) && list_all (λ e. int_lt (value e p) (pos 0)) s.edges
 
 -- 1 where it is so, else 0
-abbrev pub number_of : Bool → ℤ
-number_of true = pos 1
-number_of false = pos 0
+abbrev pub indicator : Bool → ℤ
+indicator true = pos 1
+indicator false = pos 0

@@ -17,17 +17,17 @@ way p q = record { x = p.w *ℤ q.x -ℤ q.w *ℤ p.x; y = p.w *ℤ q.y -ℤ q.w
 abbrev pub is_same_place : Coordinates → Coordinates → Bool
 is_same_place p q = int_eq (way p q).x (pos 0) && (int_eq (way p q).y (pos 0) && int_eq (way p q).z (pos 0))
 
--- the cross product of two directions
-abbrev pub cross : Direction → Direction → Direction
-cross u v = record { x = minor u.y u.z v.y v.z; y = minor u.z u.x v.z v.x; z = minor u.x u.y v.x v.y }
+-- the vector product of two directions
+abbrev pub cross_product : Direction → Direction → Direction
+cross_product u v = record { x = minor u.y u.z v.y v.z; y = minor u.z u.x v.z v.x; z = minor u.x u.y v.x v.y }
 
--- the cross product of the two directions is 0
+-- the vector product of the two directions is 0
 abbrev pub is_parallel : Direction → Direction → Bool
-is_parallel u v = int_eq (cross u v).x (pos 0) && (int_eq (cross u v).y (pos 0) && int_eq (cross u v).z (pos 0))
+is_parallel u v = int_eq (cross_product u v).x (pos 0) && (int_eq (cross_product u v).y (pos 0) && int_eq (cross_product u v).z (pos 0))
 
 -- the product of two directions
-abbrev pub dot : Direction → Direction → ℤ
-dot u v = u.x *ℤ v.x +ℤ u.y *ℤ v.y +ℤ u.z *ℤ v.z
+abbrev pub dot_product : Direction → Direction → ℤ
+dot_product u v = u.x *ℤ v.x +ℤ u.y *ℤ v.y +ℤ u.z *ℤ v.z
 
 -- how much the value of a plane grows along v
 abbrev pub slope : Coefficients → Direction → ℤ
@@ -39,8 +39,8 @@ line_of n e = record { x = minor n.b n.c e.b e.c; y = minor n.c n.a e.c e.a; z =
 
 -- neither is 0, and the one is the other times a number above 0
 abbrev pub is_same_way : Direction → Direction → Bool
-is_same_way u v = is_parallel u v && int_lt (pos 0) (dot u v)
+is_same_way u v = is_parallel u v && int_lt (pos 0) (dot_product u v)
 
 -- neither is 0, and the one is the other times a number below 0
 abbrev pub is_opposite_way : Direction → Direction → Bool
-is_opposite_way u v = is_parallel u v && int_lt (dot u v) (pos 0)
+is_opposite_way u v = is_parallel u v && int_lt (dot_product u v) (pos 0)

@@ -3,15 +3,15 @@
 ghost use Rattle.std.specs.Prelude.{◌≡◌, ◌↔◌, ◌<◌, ◌<ℤ◌, ◌-ℤ◌, ◌&&◌, ℕ, pos, true, map};
 ghost use Rattle.plane_predicate.specs.declared.unit.Unit.TheVariants.{Whole};
 ghost use Rattle.plane_predicate.specs.Space.{Coordinates, opposite_of};
-ghost use Rattle.plane_polygon.specs.Polygons.{Outline, IsPolygon, IsStrictlyWithin, sides, after};
+ghost use Rattle.plane_polygon.specs.Polygons.{Outline, IsPolygon, IsStrictlyWithin, sides, index_after};
 ghost use Rattle.plane_polygon.specs.Parts.{corners};
-ghost use Rattle.closed_surface.specs.Ways.{Direction, way, dot, is_same_way, is_opposite_way};
+ghost use Rattle.closed_surface.specs.Ways.{Direction, way, dot_product, is_same_way, is_opposite_way};
 ghost use Rattle.closed_surface.specs.Closed.{runs_through, edges_of, AreClosed, edges_along, edges_against};
-ghost use Rattle.bsp_tree.specs.Trees.{Tree};
+ghost use Rattle.bsp_tree.specs.Trees.{BspTree};
 ghost use Rattle.bsp_tree.specs.Cells.{IsOfWorld};
 ghost use Rattle.facet_cut.specs.Facets.{facets_of};
 ghost use Rattle.closed_surface.specs.Edges.{edge_at, IsOnEdge, RunsAlong, RunsAgainst};
-ghost use Rattle.closed_surface.specs.Near.{near_point, direction_beside, IsOften, IsNoCorner, IsClear, is_within, number_of};
+ghost use Rattle.closed_surface.specs.Near.{near_point, direction_beside, BoundsSlopes, IsNoCorner, IsClear, is_strictly_within, indicator};
 
 use facet_cut::{facets_are_polygons, facets_bound_their_solid};
 
@@ -21,26 +21,26 @@ use facet_cut::{facets_are_polygons, facets_bound_their_solid};
 /// way where it turns to the right.
 pub fn edges_run_on_their_planes()
     ensures points { (s : Outline) → IsPolygon s → (i : ℕ) → i < sides s → (q : Coordinates) →
-        pos 0 <ℤ q.w → (runs_through (edge_at s i) q ≡ true) ↔ IsOnEdge s (after (sides s) i) q }
+        pos 0 <ℤ q.w → (runs_through (edge_at s i) q ≡ true) ↔ IsOnEdge s (index_after (sides s) i) q }
     ensures along { (s : Outline) → IsPolygon s → (i : ℕ) → i < sides s → (q : Coordinates) →
         pos 0 <ℤ q.w → (v : Direction) →
         ((runs_through (edge_at s i) q && is_same_way (way (edge_at s i).0 (edge_at s i).1) v)
-        ≡ true) ↔ RunsAlong s (after (sides s) i) q v }
+        ≡ true) ↔ RunsAlong s (index_after (sides s) i) q v }
     ensures against { (s : Outline) → IsPolygon s → (i : ℕ) → i < sides s → (q : Coordinates) →
         pos 0 <ℤ q.w → (v : Direction) →
         ((runs_through (edge_at s i) q && is_opposite_way (way (edge_at s i).0 (edge_at s i).1) v)
-        ≡ true) ↔ RunsAgainst s (after (sides s) i) q v }
+        ≡ true) ↔ RunsAgainst s (index_after (sides s) i) q v }
 {}
 
 /// Where a point is no corner of a polygon, just those of its edges that run through it along a
 /// direction run through a point near by, moved along the direction.
 pub fn edges_run_on()
     ensures along { (s : Outline) → IsPolygon s → (number : ℕ) (q : Coordinates) → pos 0 <ℤ q.w →
-        IsNoCorner s q → (v : Direction) → IsOften number s v →
+        IsNoCorner s q → (v : Direction) → BoundsSlopes number s v →
         edges_along (edges_of (corners s)) (near_point number q v) v
         ≡ edges_along (edges_of (corners s)) q v }
     ensures against { (s : Outline) → IsPolygon s → (number : ℕ) (q : Coordinates) → pos 0 <ℤ q.w →
-        IsNoCorner s q → (v : Direction) → IsOften number s v →
+        IsNoCorner s q → (v : Direction) → BoundsSlopes number s v →
         edges_against (edges_of (corners s)) (near_point number q v) v
         ≡ edges_against (edges_of (corners s)) q v }
 {}
@@ -50,13 +50,13 @@ pub fn edges_run_on()
 /// polygon covers a point near by to the left alone, -1 to the right alone, and else 0.
 pub fn edges_bound_what_is_covered()
     ensures balance { (s : Outline) → IsPolygon s → (number : ℕ) (q : Coordinates) → pos 0 <ℤ q.w →
-        (v : Direction) → pos 0 <ℤ dot v v → IsClear s q v →
-        IsOften number s (direction_beside s.plane v) →
-        IsOften number s (direction_beside (opposite_of s.plane) v) →
+        (v : Direction) → pos 0 <ℤ dot_product v v → IsClear s q v →
+        BoundsSlopes number s (direction_beside s.plane v) →
+        BoundsSlopes number s (direction_beside (opposite_of s.plane) v) →
         pos (edges_along (edges_of (corners s)) q v) -ℤ pos (edges_against (edges_of (corners s)) q v)
-        ≡ number_of (is_within s (near_point number q (direction_beside s.plane v)))
-        -ℤ number_of (is_within s (near_point number q (direction_beside (opposite_of s.plane) v))) }
-    ensures within { (s : Outline) (p : Coordinates) → (is_within s p ≡ true) ↔
+        ≡ indicator (is_strictly_within s (near_point number q (direction_beside s.plane v)))
+        -ℤ indicator (is_strictly_within s (near_point number q (direction_beside (opposite_of s.plane) v))) }
+    ensures within { (s : Outline) (p : Coordinates) → (is_strictly_within s p ≡ true) ↔
         IsStrictlyWithin s p }
 {}
 
@@ -64,7 +64,7 @@ pub fn edges_bound_what_is_covered()
 /// corner of a facet, and a direction. As many edges of facets run through the point along the
 /// direction as run through it the opposite way.
 pub fn facets_are_closed()
-    ensures { (t : Tree) → IsOfWorld t → AreClosed Whole (map corners (facets_of t)) }
+    ensures { (t : BspTree) → IsOfWorld t → AreClosed Whole (map corners (facets_of t)) }
 {
     facets_are_polygons();
     facets_bound_their_solid();

@@ -5,7 +5,7 @@ ghost use Rattle.plane_predicate.specs.declared.unit.Unit.{Unit as LengthUnit};
 ghost use Rattle.plane_predicate.specs.declared.unit.Unit.TheVariants.{Whole};
 ghost use Rattle.plane_predicate.specs.Space.{Coefficients, Coordinates};
 ghost use Rattle.closed_surface.specs.Ways.{Direction};
-ghost use Rattle.closed_surface.specs.Around.{AreApart, fall, total};
+ghost use Rattle.closed_surface.specs.Around.{HaveNoParallels, fall, sum_over};
 ghost use Rattle.closed_surface.specs.Closed.{AreClosed};
 ghost use Rattle.closed_surface.specs.Printing.{AreRoundsOf};
 
@@ -13,8 +13,8 @@ ghost use Rattle.closed_surface.specs.Printing.{AreRoundsOf};
 /// list of sides of the planes have any value. Then what the value falls by at all half planes
 /// together, on a way round the line, is 0: each sector is left once and entered once.
 pub fn values_round_a_line_cancel()
-    ensures { (d : Direction) (planes : List Coefficients) → AreApart d planes →
-        (value : List Bool → ℤ) → total (fall d planes value) planes ≡ pos 0 }
+    ensures { (d : Direction) (planes : List Coefficients) → HaveNoParallels d planes →
+        (value : List Bool → ℤ) → sum_over (fall d planes value) planes ≡ pos 0 }
 {}
 
 /// Faces that are closed in grid steps are closed as they are printed: in units, their corners by

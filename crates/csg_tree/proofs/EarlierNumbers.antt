@@ -10,10 +10,10 @@ use Rattle.csg_tree.specs.declared.node.StoredNode.TheVariants as stored
 use Rattle.csg_tree.specs.declared.node.CsgNode.{CsgNode}
 use Rattle.csg_tree.specs.declared.node.CsgNode.TheVariants.{Leaf, Join}
 use Rattle.csg_tree.specs.Formulas.{Formula, joined}
-use Rattle.csg_tree.specs.Numberings.{tree_numbered, AreNumbered, HasNumber, HaveOneNumber, IsNumberIn}
+use Rattle.csg_tree.specs.Numberings.{tree_numbered, AreNumberedTrees, HasNumber, HaveOneNumber, IsNumberIn}
 use Rattle.csg_tree.specs.Nodes.{node_of, tree_over, trees_of, AreLinked, IsNodeOf, IsOver}
 use Rattle.csg_tree.specs.Interned.{key_cmp, node_of_key, is_same_node}
-use Rattle.csg_tree.specs.Earlier.{AreFound, AreNumbersIn, IsNumberOf, IsNodeAmong}
+use Rattle.csg_tree.specs.Earlier.{AreFoundByKey, AreNumbersIn, IsNumberOf, IsNodeAmong}
 use Rattle.csg_tree.proofs.Sameness.{node_true, node_itself, keys_tell}
 use Rattle.csg_tree.proofs.Linked.{length_trees}
 use Rattle.csg_tree.proofs.Interning.{one_node, tree_of_number}
@@ -29,7 +29,7 @@ parts_over trees (stored.Join by l r) op left right over e =
     ((l, (over.0, first)), (r, (over.1, second)))
 
 -- the trees of linked nodes
-pub numbered : (nodes : List StoredNode) → AreLinked nodes → HaveOneNumber (trees_of nodes) → AreNumbered (trees_of nodes)
+pub numbered : (nodes : List StoredNode) → AreLinked nodes → HaveOneNumber (trees_of nodes) → AreNumberedTrees (trees_of nodes)
 numbered nodes linked once = record {
   once = once;
   parts = λ n op left right has.
@@ -51,10 +51,10 @@ node_over things trees n (Join op l r) many is =
     ((is.0, omega (arith, is.1, many)), (is.2, omega (arith, is.3, many)))
 
 -- one node more by its key
-pub found_more : (trees : List Formula) (found now : BTreeMap NodeKey ℕ) (key : NodeKey) (k : ℕ) → AreFound trees k found →
+pub found_more : (trees : List Formula) (found now : BTreeMap NodeKey ℕ) (key : NodeKey) (k : ℕ) → AreFoundByKey trees k found →
     IsOver trees (node_of_key key) → HasNumber trees (tree_over trees (node_of_key key)) (k + 1) →
     ((other : NodeKey) → get key_cmp now other ≡ cond (is_at (key_cmp key) other) (Some (k + 1)) (get key_cmp found other)) →
-    AreFound trees (k + 1) now
+    AreFoundByKey trees (k + 1) now
 found_more trees found now key k before over has put = record {
   numbered = before.numbered;
   has = λ other m e. has_by other m e (is_at (key_cmp key) other) refl;
@@ -99,7 +99,7 @@ found_more trees found now key k before over has put = record {
 
 -- a node by its key among all trees
 pub number_found : (trees : List Formula) (tree : Formula) (found : BTreeMap NodeKey ℕ) (key : NodeKey) (node : CsgNode) (number : Option ℕ) →
-    AreFound trees (length trees) found → IsNodeAmong trees tree (Some node) → node_of_key key ≡ node_of node →
+    AreFoundByKey trees (length trees) found → IsNodeAmong trees tree (Some node) → node_of_key key ≡ node_of node →
     number ≡ get key_cmp found key → IsNumberOf trees tree number
 number_found trees tree found key node number all among same e = by_case number e
   where

@@ -3,11 +3,11 @@ use Rattle.std.proofs.Common.{◌≡◌, ◌∷◌, ◌++◌, ap, refl, ◌∙�
 use Rattle.csg_tree.specs.declared.op.Op.{Op}
 use Rattle.csg_tree.specs.declared.op.Op.TheVariants.{Union, Intersection, Difference}
 use Rattle.csg_tree.specs.Formulas.{Formula, nothing, leaf, joined}
-use Rattle.csg_tree.specs.Keys.{key_of, op_byte}
+use Rattle.csg_tree.specs.Keys.{tree_bytes, op_byte}
 use Rattle.csg_tree.specs.Fronts.{front_of_second, rest_of_second}
 
 -- a second tree is what belongs to the front and what is left of it
-front_and_rest : (op : Op) (right : Formula) → front_of_second op right ++ rest_of_second op right ≡ key_of right
+front_and_rest : (op : Op) (right : Formula) → front_of_second op right ++ rest_of_second op right ≡ tree_bytes right
 front_and_rest Union right = refl
 front_and_rest Intersection right = refl
 front_and_rest Difference nothing = refl
@@ -15,7 +15,7 @@ front_and_rest Difference (leaf planes) = refl
 front_and_rest Difference (joined by first second) = refl
 
 pub front_and_end : (op : Op) (left right : Formula) →
-    (op_byte op ∷ key_of left ++ front_of_second op right) ++ rest_of_second op right ≡ key_of (joined op left right)
+    (op_byte op ∷ tree_bytes left ++ front_of_second op right) ++ rest_of_second op right ≡ tree_bytes (joined op left right)
 front_and_end op left right =
-    ap (λ bytes. op_byte op ∷ bytes) (append_assoc (key_of left) (front_of_second op right) (rest_of_second op right)
-    ∙ ap (λ bytes. key_of left ++ bytes) (front_and_rest op right))
+    ap (λ bytes. op_byte op ∷ bytes) (append_assoc (tree_bytes left) (front_of_second op right) (rest_of_second op right)
+    ∙ ap (λ bytes. tree_bytes left ++ bytes) (front_and_rest op right))

@@ -5,7 +5,7 @@ use Rattle.std.proofs.lemmas.List.{length-map, length-take, length-drop, take-ap
 use Rattle.std.proofs.lemmas.List.Folds.{list_any-append}
 use Rattle.csg_tree.specs.declared.op.Op.{Op}
 use Rattle.csg_tree.specs.declared.op.Op.TheVariants.{Union}
-use Rattle.csg_tree.specs.Formulas.{Formula, nothing, leaf, joined, Assignment, holds}
+use Rattle.csg_tree.specs.Formulas.{Formula, nothing, leaf, joined, SideAssignment, holds}
 use Rattle.csg_tree.specs.Joins.{join_of, joined_within, balanced_of}
 
 -- the first half of more than one is not all of them, and neither is the rest
@@ -59,7 +59,7 @@ by_halves op (tree ∷ next ∷ trees) two =
     (self (drop (length all / 2) all)))
 
 -- a union of two trees holds where one of them does
-union_holds : (left right : Formula) (sides : Assignment) → holds (join_of Union left right) sides
+union_holds : (left right : Formula) (sides : SideAssignment) → holds (join_of Union left right) sides
     ≡ (holds left sides || holds right sides)
 union_holds nothing right sides = refl
 union_holds (leaf planes) nothing sides = grind arith
@@ -69,7 +69,7 @@ union_holds (joined op l r) nothing sides = grind arith
 union_holds (joined op l r) (leaf more) sides = refl
 union_holds (joined op l r) (joined op' l' r') sides = refl
 
-any_within : (n : ℕ) (trees : List Formula) (sides : Assignment) → length trees ≤ n →
+any_within : (n : ℕ) (trees : List Formula) (sides : SideAssignment) → length trees ≤ n →
     holds (joined_within n Union trees) sides ≡ list_any (λ tree. holds tree sides) trees
 any_within zero [] sides h = refl
 any_within zero (tree ∷ trees) sides h = absurd (omega arith)
@@ -87,7 +87,7 @@ any_within (suc n) (tree ∷ next ∷ trees) sides h =
     ∙ ap (list_any test) (take-append-drop half all)
 
 -- a union of trees by halves holds where one of them does
-pub any_holds : (trees : List Formula) (sides : Assignment) → holds (balanced_of Union trees) sides
+pub any_holds : (trees : List Formula) (sides : SideAssignment) → holds (balanced_of Union trees) sides
     ≡ list_any (λ tree. holds tree sides) trees
 any_holds trees sides = any_within (length trees) trees sides (omega arith)
 

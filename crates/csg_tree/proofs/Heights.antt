@@ -10,7 +10,7 @@ use Rattle.csg_tree.specs.Formulas.{Formula, nothing}
 use Rattle.csg_tree.specs.Numberings.{height, by_height, distinct_trees, is_same_tree, tree_numbered, IsNumberIn}
 use Rattle.csg_tree.specs.Nodes.{tree_over, IsOver}
 use Rattle.csg_tree.specs.Levels.{numbers_from, numbers_of_height}
-use Rattle.csg_tree.specs.Interned.{IsPlaced, IsReady, StayPlaced}
+use Rattle.csg_tree.specs.Interned.{IsPartNumbered, IsNodeReady, StayPlaced}
 
 abbrev pub has_height : ℕ → Formula → Bool
 has_height h tree = eqb (height tree) h
@@ -97,12 +97,12 @@ level_has h ts m within e =
 
 -- a node is ready where all lower trees are placed
 pub ready_low : (ps ts : List Formula) (ns : List ℕ) (node : StoredNode) (h : ℕ) → IsOver ps node → height (tree_over ps node) ≡ h →
-    ((m : ℕ) → IsNumberIn ps m → height (tree_numbered ps m) < h → IsPlaced ps ts ns m) → IsReady ps ts ns node
+    ((m : ℕ) → IsNumberIn ps m → height (tree_numbered ps m) < h → IsPartNumbered ps ts ns m) → IsNodeReady ps ts ns node
 ready_low ps ts ns (Leaf planes) h over e placed = tt
 ready_low ps ts ns (Join op l r) h over e placed = (placed l over.0 (omega (arith, e)), placed r over.1 (omega (arith, e)))
 
 pub ready_stay : (ps ts us : List Formula) (ns ms : List ℕ) (node : StoredNode) → IsOver ps node → StayPlaced ps ts ns us ms →
-    IsReady ps ts ns node → IsReady ps us ms node
+    IsNodeReady ps ts ns node → IsNodeReady ps us ms node
 ready_stay ps ts us ns ms (Leaf planes) over stay ready = tt
 ready_stay ps ts us ns ms (Join op l r) over stay ready = (stay l over.0 ready.0, stay r over.1 ready.1)
 

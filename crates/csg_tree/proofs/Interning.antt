@@ -9,7 +9,7 @@ use Rattle.csg_tree.specs.declared.interner.NodeKey.{NodeKey}
 use Rattle.csg_tree.specs.Formulas.{Formula, nothing, joined}
 use Rattle.csg_tree.specs.Numberings.{tree_numbered, IsNumberIn, HaveOneNumber, HasNumber}
 use Rattle.csg_tree.specs.Nodes.{tree_over, IsOver, trees_behind, trees_of, AreLinkedBehind, AreLinked}
-use Rattle.csg_tree.specs.Interned.{key_cmp, node_of_key, is_same_node, number_from, number_in, AreInterned, TheyStay}
+use Rattle.csg_tree.specs.Interned.{key_cmp, node_of_key, is_same_node, number_from, number_in, AreInterned, TreesStay}
 use Rattle.csg_tree.proofs.Sameness.{node_true, node_itself, keys_tell}
 use Rattle.csg_tree.proofs.Linked.{behind_more, linked_more, length_trees, numbered_more}
 
@@ -221,7 +221,7 @@ new_number nodes node k e =
     subst (λ (us : List Formula). HasNumber us t k) (sym more)
     ((omega (arith, e), omega (arith, e, count, length_push ts t)), get_or_push ts t nothing (k - 1) (omega (arith, e, count)))
 
-pub they_stay : (nodes : List StoredNode) (node : StoredNode) → TheyStay (trees_of nodes) (trees_of (nodes ++ node ∷ []))
+pub they_stay : (nodes : List StoredNode) (node : StoredNode) → TreesStay (trees_of nodes) (trees_of (nodes ++ node ∷ []))
 they_stay nodes node n within =
     let ts = trees_of nodes in
     let t = tree_over ts node in

@@ -74,9 +74,9 @@ built-cells (joined op left right) cs stack =
     ∙ ap (built cs) (put_joined op left right stack)
 
 -- a tree is what its cells build
-pub back : (t : Formula) → top (built (cells t) []) ≡ t
-back t = ap (λ x. top (built x [])) (sym (append-nil (cells t))) ∙ ap top (built-cells t [] [])
+pub formula_back : (t : Formula) → top (built (cells t) []) ≡ t
+formula_back t = ap (λ x. top (built x [])) (sym (append-nil (cells t))) ∙ ap top (built-cells t [] [])
 
 -- trees are told apart by their cells
 abbrev pub coded_formula : Coded Formula
-coded_formula = code_by (List Cell) (coded_list (coded⊎ (coded_list coded_plane) coded_ℕ)) cells (λ cs. top (built cs [])) back
+coded_formula = code_by (List Cell) (coded_list (coded⊎ (coded_list coded_plane) coded_ℕ)) cells (λ cs. top (built cs [])) formula_back

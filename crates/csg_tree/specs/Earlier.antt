@@ -4,13 +4,13 @@ use Rattle.std.specs.BTreeMap.{BTreeMap, get}
 use Rattle.csg_tree.specs.declared.node.CsgNode.{CsgNode}
 use Rattle.csg_tree.specs.declared.interner.NodeKey.{NodeKey}
 use Rattle.csg_tree.specs.Formulas.{Formula}
-use Rattle.csg_tree.specs.Numberings.{tree_numbered, AreNumbered, HasNumber, IsNumberIn}
+use Rattle.csg_tree.specs.Numberings.{tree_numbered, AreNumberedTrees, HasNumber, IsNumberIn}
 use Rattle.csg_tree.specs.Nodes.{node_of, tree_over, IsOver}
 use Rattle.csg_tree.specs.Interned.{key_cmp, node_of_key}
 
 -- the first so many of some trees are found by the keys of their nodes
-pub record AreFound (trees : List Formula) (count : ℕ) (found : BTreeMap NodeKey ℕ) : Type 0 where
-  pub numbered : AreNumbered trees
+pub record AreFoundByKey (trees : List Formula) (count : ℕ) (found : BTreeMap NodeKey ℕ) : Type 0 where
+  pub numbered : AreNumberedTrees trees
   pub has : (key : NodeKey) (n : ℕ) → get key_cmp found key ≡ Some n → HasNumber trees (tree_over trees (node_of_key key)) n
   pub all : (key : NodeKey) (n : ℕ) → IsOver trees (node_of_key key) → HasNumber trees (tree_over trees (node_of_key key)) n →
       n ≤ count → get key_cmp found key ≡ Some n

@@ -12,8 +12,8 @@ pub data Formula : Type 0 where
   joined : Op → Formula → Formula → Formula
 
 -- for each plane, whether the side behind it is taken; else the side ahead is
-abbrev pub Assignment : Type 0
-Assignment = Coefficients → Bool
+abbrev pub SideAssignment : Type 0
+SideAssignment = Coefficients → Bool
 
 -- an operation on two truths: one of them, both, or the first without the second
 abbrev pub truth_of_join : Op → Bool → Bool → Bool
@@ -22,13 +22,13 @@ truth_of_join Intersection left right = left && right
 truth_of_join Difference left right = left && not right
 
 -- whether the formula holds under an assignment of sides to its planes
-abbrev pub holds : Formula → Assignment → Bool
+abbrev pub holds : Formula → SideAssignment → Bool
 holds nothing sides = false
 holds (leaf planes) sides = list_all sides planes
 holds (joined op left right) sides = truth_of_join op (holds left sides) (holds right sides)
 
 -- the sides of a point: whether it is strictly behind each plane
-abbrev pub sides_of : Coordinates → Assignment
+abbrev pub sides_of : Coordinates → SideAssignment
 sides_of p m = int_lt (value m p) (pos 0)
 
 -- the plane is a plane of some leaf

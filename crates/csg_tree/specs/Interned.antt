@@ -72,35 +72,35 @@ pub record AreInterned (found : BTreeMap NodeKey ℕ) (nodes : List StoredNode) 
   pub indexed : (key : NodeKey) → get key_cmp found key ≡ number_in nodes (node_of_key key)
 
 -- the trees of some numbers stay
-abbrev pub TheyStay : List Formula → List Formula → Type 0
-TheyStay before now = (n : ℕ) → IsNumberIn before n → IsNumberIn now n × (tree_numbered now n ≡ tree_numbered before n)
+abbrev pub TreesStay : List Formula → List Formula → Type 0
+TreesStay before now = (n : ℕ) → IsNumberIn before n → IsNumberIn now n × (tree_numbered now n ≡ tree_numbered before n)
 
 -- a part has the number of its tree
-abbrev pub IsPlaced : List Formula → List Formula → List ℕ → ℕ → Type 0
-IsPlaced parts trees numbers m = HasNumber trees (tree_numbered parts m) (get_or numbers (m - 1) 0)
+abbrev pub IsPartNumbered : List Formula → List Formula → List ℕ → ℕ → Type 0
+IsPartNumbered parts trees numbers m = HasNumber trees (tree_numbered parts m) (get_or numbers (m - 1) 0)
 
 -- so have the two parts of a node
-abbrev pub IsReady : List Formula → List Formula → List ℕ → StoredNode → Type 0
-IsReady parts trees numbers (Leaf planes) = Unit {0}
-IsReady parts trees numbers (Join op left right) = IsPlaced parts trees numbers left × IsPlaced parts trees numbers right
+abbrev pub IsNodeReady : List Formula → List Formula → List ℕ → StoredNode → Type 0
+IsNodeReady parts trees numbers (Leaf planes) = Unit {0}
+IsNodeReady parts trees numbers (Join op left right) = IsPartNumbered parts trees numbers left × IsPartNumbered parts trees numbers right
 
 -- the part of each number of a level has the number of its tree
 abbrev pub ArePlaced : List Formula → List Formula → List ℕ → List ℕ → Type 0
-ArePlaced parts trees numbers level = (j : ℕ) → j < length level → IsPlaced parts trees numbers (get_or level j 0)
+ArePlaced parts trees numbers level = (j : ℕ) → j < length level → IsPartNumbered parts trees numbers (get_or level j 0)
 
 -- the parts that are placed stay so
 abbrev pub StayPlaced : List Formula → List Formula → List ℕ → List Formula → List ℕ → Type 0
 StayPlaced parts trees numbers trees_now numbers_now =
-    (m : ℕ) → IsNumberIn parts m → IsPlaced parts trees numbers m → IsPlaced parts trees_now numbers_now m
+    (m : ℕ) → IsNumberIn parts m → IsPartNumbered parts trees numbers m → IsPartNumbered parts trees_now numbers_now m
 
 -- the number is one of the parts, and this part's own two parts have the numbers of their trees
 abbrev pub IsPartReady : List CsgNode → List Formula → List ℕ → ℕ → Type 0
 IsPartReady parts trees numbers number = IsNumberIn parts number
-    × ((d : CsgNode) → IsReady (trees_of_lent parts) trees numbers (node_of (get_or parts (number - 1) d)))
+    × ((d : CsgNode) → IsNodeReady (trees_of_lent parts) trees numbers (node_of (get_or parts (number - 1) d)))
 
 -- the part of each number of a level is ready
-abbrev pub AreReady : List CsgNode → List Formula → List ℕ → List ℕ → Type 0
-AreReady parts trees numbers level = (j : ℕ) → j < length level → IsPartReady parts trees numbers (get_or level j 0)
+abbrev pub IsLevelReady : List CsgNode → List Formula → List ℕ → List ℕ → Type 0
+IsLevelReady parts trees numbers level = (j : ℕ) → j < length level → IsPartReady parts trees numbers (get_or level j 0)
 
 -- a numbering of parts under way: the parts are linked, there is room for the number of each of them, and the nodes so
 -- far are distinct and found by their keys

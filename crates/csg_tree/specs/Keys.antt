@@ -23,7 +23,7 @@ op_byte Difference = 4
 
 -- the bytes of a tree: 0 for Nothing; 1, the number of planes in eight bytes and the planes for a leaf; and for
 -- a join its operation, and then the bytes of its two trees
-abbrev pub key_of : Formula → List ℕ
-key_of nothing = 0 ∷ []
-key_of (leaf planes) = 1 ∷ to_be_bytes w64 (length planes) ++ flat_map plane_bytes planes
-key_of (joined op left right) = op_byte op ∷ key_of left ++ key_of right
+abbrev pub tree_bytes : Formula → List ℕ
+tree_bytes nothing = 0 ∷ []
+tree_bytes (leaf planes) = 1 ∷ to_be_bytes w64 (length planes) ++ flat_map plane_bytes planes
+tree_bytes (joined op left right) = op_byte op ∷ tree_bytes left ++ tree_bytes right

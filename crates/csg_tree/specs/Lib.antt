@@ -13,4 +13,5 @@ pub mod Nodes
 pub mod Earlier
 pub mod Fronts
 pub mod JoinNames
+pub mod Reach
 pub mod Rows

@@ -66,7 +66,7 @@ abbrev pub HaveOneNumber : List Formula → Type 0
 HaveOneNumber trees = (m n : ℕ) → IsNumberIn trees m → IsNumberIn trees n → tree_numbered trees m ≡ tree_numbered trees n → m ≡ n
 
 -- trees of which each has one number, and of a join both of its trees have one
-pub record AreNumbered (trees : List Formula) : Type 0 where
+pub record AreNumberedTrees (trees : List Formula) : Type 0 where
   pub once : HaveOneNumber trees
   pub parts : (n : ℕ) (op : Op) (left right : Formula) → HasNumber trees (joined op left right) n →
       ((l : ℕ) × HasNumber trees left l) × ((r : ℕ) × HasNumber trees right r)

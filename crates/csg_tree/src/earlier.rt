@@ -2,9 +2,9 @@
 
 ghost use Rattle.std.specs.Prelude.{List, length, IfOk};
 ghost use Rattle.csg_tree.specs.Formulas.{Formula};
-ghost use Rattle.csg_tree.specs.Numberings.{AreNumbered};
+ghost use Rattle.csg_tree.specs.Numberings.{AreNumberedTrees};
 ghost use Rattle.csg_tree.specs.Nodes.{node_of, tree_over, IsOver};
-ghost use Rattle.csg_tree.specs.Earlier.{AreFound, IsNumberOf, IsNodeAmong, AreNumbersIn, AreAllNumbersIn};
+ghost use Rattle.csg_tree.specs.Earlier.{AreFoundByKey, IsNumberOf, IsNodeAmong, AreNumbersIn, AreAllNumbersIn};
 
 use crate::interner::{NodeKey, key_of_node, look_up, put};
 use crate::node::CsgNode;
@@ -35,7 +35,7 @@ impl CsgStore {
 
 // The numbers of the nodes of a store by their keys.
 fn numbers_by_key(alloc: Global, store: &CsgStore) -> Result<BTreeMap<NodeKey, u32>, NoMemory>
-    ensures { IfOk result (AreFound store.now (length store.now)) }
+    ensures { IfOk result (AreFoundByKey store.now (length store.now)) }
 {
     let mut found = BTreeMap::new(alloc);
     for before in 0..store.len() {
@@ -53,7 +53,7 @@ fn number_in(
     found: &BTreeMap<NodeKey, u32>,
 ) -> Result<Option<u32>, NoMemory>
     requires { IsOver numbers.now (node_of node) }
-    ensures { (earlier trees : List Formula) → AreFound earlier (length earlier) found.now →
+    ensures { (earlier trees : List Formula) → AreFoundByKey earlier (length earlier) found.now →
         AreNumbersIn earlier trees numbers.now →
         IfOk result (IsNumberOf earlier (tree_over trees (node_of node.entry))) }
 {
@@ -69,7 +69,7 @@ fn number_in(
 // A node with the numbers of its two trees in an earlier store, where they have one.
 fn among<'a>(node: CsgNode<'a>, numbers: &[Option<u32>]) -> Option<CsgNode<'a>>
     requires { IsOver numbers.now (node_of node) }
-    ensures { (earlier trees : List Formula) → AreNumbered earlier →
+    ensures { (earlier trees : List Formula) → AreNumberedTrees earlier →
         AreNumbersIn earlier trees numbers.now →
         IsNodeAmong earlier (tree_over trees (node_of node.entry)) result }
 {

@@ -4,7 +4,7 @@ ghost use Rattle.std.specs.Prelude.{◌≡◌, ℕ, List, [], ◌∷◌, ◌++�
 ghost use Rattle.sha2.specs.Hashers.{Holds256};
 ghost use Rattle.sha2.specs.Sha256.{sha256};
 ghost use Rattle.csg_tree.specs.Fronts.{front_of_second, rest_of_second};
-ghost use Rattle.csg_tree.specs.Keys.{key_of, op_byte};
+ghost use Rattle.csg_tree.specs.Keys.{tree_bytes, op_byte};
 ghost use Rattle.csg_tree.specs.Numberings.{tree_numbered, IsNumberIn};
 
 use crate::{CsgNode, CsgStore, Op, byte_of, feed_tree};
@@ -17,7 +17,7 @@ pub fn hash_of_front(store: &CsgStore, op: Op, left: u32, right: u32) -> Sha256
     requires left { IsNumberIn store.now left }
     requires right { IsNumberIn store.now right }
     ensures { Holds256 result
-        (op_byte op ∷ key_of (tree_numbered store.now left)
+        (op_byte op ∷ tree_bytes (tree_numbered store.now left)
         ++ front_of_second op (tree_numbered store.now right)) }
 {
     let mut hasher = Sha256::new();
@@ -73,12 +73,12 @@ pub fn second_join(store: &CsgStore, op: Op, right: u32) -> Option<SecondJoin>
         × IsNumberIn store.now h.second) }
     ensures some { IfSome result (λ h.
         (front_of_second op (tree_numbered store.now right)
-        ≡ op_byte h.op ∷ key_of (tree_numbered store.now h.first))
+        ≡ op_byte h.op ∷ tree_bytes (tree_numbered store.now h.first))
         × (rest_of_second op (tree_numbered store.now right)
-        ≡ key_of (tree_numbered store.now h.second))) }
+        ≡ tree_bytes (tree_numbered store.now h.second))) }
     ensures none { IsNone result → (front_of_second op (tree_numbered store.now right) ≡ [])
         × (rest_of_second op (tree_numbered store.now right)
-        ≡ key_of (tree_numbered store.now right)) }
+        ≡ tree_bytes (tree_numbered store.now right)) }
 {
     match op {
         Op::Union | Op::Intersection => None,

@@ -5,7 +5,7 @@ ghost use Rattle.std.specs.BTreeMap.{get, is_at};
 ghost use Rattle.csg_tree.specs.declared.interner.NodeKey.{NodeKey};
 ghost use Rattle.csg_tree.specs.Numberings.{HasNumber};
 ghost use Rattle.csg_tree.specs.Nodes.{node_of, trees_of, tree_over, IsOver};
-ghost use Rattle.csg_tree.specs.Interned.{key_cmp, node_of_key, plane_of_numbers, AreInterned, GrowBy, TheyStay};
+ghost use Rattle.csg_tree.specs.Interned.{key_cmp, node_of_key, plane_of_numbers, AreInterned, GrowBy, TreesStay};
 
 use crate::node::{CsgNode, StoredNode};
 use crate::op::Op;
@@ -57,7 +57,7 @@ impl Interner {
         ensures interned { OnOk result (AreInterned self.new.found self.new.nodes.items) }
         ensures number { IfOk result (λ number. HasNumber (trees_of self.new.nodes.items)
             (tree_over (trees_of self.old.nodes.items) (node_of node.entry)) number) }
-        ensures stay { OnOk result (TheyStay (trees_of self.old.nodes.items)
+        ensures stay { OnOk result (TreesStay (trees_of self.old.nodes.items)
             (trees_of self.new.nodes.items)) }
         ensures grown { OnOk result (GrowBy self.old.nodes.items self.new.nodes.items
             (tree_over (trees_of self.old.nodes.items) (node_of node.entry) ∷ [])) }

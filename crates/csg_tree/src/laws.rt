@@ -4,13 +4,14 @@ ghost use Rattle.std.specs.Prelude.{◌≡◌, ℕ, ◌+◌, ◌/◌, ◌^◌, �
 ghost use Rattle.std.specs.List.{list_any};
 ghost use Rattle.csg_tree.specs.declared.op.Op.{Op};
 ghost use Rattle.csg_tree.specs.declared.op.Op.TheVariants.{Union};
-ghost use Rattle.csg_tree.specs.Formulas.{Assignment, Formula, holds, joined};
+ghost use Rattle.csg_tree.specs.Formulas.{SideAssignment, Formula, holds, joined};
 ghost use Rattle.csg_tree.specs.Joins.{balanced_of, join_of};
 ghost use Rattle.csg_tree.specs.ProperTrees.{IsProper, subtrees};
+ghost use Rattle.csg_tree.specs.Reach.{KeepsWithinReach, LeavesKeepWithinReach};
 
 /// The join of two trees means the operation on them.
 pub fn joins_keep_the_meaning()
-    ensures { (op : Op) (left right : Formula) (sides : Assignment) →
+    ensures { (op : Op) (left right : Formula) (sides : SideAssignment) →
         holds (join_of op left right) sides ≡ holds (joined op left right) sides }
 {}
 
@@ -20,7 +21,7 @@ pub fn balanced_by_halves()
     ensures halves { (op : Op) (trees : List Formula) → 2 ≤ length trees →
         balanced_of op trees ≡ join_of op (balanced_of op (take (length trees / 2) trees))
         (balanced_of op (drop (length trees / 2) trees)) }
-    ensures union { (trees : List Formula) (sides : Assignment) →
+    ensures union { (trees : List Formula) (sides : SideAssignment) →
         holds (balanced_of Union trees) sides ≡ list_any (λ tree. holds tree sides) trees }
 {}
 
@@ -28,4 +29,10 @@ pub fn balanced_by_halves()
 pub fn joins_are_proper()
     ensures { (op : Op) (left right : Formula) → IsProper left → IsProper right →
         1 + subtrees left + subtrees right < 2 ^ 32 → IsProper (join_of op left right) }
+{}
+
+/// A formula holds only within reach where each of its leaves does, since a join holds nowhere but
+/// where one of its two sides does.
+pub fn joins_keep_within_reach()
+    ensures { (f : Formula) → LeavesKeepWithinReach f → KeepsWithinReach f }
 {}

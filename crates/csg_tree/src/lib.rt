@@ -24,7 +24,9 @@ mod workers;
 
 pub use joining::{balanced, join};
 pub use key::byte_of;
-pub use laws::{balanced_by_halves, joins_are_proper, joins_keep_the_meaning};
+pub use laws::{
+    balanced_by_halves, joins_are_proper, joins_keep_the_meaning, joins_keep_within_reach,
+};
 pub use named_store::NamedStore;
 pub use naming::{feed_tree, name_of_node};
 pub use node::CsgNode;

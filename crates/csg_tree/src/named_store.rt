@@ -6,7 +6,7 @@ ghost use Rattle.std.specs.Arc.{arc_value};
 ghost use Rattle.sha2.specs.Hashers.{Holds256};
 ghost use Rattle.csg_tree.specs.Fronts.{front_of_second, HoldsFrontIfThere, IsFrontOfSecond};
 ghost use Rattle.csg_tree.specs.Formulas.{Formula};
-ghost use Rattle.csg_tree.specs.Keys.{key_of, op_byte};
+ghost use Rattle.csg_tree.specs.Keys.{tree_bytes, op_byte};
 ghost use Rattle.csg_tree.specs.Numberings.{tree_numbered, IsNumberIn};
 ghost use Rattle.csg_tree.specs.JoinNames.{name_of_join};
 ghost use Rattle.csg_tree.specs.Earlier.{IsNumberOf, AreAllNumbersIn};
@@ -149,7 +149,7 @@ impl NamedStore {
         ensures { (first right : Formula) → IsNumberOf self.now first left →
             IsFrontOfSecond self.now op right second_front →
             IfOk result (λ front. IfSome front (λ hasher. Holds256 hasher
-            (op_byte op ∷ key_of first ++ front_of_second op right))) }
+            (op_byte op ∷ tree_bytes first ++ front_of_second op right))) }
     {
         let Some(left) = left else {
             return Ok(None);

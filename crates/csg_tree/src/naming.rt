@@ -4,7 +4,7 @@ ghost use Rattle.std.specs.Prelude.{◌≡◌, ℕ, List, ◌∷◌, ◌++◌};
 ghost use Rattle.std.specs.Int.{w64, to_be_bytes};
 ghost use Rattle.std.specs.List.{flat_map};
 ghost use Rattle.csg_tree.specs.Formulas.{leaf};
-ghost use Rattle.csg_tree.specs.Keys.{key_of, plane_bytes};
+ghost use Rattle.csg_tree.specs.Keys.{tree_bytes, plane_bytes};
 ghost use Rattle.csg_tree.specs.Numberings.{tree_numbered, IsNumberIn};
 ghost use Rattle.csg_tree.specs.TreeKeys.{name_of};
 
@@ -28,7 +28,7 @@ pub fn name_of_node(store: &CsgStore, number: u32) -> [u8; 32]
 pub fn feed_tree<D: Digest>(store: &CsgStore, number: u32, hasher: &mut D)
     requires { IsNumberIn store.now number }
     ensures { (m : List ℕ) → D.holds hasher.old m →
-        D.holds hasher.new (m ++ key_of (tree_numbered store.now number)) }
+        D.holds hasher.new (m ++ tree_bytes (tree_numbered store.now number)) }
 {
     match store.node(number) {
         CsgNode::Leaf(planes) => feed_leaf(planes, hasher),
@@ -43,7 +43,7 @@ pub fn feed_tree<D: Digest>(store: &CsgStore, number: u32, hasher: &mut D)
 // Feeds the bytes of a leaf.
 fn feed_leaf<D: Digest>(planes: &[Plane], hasher: &mut D)
     ensures { (m : List ℕ) → D.holds hasher.old m →
-        D.holds hasher.new (m ++ key_of (leaf planes.now)) }
+        D.holds hasher.new (m ++ tree_bytes (leaf planes.now)) }
 {
     hasher.update(&leaf_head(planes.len() as u64));
     feed_planes(planes, hasher);

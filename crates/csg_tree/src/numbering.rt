@@ -4,7 +4,7 @@ ghost use Rattle.std.specs.Prelude.{◌≡◌, ℕ, ◌+◌, ◌^◌, ◌<◌, �
 ghost use Rattle.csg_tree.specs.Numberings.{by_height, distinct_trees, tree_numbered, HaveOneNumber};
 ghost use Rattle.csg_tree.specs.Nodes.{node_of, trees_of, trees_of_lent, AreLinked, AreLinkedLent, IsOver};
 ghost use Rattle.csg_tree.specs.Levels.{level_at, numbers_of_height};
-ghost use Rattle.csg_tree.specs.Interned.{renumbered_node, AreInterned, ArePlaced, AreReady, GrowBy, IsNumbering, IsPartReady, IsPlaced, StayPlaced};
+ghost use Rattle.csg_tree.specs.Interned.{renumbered_node, AreInterned, ArePlaced, IsLevelReady, GrowBy, IsNumbering, IsPartReady, IsPartNumbered, StayPlaced};
 
 use crate::interner::Interner;
 use crate::node::{CsgNode, StoredNode};
@@ -45,7 +45,7 @@ fn number_level(
 ) -> Result<(), NoMemory>
     requires numbering { IsNumbering parts.now numbers.old.items interner.old.found
         interner.old.nodes.items }
-    requires ready { AreReady parts.now (trees_of interner.old.nodes.items) numbers.old.items
+    requires ready { IsLevelReady parts.now (trees_of interner.old.nodes.items) numbers.old.items
         level.now }
     requires few { length interner.old.nodes.items + length level.now < 2 ^ 32 }
     ensures room { length numbers.new.items ≡ length parts.now }
@@ -79,7 +79,7 @@ fn number_part(
     requires few { length interner.old.nodes.items + 1 < 2 ^ 32 }
     ensures room { length numbers.new.items ≡ length parts.now }
     ensures interned { OnOk result (AreInterned interner.new.found interner.new.nodes.items) }
-    ensures placed { OnOk result (IsPlaced (trees_of_lent parts.now)
+    ensures placed { OnOk result (IsPartNumbered (trees_of_lent parts.now)
         (trees_of interner.new.nodes.items) numbers.new.items number) }
     ensures stay { OnOk result (StayPlaced (trees_of_lent parts.now)
         (trees_of interner.old.nodes.items) numbers.old.items (trees_of interner.new.nodes.items)

@@ -3,7 +3,7 @@
 ghost use Rattle.std.specs.Prelude.{◌≡◌, IfOk, length, All};
 ghost use Rattle.csg_tree.specs.Trees.{formula_of};
 ghost use Rattle.csg_tree.specs.ProperTrees.{IsProper};
-ghost use Rattle.csg_tree.specs.Numberings.{nodes_of, tree_numbered, AreNumbered, IsNumberIn};
+ghost use Rattle.csg_tree.specs.Numberings.{nodes_of, tree_numbered, AreNumberedTrees, IsNumberIn};
 ghost use Rattle.csg_tree.specs.Nodes.{IsNodeOf};
 
 use crate::levels::levels_of;
@@ -56,7 +56,7 @@ impl CsgStore {
     pub fn len(&self) -> u32
         ensures is { result ≡ length self.now }
         ensures proper { All IsProper self.now }
-        ensures numbered { AreNumbered self.now }
+        ensures numbered { AreNumberedTrees self.now }
     {
         self.nodes.len() as u32
     }

@@ -3,7 +3,7 @@
 ghost use Rattle.std.specs.Prelude.{◌≡◌, IfOk};
 ghost use Rattle.std.specs.Arc.{arc_value};
 ghost use Rattle.csg_tree.specs.Numberings.{is_same_tree, tree_numbered, IsNumberIn};
-ghost use Rattle.csg_tree.specs.TreeKeys.{name_of, IsNamed};
+ghost use Rattle.csg_tree.specs.TreeKeys.{name_of, IsNamedTree};
 
 use crate::naming::name_of_node;
 use crate::node::CsgNode;
@@ -31,11 +31,11 @@ impl Model for TreeKey {
     ghost coded = { coded_formula };
 
     ghost use Rattle.csg_tree.specs.Numberings.{tree_numbered};
-    ghost use Rattle.csg_tree.specs.TreeKeys.{IsNamed};
+    ghost use Rattle.csg_tree.specs.TreeKeys.{IsNamedTree};
 
     ghost view = { λ k. tree_numbered (arc_value k.store) k.number };
 
-    ghost invariant = { λ k. IsNamed (arc_value k.store) k.number k.name };
+    ghost invariant = { λ k. IsNamedTree (arc_value k.store) k.number k.name };
 }
 
 impl TreeKey {
@@ -55,7 +55,7 @@ impl TreeKey {
         number: u32,
         name: [u8; 32],
     ) -> Result<TreeKey, NoMemory>
-        requires { IsNamed (arc_value store.now) number name }
+        requires { IsNamedTree (arc_value store.now) number name }
         ensures { IfOk result (λ key. key ≡ tree_numbered (arc_value store.now) number) }
     {
         Ok(TreeKey {

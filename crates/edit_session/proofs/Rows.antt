@@ -3,48 +3,48 @@ use Rattle.std.proofs.Common.{◌≡◌, List, [], ◌∷◌, replicate, refl, c
 use Rattle.script_reader.specs.declared.script.Command.{Command}
 use Rattle.script_reader.specs.declared.script.Command.TheVariants.{Put, Set, Cut, Show, Export, Bad}
 use Rattle.edit_session.specs.declared.fault.SessionFault.TheVariants.{NoSuchLine, TooManyLines, TooManyShows, TooManyExports, BadCommand}
-use Rattle.edit_session.specs.Sessions.{State, start, source_of, refusal, next}
+use Rattle.edit_session.specs.Sessions.{State, start_state, source_of, refusal, state_after_command}
 
 -- the state after these commands
 abbrev after : State → List Command → State
 after s [] = s
-after s (c ∷ cs) = after (next s c) cs
+after s (c ∷ cs) = after (state_after_command s c) cs
 
 abbrev edits : List Command
 edits =
     Put 1 (codes "cube(1);") ∷ Put 1 (codes "// one") ∷ Put 3 (codes "cube(2);")
     ∷ Set 2 (codes "cube(3);") ∷ Cut 9 9 ∷ []
 
-edited : after start edits ≡ record { lines = codes "// one" ∷ codes "cube(3);" ∷ codes "cube(2);" ∷ []; shows = 0; exports = 0 }
+edited : after start_state edits ≡ record { lines = codes "// one" ∷ codes "cube(3);" ∷ codes "cube(2);" ∷ []; shows = 0; exports = 0 }
 edited = refl
 
-no_such_lines : refusal (after start edits) (Cut 9 9) ≡ Some NoSuchLine
+no_such_lines : refusal (after start_state edits) (Cut 9 9) ≡ Some NoSuchLine
 no_such_lines = refl
 
 -- a show, a cut, an export and a line that is no command
-booked : after (after start edits) (Show ∷ Cut 1 1 ∷ Export ∷ Bad ∷ []) ≡ record { lines = codes "cube(3);" ∷ codes "cube(2);" ∷ []; shows = 1; exports = 1 }
+booked : after (after start_state edits) (Show ∷ Cut 1 1 ∷ Export ∷ Bad ∷ []) ≡ record { lines = codes "cube(3);" ∷ codes "cube(2);" ∷ []; shows = 1; exports = 1 }
 booked = refl
 
-source_is : source_of (after (after start edits) (Cut 1 1 ∷ [])) ≡ codes "cube(3);\ncube(2);\n"
+source_is : source_of (after (after start_state edits) (Cut 1 1 ∷ [])) ≡ codes "cube(3);\ncube(2);\n"
 source_is = refl
 
-empty_source_is : source_of start ≡ []
+empty_source_is : source_of start_state ≡ []
 empty_source_is = refl
 
-bad_is_refused : refusal start Bad ≡ Some BadCommand
+bad_is_refused : refusal start_state Bad ≡ Some BadCommand
 bad_is_refused = refl
 
 -- ---- an empty source
-no_second_line : refusal start (Put 2 (codes "x")) ≡ Some NoSuchLine
+no_second_line : refusal start_state (Put 2 (codes "x")) ≡ Some NoSuchLine
 no_second_line = refl
 
-no_line_zero : refusal start (Put 0 (codes "x")) ≡ Some NoSuchLine
+no_line_zero : refusal start_state (Put 0 (codes "x")) ≡ Some NoSuchLine
 no_line_zero = refl
 
-nothing_to_set : refusal start (Set 1 (codes "x")) ≡ Some NoSuchLine
+nothing_to_set : refusal start_state (Set 1 (codes "x")) ≡ Some NoSuchLine
 nothing_to_set = refl
 
-nothing_to_cut : refusal start (Cut 1 1) ≡ Some NoSuchLine
+nothing_to_cut : refusal start_state (Cut 1 1) ≡ Some NoSuchLine
 nothing_to_cut = refl
 
 -- ---- limits
@@ -67,7 +67,7 @@ one_more_line = refl
 last_line_is_set : refusal full (Set 4096 []) ≡ None
 last_line_is_set = refl
 
-all_lines_are_cut : next full (Cut 1 4096) ≡ record { lines = []; shows = 16; exports = 15 }
+all_lines_are_cut : state_after_command full (Cut 1 4096) ≡ record { lines = []; shows = 16; exports = 15 }
 all_lines_are_cut = refl
 
 turned_range : refusal full (Cut 2 1) ≡ Some NoSuchLine
@@ -89,5 +89,5 @@ one_more_export : refusal full Export ≡ None
 one_more_export = refl
 
 -- a refused command changes nothing
-refused_stays : next full (Put 1 (codes "x")) ≡ full
+refused_stays : state_after_command full (Put 1 (codes "x")) ≡ full
 refused_stays = refl

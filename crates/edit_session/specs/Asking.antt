@@ -20,19 +20,19 @@ MayWantMemory s (Cut from upto) = ⊥
 MayWantMemory s c = refusal s c ≡ None
 
 -- a command was refused, for the reason of the table, or where memory may run out for want of it, and nothing changed
-pub record Refuses (old : State) (c : Command) (new : State) (why : SessionFault) : Type 0 where
+pub record RefusesCommand (old : State) (c : Command) (new : State) (why : SessionFault) : Type 0 where
   pub reason : ((refusal old c ≡ Some why) × (why ≢ NoMemory)) ⊎ ((why ≡ NoMemory) × MayWantMemory old c)
   pub same : new ≡ old
 
 -- a command is an edit
-abbrev pub IsEdit : Command → Type 0
-IsEdit (Put line text) = Unit {0}
-IsEdit (Set line text) = Unit {0}
-IsEdit (Cut from upto) = Unit {0}
-IsEdit _ = ⊥
+abbrev pub IsEditCommand : Command → Type 0
+IsEditCommand (Put line text) = Unit {0}
+IsEditCommand (Set line text) = Unit {0}
+IsEditCommand (Cut from upto) = Unit {0}
+IsEditCommand _ = ⊥
 
 -- what is answered to a command that is not refused: an edit is done, a show and an export are left to be booked
 abbrev pub Accepts : State → Command → State → Asked → Type 0
-Accepts old c new (asked.Lines count) = IsEdit c × Edits old c new count
+Accepts old c new (asked.Lines count) = IsEditCommand c × Edits old c new count
 Accepts old c new asked.Show = (c ≡ Show) × (refusal old c ≡ None) × (new ≡ old)
 Accepts old c new asked.Export = (c ≡ Export) × (refusal old c ≡ None) × (new ≡ old)

@@ -4,7 +4,7 @@ use Rattle.script_reader.specs.Limits.{IsText}
 use Rattle.edit_session.specs.Sessions.{State}
 
 -- a session within its limits
-pub record IsWithin (s : State) : Type 0 where
+pub record IsWithinSessionLimits (s : State) : Type 0 where
   pub few : length s.lines ≤ 4096
   pub texts : All IsText s.lines
   pub shows : s.shows ≤ 16

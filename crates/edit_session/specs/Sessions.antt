@@ -13,26 +13,26 @@ pub record State : Type 0 where
   pub exports : ℕ
 
 -- a session at its beginning: no lines, and nothing answered
-abbrev pub start : State
-start = record { lines = []; shows = 0; exports = 0 }
+abbrev pub start_state : State
+start_state = record { lines = []; shows = 0; exports = 0 }
 
 -- the source of a session: its lines, each followed by a newline
 abbrev pub source_of : State → List ℕ
 source_of s = flat_map (λ line. line ++ newline) s.lines
 
 -- whether a number is between two others, which count
-abbrev pub is_within : ℕ → ℕ → ℕ → Bool
-is_within low n high = nat_le low n && nat_le n high
+abbrev pub is_between : ℕ → ℕ → ℕ → Bool
+is_between low n high = nat_le low n && nat_le n high
 
 -- why a state refuses a command, if it does: the first of its reasons
 abbrev pub refusal : State → Command → Option SessionFault
 refusal s (Put line text) =
-    if is_within 1 line (length s.lines + 1)
+    if is_between 1 line (length s.lines + 1)
     then (if length s.lines == 4096 then Some TooManyLines else None)
     else Some NoSuchLine
-refusal s (Set line text) = if is_within 1 line (length s.lines) then None else Some NoSuchLine
+refusal s (Set line text) = if is_between 1 line (length s.lines) then None else Some NoSuchLine
 refusal s (Cut from upto) =
-    if is_within 1 from upto && nat_le upto (length s.lines) then None else Some NoSuchLine
+    if is_between 1 from upto && nat_le upto (length s.lines) then None else Some NoSuchLine
 refusal s Show = if s.shows == 16 then Some TooManyShows else None
 refusal s Export = if s.exports == 16 then Some TooManyExports else None
 refusal s Bad = Some BadCommand
@@ -47,5 +47,5 @@ after_accepted s Export = record s { exports = s.exports + 1 }
 after_accepted s Bad = s
 
 -- the state after a command: a refused one leaves it as it was
-abbrev pub next : State → Command → State
-next s c = if is_some (refusal s c) then s else after_accepted s c
+abbrev pub state_after_command : State → Command → State
+state_after_command s c = if is_some (refusal s c) then s else after_accepted s c

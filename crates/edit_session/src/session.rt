@@ -2,10 +2,10 @@
 
 ghost use Rattle.std.specs.Prelude.{◌≡◌, ◌↔◌, ◌≤◌, ◌++◌, take, drop, length, Some, None, IsTrue, IfOk, IfErr};
 ghost use Rattle.script_reader.specs.declared.script.Command.TheVariants.{Put, Set, Cut, Show, Export};
-ghost use Rattle.edit_session.specs.Sessions.{start, source_of, refusal, after_accepted};
+ghost use Rattle.edit_session.specs.Sessions.{start_state, source_of, refusal, after_accepted};
 ghost use Rattle.script_reader.specs.Limits.{IsText, HasText};
-ghost use Rattle.edit_session.specs.Limits.{IsWithin};
-ghost use Rattle.edit_session.specs.Asking.{Edits, Refuses, Accepts};
+ghost use Rattle.edit_session.specs.Limits.{IsWithinSessionLimits};
+ghost use Rattle.edit_session.specs.Asking.{Edits, RefusesCommand, Accepts};
 
 use crate::fault::{Asked, SessionFault};
 use script_reader::Command;
@@ -30,20 +30,20 @@ pub struct Session {
 
 impl Model for Session {
     ghost use Rattle.edit_session.specs.Sessions.{State};
-    ghost use Rattle.edit_session.specs.Limits.{IsWithin};
+    ghost use Rattle.edit_session.specs.Limits.{IsWithinSessionLimits};
 
     ghost Value = { State };
 
     ghost view = { λ s. record { lines = s.lines.items; shows = s.shows; exports = s.exports } };
 
     ghost invariant = { λ s.
-        IsWithin (record { lines = s.lines.items; shows = s.shows; exports = s.exports }) };
+        IsWithinSessionLimits (record { lines = s.lines.items; shows = s.shows; exports = s.exports }) };
 }
 
 impl Session {
     /// A session with no lines.
     pub fn new(alloc: Global) -> Session
-        ensures { result ≡ start }
+        ensures { result ≡ start_state }
     {
         Session {
             lines: Vec::new(alloc),
@@ -55,7 +55,7 @@ impl Session {
     /// The lines in order.
     pub fn lines(&self) -> &[Bytes]
         ensures lines { result.now ≡ self.now.lines }
-        ensures within { IsWithin self.now }
+        ensures within { IsWithinSessionLimits self.now }
     {
         &self.lines
     }
@@ -78,7 +78,7 @@ impl Session {
     pub fn put(&mut self, alloc: Global, line: u32, text: &[u8]) -> Result<u32, SessionFault>
         requires { IsText text.now }
         ensures done { IfOk result (λ count. Edits self.old (Put line text.now) self.new count) }
-        ensures refused { IfErr result (λ why. Refuses self.old (Put line text.now) self.new why) }
+        ensures refused { IfErr result (λ why. RefusesCommand self.old (Put line text.now) self.new why) }
     {
         let at = line as usize;
         if at < 1 || at > self.lines.len() + 1 {
@@ -96,7 +96,7 @@ impl Session {
     pub fn set(&mut self, alloc: Global, line: u32, text: &[u8]) -> Result<u32, SessionFault>
         requires { IsText text.now }
         ensures done { IfOk result (λ count. Edits self.old (Set line text.now) self.new count) }
-        ensures refused { IfErr result (λ why. Refuses self.old (Set line text.now) self.new why) }
+        ensures refused { IfErr result (λ why. RefusesCommand self.old (Set line text.now) self.new why) }
     {
         let at = line as usize;
         if at < 1 || at > self.lines.len() {
@@ -110,7 +110,7 @@ impl Session {
     /// changes nothing. Takes no memory.
     pub fn cut(&mut self, from: u32, upto: u32) -> Result<u32, SessionFault>
         ensures done { IfOk result (λ count. Edits self.old (Cut from upto) self.new count) }
-        ensures refused { IfErr result (λ why. Refuses self.old (Cut from upto) self.new why) }
+        ensures refused { IfErr result (λ why. RefusesCommand self.old (Cut from upto) self.new why) }
     {
         let first = from as usize;
         let last = upto as usize;
@@ -126,7 +126,7 @@ impl Session {
     pub fn command(&mut self, alloc: Global, command: &Command) -> Result<Asked, SessionFault>
         requires { HasText command.now }
         ensures done { IfOk result (λ asked. Accepts self.old command.now self.new asked) }
-        ensures refused { IfErr result (λ why. Refuses self.old command.now self.new why) }
+        ensures refused { IfErr result (λ why. RefusesCommand self.old command.now self.new why) }
     {
         match command {
             Command::Put { line, text } => Ok(Asked::Lines(self.put(alloc, *line, text.items())?)),

@@ -8,8 +8,8 @@ use Rattle.plane_predicate.proofs.Signs.{signs}
 use Rattle.plane_polygon.specs.Polygons.{Outline, Covers, IsPolygon, IsStrictlyWithin}
 use Rattle.plane_polygon.specs.Parts.{is_behind}
 use Rattle.plane_polygon.proofs.CornerSides.{less, not_less}
-use Rattle.bsp_tree.specs.Trees.{Tree, inside, outside, node, walk}
-use Rattle.bsp_tree.specs.Cells.{IsIn, IsInClosed, IsAcross, IsOfCell, IsPlaneOf, IsOff}
+use Rattle.bsp_tree.specs.Trees.{BspTree, inside, outside, node, walk}
+use Rattle.bsp_tree.specs.Cells.{IsInCell, IsInClosedCell, IsPolygonOfCell, IsOfCell, IsPlaneOf, IsOffPlanesOf}
 use Rattle.bsp_tree.proofs.Opposites.{opposite_zero, opposite_back, opposite_above, opposite_below, opposite_twice}
 use Rattle.facet_cut.specs.Facets.{facets_facing, facets_ahead, facets_between, facets_of}
 use Rattle.facet_cut.specs.Sides.{walk_by, AreJustBehind, AreJustAhead, CoversFacing, IsFacetOf, HasNone, HasOneWhere, BoundSolid}
@@ -68,12 +68,12 @@ off_opposite : (m n : Coefficients) (p : Coordinates) → value n p ≡ pos 0 �
 off_opposite m n p on off e = off (from_either m n p (inr e) on)
 
 -- ---- the planes of a solid of a cell have points of the cell
-less_planes : (m : Coefficients) (cell : List Coefficients) (p : Coordinates) → IsIn (m ∷ cell) p →
-    IsIn cell p
+less_planes : (m : Coefficients) (cell : List Coefficients) (p : Coordinates) → IsInCell (m ∷ cell) p →
+    IsInCell cell p
 less_planes m cell p h = record { weight = h.weight; below = h.below.1 }
 
-plane_meets : (t : Tree) (cell : List Coefficients) (m : Coefficients) → IsOfCell cell t → IsPlaneOf m t →
-    (y : Coordinates) × IsIn cell y × (value m y ≡ pos 0)
+plane_meets : (t : BspTree) (cell : List Coefficients) (m : Coefficients) → IsOfCell cell t → IsPlaneOf m t →
+    (y : Coordinates) × IsInCell cell y × (value m y ≡ pos 0)
 plane_meets inside cell m h k = absurd k
 plane_meets outside cell m h k = absurd k
 plane_meets (node s b a) cell m h (inl e) =
@@ -93,8 +93,8 @@ if_same c d x y u v e h k =
     ap₂ (λ (a : Bool) (b : Bool). if c then a else b) h k ∙ ap (λ (a : Bool). if a then u else v) e
 
 -- where the point is off all planes, the walk is the point's
-walk_off : (t : Tree) (n : Coefficients) (p : Coordinates) (sides : Coefficients → Bool) →
-    value n p ≡ pos 0 → IsOther n p sides → IsOff t p → walk_by t sides ≡ walk t p
+walk_off : (t : BspTree) (n : Coefficients) (p : Coordinates) (sides : Coefficients → Bool) →
+    value n p ≡ pos 0 → IsOther n p sides → IsOffPlanesOf t p → walk_by t sides ≡ walk t p
 walk_off inside n p sides on h off = refl
 walk_off outside n p sides on h off = refl
 walk_off (node s b a) n p sides on h off =
@@ -104,11 +104,11 @@ walk_off (node s b a) n p sides on h off =
     (walk_off b n p sides on h (λ m k. off m (inr (inl k))))
     (walk_off a n p sides on h (λ m k. off m (inr (inr k))))
 
-takes_behind : (s : Outline) (b a : Tree) (sides : Coefficients → Bool) → sides s.plane ≡ true →
+takes_behind : (s : Outline) (b a : BspTree) (sides : Coefficients → Bool) → sides s.plane ≡ true →
     walk_by (node s b a) sides ≡ walk_by b sides
 takes_behind s b a sides e = ap (λ (c : Bool). if c then walk_by b sides else walk_by a sides) e
 
-takes_ahead : (s : Outline) (b a : Tree) (sides : Coefficients → Bool) → sides s.plane ≡ false →
+takes_ahead : (s : Outline) (b a : BspTree) (sides : Coefficients → Bool) → sides s.plane ≡ false →
     walk_by (node s b a) sides ≡ walk_by a sides
 takes_ahead s b a sides e = ap (λ (c : Bool). if c then walk_by b sides else walk_by a sides) e
 
@@ -120,7 +120,7 @@ none_facing n p false false r w missed = tt
 none_facing n p true false r w missed = (λ c. missed (within_covered r p w c.within), tt)
 none_facing n p false true r w missed = (λ c. missed (within_covered r p w (within_back r p c.within)), tt)
 
-none_ahead_of : (n : Coefficients) (p : Coordinates) (i : Bool) (a : Tree) (r : Outline) → pos 0 <ℤ p.w →
+none_ahead_of : (n : Coefficients) (p : Coordinates) (i : Bool) (a : BspTree) (r : Outline) → pos 0 <ℤ p.w →
     IsPolygon r → (Covers r p → ⊥) → HasNone (CoversFacing n p) (facets_ahead i a r)
 none_ahead_of n p i a r w h missed =
     none_pieces a (CoversFacing n p) (λ q. facets_facing i q.is_inside q.part) p r h missed
@@ -146,8 +146,8 @@ facing_opposite n p false true r d e h =
 
 -- by what the two leaves give
 one_between : (counts : Bool → Bool → Bool) (n : Coefficients) (cell : List Coefficients) (s : Outline)
-    (b a : Tree) (p : Coordinates) →
-    IsAcross cell s → IsIn cell p → value s.plane p ≡ pos 0 → IsOff b p → IsOff a p →
+    (b a : BspTree) (p : Coordinates) →
+    IsPolygonOfCell cell s → IsInCell cell p → value s.plane p ≡ pos 0 → IsOffPlanesOf b p → IsOffPlanesOf a p →
     ((i j : Bool) (r : Outline) → r.plane ≡ s.plane → IsStrictlyWithin r p →
     HasOneWhere (counts i j) (CoversFacing n p) (facets_facing i j r)) →
     HasOneWhere (counts (walk b p) (walk a p)) (CoversFacing n p) (facets_between b a s)
@@ -169,8 +169,8 @@ one_between counts n cell s b a p h hp on off_b off_a k =
 
 -- ---- the whole solid
 -- no facet of a solid whose planes the point is off has it
-none_off : (t : Tree) (cell : List Coefficients) (n : Coefficients) (p : Coordinates) → IsOfCell cell t →
-    IsOff t p → HasNone (CoversFacing n p) (facets_of t)
+none_off : (t : BspTree) (cell : List Coefficients) (n : Coefficients) (p : Coordinates) → IsOfCell cell t →
+    IsOffPlanesOf t p → HasNone (CoversFacing n p) (facets_of t)
 none_off t cell n p h off =
     none_of_all (CoversFacing n p) (facets_of t)
     (All-weaker (IsFacetOf cell t) (λ (x : Outline). CoversFacing n p x → ⊥)
@@ -182,15 +182,15 @@ none_off t cell n p h off =
     (all_facets t cell h))
 
 -- nor of one of a cell without the point
-none_outside : (t : Tree) (cell : List Coefficients) (n : Coefficients) (p : Coordinates) → IsOfCell cell t →
-    pos 0 <ℤ p.w → (IsInClosed cell p → ⊥) → HasNone (CoversFacing n p) (facets_of t)
+none_outside : (t : BspTree) (cell : List Coefficients) (n : Coefficients) (p : Coordinates) → IsOfCell cell t →
+    pos 0 <ℤ p.w → (IsInClosedCell cell p → ⊥) → HasNone (CoversFacing n p) (facets_of t)
 none_outside t cell n p h w missed =
     none_of_all (CoversFacing n p) (facets_of t)
     (All-weaker (IsFacetOf cell t) (λ (x : Outline). CoversFacing n p x → ⊥)
     (λ x f c. missed (f.closed p (within_covered x p w c.within))) (facets_of t) (all_facets t cell h))
 
 -- nor of those on a polygon whose plane the point is off
-none_between : (s : Outline) (b a : Tree) (n : Coefficients) (p : Coordinates) → IsPolygon s →
+none_between : (s : Outline) (b a : BspTree) (n : Coefficients) (p : Coordinates) → IsPolygon s →
     (value s.plane p ≡ pos 0 → ⊥) → HasNone (CoversFacing n p) (facets_between b a s)
 none_between s b a n p h off =
     none_of_all (CoversFacing n p) (facets_between b a s)
@@ -199,20 +199,20 @@ none_between s b a n p h off =
     (between_on b a s h))
 
 -- no plane of a solid behind the plane s, or ahead of it, has a point that is on s's plane and alone there
-off_part : (s : Outline) (side : Coefficients) (t : Tree) (cell : List Coefficients) (n : Coefficients)
+off_part : (s : Outline) (side : Coefficients) (t : BspTree) (cell : List Coefficients) (n : Coefficients)
     (p : Coordinates) → IsOfCell (side ∷ cell) t →
     IsEither side s.plane → IsEither s.plane n → value n p ≡ pos 0 →
-    ((m : Coefficients) → IsPlaneOf m t → value m p ≡ pos 0 → IsEither m n) → IsOff t p
+    ((m : Coefficients) → IsPlaneOf m t → value m p ≡ pos 0 → IsEither m n) → IsOffPlanesOf t p
 off_part s side t cell n p h e d on alone m k z =
     let y = plane_meets t (side ∷ cell) m h k in
     below_not_zero (value side y.0) y.1.below.0
     (from_either side s.plane y.0 e (from_either s.plane n y.0 d (to_either m n y.0 (alone m k z) y.2)))
 
 -- at the node on whose plane the point is
-at_node : (s : Outline) (b a : Tree) (cell : List Coefficients) (n : Coefficients) (p : Coordinates)
+at_node : (s : Outline) (b a : BspTree) (cell : List Coefficients) (n : Coefficients) (p : Coordinates)
     (low high : Coefficients → Bool) →
-    IsAcross cell s → IsIn cell p → value n p ≡ pos 0 → AreJustBehind n p low → AreJustAhead n p high →
-    IsOff b p → IsOff a p → IsEither s.plane n →
+    IsPolygonOfCell cell s → IsInCell cell p → value n p ≡ pos 0 → AreJustBehind n p low → AreJustAhead n p high →
+    IsOffPlanesOf b p → IsOffPlanesOf a p → IsEither s.plane n →
     HasOneWhere (walk_by (node s b a) low && not (walk_by (node s b a) high)) (CoversFacing n p)
     (facets_between b a s)
 at_node s b a cell n p low high h hp on jb ja off_b off_a (inl e) =
@@ -237,9 +237,9 @@ other_side : (s : Outline) (n : Coefficients) (p : Coordinates) (sides : Coeffic
 other_side s n p sides c on h off e =
     h s.plane (off_itself s.plane n p on off) (off_opposite s.plane n p on off) ∙ e
 
-bound : (t : Tree) (cell : List Coefficients) (n : Coefficients) (p : Coordinates)
+bound : (t : BspTree) (cell : List Coefficients) (n : Coefficients) (p : Coordinates)
     (low high : Coefficients → Bool) →
-    IsOfCell cell t → IsIn cell p → value n p ≡ pos 0 →
+    IsOfCell cell t → IsInCell cell p → value n p ≡ pos 0 →
     ((m : Coefficients) → IsPlaneOf m t → value m p ≡ pos 0 → IsEither m n) → AreJustBehind n p low →
     AreJustAhead n p high →
     HasOneWhere (walk_by t low && not (walk_by t high)) (CoversFacing n p) (facets_of t)
@@ -295,5 +295,5 @@ bound (node s b a) cell n p low high h hp on alone jb ja =
           (record { weight = hp.weight; below = (opposite_below m p v, hp.below) }) on alone_a jb ja)))
     ]
 
-pub facets_bound : (cell : List Coefficients) (t : Tree) → IsOfCell cell t → BoundSolid cell t (facets_of t)
+pub facets_bound : (cell : List Coefficients) (t : BspTree) → IsOfCell cell t → BoundSolid cell t (facets_of t)
 facets_bound cell t h n p o low high jb ja = bound t cell n p low high h o.point_in o.on o.alone jb ja

@@ -4,7 +4,7 @@ use Rattle.plane_predicate.specs.Space.{Coefficients, Coordinates, opposite_of, 
 use Rattle.plane_polygon.specs.Polygons.{Outline}
 use Rattle.plane_polygon.specs.Boxes.{box_outline, trimmed_outline}
 use Rattle.plane_polygon.specs.Parts.{is_behind}
-use Rattle.bsp_tree.specs.Trees.{Tree, inside, outside, node, size}
+use Rattle.bsp_tree.specs.Trees.{BspTree, inside, outside, node, size}
 use Rattle.bsp_tree.proofs.SameNumbers.{same_equal, not_same}
 use Rattle.facet_cut.specs.Facets.{facets_of}
 use Rattle.facet_cut.specs.Sides.{walk_by, AreJustBehind, AreJustAhead}
@@ -25,12 +25,12 @@ within [] s = s
 within (m ∷ above) s = within above (trimmed_outline s m)
 
 -- what is behind all the planes, where a leaf stands there and another one elsewhere
-abbrev chain : List Coefficients → List Coefficients → Tree → Tree → Tree
+abbrev chain : List Coefficients → List Coefficients → BspTree → BspTree → BspTree
 chain [] above leaf other = leaf
 chain (m ∷ planes) above leaf other =
     node (within above (box_outline m)) (chain planes (m ∷ above) leaf other) other
 
-abbrev unit_box : Tree
+abbrev unit_box : BspTree
 unit_box = chain (box (pos 0) (pos 0) (pos 0) (pos 1) (pos 1) (pos 1)) [] inside outside
 
 unit_size : size unit_box ≡ 30
@@ -45,7 +45,7 @@ unit_planes = refl
 
 -- a box of 2 by 2 by 2 from which a corner of 1 by 1 by 1 is taken away: in the leaf inside the box, the
 -- corner's three planes
-abbrev notch : Tree
+abbrev notch : BspTree
 notch =
     let large = box (pos 0) (pos 0) (pos 0) (pos 2) (pos 2) (pos 2) in
     let corner = plane (negsuc 0) (pos 0) (pos 0) (negsuc 0) ∷ plane (pos 0) (negsuc 0) (pos 0) (negsuc 0)
@@ -73,7 +73,7 @@ four_sides =
     plane (pos 0) (negsuc 0) (pos 0) (pos 0) ∷ plane (pos 0) (pos 1) (pos 0) (pos 1)
     ∷ plane (pos 0) (pos 0) (negsuc 0) (pos 0) ∷ plane (pos 0) (pos 0) (pos 1) (pos 1) ∷ []
 
-abbrev two_boxes : Tree
+abbrev two_boxes : BspTree
 two_boxes =
     node (box_outline low_x)
     (node (within (low_x ∷ []) (box_outline wall)) (chain four_sides (wall ∷ low_x ∷ []) inside outside)

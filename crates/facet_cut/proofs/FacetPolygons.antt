@@ -4,8 +4,8 @@ use Rattle.std.specs.List.{All}
 use Rattle.std.proofs.lemmas.List.Elements.{All-nil, All-cons, All-head, All-tail, All-append, All-weaker}
 use Rattle.plane_predicate.specs.Space.{Coefficients, Coordinates, opposite_of, IsInClosedWorld}
 use Rattle.plane_polygon.specs.Polygons.{Outline, Covers, IsPolygon, corner, sides}
-use Rattle.bsp_tree.specs.Trees.{Tree, inside, outside, node}
-use Rattle.bsp_tree.specs.Cells.{IsInClosed, IsOfCell, IsOfWorld, IsPlaneOf, world_box}
+use Rattle.bsp_tree.specs.Trees.{BspTree, inside, outside, node}
+use Rattle.bsp_tree.specs.Cells.{IsInClosedCell, IsOfCell, IsOfWorld, IsPlaneOf, world_box}
 use Rattle.bsp_tree.proofs.Opposites.{opposite_twice}
 use Rattle.bsp_tree.proofs.PolygonsOfCells.{corner_covered}
 use Rattle.bsp_tree.proofs.Worlds.{closed_world}
@@ -47,14 +47,14 @@ facing_on false true s r h =
       covers = λ p c. h.covers p (covers_back r p c);
     })
 
-ahead_on : (i : Bool) (a : Tree) (s r : Outline) → IsPartOf s r → All (IsFacetOn s) (facets_ahead i a r)
+ahead_on : (i : Bool) (a : BspTree) (s r : Outline) → IsPartOf s r → All (IsFacetOn s) (facets_ahead i a r)
 ahead_on i a s r h =
     all_flat_map (IsFacetOn s) (λ q. facets_facing i q.is_inside q.part) (pieces a r)
     (All-weaker (λ (q : Piece). IsPartOf s q.part)
     (λ (q : Piece). All (IsFacetOn s) (facets_facing i q.is_inside q.part))
     (λ q o. facing_on i q.is_inside s q.part o) (pieces a r) (pieces_parts a s r h))
 
-pub between_on : (b a : Tree) (s : Outline) → IsPolygon s → All (IsFacetOn s) (facets_between b a s)
+pub between_on : (b a : BspTree) (s : Outline) → IsPolygon s → All (IsFacetOn s) (facets_between b a s)
 between_on b a s h =
     all_flat_map (IsFacetOn s) (λ q. facets_ahead q.is_inside a q.part) (pieces b s)
     (All-weaker (λ (q : Piece). IsPartOf s q.part)
@@ -62,27 +62,27 @@ between_on b a s h =
     (λ q o. ahead_on q.is_inside a s q.part o) (pieces b s) (pieces_parts b s s (part_itself s h)))
 
 -- ---- all facets
-plane_here : (s x : Outline) (b a : Tree) → (x.plane ≡ s.plane) ⊎ (x.plane ≡ opposite_of s.plane) →
+plane_here : (s x : Outline) (b a : BspTree) → (x.plane ≡ s.plane) ⊎ (x.plane ≡ opposite_of s.plane) →
     IsPlaneOf x.plane (node s b a) ⊎ IsPlaneOf (opposite_of x.plane) (node s b a)
 plane_here s x b a (inl e) = inl (inl e)
 plane_here s x b a (inr e) = inr (inl (ap opposite_of e ∙ opposite_twice s.plane))
 
-plane_behind : (s x : Outline) (b a : Tree) → IsPlaneOf x.plane b ⊎ IsPlaneOf (opposite_of x.plane) b →
+plane_behind : (s x : Outline) (b a : BspTree) → IsPlaneOf x.plane b ⊎ IsPlaneOf (opposite_of x.plane) b →
     IsPlaneOf x.plane (node s b a) ⊎ IsPlaneOf (opposite_of x.plane) (node s b a)
 plane_behind s x b a (inl h) = inl (inr (inl h))
 plane_behind s x b a (inr h) = inr (inr (inl h))
 
-plane_ahead : (s x : Outline) (b a : Tree) → IsPlaneOf x.plane a ⊎ IsPlaneOf (opposite_of x.plane) a →
+plane_ahead : (s x : Outline) (b a : BspTree) → IsPlaneOf x.plane a ⊎ IsPlaneOf (opposite_of x.plane) a →
     IsPlaneOf x.plane (node s b a) ⊎ IsPlaneOf (opposite_of x.plane) (node s b a)
 plane_ahead s x b a (inl h) = inl (inr (inr h))
 plane_ahead s x b a (inr h) = inr (inr (inr h))
 
 -- less of a cell's planes
-closed_more : (m : Coefficients) (cell : List Coefficients) (p : Coordinates) → IsInClosed (m ∷ cell) p →
-    IsInClosed cell p
+closed_more : (m : Coefficients) (cell : List Coefficients) (p : Coordinates) → IsInClosedCell (m ∷ cell) p →
+    IsInClosedCell cell p
 closed_more m cell p h = record { weight = h.weight; below = h.below.1 }
 
-pub all_facets : (t : Tree) (cell : List Coefficients) → IsOfCell cell t →
+pub all_facets : (t : BspTree) (cell : List Coefficients) → IsOfCell cell t →
     All (IsFacetOf cell t) (facets_of t)
 all_facets inside cell h = All-nil (IsFacetOf cell inside)
 all_facets outside cell h = All-nil (IsFacetOf cell outside)
@@ -115,7 +115,7 @@ all_facets (node s b a) cell h =
     }) (facets_of a) (all_facets a (o ∷ cell) h.2))
 
 -- ---- corners
-pub world_corners : (t : Tree) → IsOfWorld t →
+pub world_corners : (t : BspTree) → IsOfWorld t →
     All (λ (x : Outline). (i : ℕ) → i < sides x → IsInClosedWorld (corner x i)) (facets_of t)
 world_corners t h =
     All-weaker (IsFacetOf world_box t) (λ (x : Outline). (i : ℕ) → i < sides x → IsInClosedWorld (corner x i))

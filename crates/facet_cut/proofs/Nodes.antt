@@ -17,13 +17,13 @@ use Rattle.plane_table.specs.declared.sorting.CornerSides.{CornerSides}
 use Rattle.plane_table.specs.Tables.{plane_named}
 use Rattle.plane_table.specs.Faces.{outline_of, AreSidesWhereAcross}
 use Rattle.bsp_tree.specs.Links.{same_leaf}
-use Rattle.bsp_tree.specs.Trees.{Tree}
-use Rattle.bsp_tree.specs.Shapes.{leaf_of, tree_over}
+use Rattle.bsp_tree.specs.Trees.{BspTree}
+use Rattle.bsp_tree.specs.Shapes.{leaf_of, tree_at_link}
 use Rattle.bsp_tree.proofs.Sheets.{node_shown}
 use Rattle.bsp_tree.proofs.Wholes.{leaf_tree}
 use Rattle.facet_cut.specs.declared.stops.CutStop.{CutStop}
 use Rattle.facet_cut.specs.declared.stops.CutStop.TheVariants.{TooMany, NoMemory}
-use Rattle.facet_cut.specs.Facets.{Piece, facets_ahead, facets_facing, on_sides, pieces, facets_of}
+use Rattle.facet_cut.specs.Facets.{Piece, facets_ahead, facets_facing, pieces_on_sides, pieces, facets_of}
 use Rattle.facet_cut.specs.Adding.{Adds}
 
 -- ---- ends
@@ -38,14 +38,14 @@ leaf_pieces f false s = append-nil (f (record { part = s; is_inside = false }))
 
 -- an end has no facets
 pub end_facets : (planes : List Coefficients) (nodes : List (Entry Face)) (side : Bool) →
-    facets_of (tree_over planes nodes (End side)) ≡ []
+    facets_of (tree_at_link planes nodes (End side)) ≡ []
 end_facets planes nodes side = ap facets_of (leaf_tree planes nodes side) ∙ leaf_facets side
 
 -- and a polygon is whole in it
 pub end_pieces : (f : Piece → List Outline) (planes : List Coefficients) (nodes : List (Entry Face)) (side : Bool) (s : Outline) →
-    flat_map f (pieces (tree_over planes nodes (End side)) s) ≡ f (record { part = s; is_inside = side })
+    flat_map f (pieces (tree_at_link planes nodes (End side)) s) ≡ f (record { part = s; is_inside = side })
 end_pieces f planes nodes side s =
-    ap (λ (t : Tree). flat_map f (pieces t s)) (leaf_tree planes nodes side) ∙ leaf_pieces f side s
+    ap (λ (t : BspTree). flat_map f (pieces t s)) (leaf_tree planes nodes side) ∙ leaf_pieces f side s
 
 -- ---- nodes
 -- what the pieces give of a face that lies across the plane of a link's node: what those of its parts give
@@ -53,17 +53,17 @@ pub across_node : (f : Piece → List Outline) (planes : List Coefficients) (nod
     (own face : Face) (behind ahead : Link) (of_face : CornerSides) →
     link ≡ To id → IsNode nodes id own behind ahead →
     AreSidesWhereAcross (outline_of planes face) (plane_named planes own.plane) of_face → of_face.class ≡ Across →
-    flat_map f (pieces (tree_over planes nodes link) (outline_of planes face)) ≡
-    flat_map f (pieces (tree_over planes nodes behind) (part_behind (outline_of planes face) (plane_named planes own.plane))) ++
-    flat_map f (pieces (tree_over planes nodes ahead) (part_ahead (outline_of planes face) (plane_named planes own.plane)))
+    flat_map f (pieces (tree_at_link planes nodes link) (outline_of planes face)) ≡
+    flat_map f (pieces (tree_at_link planes nodes behind) (part_behind (outline_of planes face) (plane_named planes own.plane))) ++
+    flat_map f (pieces (tree_at_link planes nodes ahead) (part_ahead (outline_of planes face) (plane_named planes own.plane)))
 across_node f planes nodes link id own face behind ahead of_face e n h x =
     let s = outline_of planes face in
     let m = plane_named planes own.plane in
-    let b = tree_over planes nodes behind in
-    let a = tree_over planes nodes ahead in
-    ap (λ (at : Link). flat_map f (pieces (tree_over planes nodes at) s)) e
-    ∙ ap (λ (t : Tree). flat_map f (pieces t s)) (node_shown planes nodes id own behind ahead n.tree)
-    ∙ ap (λ (y : Class). flat_map f (on_sides y (pieces b s) (pieces a s) (pieces b (part_behind s m)) (pieces a (part_ahead s m)))) (sym h.class ∙ x)
+    let b = tree_at_link planes nodes behind in
+    let a = tree_at_link planes nodes ahead in
+    ap (λ (at : Link). flat_map f (pieces (tree_at_link planes nodes at) s)) e
+    ∙ ap (λ (t : BspTree). flat_map f (pieces t s)) (node_shown planes nodes id own behind ahead n.tree)
+    ∙ ap (λ (y : Class). flat_map f (pieces_on_sides y (pieces b s) (pieces a s) (pieces b (part_behind s m)) (pieces a (part_ahead s m)))) (sym h.class ∙ x)
     ∙ flat_map-append f (pieces b (part_behind s m)) (pieces a (part_ahead s m))
 
 -- ---- two leaves of one kind
@@ -73,7 +73,7 @@ no_wall true s = refl
 no_wall false s = refl
 
 pub same_leaf_facets : (planes : List Coefficients) (nodes : List (Entry Face)) (side : Bool) (ahead : Link) (s : Outline) → same_leaf (End side) ahead ≡ true →
-    facets_ahead side (tree_over planes nodes ahead) s ≡ []
+    facets_ahead side (tree_at_link planes nodes ahead) s ≡ []
 same_leaf_facets planes nodes true (End true) s e = end_pieces (λ (r : Piece). facets_facing true r.is_inside r.part) planes nodes true s ∙ no_wall true s
 same_leaf_facets planes nodes false (End false) s e = end_pieces (λ (r : Piece). facets_facing false r.is_inside r.part) planes nodes false s ∙ no_wall false s
 same_leaf_facets planes nodes true (End false) s e = absurd (false≢true e)

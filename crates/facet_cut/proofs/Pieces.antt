@@ -8,21 +8,21 @@ use Rattle.plane_predicate.specs.Space.{Coefficients, Coordinates, value, opposi
 use Rattle.plane_predicate.proofs.IntegerRing.{sums}
 use Rattle.plane_predicate.proofs.Identities.{combine, value_combine}
 use Rattle.plane_predicate.proofs.Signs.{signs, neg_neg, zero_cancel}
-use Rattle.plane_polygon.specs.Polygons.{Outline, after, sides, edge, corner, Covers, IsPolygon, IsStrictlyWithin}
+use Rattle.plane_polygon.specs.Polygons.{Outline, index_after, sides, edge, corner, Covers, IsPolygon, IsStrictlyWithin}
 use Rattle.plane_polygon.specs.declared.classes.Class.{Class}
 use Rattle.plane_polygon.specs.declared.classes.Class.TheVariants.{Behind, Ahead, On, Across}
 use Rattle.plane_polygon.specs.Parts.{class_of, part_behind, part_ahead}
 use Rattle.plane_polygon.proofs.Hull.{hull, corner_on, after_below, after_other, after_twice}
 use Rattle.plane_polygon.proofs.Parts.{behind_polygon, ahead_polygon, behind_points, ahead_points}
-use Rattle.bsp_tree.specs.Trees.{Tree, inside, outside, node, walk}
-use Rattle.bsp_tree.specs.Cells.{IsIn, IsAcross, IsOff}
+use Rattle.bsp_tree.specs.Trees.{BspTree, inside, outside, node, walk}
+use Rattle.bsp_tree.specs.Cells.{IsInCell, IsPolygonOfCell, IsOffPlanesOf}
 use Rattle.bsp_tree.proofs.Convexity.{in_closed}
 use Rattle.bsp_tree.proofs.Openness.{often, in_near}
 use Rattle.bsp_tree.proofs.Opposites.{opposite_above, opposite_below}
 use Rattle.bsp_tree.proofs.Halves.{lying, low_half, high_half}
 use Rattle.bsp_tree.proofs.Sides.{LiesBehind, lies_behind, lies_ahead, lies_on, none_ahead}
 use Rattle.bsp_tree.proofs.Walks.{walk_behind, walk_ahead}
-use Rattle.facet_cut.specs.Facets.{Piece, on_sides, pieces}
+use Rattle.facet_cut.specs.Facets.{Piece, pieces_on_sides, pieces}
 use Rattle.facet_cut.specs.Sides.{HasNone, HasOneWhere}
 use Rattle.facet_cut.proofs.Counts.{none_append, where_left, where_right}
 
@@ -48,11 +48,11 @@ second_above u v x y hx h =
 
 -- were it on an edge, then from it away from a corner behind the edge there would be points of the polygon
 -- ahead of it
-edge_behind : (cell : List Coefficients) (s : Outline) (p : Coordinates) → IsAcross cell s → IsIn cell p →
+edge_behind : (cell : List Coefficients) (s : Outline) (p : Coordinates) → IsPolygonOfCell cell s → IsInCell cell p →
     value s.plane p ≡ pos 0 → (j : ℕ) → j < sides s → value (edge s j) p <ℤ pos 0
 edge_behind cell s p h hp on j l =
     let k = sides s in
-    let a = after k j in
+    let a = index_after k j in
     let e = edge s j in
     let u = corner s a in
     let b : value e u <ℤ pos 0 =
@@ -75,8 +75,8 @@ edge_behind cell s p h hp on j l =
       | inr (inr x) ↦ absurd (not_both (value e p) x (((h.covers p).1 (in_closed cell p hp, on)).within j l))
     ]
 
-pub within_cell : (cell : List Coefficients) (s : Outline) (p : Coordinates) → IsAcross cell s →
-    IsIn cell p → value s.plane p ≡ pos 0 → IsStrictlyWithin s p
+pub within_cell : (cell : List Coefficients) (s : Outline) (p : Coordinates) → IsPolygonOfCell cell s →
+    IsInCell cell p → value s.plane p ≡ pos 0 → IsStrictlyWithin s p
 within_cell cell s p h hp on = record { on = on; behind = λ j l. edge_behind cell s p h hp on j l }
 
 -- what is strictly within a polygon is a point of it
@@ -112,14 +112,14 @@ high_part s r m h e = record {
 all_on_sides : (P : Piece → Type 0) (c : Class) (low high low_part high_part : List Piece) → All P low →
     All P high →
     (c ≡ Across → All P low_part) → (c ≡ Across → All P high_part) →
-    All P (on_sides c low high low_part high_part)
+    All P (pieces_on_sides c low high low_part high_part)
 all_on_sides P Behind low high low_part high_part hl hh kl kh = hl
 all_on_sides P On low high low_part high_part hl hh kl kh = hl
 all_on_sides P Ahead low high low_part high_part hl hh kl kh = hh
 all_on_sides P Across low high low_part high_part hl hh kl kh =
     All-append P low_part high_part (kl refl) (kh refl)
 
-pub pieces_parts : (t : Tree) (s r : Outline) → IsPartOf s r →
+pub pieces_parts : (t : BspTree) (s r : Outline) → IsPartOf s r →
     All (λ (q : Piece). IsPartOf s q.part) (pieces t r)
 pieces_parts inside s r h =
     All-cons (λ (q : Piece). IsPartOf s q.part) (record { part = r; is_inside = true }) [] h
@@ -144,7 +144,7 @@ none_flat_map {A} P f (x ∷ xs) h =
     (none_flat_map P f xs (All-tail (λ (y : A). HasNone P (f y)) x xs h))
 
 -- a polygon that doesn't have the point gives none, where pieces without the point give none
-pub none_pieces : (t : Tree) (P : Outline → Type 0) (f : Piece → List Outline) (p : Coordinates)
+pub none_pieces : (t : BspTree) (P : Outline → Type 0) (f : Piece → List Outline) (p : Coordinates)
     (s : Outline) → IsPolygon s → (Covers s p → ⊥) →
     ((q : Piece) → IsPolygon q.part → (Covers q.part p → ⊥) → HasNone P (f q)) →
     HasNone P (flat_map f (pieces t s))
@@ -157,10 +157,10 @@ none_pieces t P f p s h missed k =
 -- ---- and one has it where the one piece that has the point gives one
 -- the piece that has a point of the cell: a polygon of a cell with the point, in the leaf that the walk
 -- reaches
-pub record IsAt (t : Tree) (s : Outline) (p : Coordinates) (q : Piece) : Type 0 where
+pub record IsAt (t : BspTree) (s : Outline) (p : Coordinates) (q : Piece) : Type 0 where
   pub cell : List Coefficients
-  pub across : IsAcross cell q.part
-  pub point_in : IsIn cell p
+  pub across : IsPolygonOfCell cell q.part
+  pub point_in : IsInCell cell p
   pub plane : q.part.plane ≡ s.plane
   pub leaf : q.is_inside ≡ walk t p
 
@@ -171,8 +171,8 @@ zero_least : (x : ℤ) → x ≡ pos 0 → pos 0 ≤ℤ x
 zero_least x h = omega (arith, sums)
 
 -- a polygon's points are on a plane that it lies on
-on_plane : (cell : List Coefficients) (s : Outline) (p : Coordinates) (m : Coefficients) → IsAcross cell s →
-    IsIn cell p → value s.plane p ≡ pos 0 → class_of s m ≡ On → value m p ≡ pos 0
+on_plane : (cell : List Coefficients) (s : Outline) (p : Coordinates) (m : Coefficients) → IsPolygonOfCell cell s →
+    IsInCell cell p → value s.plane p ≡ pos 0 → class_of s m ≡ On → value m p ≡ pos 0
 on_plane cell s p m h hp on e =
     let o = hull s h.polygon p ((h.covers p).1 (in_closed cell p hp, on)) in
     let z : (i : ℕ) → i < sides s → value m (corner s i) ≡ pos 0 = λ i l. lies_on s m e i l in
@@ -198,11 +198,11 @@ parts_none P f xs ys c h k =
 one_behind : (c : Bool) (P : Outline → Type 0) (f : Piece → List Outline) (cell : List Coefficients)
     (s : Outline) (p : Coordinates) (m : Coefficients) (x : Class)
     (low high low_part high_part : List Piece) →
-    class_of s m ≡ x → IsAcross cell s → IsIn cell p → value s.plane p ≡ pos 0 → value m p <ℤ pos 0 →
+    class_of s m ≡ x → IsPolygonOfCell cell s → IsInCell cell p → value s.plane p ≡ pos 0 → value m p <ℤ pos 0 →
     (LiesBehind s m → HasOneWhere c P (flat_map f low)) →
     (x ≡ Across → HasOneWhere c P (flat_map f low_part)) →
     (x ≡ Across → HasNone P (flat_map f high_part)) →
-    HasOneWhere c P (flat_map f (on_sides x low high low_part high_part))
+    HasOneWhere c P (flat_map f (pieces_on_sides x low high low_part high_part))
 one_behind c P f cell s p m Behind low high low_part high_part e h hp on b k kp kn = k (lies_behind s m e)
 one_behind c P f cell s p m Across low high low_part high_part e h hp on b k kp kn =
     none_parts P f low_part high_part c (kp refl) (kn refl)
@@ -216,11 +216,11 @@ one_behind c P f cell s p m On low high low_part high_part e h hp on b k kp kn =
 one_ahead : (c : Bool) (P : Outline → Type 0) (f : Piece → List Outline) (cell : List Coefficients)
     (s : Outline) (p : Coordinates) (m : Coefficients) (x : Class)
     (low high low_part high_part : List Piece) →
-    class_of s m ≡ x → IsAcross cell s → IsIn cell p → value s.plane p ≡ pos 0 → pos 0 <ℤ value m p →
+    class_of s m ≡ x → IsPolygonOfCell cell s → IsInCell cell p → value s.plane p ≡ pos 0 → pos 0 <ℤ value m p →
     (LiesBehind s (opposite_of m) → HasOneWhere c P (flat_map f high)) →
     (x ≡ Across → HasNone P (flat_map f low_part)) →
     (x ≡ Across → HasOneWhere c P (flat_map f high_part)) →
-    HasOneWhere c P (flat_map f (on_sides x low high low_part high_part))
+    HasOneWhere c P (flat_map f (pieces_on_sides x low high low_part high_part))
 one_ahead c P f cell s p m Ahead low high low_part high_part e h hp on b k kn kp = k (lies_ahead s m e)
 one_ahead c P f cell s p m Across low high low_part high_part e h hp on b k kn kp =
     parts_none P f low_part high_part c (kn refl) (kp refl)
@@ -229,14 +229,14 @@ one_ahead c P f cell s p m Behind low high low_part high_part e h hp on b k kn k
 one_ahead c P f cell s p m On low high low_part high_part e h hp on b k kn kp =
     absurd (not_both (value m p) b (zero_most (value m p) (on_plane cell s p m h hp on e)))
 
-at_leaf : (t u : Tree) (s r : Outline) (p : Coordinates) (q : Piece) → r.plane ≡ s.plane →
+at_leaf : (t u : BspTree) (s r : Outline) (p : Coordinates) (q : Piece) → r.plane ≡ s.plane →
     walk u p ≡ walk t p → IsAt u r p q → IsAt t s p q
 at_leaf t u s r p q e w h =
     record { cell = h.cell; across = h.across; point_in = h.point_in; plane = h.plane ∙ e; leaf = h.leaf ∙ w }
 
-pub one_piece : (t : Tree) (c : Bool) (P : Outline → Type 0) (f : Piece → List Outline)
+pub one_piece : (t : BspTree) (c : Bool) (P : Outline → Type 0) (f : Piece → List Outline)
     (cell : List Coefficients) (s : Outline) (p : Coordinates) →
-    IsAcross cell s → IsIn cell p → value s.plane p ≡ pos 0 → IsOff t p →
+    IsPolygonOfCell cell s → IsInCell cell p → value s.plane p ≡ pos 0 → IsOffPlanesOf t p →
     ((q : Piece) → IsAt t s p q → HasOneWhere c P (f q)) →
     ((q : Piece) → IsPolygon q.part → (Covers q.part p → ⊥) → HasNone P (f q)) →
     HasOneWhere c P (flat_map f (pieces t s))
@@ -251,10 +251,10 @@ one_piece outside c P f cell s p h hp on off k kn =
 one_piece (node t b a) c P f cell s p h hp on off k kn =
     let m = t.plane in
     let o = opposite_of t.plane in
-    let off_b : IsOff b p = λ n w. off n (inr (inl w)) in
-    let off_a : IsOff a p = λ n w. off n (inr (inr w)) in
+    let off_b : IsOffPlanesOf b p = λ n w. off n (inr (inl w)) in
+    let off_a : IsOffPlanesOf a p = λ n w. off n (inr (inr w)) in
     elim (signs (value m p)) [
-      | inl v ↦ (let i : IsIn (m ∷ cell) p = record { weight = hp.weight; below = (v, hp.below) } in
+      | inl v ↦ (let i : IsInCell (m ∷ cell) p = record { weight = hp.weight; below = (v, hp.below) } in
           let w = sym (walk_behind t b a p v) in
           one_behind c P f cell s p m (class_of s m) (pieces b s) (pieces a s) (pieces b (part_behind s m))
           (pieces a (part_ahead s m)) refl h hp on v
@@ -265,7 +265,7 @@ one_piece (node t b a) c P f cell s p h hp on off k kn =
           (λ e. none_pieces a P f p (part_ahead s m) (ahead_polygon s m h.polygon e)
           (λ g. not_two (value m p) v ((ahead_points s m h.polygon e p).0 g).1) kn))
       | inr (inl v) ↦ absurd (off m (inl refl) v)
-      | inr (inr v) ↦ (let i : IsIn (o ∷ cell) p =
+      | inr (inr v) ↦ (let i : IsInCell (o ∷ cell) p =
           record { weight = hp.weight; below = (opposite_below m p v, hp.below) } in
           let w = sym (walk_ahead t b a p v) in
           one_ahead c P f cell s p m (class_of s m) (pieces b s) (pieces a s) (pieces b (part_behind s m))

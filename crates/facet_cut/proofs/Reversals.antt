@@ -1,11 +1,11 @@
 -- A polygon seen from the other side is a polygon of the opposite plane, with the same points.
 use Rattle.std.proofs.Common.{◌≡◌, ◌≢◌, inl, inr, ℕ, ◌-◌, ◌<◌, ◌≤◌, [], refl, sym, ap, ap₂, ◌∙◌, subst, subst₂, arith, pos, ◌-ℤ◌, ◌<ℤ◌, ◌≤ℤ◌}
 use Rattle.std.proofs.lemmas.List.{get_or-reverse, length-reverse}
-use Rattle.plane_predicate.specs.Space.{Coefficients, Coordinates, value, cramer, opposite_of}
+use Rattle.plane_predicate.specs.Space.{Coefficients, Coordinates, value, meeting_by_cramers_rule, opposite_of}
 use Rattle.plane_predicate.proofs.Polynomials.{num, minus, ring}
 use Rattle.plane_predicate.proofs.Vectors.{Form, form, of_plane, cramerP}
 use Rattle.plane_predicate.proofs.Opposites.{from_zero, same_plane, same_point}
-use Rattle.plane_polygon.specs.Polygons.{Outline, after, edge, sides, corner, Covers, IsPolygon, IsStrictlyWithin, nowhere}
+use Rattle.plane_polygon.specs.Polygons.{Outline, index_after, edge, sides, corner, Covers, IsPolygon, IsStrictlyWithin, missing_plane}
 use Rattle.plane_polygon.proofs.Hull.{after_is, after_below}
 use Rattle.bsp_tree.proofs.Opposites.{opposite_zero, opposite_back}
 use Rattle.facet_cut.specs.Facets.{reversed_outline}
@@ -23,21 +23,21 @@ turned_form n = record {
   d = minus (num (pos 0)) n.d;
 }
 
-cramer_from_nothing : (n e f : Coefficients) → cramer (from_nothing n) f e ≡ cramer n e f
+cramer_from_nothing : (n e f : Coefficients) → meeting_by_cramers_rule (from_nothing n) f e ≡ meeting_by_cramers_rule n e f
 cramer_from_nothing n e f =
     let xs = of_plane n (of_plane e (of_plane f [])) in
     let left = cramerP (turned_form (form 0)) (form 8) (form 4) in
     let right = cramerP (form 0) (form 4) (form 8) in
-    same_point (cramer (from_nothing n) f e).x (cramer (from_nothing n) f e).y
-    (cramer (from_nothing n) f e).z (cramer (from_nothing n) f e).w
-    (cramer n e f).x (cramer n e f).y (cramer n e f).z (cramer n e f).w
+    same_point (meeting_by_cramers_rule (from_nothing n) f e).x (meeting_by_cramers_rule (from_nothing n) f e).y
+    (meeting_by_cramers_rule (from_nothing n) f e).z (meeting_by_cramers_rule (from_nothing n) f e).w
+    (meeting_by_cramers_rule n e f).x (meeting_by_cramers_rule n e f).y (meeting_by_cramers_rule n e f).z (meeting_by_cramers_rule n e f).w
     (ring xs left.x right.x refl) (ring xs left.y right.y refl) (ring xs left.z right.z refl)
     (ring xs left.w right.w refl)
 
-cramer_turned : (n e f : Coefficients) → cramer (opposite_of n) f e ≡ cramer n e f
+cramer_turned : (n e f : Coefficients) → meeting_by_cramers_rule (opposite_of n) f e ≡ meeting_by_cramers_rule n e f
 cramer_turned n e f =
     let o = opposite_of n in
-    ap (λ (m : Coefficients). cramer m f e)
+    ap (λ (m : Coefficients). meeting_by_cramers_rule m f e)
     (sym (same_plane (pos 0 -ℤ n.a) (pos 0 -ℤ n.b) (pos 0 -ℤ n.c) (pos 0 -ℤ n.d) o.a o.b o.c o.d
     (from_zero n.a) (from_zero n.b) (from_zero n.c) (from_zero n.d)))
     ∙ cramer_from_nothing n e f
@@ -47,13 +47,13 @@ pub reversed_sides : (s : Outline) → sides (reversed_outline s) ≡ sides s
 reversed_sides s = length-reverse s.edges
 
 reversed_edge : (s : Outline) (i : ℕ) → i < sides s → edge (reversed_outline s) i ≡ edge s (sides s - 1 - i)
-reversed_edge s i h = get_or-reverse s.edges i nowhere h
+reversed_edge s i h = get_or-reverse s.edges i missing_plane h
 
 -- the corner that corner i is, seen from the other side
 abbrev other : ℕ → ℕ → ℕ
-other k i = k - 1 - after k i
+other k i = k - 1 - index_after k i
 
-other_after : (k i : ℕ) → i < k → after k (other k i) ≡ k - 1 - i
+other_after : (k i : ℕ) → i < k → index_after k (other k i) ≡ k - 1 - i
 other_after k i h = elim (after_is k i) [
   | inl p ↦ elim (after_is k (other k i)) [ inl q ↦ omega arith | inr q ↦ absurd (omega arith) ]
   | inr p ↦ elim (after_is k (other k i)) [ inl q ↦ absurd (omega arith) | inr q ↦ omega arith ]
@@ -71,12 +71,12 @@ mirrored_apart k i j h l n e = n (omega arith)
 reversed_corner : (s : Outline) (i : ℕ) → i < sides s → corner (reversed_outline s) i ≡ corner s (other (sides s) i)
 reversed_corner s i h =
     let k = sides s in
-    ap (λ (c : ℕ). cramer (opposite_of s.plane) (edge (reversed_outline s) i) (edge (reversed_outline s) (after c i)))
+    ap (λ (c : ℕ). meeting_by_cramers_rule (opposite_of s.plane) (edge (reversed_outline s) i) (edge (reversed_outline s) (index_after c i)))
     (reversed_sides s)
-    ∙ ap₂ (cramer (opposite_of s.plane)) (reversed_edge s i h)
-    (reversed_edge s (after k i) (after_below k i h))
+    ∙ ap₂ (meeting_by_cramers_rule (opposite_of s.plane)) (reversed_edge s i h)
+    (reversed_edge s (index_after k i) (after_below k i h))
     ∙ cramer_turned s.plane (edge s (other k i)) (edge s (k - 1 - i))
-    ∙ ap (λ (j : ℕ). cramer s.plane (edge s (other k i)) (edge s j)) (sym (other_after k i h))
+    ∙ ap (λ (j : ℕ). meeting_by_cramers_rule s.plane (edge s (other k i)) (edge s j)) (sym (other_after k i h))
 
 -- it is a polygon
 pub reversed_polygon : (s : Outline) → IsPolygon s → IsPolygon (reversed_outline s)
@@ -89,11 +89,11 @@ reversed_polygon s p =
       behind = λ i j l m n o. (
           let b : i < k = subst (λ (c : ℕ). i < c) (reversed_sides s) l in
           let c : j < k = subst (λ (d : ℕ). j < d) (reversed_sides s) m in
-          let q : j ≢ after k i = subst (λ (d : ℕ). j ≢ after d i) (reversed_sides s) o in
+          let q : j ≢ index_after k i = subst (λ (d : ℕ). j ≢ index_after d i) (reversed_sides s) o in
           subst₂ (λ (e : Coefficients) (v : Coordinates). value e v <ℤ pos 0) (sym (reversed_edge s j c))
           (sym (reversed_corner s i b))
           (p.behind (other k i) (k - 1 - j) (other_below k i b) (mirrored k j c)
-          (mirrored_apart k (after k i) j (after_below k i b) c q)
+          (mirrored_apart k (index_after k i) j (after_below k i b) c q)
           (λ w. mirrored_apart k i j b c n (w ∙ other_after k i b))));
     }
 

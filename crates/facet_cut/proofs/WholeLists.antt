@@ -3,14 +3,14 @@ use Rattle.std.proofs.Common.{◌≡◌, All, List, Vec, Result, IfOk, sym, subs
 use Rattle.std.proofs.lemmas.Result.{IfOk-weaker}
 use Rattle.plane_predicate.specs.Space.{Coefficients}
 use Rattle.plane_polygon.specs.Polygons.{Outline}
-use Rattle.bsp_tree.specs.Trees.{Tree}
+use Rattle.bsp_tree.specs.Trees.{BspTree}
 use Rattle.bsp_tree.specs.Cells.{IsOfCell}
 use Rattle.facet_cut.specs.Facets.{facets_of}
 use Rattle.facet_cut.specs.Sides.{BoundSolid, IsFacetOf}
 use Rattle.facet_cut.proofs.FacetPolygons.{all_facets}
 use Rattle.facet_cut.proofs.Boundaries.{facets_bound}
 
-module _ {Z E : Type 0} (t : Tree) (result : Result (Vec Outline Z) E) (h : IfOk result (λ v. v.items ≡ facets_of t)) where
+module _ {Z E : Type 0} (t : BspTree) (result : Result (Vec Outline Z) E) (h : IfOk result (λ v. v.items ≡ facets_of t)) where
   pub list_polygons : IfOk result (λ v. (cell : List Coefficients) → IsOfCell cell t → All (IsFacetOf cell t) v.items)
   list_polygons =
       IfOk-weaker result (λ v. v.items ≡ facets_of t)

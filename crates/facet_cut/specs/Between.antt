@@ -7,13 +7,13 @@ use Rattle.plane_table.specs.Tables.{plane_named}
 use Rattle.plane_table.specs.Cuts.{part_in}
 use Rattle.plane_table.specs.Faces.{outline_of}
 use Rattle.plane_polygon.specs.Polygons.{Outline}
-use Rattle.bsp_tree.specs.Trees.{Tree}
-use Rattle.bsp_tree.specs.Shapes.{tree_over}
+use Rattle.bsp_tree.specs.Trees.{BspTree}
+use Rattle.bsp_tree.specs.Shapes.{tree_at_link}
 use Rattle.facet_cut.specs.declared.walls.Walls.{Walls}
 
 -- the solid at a link
-abbrev pub solid_at : Walls → Link → Tree
-solid_at walls link = tree_over walls.table.now walls.forest.now.nodes link
+abbrev pub solid_at : Walls → Link → BspTree
+solid_at walls link = tree_at_link walls.table.now walls.forest.now.nodes link
 
 -- the outline of a face
 abbrev pub outline_at : Walls → Face → Outline

@@ -4,12 +4,12 @@ use Rattle.std.specs.Prelude.{◌≡◌, ◌≢◌, ◌⊎◌, Bool, true, false
 use Rattle.plane_predicate.specs.Space.{Coefficients, Coordinates, value, opposite_of}
 use Rattle.plane_polygon.specs.Polygons.{Outline, Covers, IsPolygon, IsStrictlyWithin}
 use Rattle.plane_polygon.specs.Parts.{is_behind}
-use Rattle.bsp_tree.specs.Trees.{Tree, inside, outside, node}
-use Rattle.bsp_tree.specs.Cells.{IsIn, IsInClosed, IsPlaneOf}
+use Rattle.bsp_tree.specs.Trees.{BspTree, inside, outside, node}
+use Rattle.bsp_tree.specs.Cells.{IsInCell, IsInClosedCell, IsPlaneOf}
 
 -- the walk that takes, at each node, the side that its plane is given (true: behind): whether it ends in a
 -- leaf inside
-abbrev pub walk_by : Tree → (Coefficients → Bool) → Bool
+abbrev pub walk_by : BspTree → (Coefficients → Bool) → Bool
 walk_by inside sides = true
 walk_by outside sides = false
 walk_by (node t b a) sides = if sides t.plane then walk_by b sides else walk_by a sides
@@ -27,9 +27,9 @@ pub record AreJustAhead (n : Coefficients) (p : Coordinates) (sides : Coefficien
   pub others : (m : Coefficients) → m ≢ n → m ≢ opposite_of n → sides m ≡ is_behind m p
 
 -- the point is in the cell and on n, and on no plane of the solid but n and its opposite
-pub record IsOnOnePlane (cell : List Coefficients) (t : Tree) (n : Coefficients) (p : Coordinates) : Type 0
+pub record IsOnOneNodePlane (cell : List Coefficients) (t : BspTree) (n : Coefficients) (p : Coordinates) : Type 0
   where
-    pub point_in : IsIn cell p
+    pub point_in : IsInCell cell p
     pub on : value n p ≡ pos 0
     pub alone : (m : Coefficients) → IsPlaneOf m t → value m p ≡ pos 0 → (m ≡ n) ⊎ (m ≡ opposite_of n)
 
@@ -40,10 +40,10 @@ pub record CoversFacing (n : Coefficients) (p : Coordinates) (s : Outline) : Typ
 
 -- what each facet of a solid of a cell is: a polygon, of the plane of some node or its opposite, whose
 -- points are points of the closed cell
-pub record IsFacetOf (cell : List Coefficients) (t : Tree) (s : Outline) : Type 0 where
+pub record IsFacetOf (cell : List Coefficients) (t : BspTree) (s : Outline) : Type 0 where
   pub polygon : IsPolygon s
   pub plane : IsPlaneOf s.plane t ⊎ IsPlaneOf (opposite_of s.plane) t
-  pub closed : (p : Coordinates) → Covers s p → IsInClosed cell p
+  pub closed : (p : Coordinates) → Covers s p → IsInClosedCell cell p
 
 -- no item has P
 abbrev pub HasNone : {A : Type 0} → (A → Type 0) → List A → Type 0
@@ -62,8 +62,8 @@ HasOneWhere false P xs = HasNone P xs
 
 -- the facets bound a solid in a cell: where it is inside just behind a point on one of its planes and not
 -- just ahead, exactly one facet covers the point and faces that way, and none does otherwise
-abbrev pub BoundSolid : List Coefficients → Tree → List Outline → Type 0
+abbrev pub BoundSolid : List Coefficients → BspTree → List Outline → Type 0
 BoundSolid cell t facets =
-    (n : Coefficients) (p : Coordinates) → IsOnOnePlane cell t n p →
+    (n : Coefficients) (p : Coordinates) → IsOnOneNodePlane cell t n p →
     (low high : Coefficients → Bool) → AreJustBehind n p low → AreJustAhead n p high →
     HasOneWhere (walk_by t low && not (walk_by t high)) (CoversFacing n p) facets

@@ -3,7 +3,7 @@
 ghost use Rattle.std.specs.Prelude.{◌↔◌, ◌<◌, ℕ, List, All};
 ghost use Rattle.plane_predicate.specs.Space.{Coefficients, Coordinates, IsInClosedWorld};
 ghost use Rattle.plane_polygon.specs.Polygons.{corner, sides, Covers, IsPolygon, IsStrictlyWithin, Outline};
-ghost use Rattle.bsp_tree.specs.Trees.{Tree};
+ghost use Rattle.bsp_tree.specs.Trees.{BspTree};
 ghost use Rattle.bsp_tree.specs.Cells.{IsOfCell, IsOfWorld};
 ghost use Rattle.facet_cut.specs.Facets.{facets_of, reversed_outline};
 ghost use Rattle.facet_cut.specs.Sides.{BoundSolid, IsFacetOf};
@@ -20,9 +20,9 @@ pub fn reversed_polygons_are_polygons()
 /// its points are points of the closed cell. So the corners of a facet of a solid of the world box
 /// lie in the closed world box.
 pub fn facets_are_polygons()
-    ensures facets { (cell : List Coefficients) (t : Tree) → IsOfCell cell t →
+    ensures facets { (cell : List Coefficients) (t : BspTree) → IsOfCell cell t →
         All (IsFacetOf cell t) (facets_of t) }
-    ensures corners { (t : Tree) → IsOfWorld t →
+    ensures corners { (t : BspTree) → IsOfWorld t →
         All (λ s. (i : ℕ) → i < sides s → IsInClosedWorld (corner s i)) (facets_of t) }
 {}
 
@@ -31,6 +31,6 @@ pub fn facets_are_polygons()
 /// seen from that side, ends inside and the walk just ahead ends outside, exactly one facet covers
 /// the point and faces that side. Otherwise none does.
 pub fn facets_bound_their_solid()
-    ensures { (cell : List Coefficients) (t : Tree) → IsOfCell cell t →
+    ensures { (cell : List Coefficients) (t : BspTree) → IsOfCell cell t →
         BoundSolid cell t (facets_of t) }
 {}

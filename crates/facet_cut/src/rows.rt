@@ -7,7 +7,7 @@ ghost use Rattle.bsp_tree.specs.Shapes.{AreFacesOver};
 ghost use Rattle.facet_cut.specs.Facets.{facets_of};
 ghost use Rattle.facet_cut.specs.Adding.{Adds};
 ghost use Rattle.facet_cut.specs.Between.{solid_at};
-ghost use Rattle.facet_cut.specs.Rows.{facets_at, facets_on_top, AreNodes, IsCut};
+ghost use Rattle.facet_cut.specs.Rows.{facets_at, facets_on_top, AreNodes, AreFacetsWithin};
 
 use crate::walls::Walls;
 use crate::{CutStop, Facet};
@@ -42,7 +42,7 @@ impl<'a> Walls<'a> {
     pub fn facets_on(&self, alloc: Global, ids: &[NodeId], most: u64) -> Result<Vec<Facet>, CutStop>
         requires faces { AreFacesOver self.now.table.now self.now.forest.now.nodes }
         requires there { AreNodes self.now.forest.now.nodes ids.now }
-        ensures { IsCut (facets_at self.now.table.now self.now.forest.now.nodes ids.now) most result }
+        ensures { AreFacetsWithin (facets_at self.now.table.now self.now.forest.now.nodes ids.now) most result }
     {
         let mut found = Vec::new(alloc);
         for id in ids {

@@ -10,7 +10,7 @@ ghost use Rattle.facet_cut.specs.Facets.{facets_of};
 ghost use Rattle.facet_cut.specs.Sides.{BoundSolid, IsFacetOf};
 ghost use Rattle.facet_cut.specs.Adding.{Adds};
 ghost use Rattle.facet_cut.specs.Between.{solid_at};
-ghost use Rattle.facet_cut.specs.Rows.{facets_at, first_rows, AreCut, AreNodes, IsCut};
+ghost use Rattle.facet_cut.specs.Rows.{facets_at, first_rows, AreFacetsOfRows, AreNodes, AreFacetsWithin};
 
 use crate::cutting::{facet_list, table_of};
 use crate::walls::Walls;
@@ -86,7 +86,7 @@ impl<'a> Walls<'a> {
         requires faces { AreFacesOver self.now.table.now self.now.forest.now.nodes }
         requires link { IsLinkOf self.now.forest.now.nodes root }
         requires workers { 0 < workers }
-        ensures { IsCut (facets_of (solid_at self.now root)) most result }
+        ensures { AreFacetsWithin (facets_of (solid_at self.now root)) most result }
     {
         let mut ids = Vec::new(alloc);
         self.push_nodes(root, &mut ids)?;
@@ -109,14 +109,14 @@ impl<'a> Walls<'a> {
         requires size { 0 < size }
         ensures whole { IfOk result (λ rows. length ids.now ≤ length rows.items * size) }
         ensures rows { IfOk result
-            (λ rows. AreCut
+            (λ rows. AreFacetsOfRows
             (λ n. facets_at self.now.table.now self.now.forest.now.nodes
             (slice_chunk ids.now size n)) most rows.items) }
     {
         let of_row = |_start: usize, row: &[NodeId]| -> Result<Vec<Facet>, CutStop>
             requires { AreFacesOver self.now.table.now self.now.forest.now.nodes ×
                 AreNodes self.now.forest.now.nodes row.now }
-            ensures { IsCut (facets_at self.entry.now.table.now self.entry.now.forest.now.nodes
+            ensures { AreFacetsWithin (facets_at self.entry.now.table.now self.entry.now.forest.now.nodes
                 row.now) most result }
         { self.facets_on(alloc, row, most) };
         Ok(thread::map_chunks(rt, alloc, ids, size, &of_row)?)
@@ -138,8 +138,8 @@ fn join_rows(
     rows: Vec<Result<Vec<Facet>, CutStop>>,
     most: u64,
 ) -> Result<Vec<Facet>, CutStop>
-    ensures { (row : ℕ → List Outline) → AreCut row most rows.items →
-        IsCut (first_rows row (length rows.items)) most result }
+    ensures { (row : ℕ → List Outline) → AreFacetsOfRows row most rows.items →
+        AreFacetsWithin (first_rows row (length rows.items)) most result }
 {
     let mut found = Vec::new(alloc);
     for row in rows {
@@ -155,7 +155,7 @@ fn push_row(
     found: &mut Vec<Facet>,
 ) -> Result<(), CutStop>
     requires { length found.old.items ≤ most }
-    ensures adds { (facets : List Outline) → IsCut facets most row →
+    ensures adds { (facets : List Outline) → AreFacetsWithin facets most row →
         Adds facets most found.old.items found.new.items result }
     ensures within { OnOk result (length found.new.items ≤ most) }
 {

@@ -1,9 +1,9 @@
 //! Phrases that ask what a solid or a list of facets is.
 
+use crate::numbers::point;
+use crate::put::put_corners;
 use bsp_tree::{Link, Solid, holds};
-use case_lines::{CaseStop, found, put, put_number};
-use case_planes::{put_plane, put_stroked, unit_of};
-use case_solids::{point, put_corners};
+use case_lines::{CaseStop, found, put, put_number, put_plane, put_stroked, unit_of};
 use facet_cut::{CutStop, Facet, facets, facets_by};
 use off_text::{OffStop, off_bytes, off_bytes_by};
 use plane_predicate::Unit;

@@ -1,10 +1,11 @@
 //! Things put together by phrases.
 
 use crate::asking::{Hands, ask, asking_of, print, printing_of};
+use crate::faces::put_face;
 use crate::polygons::{Polygons, shaping_of};
-use case_lines::{CaseStop, Phrase};
-use case_planes::{Walls, lay, laying_of};
-use case_solids::{Solids, building_of, put_face, put_tabled, tabling_of};
+use crate::solids::{Solids, building_of};
+use crate::tables::{put_tabled, tabling_of};
+use case_lines::{CaseStop, Phrase, Walls, lay, laying_of};
 use std::alloc::Global;
 use std::thread::Threads;
 

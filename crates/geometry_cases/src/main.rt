@@ -33,11 +33,17 @@
 
 mod asking;
 mod build;
+mod faces;
+mod numbers;
 mod polygons;
+mod put;
+mod questions;
+mod solids;
+mod tables;
 
 use crate::build::Bench;
+use crate::questions::put_about;
 use case_lines::{CaseStop, answer_cases, cut, phrases_of, put_next, unfolded};
-use case_solids::put_about;
 use std::alloc::Global;
 use std::process::ExitCode;
 use std::thread::Threads;

@@ -2,9 +2,8 @@
 
 ghost use Rattle.plane_predicate.specs.Space.{ComesInReach};
 
-use case_lines::{CaseStop, found, put_number};
-use case_planes::{high, low};
-use case_solids::{put_class, put_corners};
+use crate::put::{put_class, put_corners};
+use case_lines::{CaseStop, found, high, low, put_number};
 use facet_cut::Facet;
 use plane_polygon::{Class, Polygon, box_polygon, cut, sort_by};
 use plane_predicate::Plane;

@@ -7,7 +7,7 @@ use Rattle.plane_predicate.proofs.Polynomials.{var, num, times, ring}
 use Rattle.plane_predicate.proofs.Vectors.{determinantP}
 use Rattle.int_transform.specs.declared.affine.Row.{Row}
 use Rattle.int_transform.specs.declared.affine.Affine.{Affine}
-use Rattle.int_transform.specs.Maps.{cosine_of, determinant_of, diagonal, quarter_turn, power_of, rotation_of, sine_of, IsMatrix, IsMatrixRow, IsSafeRow, IsStep}
+use Rattle.int_transform.specs.Maps.{cosine_of, determinant_of, diagonal, quarter_rotation, power_of, rotation_of, sine_of, IsMatrix, IsMatrixRow, IsSafeRow, IsStep}
 
 pub no_product : (a b : ℤ) → (a ≡ pos 0 → ⊥) → (b ≡ pos 0 → ⊥) → a *ℤ b ≡ pos 0 → ⊥
 no_product a b ha hb e =
@@ -42,7 +42,7 @@ unit_row : (a b c : ℤ) → unsigned_abs a ≤ 1 → unsigned_abs b ≤ 1 → u
 unit_row a b c ha hb hc = record { a_size = omega arith; b_size = omega arith; c_size = omega arith; d_size = omega arith }
 
 -- the quarter turns in numbers
-pub rotation_is : (axis turns : ℕ) → axis < 3 → turns < 4 → rotation_of axis (cosine_of turns) (sine_of turns) ≡ power_of (quarter_turn axis) turns
+pub rotation_is : (axis turns : ℕ) → axis < 3 → turns < 4 → rotation_of axis (cosine_of turns) (sine_of turns) ≡ power_of (quarter_rotation axis) turns
 rotation_is zero zero h k = refl
 rotation_is zero (suc zero) h k = refl
 rotation_is zero (suc (suc zero)) h k = refl

@@ -57,18 +57,18 @@ reflection (suc zero) = diagonal (pos 1) (negsuc 0) (pos 1) (pos 0) (pos 0) (pos
 reflection (suc (suc n)) = diagonal (pos 1) (pos 1) (negsuc 0) (pos 0) (pos 0) (pos 0)
 
 -- a right-handed quarter turn about axis 0, 1 or 2: about z, x goes to y (User Manual, rotate)
-abbrev pub quarter_turn : ℕ → Affine
-quarter_turn zero = record {
+abbrev pub quarter_rotation : ℕ → Affine
+quarter_rotation zero = record {
   x = record { a = pos 1; b = pos 0; c = pos 0; d = pos 0 };
   y = record { a = pos 0; b = pos 0; c = negsuc 0; d = pos 0 };
   z = record { a = pos 0; b = pos 1; c = pos 0; d = pos 0 };
 }
-quarter_turn (suc zero) = record {
+quarter_rotation (suc zero) = record {
   x = record { a = pos 0; b = pos 0; c = pos 1; d = pos 0 };
   y = record { a = pos 0; b = pos 1; c = pos 0; d = pos 0 };
   z = record { a = negsuc 0; b = pos 0; c = pos 0; d = pos 0 };
 }
-quarter_turn (suc (suc n)) = record {
+quarter_rotation (suc (suc n)) = record {
   x = record { a = pos 0; b = negsuc 0; c = pos 0; d = pos 0 };
   y = record { a = pos 1; b = pos 0; c = pos 0; d = pos 0 };
   z = record { a = pos 0; b = pos 0; c = pos 1; d = pos 0 };

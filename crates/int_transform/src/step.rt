@@ -2,7 +2,7 @@
 
 ghost use Rattle.std.specs.Prelude.{◌≡◌, ◌<◌, ◌≤◌, ◌⊎◌, ◌↔◌, ◌*◌, ◌+ℤ◌, ◌*ℤ◌, pos, unsigned_abs, IfSome, IsNone};
 ghost use Rattle.plane_predicate.specs.Space.{point_at, minor};
-ghost use Rattle.int_transform.specs.Maps.{affine_of, coordinates, determinant_of, cosine_of, diagonal as diagonal_of, image, reflection, translation, quarter_turn, power_of, rotation_of, row_of, scale_map, sine_of, HasSafeCoordinates, IsMatrix};
+ghost use Rattle.int_transform.specs.Maps.{affine_of, coordinates, determinant_of, cosine_of, diagonal as diagonal_of, image, reflection, translation, quarter_rotation, power_of, rotation_of, row_of, scale_map, sine_of, HasSafeCoordinates, IsMatrix};
 
 use crate::affine::{Affine, Row};
 use crate::sums::safe_value;
@@ -45,7 +45,7 @@ impl Step {
     pub fn quarter(axis: u8, turns: u8) -> Step
         requires axis_is { axis < 3 }
         requires turns_are { turns < 4 }
-        ensures { result ≡ power_of (quarter_turn axis) turns }
+        ensures { result ≡ power_of (quarter_rotation axis) turns }
     {
         Step {
             map: rotation(axis, cosine(turns), sine(turns)),

@@ -4,8 +4,7 @@
 ghost use Rattle.std.specs.Prelude.{◌≤◌, ◌^◌, length};
 
 use crate::text::put_stop;
-use case_lines::{put, put_number};
-use case_planes::put_planes;
+use case_lines::{put, put_number, put_planes};
 use csg_tree::{CsgTree, Op};
 use plane_predicate::{Plane, Unit};
 use scad_eval::evaluate;

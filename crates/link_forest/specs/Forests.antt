@@ -11,7 +11,7 @@ pub data Branch (A : Type 0) : Type 0 where
   fork : A → Branch A → Branch A → Branch A
 
 -- a forest: its nodes in order of number, and for how many more there is room
-pub record Stored (A : Type 0) : Type 0 where
+pub record StoredForest (A : Type 0) : Type 0 where
   pub nodes : List (Entry A)
   pub spare : ℕ
 

@@ -24,9 +24,9 @@ pub struct Forest<T> {
 
 impl<T> Model for Forest<T> {
     ghost use Rattle.std.specs.Prelude.{◌-◌, vec_len, vec_capacity};
-    ghost use Rattle.link_forest.specs.Forests.{Stored, AreLinked};
+    ghost use Rattle.link_forest.specs.Forests.{StoredForest, AreLinked};
 
-    ghost Value = { Stored T };
+    ghost Value = { StoredForest T };
 
     ghost view = { λ f. record { nodes = f.entries.items; spare = vec_capacity f.entries - vec_len f.entries } };
 

@@ -6,7 +6,7 @@ use Rattle.std.specs.List.{IsDistinct}
 use Rattle.std.specs.Map.{keys_of}
 use Rattle.std.proofs.lemmas.List.{length-map, map-append, length-append}
 use Rattle.memo_core.specs.Memo.{evicted_by, evicted_in, brought_to_front, same_name, has_key, holds, itself, Entry, Mark, Item, Answer, Fill_answer, item, entries_after_offer_where, entries_after_offer, entries_to_place_where, entries_to_place, DropsFrom, entries_after_fill, fill_answer, entries_after_call, answer_at, replay, entries_max}
-use Rattle.memo_core.specs.Views.{Core, IsSound, MaySay, mark_in, marks, new_entry, after_fill}
+use Rattle.memo_core.specs.Views.{MemoView, IsSound, MaySay, mark_in, marks, new_entry, after_fill}
 use Rattle.memo_core.specs.Fields.{entry_of, entries_of, item_of, items_of}
 use Rattle.memo_core.specs.Plans.{IsKept, IsShelf, slot_mark}
 use Rattle.memo_core.specs.declared.slots.Slot.{Slot}
@@ -88,7 +88,7 @@ may_say {K} {V} same name_of fits weighs budget share caller key value weight es
   go (Some kept) = (value, f, w)
 
 module _ {K V : Type 0} (same : K → K → Bool) (name_of : K → List ℕ) where
-  pub after_fill_sound : (fits : K → V → Type 0) (weighs : V → ℕ) (g : List (Entry K V)) (caller : ℕ) (key : K) (value : V) (weight : ℕ) (core : Core K V)
+  pub after_fill_sound : (fits : K → V → Type 0) (weighs : V → ℕ) (g : List (Entry K V)) (caller : ℕ) (key : K) (value : V) (weight : ℕ) (core : MemoView K V)
       → IsSound same name_of fits weighs core → fits key value → weight ≡ weighs value
       → IsDistinct same_name (map (λ e. e.mark.name) (after_fill same name_of caller key value weight core).entries)
       → sum_by (λ e. e.mark.weight) (after_fill same name_of caller key value weight core).entries ≤ core.budget
@@ -126,7 +126,7 @@ module _ {K V : Type 0} (same : K → K → Bool) (name_of : K → List ℕ) (ca
   abbrev made : Entry K V
   made = new_entry name_of caller key value weight
 
-  abbrev old : List (JournalItem K) → Core K V
+  abbrev old : List (JournalItem K) → MemoView K V
   old js = record { entries = es; dropped = g; budget = b; share = h; journal = items_of js; spare = s }
 
   same_where : (held : Bool) (x y : List (Entry K V)) → (held ≡ true → x ≡ y) → entries_after_offer_where mark_in b h held x made es ≡ entries_after_offer_where mark_in b h held y made es
@@ -184,28 +184,28 @@ module _ {K V : Type 0} (same : K → K → Bool) (name_of : K → List ℕ) (ca
         (drops_map entry_of (entries_to_place_where held (is_some r) new shelf.cache.entries) gone gone' shelf'.cache.entries d)
 
     pub filled_is : (js ks : List (JournalItem K)) (j : JournalItem K) → ks ≡ js ++ j ∷ [] → item_of j ≡ item caller key (Fill_answer weight (is_some r) (unwrap_or r 0)) → t ≡ s - 1
-        → ◌≡◌ {A = Core K V} (record { entries = fs; dropped = g'; budget = b; share = h; journal = items_of ks; spare = t }) (record (after_fill same name_of caller key value weight (old js)) { dropped = g' })
+        → ◌≡◌ {A = MemoView K V} (record { entries = fs; dropped = g'; budget = b; share = h; journal = items_of ks; spare = t }) (record (after_fill same name_of caller key value weight (old js)) { dropped = g' })
     filled_is js ks j k i r = core_is entries_are (ap items_of k ∙ map-append item_of js (j ∷ []) ∙ ap (λ x. items_of js ++ x ∷ []) (i ∙ ap (item caller key) said_is)) r
 
   pub fill_kept : (fits : K → V → Type 0) (weighs : V → ℕ) (d d' : ℕ) (js ks : List (JournalItem K))
       → IsKept same name_of fits weighs shelf d (old js) → fits key value → weight ≡ weighs value → IsShelf b shelf' → IsDistinct same_name (keys_of shelf'.cache.entries)
       → d' ≡ d + evicted_by (fill_answer same mark_in b h made es)
-      → ◌≡◌ {A = Core K V} (record { entries = fs; dropped = g'; budget = b; share = h; journal = items_of ks; spare = t }) (record (after_fill same name_of caller key value weight (old js)) { dropped = g' })
+      → ◌≡◌ {A = MemoView K V} (record { entries = fs; dropped = g'; budget = b; share = h; journal = items_of ks; spare = t }) (record (after_fill same name_of caller key value weight (old js)) { dropped = g' })
       → IsKept same name_of fits weighs shelf' d' (record { entries = fs; dropped = g'; budget = b; share = h; journal = items_of ks; spare = t })
   fill_kept fits weighs n n' js ks kept f g shelved d count is =
-      let e : fs ≡ (after_fill same name_of caller key value weight (old js)).entries = ap (λ (x : Core K V). x.entries) is in
+      let e : fs ≡ (after_fill same name_of caller key value weight (old js)).entries = ap (λ (x : MemoView K V). x.entries) is in
       let i : Item K = item caller key (fill_answer same mark_in b h made es) in record {
         shelved = shelved;
         counted =
             let more = evicted_more (items_of js) i in
-            omega (arith, count, kept.counted, more) ∙ ap (λ (x : Core K V). evicted_in x.journal) (sym is);
+            omega (arith, count, kept.counted, more) ∙ ap (λ (x : MemoView K V). evicted_in x.journal) (sym is);
         filled_before =
-            let longer = ap (λ (x : Core K V). length x.journal) is in
+            let longer = ap (λ (x : MemoView K V). length x.journal) is in
             let more = length-append (items_of js) (i ∷ []) in
             let rest = ap length e in
             omega (arith, count, kept.filled_before, longer, more, rest, filled_counted same b h made es);
         sound =
-            subst (λ (x : Core K V). IsSound same name_of fits weighs x) (sym is)
+            subst (λ (x : MemoView K V). IsSound same name_of fits weighs x) (sym is)
             (after_fill_sound same name_of fits weighs g' caller key value weight (old js) kept.sound f g
             (subst (IsDistinct same_name) (sym (names_are shelf'.cache.entries) ∙ ap (map (λ x. x.mark.name)) e) d)
             (subst (λ xs. sum_by (λ x. x.mark.weight) xs ≤ b) e (let w = sum_by_map entry_of (λ x. x.mark.weight) shelf'.cache.entries in omega (arith, w, shelved.kept_weight, shelved.within)))

@@ -5,7 +5,7 @@ use Rattle.std.specs.List.{AllByRecursion, IsDistinct}
 use Rattle.std.specs.Map.{keys_of}
 use Rattle.lru.specs.LruCache.{promoted}
 use Rattle.memo_core.specs.Memo.{first_with, brought_to_front, same_name, has_key, holds, itself, Entry, Item, Probe_answer, item, replay}
-use Rattle.memo_core.specs.Views.{Core, IsSound, MaySay, mark_in, marks, after_probe}
+use Rattle.memo_core.specs.Views.{MemoView, IsSound, MaySay, mark_in, marks, after_probe}
 use Rattle.memo_core.specs.Fields.{entry_of, entries_of}
 use Rattle.memo_core.specs.declared.slots.Slot.{Slot}
 use Rattle.memo_core.proofs.Lists.{first_map, brought_map, brought_agree, all_brought, sum_brought, length_brought}
@@ -13,7 +13,7 @@ use Rattle.memo_core.proofs.Shelves.{promoted_brought}
 use Rattle.memo_core.proofs.Journals.{replay_more, legal_more, all_more}
 
 module _ {K V : Type 0} where
-  pub core_is : {e f g : List (Entry K V)} {b h : ℕ} {j k : List (Item K)} {s t : ℕ} → e ≡ f → j ≡ k → s ≡ t → ◌≡◌ {A = Core K V} (record { entries = e; dropped = g; budget = b; share = h; journal = j; spare = s }) (record { entries = f; dropped = g; budget = b; share = h; journal = k; spare = t })
+  pub core_is : {e f g : List (Entry K V)} {b h : ℕ} {j k : List (Item K)} {s t : ℕ} → e ≡ f → j ≡ k → s ≡ t → ◌≡◌ {A = MemoView K V} (record { entries = e; dropped = g; budget = b; share = h; journal = j; spare = s }) (record { entries = f; dropped = g; budget = b; share = h; journal = k; spare = t })
   core_is {e} {f} {g} {b} {h} {j} {k} {s} {t} p q r =
       ap (λ (x : List (Entry K V)). record { entries = x; dropped = g; budget = b; share = h; journal = j; spare = s }) p
       ∙ ap (λ (x : List (Item K)). record { entries = f; dropped = g; budget = b; share = h; journal = x; spare = s }) q
@@ -26,7 +26,7 @@ module _ {K V : Type 0} where
       some_map None = refl
       some_map (Some x) = refl
 
-    pub after_probe_sound : (name_of : K → List ℕ) (fits : K → V → Type 0) (weighs : V → ℕ) (caller : ℕ) (key : K) (core : Core K V)
+    pub after_probe_sound : (name_of : K → List ℕ) (fits : K → V → Type 0) (weighs : V → ℕ) (caller : ℕ) (key : K) (core : MemoView K V)
         → IsSound same name_of fits weighs core
         → IsDistinct same_name (map (λ e. e.mark.name) (brought_to_front (has_key same mark_in key) core.entries))
         → IsSound same name_of fits weighs (after_probe same caller key core)

@@ -6,7 +6,7 @@ use Rattle.std.specs.Map.{lookup, keys_of}
 use Rattle.std.proofs.lemmas.List.{map-append, length-append}
 use Rattle.lru.specs.LruCache.{promoted}
 use Rattle.memo_core.specs.Memo.{evicted_in, first_with, brought_to_front, same_name, has_key, holds, Entry, Item, Probe_answer, item}
-use Rattle.memo_core.specs.Views.{Core, IsSound, mark_in, after_probe}
+use Rattle.memo_core.specs.Views.{MemoView, IsSound, mark_in, after_probe}
 use Rattle.memo_core.specs.Fields.{entries_of, value_at, item_of, items_of}
 use Rattle.memo_core.specs.Plans.{IsKept, IsShelf}
 use Rattle.memo_core.specs.declared.slots.Shelf.{Shelf}
@@ -62,14 +62,14 @@ module _ {K V : Type 0} (same : K → K → Bool) (name_of : K → List ℕ) (sa
   pub probed_is : (caller b h s t : ℕ) (g : List (Entry K V)) (es fs : List (List ℕ × Slot K V)) (js ks : List (JournalItem K)) (j : JournalItem K) (hit : Bool)
       → entries_of fs ≡ brought_to_front (has_key same mark_in key) (entries_of es) → hit ≡ holds same mark_in key (entries_of es)
       → ks ≡ js ++ j ∷ [] → item_of j ≡ item caller key (Probe_answer hit) → t ≡ s - 1
-      → ◌≡◌ {A = Core K V} (record { entries = entries_of fs; dropped = g; budget = b; share = h; journal = items_of ks; spare = t }) (after_probe same caller key (record { entries = entries_of es; dropped = g; budget = b; share = h; journal = items_of js; spare = s }))
+      → ◌≡◌ {A = MemoView K V} (record { entries = entries_of fs; dropped = g; budget = b; share = h; journal = items_of ks; spare = t }) (after_probe same caller key (record { entries = entries_of es; dropped = g; budget = b; share = h; journal = items_of js; spare = s }))
   probed_is caller b h s t g es fs js ks j hit e f k i r =
       core_is e (ap items_of k ∙ map-append item_of js (j ∷ []) ∙ ap (λ x. items_of js ++ x ∷ []) (i ∙ ap (λ x. item caller key (Probe_answer x)) f)) r
 
   pub probed_kept : (fits : K → V → Type 0) (weighs : V → ℕ) (caller h s t d : ℕ) (g : List (Entry K V)) (shelf shelf' : Shelf K V) (js : List (Item K)) (ks : List (Item K)) (b : ℕ)
       → IsKept same name_of fits weighs shelf d (record { entries = entries_of shelf.cache.entries; dropped = g; budget = b; share = h; journal = js; spare = s })
       → entries_of shelf'.cache.entries ≡ brought_to_front (has_key same mark_in key) (entries_of shelf.cache.entries) → IsDistinct same_name (keys_of shelf'.cache.entries) → IsShelf b shelf'
-      → ◌≡◌ {A = Core K V} (record { entries = entries_of shelf'.cache.entries; dropped = g; budget = b; share = h; journal = ks; spare = t }) (after_probe same caller key (record { entries = entries_of shelf.cache.entries; dropped = g; budget = b; share = h; journal = js; spare = s }))
+      → ◌≡◌ {A = MemoView K V} (record { entries = entries_of shelf'.cache.entries; dropped = g; budget = b; share = h; journal = ks; spare = t }) (after_probe same caller key (record { entries = entries_of shelf.cache.entries; dropped = g; budget = b; share = h; journal = js; spare = s }))
       → IsKept same name_of fits weighs shelf' d (record { entries = entries_of shelf'.cache.entries; dropped = g; budget = b; share = h; journal = ks; spare = t })
   probed_kept fits weighs caller h s t n g shelf shelf' js ks b kept e d shelved is =
       let es = shelf.cache.entries in
@@ -77,14 +77,14 @@ module _ {K V : Type 0} (same : K → K → Bool) (name_of : K → List ℕ) (sa
         shelved = shelved;
         counted =
             kept.counted ∙ omega (arith, evicted_more js (item caller key (Probe_answer (holds same mark_in key (entries_of es)))))
-            ∙ ap (λ (x : Core K V). evicted_in x.journal) (sym is);
+            ∙ ap (λ (x : MemoView K V). evicted_in x.journal) (sym is);
         filled_before =
-            let longer = ap (λ (x : Core K V). length x.journal) is in
+            let longer = ap (λ (x : MemoView K V). length x.journal) is in
             let more = length-append js (item caller key (Probe_answer (holds same mark_in key (entries_of es))) ∷ []) in
             let same_length = ap length e in
             omega (arith, kept.filled_before, longer, more, same_length, length_brought (has_key same mark_in key) (entries_of es));
         sound =
-            subst (λ (x : Core K V). IsSound same name_of fits weighs x) (sym is)
+            subst (λ (x : MemoView K V). IsSound same name_of fits weighs x) (sym is)
             (after_probe_sound same name_of fits weighs caller key (record { entries = entries_of es; dropped = g; budget = b; share = h; journal = js; spare = s }) kept.sound
             (subst (IsDistinct same_name) (sym (names_are fs) ∙ ap (map (λ x. x.mark.name)) e) d));
       }

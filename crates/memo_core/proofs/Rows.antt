@@ -1,6 +1,6 @@
 -- Calls of a memo that are written out, with what the journal says of each.
 use Rattle.std.proofs.Common.{◌≡◌, ℕ, Bool, true, false, List, [], ◌∷◌, replicate, take, refl, nat_eq}
-use Rattle.memo_core.specs.Memo.{Mark, Item, Probe_answer, Fill_answer, item, itself, entries_after_fill, fill_answer, replay, IsLegal, count_in, hit_by, missed_by, kept_by, heavy_by, evicted_in}
+use Rattle.memo_core.specs.Memo.{Mark, Item, Probe_answer, Fill_answer, item, itself, entries_after_fill, fill_answer, replay, IsLegal, count_in, hit_by, missed_by, kept_by, not_kept_by, evicted_in}
 
 -- each key has a name of its own
 abbrev own : ℕ → List ℕ
@@ -50,7 +50,7 @@ three_are_dropped = refl
 
 -- hits, misses, fills that were kept, and fills that were not
 abbrev counts : List (Item ℕ) → List ℕ
-counts items = count_in hit_by items ∷ count_in missed_by items ∷ count_in kept_by items ∷ count_in heavy_by items ∷ []
+counts items = count_in hit_by items ∷ count_in missed_by items ∷ count_in kept_by items ∷ count_in not_kept_by items ∷ []
 
 both_fit_counts : counts both_fit ≡ 2 ∷ 2 ∷ 2 ∷ 0 ∷ []
 both_fit_counts = refl

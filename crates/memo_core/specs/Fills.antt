@@ -1,7 +1,7 @@
 -- What a fill does, by its answer.
 use Rattle.std.specs.Prelude.{◌≡◌, ℕ, Bool, true, false, List, [], ◌∷◌, ◌++◌}
 use Rattle.memo_core.specs.Memo.{Item, item, Fill_answer}
-use Rattle.memo_core.specs.Views.{Core, keeps, after_fill, DropsTheRest}
+use Rattle.memo_core.specs.Views.{MemoView, keeps, after_fill, DropsTheRest}
 use Rattle.memo_core.specs.declared.memo.Fill.{Fill}
 use Rattle.memo_core.specs.declared.memo.Fill.TheVariants.{Kept, TooHeavy, NoMemory}
 
@@ -15,18 +15,18 @@ module _ {K : Type 0} where
 
 module _ {K V : Type 0} (same : K → K → Bool) (name_of : K → List ℕ) (caller : ℕ) (key : K) (value : V) (weight : ℕ) where
   -- The answer of a fill says whether it is kept. One that is not kept changes no entry.
-  abbrev pub TellsIfKept : Fill → Core K V → Core K V → Type 0
+  abbrev pub TellsIfKept : Fill → MemoView K V → MemoView K V → Type 0
   TellsIfKept Kept core core' = keeps same name_of caller key value weight core ≡ true
   TellsIfKept TooHeavy core core' = (keeps same name_of caller key value weight core ≡ false) × (core'.entries ≡ core.entries)
   TellsIfKept NoMemory core core' = Unit {0}
 
   -- one memo is the other after a fill that found memory, and this one dropped exactly what it found no place for
-  pub record IsAfterFill (core core' : Core K V) : Type 0 where
+  pub record IsAfterFill (core core' : MemoView K V) : Type 0 where
     pub filled : core' ≡ record (after_fill same name_of caller key value weight core) { dropped = core'.dropped }
     pub drops : DropsTheRest same name_of caller key value weight core core'
 
   -- what a fill that is answered so changes: nothing where memory ran out
-  abbrev pub FillsBy : Fill → Core K V → Core K V → Type 0
+  abbrev pub FillsBy : Fill → MemoView K V → MemoView K V → Type 0
   FillsBy Kept core core' = IsAfterFill core core'
   FillsBy TooHeavy core core' = IsAfterFill core core'
   FillsBy NoMemory core core' = core' ≡ core

@@ -223,10 +223,10 @@ abbrev pub kept_by : Answer → ℕ
 kept_by (Probe_answer hit) = 0
 kept_by (Fill_answer weight kept evicted) = if kept then 1 else 0
 
--- a fill that was not kept counts 1
-abbrev pub heavy_by : Answer → ℕ
-heavy_by (Probe_answer hit) = 0
-heavy_by (Fill_answer weight kept evicted) = if kept then 0 else 1
+-- a fill that was not kept counts 1: its value was too heavy, or there was no room for it
+abbrev pub not_kept_by : Answer → ℕ
+not_kept_by (Probe_answer hit) = 0
+not_kept_by (Fill_answer weight kept evicted) = if kept then 0 else 1
 
 -- a call counts the entries that it dropped
 abbrev pub evicted_by : Answer → ℕ

@@ -3,7 +3,7 @@ use Rattle.std.specs.Prelude.{◌≡◌, ℕ, ◌+◌, ◌-◌, ◌≤◌, ◌<�
 use Rattle.std.specs.List.{AllByRecursion, IsDistinct}
 use Rattle.std.specs.Map.{remove_entry, keys_of}
 use Rattle.memo_core.specs.Memo.{Mark, same_name, owner_weight, room_beside, entries_after_push, entries_to_place_where, DropsFrom, entries_max, evicted_in}
-use Rattle.memo_core.specs.Views.{Core, IsSound}
+use Rattle.memo_core.specs.Views.{MemoView, IsSound}
 use Rattle.memo_core.specs.Fields.{entry_of, no_bound, weight_at}
 use Rattle.memo_core.specs.declared.plan.Plan.{Plan}
 use Rattle.memo_core.specs.declared.slots.Slot.{Slot}
@@ -104,7 +104,7 @@ module _ {K V : Type 0} where
 module _ {K V : Type 0} where
   -- what the shelf and the counter of evictions have to do with the entries and the journal
   pub record IsKept (same : K → K → Bool) (name_of : K → List ℕ) (fits : K → V → Type 0) (weighs : V → ℕ)
-      (shelf : Shelf K V) (evicted : ℕ) (core : Core K V) : Type 0 where
+      (shelf : Shelf K V) (evicted : ℕ) (core : MemoView K V) : Type 0 where
     pub shelved : IsShelf core.budget shelf
     pub counted : evicted ≡ evicted_in core.journal
     pub filled_before : evicted + length core.entries ≤ length core.journal

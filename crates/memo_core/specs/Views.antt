@@ -4,7 +4,7 @@ use Rattle.std.specs.List.{AllByRecursion, IsDistinct}
 use Rattle.memo_core.specs.Memo.{Entry, Item, Mark, Answer, item, same_name, Probe_answer, Fill_answer, brought_to_front, holds, has_key, entries_after_offer, entries_to_place, DropsFrom, entries_after_fill, fill_answer, replay, IsLegal, entries_max, mark_of}
 
 -- what contracts see of a memo
-pub record Core (K V : Type 0) : Type 0 where
+pub record MemoView (K V : Type 0) : Type 0 where
   pub entries : List (Entry K V)
   -- the entries that fills dropped and that nobody has taken yet
   pub dropped : List (Entry K V)
@@ -38,7 +38,7 @@ module _ {K V : Type 0} where
     -- those of the keys, and distinct; the weights sum to at most the budget, and there are not too many
     -- entries; the journal is legal, and its replay is the list of entries; and what its fills offered,
     -- kept or not, weighed what some value weighs that fits the key
-    pub record IsSound (fits : K → V → Type 0) (weighs : V → ℕ) (core : Core K V) : Type 0 where
+    pub record IsSound (fits : K → V → Type 0) (weighs : V → ℕ) (core : MemoView K V) : Type 0 where
       pub fit : AllByRecursion (λ e. fits e.mark.key e.value) core.entries
       pub weighed : AllByRecursion (λ e. e.mark.weight ≡ weighs e.value) core.entries
       pub named : AllByRecursion (λ e. e.mark.name ≡ name_of e.mark.key) core.entries
@@ -50,20 +50,20 @@ module _ {K V : Type 0} where
       pub offers : AllByRecursion (λ i. MaySay fits weighs i.key i.answer) core.journal
 
     -- whether a fill is kept
-    abbrev pub keeps : ℕ → K → V → ℕ → Core K V → Bool
+    abbrev pub keeps : ℕ → K → V → ℕ → MemoView K V → Bool
     keeps caller key value weight core =
         is_some (entries_after_offer same mark_in core.budget core.share (new_entry name_of caller key value weight) core.entries)
 
     -- A fill drops exactly what it finds no place for: what it has to place are, in some order, the
     -- entries that stand there after it and those that it dropped.
-    abbrev pub DropsTheRest : ℕ → K → V → ℕ → Core K V → Core K V → Type 0
+    abbrev pub DropsTheRest : ℕ → K → V → ℕ → MemoView K V → MemoView K V → Type 0
     DropsTheRest caller key value weight core core' =
         DropsFrom
         (entries_to_place same mark_in core.budget core.share (new_entry name_of caller key value weight) core.entries)
         core.dropped core'.dropped core'.entries
 
     -- the memo after a fill that found memory, but for the entries that it dropped
-    abbrev pub after_fill : ℕ → K → V → ℕ → Core K V → Core K V
+    abbrev pub after_fill : ℕ → K → V → ℕ → MemoView K V → MemoView K V
     after_fill caller key value weight core = record {
       entries = entries_after_fill same mark_in core.budget core.share (new_entry name_of caller key value weight) core.entries;
       dropped = core.dropped;
@@ -76,7 +76,7 @@ module _ {K V : Type 0} where
 
   module _ (same : K → K → Bool) where
     -- the memo after a probe that found memory
-    abbrev pub after_probe : ℕ → K → Core K V → Core K V
+    abbrev pub after_probe : ℕ → K → MemoView K V → MemoView K V
     after_probe caller key core = record {
       entries = brought_to_front (has_key same mark_in key) core.entries;
       dropped = core.dropped;

@@ -53,9 +53,9 @@ pub struct MemoCore<F: Fit, N: Namer<F::Key>> {
 
 impl<F: Fit, N: Namer<F::Key>> Model for MemoCore<F, N> {
     ghost use Rattle.std.specs.Prelude.{◌-◌, vec_len, vec_capacity};
-    ghost use Rattle.memo_core.specs.Views.{Core};
+    ghost use Rattle.memo_core.specs.Views.{MemoView};
 
-    ghost Value = { Core F.Key F.Value };
+    ghost Value = { MemoView F.Key F.Value };
 
     ghost use Rattle.memo_core.specs.Fields.{entries_of, items_of};
     ghost use Rattle.memo_core.specs.Plans.{IsKept};

@@ -3,35 +3,35 @@ use Rattle.std.proofs.Common.{◌≡◌, ◌≢◌, inl, inr, ℕ, zero, suc, �
 use Rattle.std.specs.Prelude.{Contains}
 use Rattle.std.specs.List.{list_all}
 use Rattle.std.proofs.lemmas.Int.{ints}
-use Rattle.plane_predicate.specs.Space.{Coefficients, Coordinates, value, inner, opposite_of, IsPlane, IsInWorld, is_same}
+use Rattle.plane_predicate.specs.Space.{Coefficients, Coordinates, value, inner_product, opposite_of, IsPlane, IsInWorld, is_same}
 use Rattle.plane_predicate.proofs.IntegerRing.{sums, one_mul, zero_mul, mul_comm_ℤ}
 use Rattle.plane_predicate.proofs.Identities.{combine, value_combine}
 use Rattle.plane_predicate.proofs.Opposites.{opposite_is_plane}
 use Rattle.plane_predicate.proofs.SamePlanes.{directed_above}
 use Rattle.plane_predicate.proofs.Signs.{signs, neg_pos}
 use Rattle.plane_polygon.specs.Parts.{is_behind}
-use Rattle.bsp_tree.specs.Trees.{Tree, inside, outside, node, walk}
+use Rattle.bsp_tree.specs.Trees.{BspTree, inside, outside, node, walk}
 use Rattle.bsp_tree.specs.Cells.{world_box, IsPlaneOf}
 use Rattle.bsp_tree.proofs.NearPoints.{direction, value_direction, near_behind, near_ahead}
 use Rattle.bsp_tree.proofs.Openness.{often, in_near}
 use Rattle.bsp_tree.proofs.Opposites.{opposite_above, opposite_below, opposite_back, opposite_twice}
 use Rattle.bsp_tree.proofs.SameNumbers.{same_equal, not_same}
 use Rattle.bsp_tree.proofs.Worlds.{open_world}
-use Rattle.csg_tree.specs.Formulas.{Formula, nothing, leaf, joined, Assignment, holds, truth_of_join, sides_of}
+use Rattle.csg_tree.specs.Formulas.{Formula, nothing, leaf, joined, SideAssignment, holds, truth_of_join, sides_of}
 use Rattle.csg_tree.specs.Formulas as formulas
-use Rattle.csg_tree.specs.FacePlanes.{IsFacePlane, IsOnOneFacePlane, just_behind, just_ahead}
+use Rattle.csg_tree.specs.FacePlanes.{IsFacePlane, IsOnOneFacePlane, sides_just_behind, sides_just_ahead}
 use Rattle.csg_tree.specs.ProperTrees.{IsLeafPlane, HasFullLeaves}
 use Rattle.bsp_boolean.specs.Solids.{solid_of}
 use Rattle.bsp_boolean.proofs.Solids.{tree_is_solid}
 use Rattle.facet_cut.specs.Sides.{walk_by, AreJustBehind, AreJustAhead}
 
 -- a tree holds alike under assignments that give its planes the same sides
-all_alike : (planes : List Coefficients) (a b : Assignment) → ((m : Coefficients) → Contains planes m → a m ≡ b m) → list_all a planes ≡ list_all b planes
+all_alike : (planes : List Coefficients) (a b : SideAssignment) → ((m : Coefficients) → Contains planes m → a m ≡ b m) → list_all a planes ≡ list_all b planes
 all_alike [] a b h = refl
 all_alike (m ∷ planes) a b h =
     ap₂ ◌&&◌ (h m (0, omega arith, refl)) (all_alike planes a b (λ n c. h n (suc c.0, omega (arith, c.1), c.2)))
 
-holds_alike : (f : Formula) (a b : Assignment) → ((m : Coefficients) → formulas.IsPlaneOf m f → a m ≡ b m) → holds f a ≡ holds f b
+holds_alike : (f : Formula) (a b : SideAssignment) → ((m : Coefficients) → formulas.IsPlaneOf m f → a m ≡ b m) → holds f a ≡ holds f b
 holds_alike nothing a b h = refl
 holds_alike (leaf planes) a b h = all_alike planes a b h
 holds_alike (joined op left right) a b h =
@@ -41,7 +41,7 @@ holds_alike (joined op left right) a b h =
 either_alike : (x y : Bool) (a b c d : Bool) → x ≡ y → a ≡ c → b ≡ d → (if x then a else b) ≡ (if y then c else d)
 either_alike x y a b c d hx ha hb = rw (hx, ha, hb) refl
 
-walk_alike : (t : Tree) (sides : Assignment) (q : Coordinates) → ((m : Coefficients) → IsPlaneOf m t → sides m ≡ is_behind m q) → walk_by t sides ≡ walk t q
+walk_alike : (t : BspTree) (sides : SideAssignment) (q : Coordinates) → ((m : Coefficients) → IsPlaneOf m t → sides m ≡ is_behind m q) → walk_by t sides ≡ walk t q
 walk_alike inside sides q h = refl
 walk_alike outside sides q h = refl
 walk_alike (node s b a) sides q h =
@@ -113,7 +113,7 @@ near_side f v n p m h off = elim (signs (value m p)) [
 zero_out : (a x y : ℤ) → x ≡ pos 0 → a *ℤ x +ℤ y ≡ y
 zero_out a x y e = ap (λ (z : ℤ). a *ℤ z +ℤ y) e ∙ ap (λ (z : ℤ). z +ℤ y) (mul_comm_ℤ a (pos 0) ∙ zero_mul a) ∙ omega (arith, sums)
 
-value_near : (f : Formula) (v : ℤ) (n : Coefficients) (p : Coordinates) → value n p ≡ pos 0 → value n (near f v n p) ≡ v *ℤ inner n n
+value_near : (f : Formula) (v : ℤ) (n : Coefficients) (p : Coordinates) → value n p ≡ pos 0 → value n (near f v n p) ≡ v *ℤ inner_product n n
 value_near f v n p e =
     value_combine n (pos (suc (times f v n))) p v (direction n)
     ∙ zero_out (pos (suc (times f v n))) (value n p) (v *ℤ value n (direction n)) e
@@ -140,7 +140,7 @@ takes_ahead n q h = record {
 }
 
 -- the sides of the point with n taken as b: just behind n, or just ahead of it
-abbrev beside : Bool → Coefficients → Coordinates → Assignment
+abbrev beside : Bool → Coefficients → Coordinates → SideAssignment
 beside b n p m = if is_same m n then b else if is_same m (opposite_of n) then not b else sides_of p m
 
 by_tests : (x y : Bool) (b r s : Bool) → (x ≡ true → s ≡ b) → (x ≡ false → y ≡ true → s ≡ not b) → (x ≡ false → y ≡ false → s ≡ r) → s ≡ (if x then b else if y then not b else r)
@@ -209,19 +209,19 @@ ahead_value x y h e = subst (λ (z : ℤ). pos 0 <ℤ z) (sym (e ∙ one_mul y))
 near_behind_takes : (f : Formula) (n : Coefficients) (p : Coordinates) → IsPlane n → value n p ≡ pos 0 → Takes true n (near f (negsuc 0) n p)
 near_behind_takes f n p h e =
     takes_behind n (near f (negsuc 0) n p)
-    (behind_value (value n (near f (negsuc 0) n p)) (inner n n) (directed_above n h.directed) (value_near f (negsuc 0) n p e))
+    (behind_value (value n (near f (negsuc 0) n p)) (inner_product n n) (directed_above n h.directed) (value_near f (negsuc 0) n p e))
 
 near_ahead_takes : (f : Formula) (n : Coefficients) (p : Coordinates) → IsPlane n → value n p ≡ pos 0 → Takes false n (near f (pos 1) n p)
 near_ahead_takes f n p h e =
     takes_ahead n (near f (pos 1) n p)
-    (ahead_value (value n (near f (pos 1) n p)) (inner n n) (directed_above n h.directed) (value_near f (pos 1) n p e))
+    (ahead_value (value n (near f (pos 1) n p)) (inner_product n n) (directed_above n h.directed) (value_near f (pos 1) n p e))
 
 -- the sides of a point on one face plane, just behind it and just ahead, and the walks of the tree's solid by them
 abbrev pub BesideLeaves : Formula → Type 0
 BesideLeaves f =
     (n : Coefficients) (p : Coordinates) → IsOnOneFacePlane f n p →
-    AreJustBehind n p (just_behind n p) × AreJustAhead n p (just_ahead n p)
-    × (walk_by (solid_of f) (just_behind n p) ≡ holds f (just_behind n p)) × (walk_by (solid_of f) (just_ahead n p) ≡ holds f (just_ahead n p))
+    AreJustBehind n p (sides_just_behind n p) × AreJustAhead n p (sides_just_ahead n p)
+    × (walk_by (solid_of f) (sides_just_behind n p) ≡ holds f (sides_just_behind n p)) × (walk_by (solid_of f) (sides_just_ahead n p) ≡ holds f (sides_just_ahead n p))
 
 pub beside_leaves : (f : Formula) → HasFullLeaves f → BesideLeaves f
 beside_leaves f full n p on =

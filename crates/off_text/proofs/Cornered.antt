@@ -4,33 +4,33 @@ use Rattle.std.proofs.lemmas.List.{map-append, take-append-drop, get_or_append_l
 use Rattle.std.proofs.lemmas.Simd.{map-map}
 use Rattle.std.proofs.lemmas.List.Elements.{All-from_get_or, All-append, All-take, All-drop}
 use Rattle.plane_predicate.specs.declared.unit.Unit.{Unit as LengthUnit}
-use Rattle.plane_predicate.specs.Space.{Coordinates, IsPointTimes, IsReduced}
+use Rattle.plane_predicate.specs.Space.{Coordinates, IsPointTimes, HasNoCommonFactor}
 use Rattle.plane_predicate.specs.InUnits.{in_units}
 use Rattle.plane_predicate.specs.Units.{steps_of}
 use Rattle.plane_predicate.proofs.InUnits.{steps_above}
 use Rattle.plane_predicate.proofs.Signs.{pos_cancel, pos_pos}
 use Rattle.plane_polygon.specs.Polygons.{Outline, sides, corner, IsPolygon, AreReducedFrom}
-use Rattle.plane_polygon.specs.Parts.{up_to, corners}
+use Rattle.plane_polygon.specs.Parts.{indices_below, corners}
 use Rattle.plane_polygon.proofs.Rounds.{step, step_is, step_below, at_most}
 use Rattle.closed_surface.specs.Printing.{AreInUnits, IsRoundOf}
-use Rattle.off_text.specs.Reading.{IsVertex}
+use Rattle.off_text.specs.Reading.{IsPrintedVertex}
 use Rattle.off_text.specs.Boundaries.{origin}
 use Rattle.off_text.specs.Texts.{comes_before, corners_in_units, place_of_least, from_least}
 use Rattle.off_text.proofs.Least.{IsLeastOf, least_first, least_new, least_kept, least_found}
 
-map-up_to-length : (f : ℕ → Coordinates) (n : ℕ) → length (map f (up_to n)) ≡ n
-map-up_to-length f zero = refl
-map-up_to-length f (suc n) =
-    ap length (map-append f (up_to n) (n ∷ [])) ∙ length-append (map f (up_to n)) (f n ∷ []) ∙ omega (arith, map-up_to-length f n)
+map-indices_below-length : (f : ℕ → Coordinates) (n : ℕ) → length (map f (indices_below n)) ≡ n
+map-indices_below-length f zero = refl
+map-indices_below-length f (suc n) =
+    ap length (map-append f (indices_below n) (n ∷ [])) ∙ length-append (map f (indices_below n)) (f n ∷ []) ∙ omega (arith, map-indices_below-length f n)
 
-map-up_to : (f : ℕ → Coordinates) (n i : ℕ) → i < n → get_or (map f (up_to n)) i origin ≡ f i
-map-up_to f zero i h = absurd (omega arith)
-map-up_to f (suc n) i h =
-    ap (λ (l : List Coordinates). get_or l i origin) (map-append f (up_to n) (n ∷ []))
+map-indices_below : (f : ℕ → Coordinates) (n i : ℕ) → i < n → get_or (map f (indices_below n)) i origin ≡ f i
+map-indices_below f zero i h = absurd (omega arith)
+map-indices_below f (suc n) i h =
+    ap (λ (l : List Coordinates). get_or l i origin) (map-append f (indices_below n) (n ∷ []))
     ∙ ⊎_elim
-    (λ e. get_or-append_right (map f (up_to n)) (f n ∷ []) n i origin (map-up_to-length f n) (omega arith)
+    (λ e. get_or-append_right (map f (indices_below n)) (f n ∷ []) n i origin (map-indices_below-length f n) (omega arith)
     ∙ (let z : i - n ≡ 0 = omega arith in ap (λ (j : ℕ). get_or (f n ∷ []) j origin) z) ∙ ap f (sym e))
-    (λ b. get_or_append_left (map f (up_to n)) (f n ∷ []) origin i (omega (arith, map-up_to-length f n)) ∙ map-up_to f n i b)
+    (λ b. get_or_append_left (map f (indices_below n)) (f n ∷ []) origin i (omega (arith, map-indices_below-length f n)) ∙ map-indices_below f n i b)
     (at_most i n (omega arith))
 
 reduced-length : (ps qs : List Coordinates) → AreReducedFrom ps qs → length qs ≡ length ps
@@ -39,7 +39,7 @@ reduced-length [] (q ∷ qs) h = absurd h
 reduced-length (p ∷ ps) [] h = absurd h
 reduced-length (p ∷ ps) (q ∷ qs) h = ap suc (reduced-length ps qs h.2)
 
-reduced-at : (ps qs : List Coordinates) → AreReducedFrom ps qs → (i : ℕ) → i < length ps → IsPointTimes (get_or ps i origin) (get_or qs i origin) × IsReduced (get_or qs i origin)
+reduced-at : (ps qs : List Coordinates) → AreReducedFrom ps qs → (i : ℕ) → i < length ps → IsPointTimes (get_or ps i origin) (get_or qs i origin) × HasNoCommonFactor (get_or qs i origin)
 reduced-at [] [] h i l = absurd (omega arith)
 reduced-at [] (q ∷ qs) h i l = absurd h
 reduced-at (p ∷ ps) [] h i l = absurd h
@@ -51,20 +51,20 @@ module _ (unit : LengthUnit) (s : Outline) (found : List Coordinates) (h : AreRe
   abbrev point : ℕ → Coordinates
   point i = in_units unit (corner s i)
 
-  each : AreReducedFrom (map point (up_to (sides s))) found
-  each = subst (λ (ps : List Coordinates). AreReducedFrom ps found) (map-map (in_units unit) (corner s) (up_to (sides s))) h
+  each : AreReducedFrom (map point (indices_below (sides s))) found
+  each = subst (λ (ps : List Coordinates). AreReducedFrom ps found) (map-map (in_units unit) (corner s) (indices_below (sides s))) h
 
   pub found-length : length found ≡ sides s
-  found-length = reduced-length (map point (up_to (sides s))) found each ∙ map-up_to-length point (sides s)
+  found-length = reduced-length (map point (indices_below (sides s))) found each ∙ map-indices_below-length point (sides s)
 
-  found-at : (i : ℕ) → i < sides s → IsPointTimes (in_units unit (corner s i)) (get_or found i origin) × IsReduced (get_or found i origin)
+  found-at : (i : ℕ) → i < sides s → IsPointTimes (in_units unit (corner s i)) (get_or found i origin) × HasNoCommonFactor (get_or found i origin)
   found-at i l =
-      subst (λ (p : Coordinates). IsPointTimes p (get_or found i origin) × IsReduced (get_or found i origin)) (map-up_to point (sides s) i l)
-      (reduced-at (map point (up_to (sides s))) found each i (omega (arith, map-up_to-length point (sides s))))
+      subst (λ (p : Coordinates). IsPointTimes p (get_or found i origin) × HasNoCommonFactor (get_or found i origin)) (map-indices_below point (sides s) i l)
+      (reduced-at (map point (indices_below (sides s))) found each i (omega (arith, map-indices_below-length point (sides s))))
 
-  pub found_are_vertices : IsPolygon s → All IsVertex found
+  pub found_are_vertices : IsPolygon s → All IsPrintedVertex found
   found_are_vertices polygon =
-      All-from_get_or IsVertex found origin (λ i l.
+      All-from_get_or IsPrintedVertex found origin (λ i l.
       let b : i < sides s = omega (arith, found-length) in
       let at = found-at i b in
       let weight = pos_pos (steps_of unit) (corner s i).w (steps_above unit) (polygon.turns_left i b) in

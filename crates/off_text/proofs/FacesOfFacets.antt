@@ -7,7 +7,7 @@ use Rattle.plane_predicate.specs.Space.{Coefficients, Coordinates, opposite_of, 
 use Rattle.plane_predicate.specs.InUnits.{in_steps}
 use Rattle.plane_polygon.specs.Polygons.{Outline, sides, corner as corner_of}
 use Rattle.csg_tree.specs.Formulas.{Formula}
-use Rattle.csg_tree.specs.FacePlanes.{IsFacePlane, IsOnOneFacePlane, just_behind, just_ahead, is_boundary_at}
+use Rattle.csg_tree.specs.FacePlanes.{IsFacePlane, IsOnOneFacePlane, sides_just_behind, sides_just_ahead, is_boundary_at}
 use Rattle.csg_tree.specs.ProperTrees.{IsProper}
 use Rattle.bsp_tree.specs.Cells.{world_box, IsPlaneOf}
 use Rattle.bsp_tree.proofs.Worlds.{open_world}
@@ -15,7 +15,7 @@ use Rattle.bsp_boolean.specs.LeafSolids.{IsSolidOf}
 use Rattle.bsp_boolean.specs.Solids.{solid_of}
 use Rattle.bsp_boolean.proofs.Solids.{tree_is_solid}
 use Rattle.facet_cut.specs.Facets.{facets_of}
-use Rattle.facet_cut.specs.Sides.{walk_by, IsOnOnePlane}
+use Rattle.facet_cut.specs.Sides.{walk_by, IsOnOneNodePlane}
 use Rattle.facet_cut.proofs.FacetPolygons.{all_facets, world_corners}
 use Rattle.facet_cut.proofs.Boundaries.{facets_bound}
 use Rattle.plane_polygon.specs.Parts.{corners}
@@ -23,8 +23,8 @@ use Rattle.closed_surface.specs.Closed.{corners_at}
 use Rattle.closed_surface.specs.Printing.{AreRoundsOf}
 use Rattle.closed_surface.proofs.Printing.{printed_closed}
 use Rattle.closed_surface.proofs.Closing.{facets_closed}
-use Rattle.off_text.specs.Boundaries.{corner, Covers, OneExactlyWhere}
-use Rattle.off_text.specs.Prints.{IsFaceOf, AreFacesOf, Prints}
+use Rattle.off_text.specs.Boundaries.{corner, FaceCovers, OneExactlyWhere}
+use Rattle.off_text.specs.Prints.{IsPrintedFaceOf, ArePrintedFacesOf, Prints}
 use Rattle.off_text.specs.Bounding.{IsBoundaryFace, IsBoundary}
 use Rattle.off_text.proofs.Covered.{HasPlane, covering_of, as_facets}
 use Rattle.off_text.proofs.Boxed.{boxed as in_world_reduced}
@@ -49,7 +49,7 @@ formula_facets f h k d l =
 
 -- each printed face is a face of the boundary
 module _ (unit : LengthUnit) (f : Formula) (vertices : List Coordinates) where
-  face_bounds : (s : Outline) (face : List ℕ) → IsFaceOf unit vertices s face → IsFacetOfFormula f s →
+  face_bounds : (s : Outline) (face : List ℕ) → IsPrintedFaceOf unit vertices s face → IsFacetOfFormula f s →
       IsBoundaryFace unit f vertices face
   face_bounds s face h k = record {
     plane = s.plane;
@@ -60,7 +60,7 @@ module _ (unit : LengthUnit) (f : Formula) (vertices : List Coordinates) where
         in_world_reduced unit (corner_of s c.place) (corner vertices face i) c.times (k.boxed c.place c.within));
   }
 
-  faces_bound : (polygons : List Outline) (faces : List (List ℕ)) → AreFacesOf unit vertices polygons faces →
+  faces_bound : (polygons : List Outline) (faces : List (List ℕ)) → ArePrintedFacesOf unit vertices polygons faces →
       All (IsFacetOfFormula f) polygons → All (IsBoundaryFace unit f vertices) faces
   faces_bound [] [] h k = All-nil (IsBoundaryFace unit f vertices)
   faces_bound [] (face ∷ faces) h k = absurd h
@@ -73,20 +73,20 @@ module _ (unit : LengthUnit) (f : Formula) (vertices : List Coordinates) where
 -- the text is the boundary
 -- a point that is on one face plane is on no other plane of the solid
 on_one_plane : (f : Formula) (n : Coefficients) (p : Coordinates) → IsSolidOf f (solid_of f) →
-    IsOnOneFacePlane f n p → IsOnOnePlane world_box (solid_of f) n p
+    IsOnOneFacePlane f n p → IsOnOneNodePlane world_box (solid_of f) n p
 on_one_plane f n p solid h =
     record { point_in = (open_world p).1 h.world; on = h.on; alone = λ m k. h.alone m (solid.planes m k) }
 
 covered_where : (unit : LengthUnit) (f : Formula) (bytes : List ℕ) → IsProper f → IsSolidOf f (solid_of f) →
     (text : Prints unit (facets_of (solid_of f)) bytes) → BesideLeaves f → (n : Coefficients) (p : Coordinates) →
-    IsOnOneFacePlane f n (in_steps unit p) → OneExactlyWhere (is_boundary_at f n (in_steps unit p)) (Covers unit text.vertices n p) text.faces
+    IsOnOneFacePlane f n (in_steps unit p) → OneExactlyWhere (is_boundary_at f n (in_steps unit p)) (FaceCovers unit text.vertices n p) text.faces
 covered_where unit f bytes h solid text beside n p o =
     let t = solid_of f in
     let q = in_steps unit p in
-    let low = just_behind n q in
-    let high = just_ahead n q in
+    let low = sides_just_behind n q in
+    let high = sides_just_ahead n q in
     let b = beside n q o in
-    subst (λ (c : Bool). OneExactlyWhere c (Covers unit text.vertices n p) text.faces)
+    subst (λ (c : Bool). OneExactlyWhere c (FaceCovers unit text.vertices n p) text.faces)
     (ap₂ (λ (i j : Bool). i && not j) b.2 b.3)
     (as_facets unit text.vertices n (face_plane_is_plane f n h.leaves o.face_plane) p (facets_of t) text.faces
     (All-weaker (IsFacetOfFormula f) HasPlane (λ s k. face_plane_is_plane f s.plane h.leaves k.plane)
@@ -95,7 +95,7 @@ covered_where unit f bytes h solid text beside n p o =
     (facets_bound world_box t solid.world n q (on_one_plane f n q solid o) low high b.0 b.1))
 
 -- the corners of the faces are those of the facets
-rounds : (unit : LengthUnit) (vertices : List Coordinates) (polygons : List Outline) (faces : List (List ℕ)) → AreFacesOf unit vertices polygons faces → AreRoundsOf unit (map corners polygons) (map (corners_at vertices) faces)
+rounds : (unit : LengthUnit) (vertices : List Coordinates) (polygons : List Outline) (faces : List (List ℕ)) → ArePrintedFacesOf unit vertices polygons faces → AreRoundsOf unit (map corners polygons) (map (corners_at vertices) faces)
 rounds unit vertices [] [] h = tt
 rounds unit vertices [] (face ∷ faces) h = absurd h
 rounds unit vertices (s ∷ polygons) [] h = absurd h

@@ -3,7 +3,7 @@ use Rattle.std.proofs.Common.{◌≡◌, ℕ, ◌<◌, subst, arith, ℤ, pos, n
 use Rattle.std.proofs.Math.Nat.{eq-one_of_dvd-one}
 use Rattle.std.proofs.lemmas.Nat.Gcd.{dvd_trans}
 use Rattle.std.specs.Int.{IsGcd}
-use Rattle.plane_predicate.specs.Space.{Coordinates, IsCommonFactor, IsPoint, IsPointTimes, IsReduced}
+use Rattle.plane_predicate.specs.Space.{Coordinates, IsCommonFactor, IsPoint, IsPointTimes, HasNoCommonFactor}
 use Rattle.plane_predicate.proofs.Divisions.{quotients_of, reduced_is_point, reduced_is_same, same_factor}
 use Rattle.plane_predicate.proofs.IntegerRing.{sums}
 use Prim.Native.Nat.{◌∣◌}
@@ -26,12 +26,12 @@ factor_of x y z w a b g h k l =
     }
 
 -- a whole point has no common factor
-pub whole_is_reduced : (p : Coordinates) → p.w ≡ pos 1 → IsReduced p
+pub whole_is_reduced : (p : Coordinates) → p.w ≡ pos 1 → HasNoCommonFactor p
 whole_is_reduced p e = record { reduced = λ k kx ky kz kw. eq-one_of_dvd-one (subst (λ (n : ℤ). k ∣ unsigned_abs n) e kw) }
 
 -- a point divided by the common factor of its numbers
 pub divided_point : (p q : Coordinates) (x y z w by : ℕ) → IsPoint p → x ≡ unsigned_abs p.x → y ≡ unsigned_abs p.y → z ≡ unsigned_abs p.z → w ≡ unsigned_abs p.w → IsCommonFactor x y z w by →
-    p.x ≡ pos by *ℤ q.x → p.y ≡ pos by *ℤ q.y → p.z ≡ pos by *ℤ q.z → p.w ≡ pos by *ℤ q.w → IsPoint q × IsPointTimes p q × IsReduced q
+    p.x ≡ pos by *ℤ q.x → p.y ≡ pos by *ℤ q.y → p.z ≡ pos by *ℤ q.z → p.w ≡ pos by *ℤ q.w → IsPoint q × IsPointTimes p q × HasNoCommonFactor q
 divided_point p q x y z w by h ux uy uz uw f ex ey ez ew =
     let d = quotients_of p.x p.y p.z p.w q.x q.y q.z q.w by (omega (arith, size_above p.w h.weight)) (same_factor x y z w _ _ _ _ by ux uy uz uw f) ex ey ez ew in
     (reduced_is_point p q h d, reduced_is_same p q d, record { reduced = d.no_factor })

@@ -7,7 +7,7 @@ use Rattle.plane_predicate.specs.declared.unit.Unit.{Unit as LengthUnit}
 use Rattle.plane_predicate.specs.Space.{Coordinates}
 use Rattle.plane_polygon.specs.Polygons.{Outline, IsPolygon}
 use Rattle.off_text.specs.Texts.{from_least, number_among, printed_corners, vertices_of, AreCornersOf}
-use Rattle.off_text.specs.Numbering.{with_points, AddsFace, AreNumbered}
+use Rattle.off_text.specs.Numbering.{with_points, AddsFace, AreNumberedFaces}
 use Rattle.off_text.proofs.Numbers.{AllKnown, all_kept, grown_knows, with_points-append}
 use Rattle.off_text.proofs.Distinct.{grown_from_none}
 
@@ -60,7 +60,7 @@ gathered_more unit polygons vertices faces h s new face a =
           ∙ ap (map (map (number_among new))) (sym (map-append from_least h.found (a.found ∷ [])));
     }
 
-pub gathered_all : (unit : LengthUnit) (polygons : List Outline) (vertices : List Coordinates) (faces : List (List ℕ)) → AreGathered unit polygons vertices faces → AreNumbered unit polygons vertices faces
+pub gathered_all : (unit : LengthUnit) (polygons : List Outline) (vertices : List Coordinates) (faces : List (List ℕ)) → AreGathered unit polygons vertices faces → AreNumberedFaces unit polygons vertices faces
 gathered_all unit polygons vertices faces h =
     let e : vertices ≡ vertices_of h.found = h.vertices_are ∙ grown_from_none (joined (printed_corners h.found)) in
     record {
@@ -81,6 +81,6 @@ gathered_next unit polygons i s h is vertices faces g new face all a e =
     subst₂ (λ (ps : List Outline) (fs : List (List ℕ)). AreGathered unit ps new fs) more (sym e)
     (gathered_more unit (take i polygons) vertices faces g s new face a)
 
-pub gathered_end : (unit : LengthUnit) (polygons : List Outline) (i : ℕ) (vertices : List Coordinates) (faces : List (List ℕ)) → length polygons ≤ i → AreGathered unit (take i polygons) vertices faces → AreNumbered unit polygons vertices faces
+pub gathered_end : (unit : LengthUnit) (polygons : List Outline) (i : ℕ) (vertices : List Coordinates) (faces : List (List ℕ)) → length polygons ≤ i → AreGathered unit (take i polygons) vertices faces → AreNumberedFaces unit polygons vertices faces
 gathered_end unit polygons i vertices faces h g =
     gathered_all unit polygons vertices faces (subst (λ (ps : List Outline). AreGathered unit ps vertices faces) (take_all i polygons h) g)

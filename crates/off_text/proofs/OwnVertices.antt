@@ -11,9 +11,9 @@ use Rattle.plane_predicate.proofs.IntegerRing.{sums, mul_comm_ℤ}
 use Rattle.closed_surface.specs.Ways.{way, is_same_place}
 use Rattle.closed_surface.proofs.Each.{Each, each_weaker, Member, each_from_all}
 use Rattle.off_text.specs.Boundaries.{origin}
-use Rattle.off_text.specs.Reading.{IsVertex}
+use Rattle.off_text.specs.Reading.{IsPrintedVertex}
 use Rattle.off_text.specs.Vertices.{AreVerticesOf}
-use Rattle.off_text.specs.Texts.{same_point, distinct_points, number_among, printed_corners, vertices_of, faces_of}
+use Rattle.off_text.specs.Texts.{same_point, distinct_points, number_among, printed_corners, vertices_of, numbered_faces}
 use Rattle.off_text.proofs.Numbers.{Known, same_itself, place_below, known_at}
 use Rattle.off_text.proofs.Gathered.{joined}
 use Rattle.off_text.proofs.Unique.{one_point}
@@ -25,7 +25,7 @@ no_way x h = (Decides-int_eq x (pos 0)).0 h
 times_same : (pw qw p q : ℤ) → pw *ℤ q -ℤ qw *ℤ p ≡ pos 0 → qw *ℤ p ≡ pw *ℤ q
 times_same pw qw p q e = omega (arith, sums)
 
-one_vertex : (p q : Coordinates) → IsVertex p → IsVertex q → is_same_place p q ≡ true → p ≡ q
+one_vertex : (p q : Coordinates) → IsPrintedVertex p → IsPrintedVertex q → is_same_place p q ≡ true → p ≡ q
 one_vertex p q hp hq e =
     let first = and_parts (int_eq (way p q).x (pos 0)) (int_eq (way p q).y (pos 0) && int_eq (way p q).z (pos 0)) e in
     let second = and_parts (int_eq (way p q).y (pos 0)) (int_eq (way p q).z (pos 0)) first.1 in
@@ -149,12 +149,12 @@ module _ (found : List (List Coordinates)) where
       let known = known_by v vertices (member_at vertices i l) in
       one_number vertices (no_two_same points) (number_among vertices v) i (place_below (same_point v) vertices known) l (known_at vertices v known)
 
-  pub own_vertices : All IsVertex (vertices_of found) → AreVerticesOf (faces_of found) (vertices_of found)
+  pub own_vertices : All IsPrintedVertex (vertices_of found) → AreVerticesOf (numbered_faces found) (vertices_of found)
   own_vertices all =
-      let each = each_from_all IsVertex vertices all in record {
+      let each = each_from_all IsPrintedVertex vertices all in record {
         different = λ i j l k e. one_number vertices (no_two_same points) i j l k
-            (one_vertex (get_or vertices i origin) (get_or vertices j origin) (each_at IsVertex vertices each i l) (each_at IsVertex vertices each j k) e);
-        used = λ i l. subst (λ (n : ℕ). Contains (flat_map (λ face. face) (faces_of found)) n) (own_number i l)
+            (one_vertex (get_or vertices i origin) (get_or vertices j origin) (each_at IsPrintedVertex vertices each i l) (each_at IsPrintedVertex vertices each j k) e);
+        used = λ i l. subst (λ (n : ℕ). Contains (flat_map (λ face. face) (numbered_faces found)) n) (own_number i l)
             (subst (λ (ns : List ℕ). Contains ns (number_among vertices (get_or vertices i origin))) (sym (all_named (number_among vertices) (printed_corners found)))
             (contains_map (number_among vertices) (get_or vertices i origin) points (member_distinct (get_or vertices i origin) points (member_at vertices i l))));
       }

@@ -2,18 +2,18 @@
 use Rattle.std.proofs.Common.{◌≡◌, ◌≢◌, inl, inr, ⊎_elim, ℕ, suc, ◌+◌, ◌-◌, ◌<◌, ◌≤◌, sym, ap, ◌∙◌, subst, arith, ℤ, pos, ◌<ℤ◌, ◌*ℤ◌, ◌+ℤ◌, ◌-ℤ◌}
 use Rattle.std.proofs.Math.IntN.{*ℤ-zero}
 use Rattle.std.proofs.lemmas.Bool.{cases_lt}
-use Rattle.plane_predicate.specs.Space.{Coefficients, Coordinates, value, turn, IsPlane}
+use Rattle.plane_predicate.specs.Space.{Coefficients, Coordinates, value, orientation_seen_from, IsPlane}
 use Rattle.plane_predicate.proofs.IntegerRing.{sums}
 use Rattle.plane_predicate.proofs.Signs.{zero_cancel}
 use Rattle.plane_predicate.proofs.SamePlanes.{equal_or_opposite}
-use Rattle.plane_polygon.specs.Polygons.{Outline, after, sides, corner, IsPolygon, IsStrictlyWithin}
+use Rattle.plane_polygon.specs.Polygons.{Outline, index_after, sides, corner, IsPolygon, IsStrictlyWithin}
 use Rattle.plane_polygon.proofs.Hull.{after_is, after_below, corner_on, plane_directed}
 use Rattle.plane_polygon.proofs.FourPoints.{four_points}
 use Rattle.plane_polygon.proofs.Rounds.{step, step_below, step_is, step_apart, step_round}
 use Rattle.plane_polygon.proofs.Faces.{others_left, turns_by_within, within_by_turns}
 use Rattle.off_text.proofs.Scaled.{AreOnePoint, other_way, on_alike, two_alike, three_alike, no_two_sides}
 
-step_next : (k a t : ℕ) → a < k → t < k → step k a (after k t) ≡ after k (step k a t)
+step_next : (k a t : ℕ) → a < k → t < k → step k a (index_after k t) ≡ index_after k (step k a t)
 step_next k a t h l = elim (after_is k t) [ inl p ↦ ap (step k a) p.1 ∙ sym (step_round k a t h p.0) | inr p ↦ ap (step k a) p.1 ]
 
 step_wrapped : (k a j : ℕ) → a < k → j < a → step k a (j + k - a) ≡ j
@@ -30,7 +30,7 @@ reached k a j h l =
 pub below_three : (i k : ℕ) → 3 ≤ k → i < 3 → i < k
 below_three i k h l = omega arith
 
-pub not_two : (k : ℕ) → 3 ≤ k → 2 ≢ after k 0
+pub not_two : (k : ℕ) → 3 ≤ k → 2 ≢ index_after k 0
 not_two k h = elim (after_is k 0) [ inl p ↦ absurd (omega arith) | inr p ↦ (λ e. let f : 2 ≡ suc 0 = e ∙ p.1 in omega (arith, f)) ]
 
 pub last_of_four : (t u v s a b c d : ℤ) → t *ℤ a -ℤ u *ℤ b +ℤ v *ℤ c -ℤ s *ℤ d ≡ pos 0 → a ≡ pos 0 → b ≡ pos 0 → c ≡ pos 0 → s *ℤ d ≡ pos 0
@@ -44,45 +44,45 @@ through_three s h n e p on =
     let next = after_below (sides s) 0 one in
     let two = below_three 2 (sides s) h.three (omega arith) in
     let left = others_left s h 0 2 one two (omega arith) (not_two (sides s) h.three) in
-    let next_corner = corner s (after (sides s) 0) in
-    zero_cancel (turn s.plane (corner s 0) next_corner (corner s 2)) (value n p) left
-    (last_of_four (turn s.plane next_corner (corner s 2) p) (turn s.plane (corner s 0) (corner s 2) p) (turn s.plane (corner s 0) next_corner p) (turn s.plane (corner s 0) next_corner (corner s 2))
+    let next_corner = corner s (index_after (sides s) 0) in
+    zero_cancel (orientation_seen_from s.plane (corner s 0) next_corner (corner s 2)) (value n p) left
+    (last_of_four (orientation_seen_from s.plane next_corner (corner s 2) p) (orientation_seen_from s.plane (corner s 0) (corner s 2) p) (orientation_seen_from s.plane (corner s 0) next_corner p) (orientation_seen_from s.plane (corner s 0) next_corner (corner s 2))
     (value n (corner s 0)) (value n next_corner) (value n (corner s 2)) (value n p)
-    (four_points s.plane (plane_directed s h) (corner s 0) next_corner (corner s 2) p (corner_on s 0) (corner_on s (after (sides s) 0)) (corner_on s 2) on n)
-    (e 0 one) (e (after (sides s) 0) next) (e 2 two))
+    (four_points s.plane (plane_directed s h) (corner s 0) next_corner (corner s 2) p (corner_on s 0) (corner_on s (index_after (sides s) 0)) (corner_on s 2) on n)
+    (e 0 one) (e (index_after (sides s) 0) next) (e 2 two))
 
 -- points that are the corners, from corner a on
 module _ (s : Outline) (h : IsPolygon s) (a : ℕ) (l : a < sides s) (c : ℕ → Coordinates) (is : (i : ℕ) → i < sides s → AreOnePoint (corner s (step (sides s) a i)) (c i)) where
-  next_is : (i : ℕ) → i < sides s → AreOnePoint (corner s (after (sides s) (step (sides s) a i))) (c (after (sides s) i))
-  next_is i b = subst (λ (j : ℕ). AreOnePoint (corner s j) (c (after (sides s) i))) (step_next (sides s) a i l b) (is (after (sides s) i) (after_below (sides s) i b))
+  next_is : (i : ℕ) → i < sides s → AreOnePoint (corner s (index_after (sides s) (step (sides s) a i))) (c (index_after (sides s) i))
+  next_is i b = subst (λ (j : ℕ). AreOnePoint (corner s j) (c (index_after (sides s) i))) (step_next (sides s) a i l b) (is (index_after (sides s) i) (after_below (sides s) i b))
 
   pub points_on : (i : ℕ) → i < sides s → value s.plane (c i) ≡ pos 0
   points_on i b = on_alike s.plane (corner s (step (sides s) a i)) (c i) (is i b) (corner_on s (step (sides s) a i))
 
-  pub points_left : (i j : ℕ) → i < sides s → j < sides s → j ≢ i → j ≢ after (sides s) i → pos 0 <ℤ turn s.plane (c i) (c (after (sides s) i)) (c j)
+  pub points_left : (i j : ℕ) → i < sides s → j < sides s → j ≢ i → j ≢ index_after (sides s) i → pos 0 <ℤ orientation_seen_from s.plane (c i) (c (index_after (sides s) i)) (c j)
   points_left i j b d m n =
-      three_alike s.plane (corner s (step (sides s) a i)) (c i) (corner s (after (sides s) (step (sides s) a i))) (c (after (sides s) i)) (corner s (step (sides s) a j)) (c j) (is i b) (next_is i b) (is j d)
+      three_alike s.plane (corner s (step (sides s) a i)) (c i) (corner s (index_after (sides s) (step (sides s) a i))) (c (index_after (sides s) i)) (corner s (step (sides s) a j)) (c j) (is i b) (next_is i b) (is j d)
       (others_left s h (step (sides s) a i) (step (sides s) a j) (step_below (sides s) a i l) (step_below (sides s) a j l)
       (step_apart (sides s) a i j l b d m)
-      (λ e. step_apart (sides s) a (after (sides s) i) j l (after_below (sides s) i b) d n (e ∙ sym (step_next (sides s) a i l b))))
+      (λ e. step_apart (sides s) a (index_after (sides s) i) j l (after_below (sides s) i b) d n (e ∙ sym (step_next (sides s) a i l b))))
 
-  pub left_from_within : (p : Coordinates) → IsStrictlyWithin s p → (i : ℕ) → i < sides s → pos 0 <ℤ turn s.plane (c i) (c (after (sides s) i)) p
+  pub left_from_within : (p : Coordinates) → IsStrictlyWithin s p → (i : ℕ) → i < sides s → pos 0 <ℤ orientation_seen_from s.plane (c i) (c (index_after (sides s) i)) p
   left_from_within p w i b =
-      two_alike s.plane (corner s (step (sides s) a i)) (c i) (corner s (after (sides s) (step (sides s) a i))) (c (after (sides s) i)) p (is i b) (next_is i b)
+      two_alike s.plane (corner s (step (sides s) a i)) (c i) (corner s (index_after (sides s) (step (sides s) a i))) (c (index_after (sides s) i)) p (is i b) (next_is i b)
       (turns_by_within s h p w.on w.behind (step (sides s) a i) (step_below (sides s) a i l))
 
-  left_at : (p : Coordinates) → ((i : ℕ) → i < sides s → pos 0 <ℤ turn s.plane (c i) (c (after (sides s) i)) p) → (i : ℕ) → i < sides s →
-      pos 0 <ℤ turn s.plane (corner s (step (sides s) a i)) (corner s (after (sides s) (step (sides s) a i))) p
+  left_at : (p : Coordinates) → ((i : ℕ) → i < sides s → pos 0 <ℤ orientation_seen_from s.plane (c i) (c (index_after (sides s) i)) p) → (i : ℕ) → i < sides s →
+      pos 0 <ℤ orientation_seen_from s.plane (corner s (step (sides s) a i)) (corner s (index_after (sides s) (step (sides s) a i))) p
   left_at p t i b =
       let here = other_way (corner s (step (sides s) a i)) (c i) (is i b) in
-      let next = other_way (corner s (after (sides s) (step (sides s) a i))) (c (after (sides s) i)) (next_is i b) in
-      two_alike s.plane (c i) (corner s (step (sides s) a i)) (c (after (sides s) i)) (corner s (after (sides s) (step (sides s) a i))) p here next (t i b)
+      let next = other_way (corner s (index_after (sides s) (step (sides s) a i))) (c (index_after (sides s) i)) (next_is i b) in
+      two_alike s.plane (c i) (corner s (step (sides s) a i)) (c (index_after (sides s) i)) (corner s (index_after (sides s) (step (sides s) a i))) p here next (t i b)
 
-  pub within_from_left : (p : Coordinates) → value s.plane p ≡ pos 0 → ((i : ℕ) → i < sides s → pos 0 <ℤ turn s.plane (c i) (c (after (sides s) i)) p) → IsStrictlyWithin s p
+  pub within_from_left : (p : Coordinates) → value s.plane p ≡ pos 0 → ((i : ℕ) → i < sides s → pos 0 <ℤ orientation_seen_from s.plane (c i) (c (index_after (sides s) i)) p) → IsStrictlyWithin s p
   within_from_left p e t = record {
     on = e;
     behind = within_by_turns s h p e (λ j b. let r = reached (sides s) a j l b in
-        subst (λ (m : ℕ). pos 0 <ℤ turn s.plane (corner s m) (corner s (after (sides s) m)) p) r.2 (left_at p t r.0 r.1));
+        subst (λ (m : ℕ). pos 0 <ℤ orientation_seen_from s.plane (corner s m) (corner s (index_after (sides s) m)) p) r.2 (left_at p t r.0 r.1));
   }
 
   -- a plane that has them has all corners
@@ -92,8 +92,8 @@ module _ (s : Outline) (h : IsPolygon s) (a : ℕ) (l : a < sides s) (c : ℕ �
       subst (λ (m : ℕ). value n (corner s m) ≡ pos 0) r.2 (on_alike n (c r.0) (corner s (step (sides s) a r.0)) (other_way (corner s (step (sides s) a r.0)) (c r.0) (is r.0 r.1)) (e r.0 r.1))
 
   -- the plane that they face is the polygon's
-  pub one_plane : (n : Coefficients) → IsPlane s.plane → IsPlane n → ((i : ℕ) → i < sides s → value n (c i) ≡ pos 0) → pos 0 <ℤ turn n (c 0) (c (after (sides s) 0)) (c 2) → s.plane ≡ n
+  pub one_plane : (n : Coefficients) → IsPlane s.plane → IsPlane n → ((i : ℕ) → i < sides s → value n (c i) ≡ pos 0) → pos 0 <ℤ orientation_seen_from n (c 0) (c (index_after (sides s) 0)) (c 2) → s.plane ≡ n
   one_plane n hs hn e t =
       ⊎_elim (λ same. same)
-      (λ opposite. absurd (no_two_sides s.plane n opposite (c 0) (c (after (sides s) 0)) (c 2) (points_left 0 2 (below_three 0 (sides s) h.three (omega arith)) (below_three 2 (sides s) h.three (omega arith)) (omega arith) (not_two (sides s) h.three)) t))
+      (λ opposite. absurd (no_two_sides s.plane n opposite (c 0) (c (index_after (sides s) 0)) (c 2) (points_left 0 2 (below_three 0 (sides s) h.three (omega arith)) (below_three 2 (sides s) h.three (omega arith)) (omega arith) (not_two (sides s) h.three)) t))
       (equal_or_opposite s.plane n hs hn (record { points = λ p w q. through_three s h n (corners_on n e) p q }))

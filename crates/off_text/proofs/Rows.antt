@@ -5,7 +5,7 @@ use Rattle.plane_predicate.specs.declared.unit.Unit.TheVariants.{Half}
 use Rattle.plane_predicate.specs.Space.{Coefficients, Coordinates}
 use Rattle.plane_polygon.specs.Polygons.{Outline}
 use Rattle.plane_polygon.specs.Parts.{corners}
-use Rattle.off_text.specs.Texts.{corners_in_units, vertices_of, faces_of}
+use Rattle.off_text.specs.Texts.{corners_in_units, vertices_of, numbered_faces}
 use Rattle.off_text.specs.Vertices.{AreVerticesOf}
 
 abbrev plane : ℤ → ℤ → ℤ → ℤ → Coefficients
@@ -31,7 +31,7 @@ box_polygons =
 box_vertices : vertices_of (map corners box_polygons) ≡ point (pos 0) (pos 0) (pos 0) (pos 1) ∷ point (pos 0) (pos 0) (pos 3) (pos 1) ∷ point (pos 0) (pos 2) (pos 3) (pos 1) ∷ point (pos 0) (pos 2) (pos 0) (pos 1) ∷ point (pos 1) (pos 0) (pos 0) (pos 1) ∷ point (pos 1) (pos 2) (pos 0) (pos 1) ∷ point (pos 1) (pos 2) (pos 3) (pos 1) ∷ point (pos 1) (pos 0) (pos 3) (pos 1) ∷ []
 box_vertices = refl
 
-box_faces : faces_of (map corners box_polygons) ≡ (0 ∷ 1 ∷ 2 ∷ 3 ∷ []) ∷ (4 ∷ 5 ∷ 6 ∷ 7 ∷ []) ∷ (0 ∷ 4 ∷ 7 ∷ 1 ∷ []) ∷ (3 ∷ 2 ∷ 6 ∷ 5 ∷ []) ∷ (0 ∷ 3 ∷ 5 ∷ 4 ∷ []) ∷ (1 ∷ 7 ∷ 6 ∷ 2 ∷ []) ∷ []
+box_faces : numbered_faces (map corners box_polygons) ≡ (0 ∷ 1 ∷ 2 ∷ 3 ∷ []) ∷ (4 ∷ 5 ∷ 6 ∷ 7 ∷ []) ∷ (0 ∷ 4 ∷ 7 ∷ 1 ∷ []) ∷ (3 ∷ 2 ∷ 6 ∷ 5 ∷ []) ∷ (0 ∷ 3 ∷ 5 ∷ 4 ∷ []) ∷ (1 ∷ 7 ∷ 6 ∷ 2 ∷ []) ∷ []
 box_faces = refl
 
 -- in half units: a cube from -3 to 3 grid steps
@@ -48,7 +48,7 @@ centred_polygons =
 centred_vertices : vertices_of (map (corners_in_units Half) centred_polygons) ≡ point (negsuc 2) (negsuc 2) (negsuc 2) (pos 2) ∷ point (negsuc 2) (negsuc 2) (pos 3) (pos 2) ∷ point (negsuc 2) (pos 3) (pos 3) (pos 2) ∷ point (negsuc 2) (pos 3) (negsuc 2) (pos 2) ∷ point (pos 3) (negsuc 2) (negsuc 2) (pos 2) ∷ point (pos 3) (pos 3) (negsuc 2) (pos 2) ∷ point (pos 3) (pos 3) (pos 3) (pos 2) ∷ point (pos 3) (negsuc 2) (pos 3) (pos 2) ∷ []
 centred_vertices = refl
 
-centred_faces : faces_of (map (corners_in_units Half) centred_polygons) ≡ (0 ∷ 1 ∷ 2 ∷ 3 ∷ []) ∷ (4 ∷ 5 ∷ 6 ∷ 7 ∷ []) ∷ (0 ∷ 4 ∷ 7 ∷ 1 ∷ []) ∷ (3 ∷ 2 ∷ 6 ∷ 5 ∷ []) ∷ (0 ∷ 3 ∷ 5 ∷ 4 ∷ []) ∷ (1 ∷ 7 ∷ 6 ∷ 2 ∷ []) ∷ []
+centred_faces : numbered_faces (map (corners_in_units Half) centred_polygons) ≡ (0 ∷ 1 ∷ 2 ∷ 3 ∷ []) ∷ (4 ∷ 5 ∷ 6 ∷ 7 ∷ []) ∷ (0 ∷ 4 ∷ 7 ∷ 1 ∷ []) ∷ (3 ∷ 2 ∷ 6 ∷ 5 ∷ []) ∷ (0 ∷ 3 ∷ 5 ∷ 4 ∷ []) ∷ (1 ∷ 7 ∷ 6 ∷ 2 ∷ []) ∷ []
 centred_faces = refl
 
 abbrev notch_polygons : List Outline
@@ -73,7 +73,7 @@ notch_polygons =
 notch_vertices : vertices_of (map corners notch_polygons) ≡ point (pos 0) (pos 0) (pos 0) (pos 1) ∷ point (pos 0) (pos 0) (pos 2) (pos 1) ∷ point (pos 0) (pos 2) (pos 2) (pos 1) ∷ point (pos 0) (pos 2) (pos 0) (pos 1) ∷ point (pos 2) (pos 1) (pos 0) (pos 1) ∷ point (pos 2) (pos 2) (pos 0) (pos 1) ∷ point (pos 2) (pos 2) (pos 1) (pos 1) ∷ point (pos 2) (pos 1) (pos 1) (pos 1) ∷ point (pos 2) (pos 0) (pos 0) (pos 1) ∷ point (pos 2) (pos 1) (pos 2) (pos 1) ∷ point (pos 2) (pos 0) (pos 2) (pos 1) ∷ point (pos 1) (pos 0) (pos 0) (pos 1) ∷ point (pos 1) (pos 0) (pos 2) (pos 1) ∷ point (pos 1) (pos 2) (pos 0) (pos 1) ∷ point (pos 1) (pos 2) (pos 1) (pos 1) ∷ point (pos 1) (pos 2) (pos 2) (pos 1) ∷ point (pos 1) (pos 1) (pos 0) (pos 1) ∷ point (pos 1) (pos 1) (pos 2) (pos 1) ∷ point (pos 1) (pos 1) (pos 1) (pos 1) ∷ []
 notch_vertices = refl
 
-notch_faces : faces_of (map corners notch_polygons) ≡ (0 ∷ 1 ∷ 2 ∷ 3 ∷ []) ∷ (4 ∷ 5 ∷ 6 ∷ 7 ∷ []) ∷ (8 ∷ 4 ∷ 9 ∷ 10 ∷ []) ∷ (11 ∷ 8 ∷ 10 ∷ 12 ∷ []) ∷ (0 ∷ 11 ∷ 12 ∷ 1 ∷ []) ∷ (13 ∷ 14 ∷ 6 ∷ 5 ∷ []) ∷ (3 ∷ 2 ∷ 15 ∷ 13 ∷ []) ∷ (16 ∷ 13 ∷ 5 ∷ 4 ∷ []) ∷ (11 ∷ 16 ∷ 4 ∷ 8 ∷ []) ∷ (0 ∷ 3 ∷ 13 ∷ 11 ∷ []) ∷ (12 ∷ 10 ∷ 9 ∷ 17 ∷ []) ∷ (1 ∷ 12 ∷ 15 ∷ 2 ∷ []) ∷ (18 ∷ 14 ∷ 15 ∷ 17 ∷ []) ∷ (18 ∷ 17 ∷ 9 ∷ 7 ∷ []) ∷ (18 ∷ 7 ∷ 6 ∷ 14 ∷ []) ∷ []
+notch_faces : numbered_faces (map corners notch_polygons) ≡ (0 ∷ 1 ∷ 2 ∷ 3 ∷ []) ∷ (4 ∷ 5 ∷ 6 ∷ 7 ∷ []) ∷ (8 ∷ 4 ∷ 9 ∷ 10 ∷ []) ∷ (11 ∷ 8 ∷ 10 ∷ 12 ∷ []) ∷ (0 ∷ 11 ∷ 12 ∷ 1 ∷ []) ∷ (13 ∷ 14 ∷ 6 ∷ 5 ∷ []) ∷ (3 ∷ 2 ∷ 15 ∷ 13 ∷ []) ∷ (16 ∷ 13 ∷ 5 ∷ 4 ∷ []) ∷ (11 ∷ 16 ∷ 4 ∷ 8 ∷ []) ∷ (0 ∷ 3 ∷ 13 ∷ 11 ∷ []) ∷ (12 ∷ 10 ∷ 9 ∷ 17 ∷ []) ∷ (1 ∷ 12 ∷ 15 ∷ 2 ∷ []) ∷ (18 ∷ 14 ∷ 15 ∷ 17 ∷ []) ∷ (18 ∷ 17 ∷ 9 ∷ 7 ∷ []) ∷ (18 ∷ 7 ∷ 6 ∷ 14 ∷ []) ∷ []
 notch_faces = refl
 
 -- one point with two lists of numbers, and a vertex that no face names

@@ -2,7 +2,7 @@
 use Rattle.std.proofs.Common.{◌≡◌, [], ◌∷◌, refl, sym, ap, ◌∙◌, subst, arith, ℤ, pos, ◌*ℤ◌, ◌<ℤ◌, ◌+ℤ◌, ◌-ℤ◌, neg_ℤ}
 use Rattle.std.proofs.Math.IntN.{*ℤ-zero}
 use Rattle.plane_predicate.specs.declared.unit.Unit.{Unit as LengthUnit}
-use Rattle.plane_predicate.specs.Space.{Coefficients, Coordinates, value, turn, product_with, opposite_of, IsPointTimes}
+use Rattle.plane_predicate.specs.Space.{Coefficients, Coordinates, value, orientation_seen_from, product_with, opposite_of, IsPointTimes}
 use Rattle.plane_predicate.specs.InUnits.{in_steps, in_units}
 use Rattle.plane_predicate.specs.Units.{steps_of}
 use Rattle.plane_predicate.proofs.InUnits.{steps_above}
@@ -23,8 +23,8 @@ value-scaled : (n : Coefficients) (k : ℤ) (q : Coordinates) → value n (scale
 value-scaled n k q =
     ring (of_plane n (of_point q (k ∷ []))) (valueP (form 0) (scaledP (var 8) (place 4))) (times (var 8) (valueP (form 0) (place 4))) refl
 
-turn-scaled : (n : Coefficients) (k : ℤ) (p q r : Coordinates) → turn n (scaled k p) q r ≡ k *ℤ turn n p q r
-turn-scaled n k p q r =
+orientation_seen_from-scaled : (n : Coefficients) (k : ℤ) (p q r : Coordinates) → orientation_seen_from n (scaled k p) q r ≡ k *ℤ orientation_seen_from n p q r
+orientation_seen_from-scaled n k p q r =
     ring (of_plane n (of_point p (of_point q (of_point r (k ∷ []))))) (turnP (form 0) (scaledP (var 16) (place 4)) (place 8) (place 12)) (times (var 16) (turnP (form 0) (place 4) (place 8) (place 12))) refl
 
 -- two lists of numbers of one point: multiples of both are the same
@@ -76,9 +76,9 @@ scaled_alike p q t =
 value-alike : (n : Coefficients) (p q : Coordinates) (t : AreOnePoint p q) → t.first *ℤ value n p ≡ t.second *ℤ value n q
 value-alike n p q t = sym (value-scaled n t.first p) ∙ ap (value n) (scaled_alike p q t) ∙ value-scaled n t.second q
 
-turn-alike : (n : Coefficients) (p p' q r : Coordinates) (t : AreOnePoint p p') → t.first *ℤ turn n p q r ≡ t.second *ℤ turn n p' q r
-turn-alike n p p' q r t =
-    sym (turn-scaled n t.first p q r) ∙ ap (λ (c : Coordinates). turn n c q r) (scaled_alike p p' t) ∙ turn-scaled n t.second p' q r
+orientation_seen_from-alike : (n : Coefficients) (p p' q r : Coordinates) (t : AreOnePoint p p') → t.first *ℤ orientation_seen_from n p q r ≡ t.second *ℤ orientation_seen_from n p' q r
+orientation_seen_from-alike n p p' q r t =
+    sym (orientation_seen_from-scaled n t.first p q r) ∙ ap (λ (c : Coordinates). orientation_seen_from n c q r) (scaled_alike p p' t) ∙ orientation_seen_from-scaled n t.second p' q r
 
 -- a plane has both or neither
 pub on_alike : (n : Coefficients) (p q : Coordinates) → AreOnePoint p q → value n p ≡ pos 0 → value n q ≡ pos 0
@@ -86,20 +86,20 @@ on_alike n p q t e =
     zero_cancel t.second (value n q) t.second_above
     (sym (value-alike n p q t) ∙ ap (λ (v : ℤ). t.first *ℤ v) e ∙ *ℤ-zero t.first)
 
--- a turn stays a left turn where its first point, the first two or all three are written by other numbers
-first_alike : (n : Coefficients) (p p' q r : Coordinates) → AreOnePoint p p' → pos 0 <ℤ turn n p q r → pos 0 <ℤ turn n p' q r
+-- an orientation stays that of a left bend where its first point, the first two or all three are written by other numbers
+first_alike : (n : Coefficients) (p p' q r : Coordinates) → AreOnePoint p p' → pos 0 <ℤ orientation_seen_from n p q r → pos 0 <ℤ orientation_seen_from n p' q r
 first_alike n p p' q r t h =
-    pos_cancel t.second (turn n p' q r) t.second_above
-    (subst (λ (v : ℤ). pos 0 <ℤ v) (turn-alike n p p' q r t) (pos_pos t.first (turn n p q r) t.first_above h))
+    pos_cancel t.second (orientation_seen_from n p' q r) t.second_above
+    (subst (λ (v : ℤ). pos 0 <ℤ v) (orientation_seen_from-alike n p p' q r t) (pos_pos t.first (orientation_seen_from n p q r) t.first_above h))
 
-round : (n : Coefficients) (p q r : Coordinates) → pos 0 <ℤ turn n p q r → pos 0 <ℤ turn n q r p
+round : (n : Coefficients) (p q r : Coordinates) → pos 0 <ℤ orientation_seen_from n p q r → pos 0 <ℤ orientation_seen_from n q r p
 round n p q r h = subst (λ (v : ℤ). pos 0 <ℤ v) (sym (turn_round n p q r)) h
 
-pub two_alike : (n : Coefficients) (p p' q q' r : Coordinates) → AreOnePoint p p' → AreOnePoint q q' → pos 0 <ℤ turn n p q r → pos 0 <ℤ turn n p' q' r
+pub two_alike : (n : Coefficients) (p p' q q' r : Coordinates) → AreOnePoint p p' → AreOnePoint q q' → pos 0 <ℤ orientation_seen_from n p q r → pos 0 <ℤ orientation_seen_from n p' q' r
 two_alike n p p' q q' r t u h =
     round n r p' q' (round n q' r p' (first_alike n q q' r p' u (round n p' q r (first_alike n p p' q r t h))))
 
-pub three_alike : (n : Coefficients) (p p' q q' r r' : Coordinates) → AreOnePoint p p' → AreOnePoint q q' → AreOnePoint r r' → pos 0 <ℤ turn n p q r → pos 0 <ℤ turn n p' q' r'
+pub three_alike : (n : Coefficients) (p p' q q' r r' : Coordinates) → AreOnePoint p p' → AreOnePoint q q' → AreOnePoint r r' → pos 0 <ℤ orientation_seen_from n p q r → pos 0 <ℤ orientation_seen_from n p' q' r'
 three_alike n p p' q q' r r' t u v h =
     round n r' p' q' (first_alike n r r' p' q' v (round n q' r p' (round n p' q' r (two_alike n p p' q q' r t u h))))
 
@@ -120,12 +120,12 @@ three_negatives : (u v w x y z x' y' z' : ℤ) → x' ≡ neg_ℤ x → y' ≡ n
 three_negatives u v w x y z x' y' z' hx hy hz = rw (hx, hy, hz) (omega (arith, sums, times_negative u x, times_negative v y, times_negative w z))
 
 -- a way that turns left about a plane turns right about its opposite
-pub turn-opposite : (n : Coefficients) (p q r : Coordinates) → turn (opposite_of n) p q r ≡ neg_ℤ (turn n p q r)
-turn-opposite n p q r = three_negatives p.w q.w r.w _ _ _ _ _ _ (product-opposite n q r) (product-opposite n r p) (product-opposite n p q)
+pub orientation_seen_from-opposite : (n : Coefficients) (p q r : Coordinates) → orientation_seen_from (opposite_of n) p q r ≡ neg_ℤ (orientation_seen_from n p q r)
+orientation_seen_from-opposite n p q r = three_negatives p.w q.w r.w _ _ _ _ _ _ (product-opposite n q r) (product-opposite n r p) (product-opposite n p q)
 
 not_both : (x y : ℤ) → x ≡ neg_ℤ y → pos 0 <ℤ x → pos 0 <ℤ y → ⊥
 not_both x y e h k = omega (arith, sums)
 
 -- a way turns left about one of a plane and its opposite only
-pub no_two_sides : (m n : Coefficients) → m ≡ opposite_of n → (p q r : Coordinates) → pos 0 <ℤ turn m p q r → pos 0 <ℤ turn n p q r → ⊥
-no_two_sides m n e p q r h k = not_both (turn m p q r) (turn n p q r) (ap (λ (l : Coefficients). turn l p q r) e ∙ turn-opposite n p q r) h k
+pub no_two_sides : (m n : Coefficients) → m ≡ opposite_of n → (p q r : Coordinates) → pos 0 <ℤ orientation_seen_from m p q r → pos 0 <ℤ orientation_seen_from n p q r → ⊥
+no_two_sides m n e p q r h k = not_both (orientation_seen_from m p q r) (orientation_seen_from n p q r) (ap (λ (l : Coefficients). orientation_seen_from l p q r) e ∙ orientation_seen_from-opposite n p q r) h k

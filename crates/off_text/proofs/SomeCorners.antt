@@ -5,7 +5,7 @@ use Rattle.std.proofs.lemmas.Simd.{map-map}
 use Rattle.std.proofs.lemmas.List.Elements.{All-head, All-tail}
 use Prim.Native.Nat.{◌∣◌}
 use Rattle.plane_predicate.specs.declared.unit.Unit.{Unit as LengthUnit}
-use Rattle.plane_predicate.specs.Space.{Coordinates, IsCommonFactor, IsPointTimes, IsReduced}
+use Rattle.plane_predicate.specs.Space.{Coordinates, IsCommonFactor, IsPointTimes, HasNoCommonFactor}
 use Rattle.plane_predicate.specs.InUnits.{in_units}
 use Rattle.plane_predicate.specs.Units.{steps_of}
 use Rattle.plane_predicate.proofs.InUnits.{steps_above}
@@ -14,7 +14,7 @@ use Rattle.plane_predicate.proofs.Signs.{pos_pos}
 use Rattle.plane_predicate.proofs.Coprime.{euclid}
 use Rattle.plane_predicate.proofs.Divisions.{common_of, quotient, quotient_negative, quotients_of, reduced_is_same}
 use Rattle.plane_polygon.specs.Polygons.{Outline, sides, corner, IsPolygon, AreReducedFrom}
-use Rattle.plane_polygon.specs.Parts.{up_to}
+use Rattle.plane_polygon.specs.Parts.{indices_below}
 use Rattle.plane_polygon.proofs.CornerSides.{reduced_step}
 use Rattle.off_text.specs.Texts.{corners_in_units, AreCornersOf}
 use Rattle.off_text.proofs.Factors.{size_above}
@@ -36,7 +36,7 @@ divided (pos n) by d = (pos (n / by), quotient (pos n) by d (omega (arith, sums)
 divided (negsuc n) by d = (neg_ℤ (pos (suc n / by)), quotient_negative (negsuc n) by d (omega (arith, sums)))
 
 -- a point has numbers without a common factor, and so has each of n points
-some_reduced : (p : Coordinates) → pos 0 <ℤ p.w → (q : Coordinates) × IsPointTimes p q × IsReduced q
+some_reduced : (p : Coordinates) → pos 0 <ℤ p.w → (q : Coordinates) × IsPointTimes p q × HasNoCommonFactor q
 some_reduced p weight =
     let by = four_factor (unsigned_abs p.x) (unsigned_abs p.y) (unsigned_abs p.z) (unsigned_abs p.w) in
     let x = divided p.x by.0 by.1.divides_x in
@@ -47,20 +47,20 @@ some_reduced p weight =
     let quotients = quotients_of p.x p.y p.z p.w x.0 y.0 z.0 w.0 by.0 (omega (arith, size_above p.w weight)) by.1 x.1 y.1 z.1 w.1 in
     (q, reduced_is_same p q quotients, record { reduced = quotients.no_factor })
 
-all_reduced : (f : ℕ → Coordinates) (n : ℕ) → ((i : ℕ) → i < n → pos 0 <ℤ (f i).w) → (qs : List Coordinates) × AreReducedFrom (map f (up_to n)) qs
+all_reduced : (f : ℕ → Coordinates) (n : ℕ) → ((i : ℕ) → i < n → pos 0 <ℤ (f i).w) → (qs : List Coordinates) × AreReducedFrom (map f (indices_below n)) qs
 all_reduced f zero weight = ([], tt)
 all_reduced f (suc n) weight =
     let before = all_reduced f n (λ i l. weight i (omega arith)) in
     let q = some_reduced (f n) (weight n (omega arith)) in
     let qs = before.0 ++ q.0 ∷ [] in
-    (qs, subst (λ (k : ℕ). AreReducedFrom (map f (up_to k)) qs) (add-one n) (reduced_step f n before.0 q.0 before.1 q.1 q.2))
+    (qs, subst (λ (k : ℕ). AreReducedFrom (map f (indices_below k)) qs) (add-one n) (reduced_step f n before.0 q.0 before.1 q.1 q.2))
 
 -- so have the corners of a polygon in units, and those of each of some polygons
 polygon_corners : (unit : LengthUnit) (s : Outline) → IsPolygon s → (found : List Coordinates) × AreReducedFrom (corners_in_units unit s) found
 polygon_corners unit s polygon =
     let point = λ (i : ℕ). in_units unit (corner s i) in
     let all = all_reduced point (sides s) (λ i l. pos_pos (steps_of unit) (corner s i).w (steps_above unit) (polygon.turns_left i l)) in
-    (all.0, subst (λ (ps : List Coordinates). AreReducedFrom ps all.0) (sym (map-map (in_units unit) (corner s) (up_to (sides s)))) all.1)
+    (all.0, subst (λ (ps : List Coordinates). AreReducedFrom ps all.0) (sym (map-map (in_units unit) (corner s) (indices_below (sides s)))) all.1)
 
 pub some_corners : (unit : LengthUnit) (polygons : List Outline) → All IsPolygon polygons → (faces : List (List Coordinates)) × AreCornersOf unit polygons faces
 some_corners unit [] h = ([], tt)

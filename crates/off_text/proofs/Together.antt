@@ -14,7 +14,7 @@ use Rattle.off_text.specs.Reading.{face_line}
 use Rattle.off_text.specs.Texts.{from_least, number_among, printed_corners, AreCornersOf}
 use Rattle.off_text.specs.Numbering.{with_points, HaveLines}
 use Rattle.off_text.specs.FaceNumbers.{sides_of, all_numbers, numbers_among, lines_of, HaveNumbers}
-use Rattle.off_text.specs.Parts.{AreCut, vertices_in, faces_and_names_in, faces_and_names, lines_in}
+use Rattle.off_text.specs.Parts.{IsCutIntoParts, vertices_in, faces_and_names_in, faces_and_names, lines_in}
 use Rattle.off_text.proofs.Numbers.{AllKnown, all_kept, grown_knows, with_points-append}
 use Rattle.off_text.proofs.Distinct.{grown_from_none, grown_twice}
 use Rattle.off_text.proofs.Gathered.{joined, corners_append, gathered_all}
@@ -67,7 +67,7 @@ module _ (unit : LengthUnit) (front back : List Outline) (part : Part) (is : IsP
             ∙ ap (flat_map face_line) (sym (ap (map (map (number_among all))) both ∙ map-append (map (number_among all)) (printed_corners found) (printed_corners rest.found)));
       }
 
-all_together : (unit : LengthUnit) (all : List Coordinates) (polygons : List Outline) (parts : List Part) (before : List Coordinates) → AreCut (IsPart unit) polygons parts →
+all_together : (unit : LengthUnit) (all : List Coordinates) (polygons : List Outline) (parts : List Part) (before : List Coordinates) → IsCutIntoParts (IsPart unit) polygons parts →
     all ≡ with_points before (vertices_in parts) → AreTogether unit polygons before all (flat_map (lines_among all) parts)
 all_together unit all polygons [] before h e =
     subst (λ (ps : List Outline). AreTogether unit ps before all []) (sym h) (record { all_polygons = All-nil IsPolygon; found = []; corners = tt; grows = e; lines_are = refl })
@@ -77,7 +77,7 @@ all_together unit all polygons (part ∷ parts) before h e =
     (all_together unit all h.1 parts (with_points before part.vertices.keys) h.4 (e ∙ with_points-append part.vertices.keys (vertices_in parts) before)))
 
 -- parts that are put together are numbered as their polygons are, one after another
-pub parts_numbered : (unit : LengthUnit) (all : List Coordinates) (polygons : List Outline) (parts : List Part) (others : List NamedPart) → AreCut (IsPart unit) polygons parts →
+pub parts_numbered : (unit : LengthUnit) (all : List Coordinates) (polygons : List Outline) (parts : List Part) (others : List NamedPart) → IsCutIntoParts (IsPart unit) polygons parts →
     all ≡ with_points [] (vertices_in parts) → map faces_and_names others ≡ map (faces_and_names_in all) parts → HaveLines unit polygons all (lines_in others)
 parts_numbered unit all polygons parts others h e names =
     let t = all_together unit all polygons parts [] h e in
@@ -124,7 +124,7 @@ module _ (whole left rest : List Part) (part : Part) (e : left ≡ part ∷ rest
       ∙ all
 
 -- the same of what was made of them, if it was
-pub both_made : {V E : Type 0} (unit : LengthUnit) (polygons : List Outline) (parts : List Part) → AreCut (IsPart unit) polygons parts →
+pub both_made : {V E : Type 0} (unit : LengthUnit) (polygons : List Outline) (parts : List Part) → IsCutIntoParts (IsPart unit) polygons parts →
     (keys : V → List Coordinates) (others : V → List NamedPart) (r : Result V E) → IfOk r (λ v. keys v ≡ with_points [] (vertices_in parts)) →
     IfOk r (λ v. map faces_and_names (others v) ≡ map (faces_and_names_in (keys v)) parts) → IfOk r (λ v. HaveLines unit polygons (keys v) (lines_in (others v)))
 both_made unit polygons parts h keys others (Ok v) e names = parts_numbered unit (keys v) polygons parts (others v) h e names

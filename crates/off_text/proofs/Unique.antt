@@ -3,7 +3,7 @@ use Rattle.std.proofs.Common.{◌≡◌, ℕ, zero, suc, ◌*◌, List, [], ◌�
 use Rattle.std.proofs.lemmas.Int.{unsigned_abs-mul}
 use Prim.Native.Nat.{◌∣◌}
 use Rattle.plane_predicate.specs.declared.unit.Unit.{Unit as LengthUnit}
-use Rattle.plane_predicate.specs.Space.{Coordinates, IsPointTimes, IsReduced}
+use Rattle.plane_predicate.specs.Space.{Coordinates, IsPointTimes, HasNoCommonFactor}
 use Rattle.plane_predicate.proofs.IntegerRing.{sums}
 use Rattle.plane_predicate.proofs.Polynomials.{var, times, minus, ring}
 use Rattle.plane_predicate.proofs.Opposites.{same_point}
@@ -11,7 +11,7 @@ use Rattle.plane_predicate.proofs.Signs.{zero_cancel}
 use Rattle.plane_predicate.proofs.Coprime.{same_numbers}
 use Rattle.plane_polygon.specs.Polygons.{Outline, AreReducedFrom}
 use Rattle.off_text.proofs.Factors.{size_above}
-use Rattle.off_text.specs.Texts.{corners_in_units, AreCornersOf, IsTextOf, text_of}
+use Rattle.off_text.specs.Texts.{corners_in_units, AreCornersOf, IsTextOf, text_of_faces}
 
 abbrev size_at : Coordinates → ℕ → ℕ
 size_at p zero = unsigned_abs p.x
@@ -19,7 +19,7 @@ size_at p (suc zero) = unsigned_abs p.y
 size_at p (suc (suc zero)) = unsigned_abs p.z
 size_at p (suc (suc (suc i))) = unsigned_abs p.w
 
-no_factor : (p : Coordinates) → IsReduced p → (k : ℕ) → ((i : ℕ) → k ∣ size_at p i) → k ≡ 1
+no_factor : (p : Coordinates) → HasNoCommonFactor p → (k : ℕ) → ((i : ℕ) → k ∣ size_at p i) → k ≡ 1
 no_factor p h k d = h.reduced k (d 0) (d 1) (d 2) (d 3)
 
 sizes : (u x v y : ℤ) → u *ℤ x ≡ v *ℤ y → unsigned_abs u * unsigned_abs x ≡ unsigned_abs v * unsigned_abs y
@@ -45,7 +45,7 @@ one_number : (a k l x y : ℤ) → pos 0 <ℤ k → k ≡ l → a ≡ k *ℤ x �
 one_number a k l x y h s e f = dropped k x y h (sym e ∙ f ∙ ap (λ (m : ℤ). m *ℤ y) (sym s))
 
 -- a point has one list of numbers without a common factor
-pub one_point : (p q r : Coordinates) → IsPointTimes p q → IsReduced q → IsPointTimes p r → IsReduced r → q ≡ r
+pub one_point : (p q r : Coordinates) → IsPointTimes p q → HasNoCommonFactor q → IsPointTimes p r → HasNoCommonFactor r → q ≡ r
 one_point p q r t hq u hr =
     let same = same_above t.by u.by t.above u.above
     (same_numbers (size_at r) (size_at q) (no_factor r hr) (no_factor q hq) (unsigned_abs t.by) (unsigned_abs u.by) (size_above t.by t.above) (size_above u.by u.above) (all_sizes p q r t u)) in
@@ -71,4 +71,4 @@ one_corners unit (s ∷ polygons) (f ∷ faces) (o ∷ others) h k =
     ap₂ (λ (x : List Coordinates) (l : List (List Coordinates)). x ∷ l) (one_list (corners_in_units unit s) f o h.0 k.0) (one_corners unit polygons faces others h.1 k.1)
 
 pub one_text : (unit : LengthUnit) (polygons : List Outline) (bytes others : List ℕ) → IsTextOf unit polygons bytes → IsTextOf unit polygons others → bytes ≡ others
-one_text unit polygons bytes others h k = h.spelled ∙ ap text_of (one_corners unit polygons h.faces k.faces h.corners k.corners) ∙ sym k.spelled
+one_text unit polygons bytes others h k = h.spelled ∙ ap text_of_faces (one_corners unit polygons h.faces k.faces h.corners k.corners) ∙ sym k.spelled

@@ -7,27 +7,25 @@ use Rattle.plane_predicate.specs.InUnits.{in_steps}
 use Rattle.csg_tree.specs.Formulas.{Formula}
 use Rattle.csg_tree.specs.FacePlanes.{IsFacePlane, IsOnOneFacePlane, is_boundary_at}
 use Rattle.closed_surface.specs.Closed.{IsClosedSurface}
-use Rattle.off_text.specs.Reading.{Reads}
-use Rattle.off_text.specs.Boundaries.{grid_corner, Faces, Covers, OneExactlyWhere}
+use Rattle.off_text.specs.Reading.{IsOffText}
+use Rattle.off_text.specs.Boundaries.{grid_corner, FacesPlane, FaceCovers, OneExactlyWhere}
 use Rattle.off_text.specs.Vertices.{AreVerticesOf}
 
 -- a face of the boundary: it faces an orientation of a face plane, and its corners are in the closed world box
 pub record IsBoundaryFace (unit : LengthUnit) (f : Formula) (vertices : List Coordinates) (face : List ℕ) : Type 0 where
   pub plane : Coefficients
   pub of_formula : IsFacePlane plane f
-  pub faces : Faces unit vertices plane face
+  pub faces : FacesPlane unit vertices plane face
   pub boxed : (i : ℕ) → i < length face → IsInClosedWorld (grid_corner unit vertices face i)
 
--- the bytes are a 4OFF text whose faces bound the formula: a point on exactly one face plane is covered by exactly one
--- face facing a side where the formula is solid just behind and empty just ahead, and by none otherwise. Its vertices are
--- different points, each a corner of a face. And the faces are closed: through a point strictly inside the world box that is
--- no corner of a face, as many of their edges run one way as the opposite way
+-- the bytes are a 4OFF text whose faces bound the formula: at a point on exactly one face plane exactly one face covers each
+-- side where it is solid just behind and empty just ahead, else none; and they are closed
 pub record IsBoundary (unit : LengthUnit) (bytes : List ℕ) (f : Formula) : Type 0 where
   pub vertices : List Coordinates
   pub faces : List (List ℕ)
-  pub read : Reads bytes vertices faces
+  pub read : IsOffText bytes vertices faces
   pub own_vertices : AreVerticesOf faces vertices
   pub bounding : All (IsBoundaryFace unit f vertices) faces
   pub covered : (n : Coefficients) (p : Coordinates) → IsOnOneFacePlane f n (in_steps unit p) →
-      OneExactlyWhere (is_boundary_at f n (in_steps unit p)) (Covers unit vertices n p) faces
+      OneExactlyWhere (is_boundary_at f n (in_steps unit p)) (FaceCovers unit vertices n p) faces
   pub closed : IsClosedSurface unit vertices faces

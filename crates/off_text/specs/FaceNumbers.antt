@@ -6,7 +6,7 @@ use Rattle.plane_polygon.specs.Polygons.{Outline}
 use Rattle.off_text.specs.declared.numbering.FaceNumbers.{FaceNumbers}
 use Rattle.off_text.specs.Reading.{face_line}
 use Rattle.off_text.specs.Texts.{number_among}
-use Rattle.off_text.specs.Numbering.{AddsFace, AreNumbered}
+use Rattle.off_text.specs.Numbering.{AddsFace, AreNumberedFaces}
 
 -- how many corners each face has
 abbrev pub sides_of : List (List ℕ) → List ℕ
@@ -30,7 +30,7 @@ pub record AddsNumbers (unit : LengthUnit) (s : Outline) (old new : List Coordin
 -- the vertices of the text of these polygons, and the numbers of its faces
 pub record HaveNumbers (unit : LengthUnit) (polygons : List Outline) (vertices : List Coordinates) (all : FaceNumbers) : Type 0 where
   pub faces : List (List ℕ)
-  pub numbered : AreNumbered unit polygons vertices faces
+  pub numbered : AreNumberedFaces unit polygons vertices faces
   pub sides : all.sides.items ≡ sides_of faces
   pub numbers : all.numbers.items ≡ all_numbers faces
 

@@ -3,12 +3,12 @@ use Rattle.std.specs.Prelude.{◌≡◌, ℕ, ◌^◌, ◌<◌, Bool, ℤ, pos, 
 use Rattle.std.specs.Ordering.{int_eq}
 use Rattle.indexmap.specs.IndexSet.{insert_key}
 use Rattle.plane_predicate.specs.declared.unit.Unit.{Unit as LengthUnit}
-use Rattle.plane_predicate.specs.Space.{Coordinates, IsPointTimes, IsReduced}
+use Rattle.plane_predicate.specs.Space.{Coordinates, IsPointTimes, HasNoCommonFactor}
 use Rattle.plane_predicate.specs.InUnits.{in_units}
 use Rattle.plane_polygon.specs.Polygons.{Outline, AreReducedFrom, IsPolygon}
 use Rattle.text_place.specs.Decimals.{numeral}
 use Rattle.off_text.specs.Reading.{space, face_line}
-use Rattle.off_text.specs.Texts.{same_point, corners_in_units, from_least, number_among, AreCornersOf, vertices_of, faces_of}
+use Rattle.off_text.specs.Texts.{same_point, corners_in_units, from_least, number_among, AreCornersOf, vertices_of, numbered_faces}
 
 -- the numbers of a vertex of the program, which are written in decimal digits: each fits 128 bits with its sign changed
 pub record HasVertexSizes (p : Coordinates) : Type 0 where
@@ -24,7 +24,7 @@ is_even x = int_eq (int_rem x (pos 2)) (pos 0)
 -- the vertex is a corner in units, without a common factor where the corner has none
 pub record IsVertexAt (unit : LengthUnit) (p v : Coordinates) : Type 0 where
   pub times : IsPointTimes (in_units unit p) v
-  pub reduced : IsReduced p → IsReduced v
+  pub reduced : HasNoCommonFactor p → HasNoCommonFactor v
 
 -- the vertices once these points are numbered too
 abbrev pub with_points : List Coordinates → List Coordinates → List Coordinates
@@ -40,12 +40,12 @@ pub record AddsFace (unit : LengthUnit) (s : Outline) (old new : List Coordinate
   pub numbers : face ≡ map (number_among new) (from_least found)
 
 -- the vertices and the faces of the text of these polygons
-pub record AreNumbered (unit : LengthUnit) (polygons : List Outline) (vertices : List Coordinates) (faces : List (List ℕ)) : Type 0 where
+pub record AreNumberedFaces (unit : LengthUnit) (polygons : List Outline) (vertices : List Coordinates) (faces : List (List ℕ)) : Type 0 where
   pub all_polygons : All IsPolygon polygons
   pub found : List (List Coordinates)
   pub corners : AreCornersOf unit polygons found
   pub vertices_are : vertices ≡ vertices_of found
-  pub faces_are : faces ≡ faces_of found
+  pub faces_are : faces ≡ numbered_faces found
 
 -- a vertex's number as a face's line has it
 abbrev pub number_word : ℕ → List ℕ
@@ -54,5 +54,5 @@ number_word i = space ++ numeral i
 -- the vertices of the text of these polygons, and the lines of its faces
 pub record HaveLines (unit : LengthUnit) (polygons : List Outline) (vertices : List Coordinates) (lines : List ℕ) : Type 0 where
   pub faces : List (List ℕ)
-  pub numbered : AreNumbered unit polygons vertices faces
+  pub numbered : AreNumberedFaces unit polygons vertices faces
   pub lines_are : lines ≡ flat_map face_line faces

@@ -7,9 +7,9 @@ use Rattle.off_text.specs.declared.parts.NamedPart.{NamedPart}
 use Rattle.off_text.specs.FaceNumbers.{numbers_among, lines_of}
 
 -- the list is cut into pieces, each with its own result
-abbrev pub AreCut : {X R : Type 0} → (List X → R → Type 0) → List X → List R → Type 0
-AreCut P xs [] = xs ≡ []
-AreCut {X = X} P xs (r ∷ rs) = (front : List X) × (back : List X) × (xs ≡ front ++ back) × P front r × AreCut P back rs
+abbrev pub IsCutIntoParts : {X R : Type 0} → (List X → R → Type 0) → List X → List R → Type 0
+IsCutIntoParts P xs [] = xs ≡ []
+IsCutIntoParts {X = X} P xs (r ∷ rs) = (front : List X) × (back : List X) × (xs ≡ front ++ back) × P front r × IsCutIntoParts P back rs
 
 -- the vertices of parts, each part's after those of the parts before it
 abbrev pub vertices_in : List Part → List Coordinates

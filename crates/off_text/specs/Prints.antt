@@ -7,8 +7,8 @@ use Rattle.plane_polygon.specs.Polygons.{Outline, sides, corner as corner_of, Is
 use Rattle.plane_polygon.specs.Parts.{corners as all_corners}
 use Rattle.closed_surface.specs.Closed.{corners_at}
 use Rattle.closed_surface.specs.Printing.{IsRoundOf}
-use Rattle.off_text.specs.Reading.{Reads}
-use Rattle.off_text.specs.Boundaries.{corner, Faces, Covers}
+use Rattle.off_text.specs.Reading.{IsOffText}
+use Rattle.off_text.specs.Boundaries.{corner, FacesPlane, FaceCovers}
 use Rattle.off_text.specs.Vertices.{AreVerticesOf}
 
 -- the point is a corner of the polygon in units, by numbers of its own
@@ -19,22 +19,22 @@ pub record IsCornerOf (unit : LengthUnit) (s : Outline) (p : Coordinates) : Type
 
 -- the printed face covers exactly the points strictly within the polygon, facing no other plane
 abbrev pub CoversPolygon : LengthUnit → List Coordinates → Outline → List ℕ → Type 0
-CoversPolygon unit vertices s face = (n : Coefficients) (p : Coordinates) → IsPlane s.plane → IsPlane n → Covers unit vertices n p face ↔ ((s.plane ≡ n) × IsStrictlyWithin s (in_steps unit p))
+CoversPolygon unit vertices s face = (n : Coefficients) (p : Coordinates) → IsPlane s.plane → IsPlane n → FaceCovers unit vertices n p face ↔ ((s.plane ≡ n) × IsStrictlyWithin s (in_steps unit p))
 
 -- the printed face is the polygon: its corners are the polygon's, in order from one of them on, it faces the polygon's plane,
 -- and it covers exactly the points strictly within the polygon, facing no other plane
-pub record IsFaceOf (unit : LengthUnit) (vertices : List Coordinates) (s : Outline) (face : List ℕ) : Type 0 where
+pub record IsPrintedFaceOf (unit : LengthUnit) (vertices : List Coordinates) (s : Outline) (face : List ℕ) : Type 0 where
   pub corners : (i : ℕ) → i < length face → IsCornerOf unit s (corner vertices face i)
   pub round : IsRoundOf unit (all_corners s) (corners_at vertices face)
-  pub facing : Faces unit vertices s.plane face
+  pub facing : FacesPlane unit vertices s.plane face
   pub covering : CoversPolygon unit vertices s face
 
 -- each printed face is the polygon at its place
-abbrev pub AreFacesOf : LengthUnit → List Coordinates → List Outline → List (List ℕ) → Type 0
-AreFacesOf unit vertices [] [] = Unit {0}
-AreFacesOf unit vertices (s ∷ polygons) (face ∷ faces) = IsFaceOf unit vertices s face × AreFacesOf unit vertices polygons faces
-AreFacesOf unit vertices [] (face ∷ faces) = ⊥
-AreFacesOf unit vertices (s ∷ polygons) [] = ⊥
+abbrev pub ArePrintedFacesOf : LengthUnit → List Coordinates → List Outline → List (List ℕ) → Type 0
+ArePrintedFacesOf unit vertices [] [] = Unit {0}
+ArePrintedFacesOf unit vertices (s ∷ polygons) (face ∷ faces) = IsPrintedFaceOf unit vertices s face × ArePrintedFacesOf unit vertices polygons faces
+ArePrintedFacesOf unit vertices [] (face ∷ faces) = ⊥
+ArePrintedFacesOf unit vertices (s ∷ polygons) [] = ⊥
 
 -- each printed face covers the points of the polygon at its place
 abbrev pub CoverPolygons : LengthUnit → List Coordinates → List Outline → List (List ℕ) → Type 0
@@ -48,6 +48,6 @@ CoverPolygons unit vertices (s ∷ polygons) [] = ⊥
 pub record Prints (unit : LengthUnit) (polygons : List Outline) (bytes : List ℕ) : Type 0 where
   pub vertices : List Coordinates
   pub faces : List (List ℕ)
-  pub read : Reads bytes vertices faces
+  pub read : IsOffText bytes vertices faces
   pub own_vertices : AreVerticesOf faces vertices
-  pub drawn : AreFacesOf unit vertices polygons faces
+  pub drawn : ArePrintedFacesOf unit vertices polygons faces

@@ -13,12 +13,12 @@ abbrev pub newline : List ℕ
 newline = 10 ∷ []
 
 -- a printed vertex: the last number is above 0, and the four have no common factor above 1
-pub record IsVertex (p : Coordinates) : Type 0 where
+pub record IsPrintedVertex (p : Coordinates) : Type 0 where
   pub weight : pos 0 <ℤ p.w
   pub reduced : (k : ℕ) → k ∣ unsigned_abs p.x → k ∣ unsigned_abs p.y → k ∣ unsigned_abs p.z → k ∣ unsigned_abs p.w → k ≡ 1
 
 -- a printed face: at least three of the numbered vertices, counted from 0
-pub record IsFace (vertices : ℕ) (indices : List ℕ) : Type 0 where
+pub record IsPrintedFace (vertices : ℕ) (indices : List ℕ) : Type 0 where
   pub three : 3 ≤ length indices
   pub known : All (λ i. i < vertices) indices
 
@@ -39,7 +39,7 @@ off_text vertices faces =
     ++ flat_map face_line faces
 
 -- the bytes are the text of these vertices and these faces
-pub record Reads (bytes : List ℕ) (vertices : List Coordinates) (faces : List (List ℕ)) : Type 0 where
+pub record IsOffText (bytes : List ℕ) (vertices : List Coordinates) (faces : List (List ℕ)) : Type 0 where
   pub spelled : bytes ≡ off_text vertices faces
-  pub points : All IsVertex vertices
-  pub loops : All (IsFace (length vertices)) faces
+  pub points : All IsPrintedVertex vertices
+  pub loops : All (IsPrintedFace (length vertices)) faces

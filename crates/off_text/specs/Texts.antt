@@ -47,12 +47,12 @@ abbrev pub vertices_of : List (List Coordinates) → List Coordinates
 vertices_of faces = distinct_points (flat_map (λ corners. corners) (printed_corners faces))
 
 -- the faces as numbers of vertices
-abbrev pub faces_of : List (List Coordinates) → List (List ℕ)
-faces_of faces = map (map (number_among (vertices_of faces))) (printed_corners faces)
+abbrev pub numbered_faces : List (List Coordinates) → List (List ℕ)
+numbered_faces faces = map (map (number_among (vertices_of faces))) (printed_corners faces)
 
 -- the text of faces that are given by their corners in units, reduced and counterclockwise seen from the side that they face
-abbrev pub text_of : List (List Coordinates) → List ℕ
-text_of faces = off_text (vertices_of faces) (faces_of faces)
+abbrev pub text_of_faces : List (List Coordinates) → List ℕ
+text_of_faces faces = off_text (vertices_of faces) (numbered_faces faces)
 
 -- the most corners of all faces of a text together
 abbrev pub most_corners : ℕ
@@ -82,7 +82,7 @@ AreCornersOf unit (s ∷ polygons) [] = ⊥
 pub record IsTextOf (unit : LengthUnit) (polygons : List Outline) (bytes : List ℕ) : Type 0 where
   pub faces : List (List Coordinates)
   pub corners : AreCornersOf unit polygons faces
-  pub spelled : bytes ≡ text_of faces
+  pub spelled : bytes ≡ text_of_faces faces
 
 -- the polygons have a number of vertices with this property
 pub record HasVertices (unit : LengthUnit) (P : ℕ → Type 0) (polygons : List Outline) : Type 0 where

@@ -1,7 +1,7 @@
 //! The corners of polygons, in units and reduced.
 
 ghost use Rattle.std.specs.Prelude.{◌≡◌, ◌<◌, ◌<ℤ◌, pos, [], length, OnOk};
-ghost use Rattle.plane_predicate.specs.Space.{cramer, IsPointTimes, IsReduced};
+ghost use Rattle.plane_predicate.specs.Space.{meeting_by_cramers_rule, IsPointTimes, HasNoCommonFactor};
 ghost use Rattle.plane_predicate.specs.InUnits.{in_units};
 ghost use Rattle.plane_polygon.specs.Polygons.{corner, AreReducedFrom, IsPolygon};
 ghost use Rattle.off_text.specs.Texts.{corners_in_units};
@@ -50,16 +50,16 @@ fn corner_at(plane: &Plane, edges: &[Plane], i: usize, unit: Unit) -> Vertex
     requires polygon { IsPolygon (record { plane = plane.now; edges = edges.now }) }
     ensures times { IsPointTimes
         (in_units unit (corner (record { plane = plane.now; edges = edges.now }) i)) result }
-    ensures reduced { IsReduced result }
+    ensures reduced { HasNoCommonFactor result }
 {
     vertex_at(plane, &edges[i], &edges[next_index(i, edges.len())], unit)
 }
 
 // The vertex where three planes meet whose determinant is above 0.
 fn vertex_at(p: &Plane, q: &Plane, r: &Plane, unit: Unit) -> Vertex
-    requires { pos 0 <ℤ (cramer p.now q.now r.now).w }
-    ensures times { IsPointTimes (in_units unit (cramer p.now q.now r.now)) result }
-    ensures reduced { IsReduced result }
+    requires { pos 0 <ℤ (meeting_by_cramers_rule p.now q.now r.now).w }
+    ensures times { IsPointTimes (in_units unit (meeting_by_cramers_rule p.now q.now r.now)) result }
+    ensures reduced { HasNoCommonFactor result }
 {
     Vertex::of(&lowest_terms(&meeting_of(p, q, r)), unit)
 }

@@ -6,14 +6,14 @@ ghost use Rattle.plane_predicate.specs.Space.{Coefficients, Coordinates, IsInClo
 ghost use Rattle.plane_predicate.specs.InUnits.{in_steps, in_units};
 ghost use Rattle.plane_polygon.specs.Polygons.{Outline, IsPolygon};
 ghost use Rattle.csg_tree.specs.Formulas.{Formula, leaf, holds};
-ghost use Rattle.csg_tree.specs.FacePlanes.{IsOnOneFacePlane, just_ahead, just_behind};
+ghost use Rattle.csg_tree.specs.FacePlanes.{IsOnOneFacePlane, sides_just_ahead, sides_just_behind};
 ghost use Rattle.csg_tree.specs.ProperTrees.{IsProper};
 ghost use Rattle.bsp_tree.specs.Trees.{size};
 ghost use Rattle.bsp_boolean.specs.Solids.{solid_of};
 ghost use Rattle.facet_cut.specs.Facets.{facets_of};
 ghost use Rattle.facet_cut.specs.Sides.{walk_by, CoversFacing, HasOneWhere};
 ghost use Rattle.off_text.specs.Reading.{off_text};
-ghost use Rattle.off_text.specs.Boundaries.{Covers, OneExactlyWhere};
+ghost use Rattle.off_text.specs.Boundaries.{FaceCovers, OneExactlyWhere};
 ghost use Rattle.off_text.specs.Prints.{CoverPolygons, Prints};
 ghost use Rattle.off_text.specs.Texts.{vertices_of, corner_count, AreCornersOf, IsTextOf};
 ghost use Rattle.off_text.specs.Bounding.{IsBoundary};
@@ -53,7 +53,7 @@ pub fn faces_cover_as_facets()
         (faces : List (List ℕ)) → CoverPolygons unit vertices polygons faces →
         All (λ s. IsPlane s.plane) polygons → (n : Coefficients) → IsPlane n → (p : Coordinates) →
         (b : Bool) → HasOneWhere b (CoversFacing n (in_steps unit p)) polygons →
-        OneExactlyWhere b (Covers unit vertices n p) faces }
+        OneExactlyWhere b (FaceCovers unit vertices n p) faces }
 {}
 
 /// A corner that is in the closed world box is there by its printed numbers too.
@@ -68,9 +68,9 @@ pub fn printed_corners_stay_in_the_world()
 pub fn leaves_beside_face_planes()
     ensures behind { (f : Formula) (n : Coefficients) (p : Coordinates) → IsProper f →
         IsOnOneFacePlane f n p →
-        walk_by (solid_of f) (just_behind n p) ≡ holds f (just_behind n p) }
+        walk_by (solid_of f) (sides_just_behind n p) ≡ holds f (sides_just_behind n p) }
     ensures ahead { (f : Formula) (n : Coefficients) (p : Coordinates) → IsProper f →
-        IsOnOneFacePlane f n p → walk_by (solid_of f) (just_ahead n p) ≡ holds f (just_ahead n p) }
+        IsOnOneFacePlane f n p → walk_by (solid_of f) (sides_just_ahead n p) ≡ holds f (sides_just_ahead n p) }
 {}
 
 /// In each unit the text of the facets of a proper tree's solid is the boundary of the tree.

@@ -2,7 +2,7 @@
 
 ghost use Rattle.std.specs.Prelude.{◌≡◌, ◌+◌, ◌<◌, ◌*ℤ◌, pos, unsigned_abs, IfSome};
 ghost use Rattle.std.specs.Int.{IsGcd};
-ghost use Rattle.plane_predicate.specs.Space.{IsCommonFactor, IsPointTimes, IsReduced};
+ghost use Rattle.plane_predicate.specs.Space.{IsCommonFactor, IsPointTimes, HasNoCommonFactor};
 ghost use Prim.Native.Nat.{◌∣◌};
 
 use plane_predicate::{Point, reduce};
@@ -12,7 +12,7 @@ use std::marker::Model;
 /// numbers of 64 bits are divided sooner than those of 128 bits.
 pub fn lowest_terms(point: &Point) -> Point
     ensures same { IsPointTimes point.now result }
-    ensures reduced { IsReduced result }
+    ensures reduced { HasNoCommonFactor result }
 {
     if point.w == 1 {
         return *point;
@@ -60,7 +60,7 @@ impl Small {
     // The same point without a common factor above 1 in its four numbers.
     fn lowest_terms(&self) -> Point
         ensures same { IsPointTimes self.now result }
-        ensures reduced { IsReduced result }
+        ensures reduced { HasNoCommonFactor result }
     {
         let by = common_factor(
             self.x.unsigned_abs(),

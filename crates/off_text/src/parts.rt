@@ -5,7 +5,7 @@ ghost use Rattle.text_place.specs.Decimals.{numeral};
 ghost use Rattle.off_text.specs.Reading.{vertex_line};
 ghost use Rattle.off_text.specs.Numbering.{with_points, HaveLines};
 ghost use Rattle.off_text.specs.FaceNumbers.{HaveNumbers};
-ghost use Rattle.off_text.specs.Parts.{AreCut, vertices_in, faces_and_names_in, faces_and_names, lines_in};
+ghost use Rattle.off_text.specs.Parts.{IsCutIntoParts, vertices_in, faces_and_names_in, faces_and_names, lines_in};
 
 use crate::numbering::{FaceNumbers, push_numbers};
 use crate::part::{Part, number_facets};
@@ -66,7 +66,7 @@ fn parts_by<R: Threads + Sync>(
     requires { 0 < size }
     ensures { IfOk result
         (λ parts.
-        AreCut (λ polygons part. HaveNumbers unit polygons part.vertices.keys part.faces) facets.now
+        IsCutIntoParts (λ polygons part. HaveNumbers unit polygons part.vertices.keys part.faces) facets.now
         parts.items) }
 {
     let part = |_start: usize, chunk: &[Facet]| -> Result<Part, NoMemory>

@@ -14,8 +14,8 @@ pub record MemoryInput : Type 0 where
 abbrev pub read_count : MemoryInput → ℕ → ℕ
 read_count input room = min input.piece (min room (length input.left))
 
--- what a read makes of a source and a buffer where it gives n bytes: as many as a piece, the buffer and what is left
--- allow; they stand in the buffer's front, before what it held there; and they are no longer left
+-- a read that gives n bytes: as many as a piece, the buffer and what is left allow. They stand in the front of the buffer,
+-- whose rest stays, and are no longer left
 pub record GivesBytes (before now : MemoryInput) (buffer filled : List ℕ) (n : ℕ) : Type 0 where
   pub count : n ≡ read_count before (length buffer)
   pub front : filled ≡ take n before.left ++ drop n buffer

@@ -1,6 +1,6 @@
 use Rattle.std.specs.Prelude.{◌≡◌, ℕ, ◌+◌, ◌<◌, ◌≤◌, List, ◌++◌, length, Option}
 use Rattle.std.specs.Io.KnownBytes.{Appends, Consumes}
-use Rattle.outside_io.specs.Counts.{Rose}
+use Rattle.outside_io.specs.Counts.{CountRose}
 use Rattle.outside_io.specs.declared.whole.ReadEnd.{ReadEnd}
 use Rattle.outside_io.specs.declared.whole.ReadEnd.TheVariants.{Failed, TooLarge, NoMemory}
 
@@ -13,11 +13,10 @@ abbrev pub ConsumesPast : Option (List ℕ) → Option (List ℕ) → ℕ → �
 ConsumesPast old new most piece =
     (bytes : List ℕ) × (most < length bytes) × (length bytes ≤ most + piece) × Consumes old new bytes
 
--- what was taken from a source, from the bytes that were left to those that are left now, where reading to its end gives
--- no bytes: at most `most` before a read that failed, which the count of faults shows; more than `most`, and at most
--- `piece` more than that, where that is too many; and at most `most` where memory ran out
+-- what a reading that gives no bytes took from a source: at most `most` before a read failed or memory ran out, and else more
+-- than `most`, by at most a `piece`, where that is too many
 abbrev pub EndsEarly : Option (List ℕ) → Option (List ℕ) → ℕ → ℕ → ℕ → ℕ → ReadEnd → Type 0
-EndsEarly old new faults faults_now most piece Failed = Rose faults faults_now × ConsumesAtMost old new most
+EndsEarly old new faults faults_now most piece Failed = CountRose faults faults_now × ConsumesAtMost old new most
 EndsEarly old new faults faults_now most piece TooLarge = ConsumesPast old new most piece
 EndsEarly old new faults faults_now most piece NoMemory = ConsumesAtMost old new most
 

@@ -13,7 +13,7 @@ use Rattle.csg_tree.specs.Earlier.{IsNumberOf, AreAllNumbersIn}
 use Rattle.bsp_tree.specs.Shapes.{SolidParts, tree_of}
 use Rattle.bsp_tree.specs.Trees.{outside}
 use Rattle.bsp_boolean.specs.Solids.{solid_of}
-use Rattle.bsp_boolean.specs.TreeSolids.{AreWithin, most_of_one, solid_size}
+use Rattle.bsp_boolean.specs.TreeSolids.{AreWithinSizeLimits, most_of_one, solid_size}
 use Rattle.parallel_eval.specs.Known.{shared_solids, IsKnown, AreKnown, most_known}
 use Rattle.parallel_eval.proofs.Shared.{get_or-read}
 
@@ -38,7 +38,7 @@ module _ {Z : Type 0} where
 
   -- each of the solids of all trees is known
   pub known_at : (trees : List Formula) (solids : List (Arc SolidParts Z)) (k : ℕ) (d : Arc SolidParts Z) →
-      shared_solids solids ≡ map solid_of trees → AreWithin trees → k < length trees →
+      shared_solids solids ≡ map solid_of trees → AreWithinSizeLimits trees → k < length trees →
       IsKnown (tree_numbered trees (k + 1)) (Some (get_or solids k d))
   known_at trees solids k d e within h =
       let many : length solids ≡ length trees =

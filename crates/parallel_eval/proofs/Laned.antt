@@ -2,7 +2,7 @@
 use Rattle.std.proofs.Common.{◌≡◌, ℕ, zero, suc, ◌+◌, ◌≤◌, ◌<◌, List, [], ◌∷◌, ◌++◌, length, take, ap, sym, subst, ◌∙◌, arith, length-append}
 use Rattle.std.proofs.lemmas.List.Sums.{sum_by-cons}
 use Rattle.csg_tree.specs.Formulas.{Formula}
-use Rattle.bsp_boolean.specs.TreeSolids.{is_join}
+use Rattle.bsp_boolean.specs.TreeSolids.{one_if_join}
 use Rattle.subtree_memo.specs.declared.ledgers.MemoLedger.{Ghosts}
 use Rattle.parallel_eval.specs.declared.growth.NodeOutcome.{NodeOutcome}
 use Rattle.parallel_eval.specs.declared.lane.Lane.{Lane}
@@ -17,8 +17,8 @@ more_joins [] (suc m) zero h = omega arith
 more_joins [] (suc m) (suc n) h = omega arith
 more_joins (tree ∷ trees) (suc m) zero h = absurd (omega arith)
 more_joins (tree ∷ trees) (suc m) (suc n) h =
-    let fewer = sum_by-cons is_join tree (take m trees) in
-    let more = sum_by-cons is_join tree (take n trees) in
+    let fewer = sum_by-cons one_if_join tree (take m trees) in
+    let more = sum_by-cons one_if_join tree (take n trees) in
     let rest : joins_to trees m ≤ joins_to trees n = more_joins trees m n (omega arith) in
     omega (arith, fewer, more, rest)
 

@@ -5,7 +5,7 @@ use Rattle.std.specs.declared.sync.Arc.{Arc}
 use Rattle.csg_tree.specs.declared.op.Op.{Op}
 use Rattle.csg_tree.specs.Formulas.{Formula, joined}
 use Rattle.bsp_tree.specs.Shapes.{SolidParts, tree_of}
-use Rattle.bsp_tree.specs.Trees.{Tree, size}
+use Rattle.bsp_tree.specs.Trees.{BspTree, size}
 use Rattle.bsp_boolean.specs.Solids.{solid_of}
 use Rattle.bsp_boolean.specs.TreeSolids.{most_of_one}
 use Rattle.bsp_boolean.specs.declared.leaf_building.BuildStop.{BuildStop}
@@ -13,7 +13,7 @@ use Rattle.bsp_boolean.specs.declared.leaf_building.BuildStop.TheVariants.{TooBi
 use Rattle.subtree_memo.specs.Shares.{View, probes_of, offered_of, dropped_max}
 
 -- a tree is the join of two others, which have these solids
-abbrev pub IsJoinOf : Op → Tree → Tree → Formula → Type 0
+abbrev pub IsJoinOf : Op → BspTree → BspTree → Formula → Type 0
 IsJoinOf op left right tree =
     (first : Formula) × (second : Formula) × (tree ≡ joined op first second)
     × (left ≡ solid_of first) × (right ≡ solid_of second)
@@ -21,14 +21,14 @@ IsJoinOf op left right tree =
 -- What is given where a solid is wanted: the solid where its size is within the limit of one, and else that it
 -- is too big. Want of memory is free.
 module _ {Z : Type 0} where
-  abbrev pub Gives : Tree → Result (Arc SolidParts Z) BuildStop → Type 0
+  abbrev pub Gives : BspTree → Result (Arc SolidParts Z) BuildStop → Type 0
   Gives wanted (Ok solid) = (tree_of (arc_value solid) ≡ wanted) × (size wanted ≤ most_of_one)
   Gives wanted (Err TooBig) = most_of_one < size wanted
   Gives wanted (Err NoMemory) = Unit {0}
 
 -- what is given where a solid is built for two holders
 module _ {Z : Type 0} where
-  abbrev pub AreBuilt : Tree → Result (Arc SolidParts Z × Arc SolidParts Z) BuildStop → Type 0
+  abbrev pub AreBuilt : BspTree → Result (Arc SolidParts Z × Arc SolidParts Z) BuildStop → Type 0
   AreBuilt wanted (Ok made) =
       (tree_of (arc_value made.0) ≡ wanted) × (arc_value made.1 ≡ arc_value made.0) × (size wanted ≤ most_of_one)
   AreBuilt wanted (Err TooBig) = most_of_one < size wanted

@@ -4,7 +4,7 @@ use Rattle.std.specs.Arc.{arc_value}
 use Rattle.std.specs.declared.sync.Arc.{Arc}
 use Rattle.csg_tree.specs.Formulas.{Formula}
 use Rattle.csg_tree.specs.Numberings.{tree_numbered, IsNumberIn}
-use Rattle.bsp_tree.specs.Trees.{Tree, size}
+use Rattle.bsp_tree.specs.Trees.{BspTree, size}
 use Rattle.bsp_tree.specs.Shapes.{SolidParts, tree_of}
 use Rattle.bsp_boolean.specs.Solids.{solid_of}
 use Rattle.bsp_boolean.specs.TreeSolids.{most_of_one, solid_size}
@@ -15,7 +15,7 @@ most_known = 32768
 
 module _ {Z : Type 0} where
   -- the solids that are shared
-  abbrev pub shared_solids : List (Arc SolidParts Z) → List Tree
+  abbrev pub shared_solids : List (Arc SolidParts Z) → List BspTree
   shared_solids solids = map (λ s. tree_of (arc_value s)) solids
 
   -- a solid that is known is that of the tree, and within the limit of one

@@ -12,7 +12,7 @@ use Rattle.csg_tree.specs.Nodes.{IsNodeOf}
 use Rattle.bsp_tree.specs.Shapes.{SolidParts}
 use Rattle.bsp_tree.specs.Shapes.{tree_of}
 use Rattle.bsp_boolean.specs.Solids.{solid_of}
-use Rattle.bsp_boolean.specs.TreeSolids.{most_of_one, solid_size, total_size, joins, AreWithin}
+use Rattle.bsp_boolean.specs.TreeSolids.{most_of_one, solid_size, total_size, joins, AreWithinSizeLimits}
 use Rattle.subtree_memo.specs.Shares.{View, fresh_share, joined_share}
 use Rattle.subtree_memo.specs.declared.ledgers.MemoLedger.{Ghosts}
 use Rattle.parallel_eval.specs.Known.{shared_solids}
@@ -43,7 +43,7 @@ pub record AreReady {D : Type 0} (count : D → ℕ) (done : ℕ) (share : View)
 pub record IsGrown (trees : List Formula) (n : ℕ) (growth : Growth) : Type 0 where
   pub solids : shared_solids growth.solids.items ≡ map solid_of (take n trees)
   pub sum : growth.sum ≡ total_size (take n trees)
-  pub within : AreWithin (take n trees)
+  pub within : AreWithinSizeLimits (take n trees)
 
 -- a growth over these trees has so many solids, which is at most as many as there are trees
 pub record IsGrowing (trees : List Formula) (n : ℕ) (growth : Growth) : Type 0 where

@@ -6,7 +6,7 @@ ghost use Rattle.csg_tree.specs.Earlier.{IsNumberOf};
 ghost use Rattle.csg_tree.specs.Formulas.{Formula};
 ghost use Rattle.csg_tree.specs.Numberings.{tree_numbered, IsNumberIn};
 ghost use Rattle.bsp_boolean.specs.Solids.{solid_of};
-ghost use Rattle.bsp_boolean.specs.TreeSolids.{AreWithin};
+ghost use Rattle.bsp_boolean.specs.TreeSolids.{AreWithinSizeLimits};
 ghost use Rattle.parallel_eval.specs.Known.{shared_solids, IsKnown, AreAllKnown, known_size, most_known};
 
 use bsp_tree::Solid;
@@ -124,7 +124,7 @@ impl KnownStore {
     /// size. Where memory runs out, what was known stays.
     pub fn keep(&mut self, alloc: Global, solids: &[Arc<Solid>])
         requires solids { shared_solids solids.now ≡ map solid_of self.old }
-        requires within { AreWithin self.old }
+        requires within { AreWithinSizeLimits self.old }
         ensures { self.new ≡ self.old }
     {
         if let Ok(leaves) = leaves_of(alloc, self.named.store(), solids) {
@@ -140,7 +140,7 @@ fn leaves_of(
     solids: &[Arc<Solid>],
 ) -> Result<Vec<Option<Arc<Solid>>>, NoMemory>
     requires solids { shared_solids solids.now ≡ map solid_of store.now }
-    requires within { AreWithin store.now }
+    requires within { AreWithinSizeLimits store.now }
     ensures { IfOk result (λ v. AreAllKnown store.now v.items) }
 {
     let mut leaves = Vec::new(alloc);

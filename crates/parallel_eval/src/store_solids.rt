@@ -5,7 +5,7 @@ ghost use Rattle.std.specs.Arc.{arc_value};
 ghost use Rattle.csg_tree.specs.Numberings.{tree_numbered};
 ghost use Rattle.bsp_tree.specs.Shapes.{tree_of};
 ghost use Rattle.bsp_boolean.specs.Solids as solids;
-ghost use Rattle.bsp_boolean.specs.TreeSolids.{joins, AreWithin, IsTreeStop};
+ghost use Rattle.bsp_boolean.specs.TreeSolids.{joins, AreWithinSizeLimits, IsTreeStop};
 ghost use Rattle.parallel_eval.specs.Known.{shared_solids};
 ghost use Rattle.parallel_eval.specs.Joins.{AreAsked};
 ghost use Rattle.parallel_eval.specs.Runs.{joins_to, AreAtMost, AreReady, IsGrowing, IsRunWork, AreFreshLanes, AreEven, AreLanes, AreComplete, AreOfCaller, with_lanes};
@@ -223,7 +223,7 @@ fn solids_of<
     requires some { 0 < length store.now }
     requires ready { AreReady D.builds 0 share.old.share builders.old }
     ensures solids { IfOk result (λ v. shared_solids v.items ≡ map solids.solid_of store.now) }
-    ensures within { OnOk result (AreWithin store.now) }
+    ensures within { OnOk result (AreWithinSizeLimits store.now) }
     ensures stop { IfErr result (IsTreeStop store.now) }
     ensures asked { AreAsked (IsOk result) 0 (joins store.now)
         share.old.share share.new.share (sum_by D.builds builders.old)
@@ -271,7 +271,7 @@ pub fn solid_of<
     requires ready { AreReady D.builds 0 share.old.share builders.old }
     ensures solid { IfOk result (λ s. tree_of (arc_value s) ≡
         solids.solid_of (tree_numbered store.old (length store.old))) }
-    ensures within { OnOk result (AreWithin store.old) }
+    ensures within { OnOk result (AreWithinSizeLimits store.old) }
     ensures stop { IfErr result (IsTreeStop store.old) }
     ensures asked { AreAsked (IsOk result) 0 (joins store.old)
         share.old.share share.new.share (sum_by D.builds builders.old)

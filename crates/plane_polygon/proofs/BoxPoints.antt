@@ -8,7 +8,7 @@ use Rattle.plane_predicate.proofs.Polynomials.{var, num, times, minus, ring}
 use Rattle.plane_predicate.proofs.Vectors.{place, of_point, valueP}
 use Rattle.plane_predicate.proofs.Signs.{signs}
 use Rattle.plane_polygon.specs.Polygons.{Outline, IsPolygon, Covers}
-use Rattle.plane_polygon.specs.Boxes.{high_x, low_x, high_y, low_y, high_z, low_z, trimmed_outline, turned, box_over_x, box_over_y, box_over_z, box_outline}
+use Rattle.plane_polygon.specs.Boxes.{high_x, low_x, high_y, low_y, high_z, low_z, trimmed_outline, counterclockwise_edges, box_over_x, box_over_y, box_over_z, box_outline}
 use Rattle.plane_polygon.proofs.BoxStarts.{FourTurns, four, four_polygon, four_covers, over_x_above, over_x_below, over_y_above, over_y_below, over_z_above, over_z_below, HX, LX, HY, LY, HZ, LZ}
 use Rattle.plane_polygon.proofs.Trims.{trims}
 
@@ -191,30 +191,30 @@ x_below m h r =
     }
 
 -- ---- with the sign of the part that decides
-turned_above : (v : ℤ) (p q r s : Coefficients) → pos 0 <ℤ v → turned v p q r s ≡ p ∷ q ∷ r ∷ s ∷ []
+turned_above : (v : ℤ) (p q r s : Coefficients) → pos 0 <ℤ v → counterclockwise_edges v p q r s ≡ p ∷ q ∷ r ∷ s ∷ []
 turned_above (pos n) p q r s h = refl
 turned_above (negsuc n) p q r s h = absurd (omega (arith, sums))
 
-turned_below : (v : ℤ) (p q r s : Coefficients) → v <ℤ pos 0 → turned v p q r s ≡ p ∷ s ∷ r ∷ q ∷ []
+turned_below : (v : ℤ) (p q r s : Coefficients) → v <ℤ pos 0 → counterclockwise_edges v p q r s ≡ p ∷ s ∷ r ∷ q ∷ []
 turned_below (pos n) p q r s h = absurd (omega (arith, sums))
 turned_below (negsuc n) p q r s h = refl
 
 -- the box polygon before it is trimmed
-pub start_z : (m : Coefficients) → m.c ≢ pos 0 → IsPolygon (record { plane = m; edges = turned m.c low_x low_y high_x high_y })
+pub start_z : (m : Coefficients) → m.c ≢ pos 0 → IsPolygon (record { plane = m; edges = counterclockwise_edges m.c low_x low_y high_x high_y })
 start_z m h = elim (signs m.c) [
   | inl k ↦ subst (λ (es : List Coefficients). IsPolygon (record { plane = m; edges = es })) (sym (turned_below m.c low_x low_y high_x high_y k)) (four_polygon m low_x high_y high_x low_y (over_z_below m k))
   | inr (inl k) ↦ absurd (h k)
   | inr (inr k) ↦ subst (λ (es : List Coefficients). IsPolygon (record { plane = m; edges = es })) (sym (turned_above m.c low_x low_y high_x high_y k)) (four_polygon m low_x low_y high_x high_y (over_z_above m k))
 ]
 
-pub start_y : (m : Coefficients) → m.b ≢ pos 0 → IsPolygon (record { plane = m; edges = turned m.b low_x high_z high_x low_z })
+pub start_y : (m : Coefficients) → m.b ≢ pos 0 → IsPolygon (record { plane = m; edges = counterclockwise_edges m.b low_x high_z high_x low_z })
 start_y m h = elim (signs m.b) [
   | inl k ↦ subst (λ (es : List Coefficients). IsPolygon (record { plane = m; edges = es })) (sym (turned_below m.b low_x high_z high_x low_z k)) (four_polygon m low_x low_z high_x high_z (over_y_below m k))
   | inr (inl k) ↦ absurd (h k)
   | inr (inr k) ↦ subst (λ (es : List Coefficients). IsPolygon (record { plane = m; edges = es })) (sym (turned_above m.b low_x high_z high_x low_z k)) (four_polygon m low_x high_z high_x low_z (over_y_above m k))
 ]
 
-pub start_x : (m : Coefficients) → m.a ≢ pos 0 → IsPolygon (record { plane = m; edges = turned m.a low_y low_z high_y high_z })
+pub start_x : (m : Coefficients) → m.a ≢ pos 0 → IsPolygon (record { plane = m; edges = counterclockwise_edges m.a low_y low_z high_y high_z })
 start_x m h = elim (signs m.a) [
   | inl k ↦ subst (λ (es : List Coefficients). IsPolygon (record { plane = m; edges = es })) (sym (turned_below m.a low_y low_z high_y high_z k)) (four_polygon m low_y high_z high_y low_z (over_x_below m k))
   | inr (inl k) ↦ absurd (h k)

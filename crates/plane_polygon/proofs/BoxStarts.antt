@@ -1,28 +1,28 @@
 -- Four box planes as the edges of a polygon.
 use Rattle.std.proofs.Common.{◌≡◌, ◌≢◌, ℕ, zero, suc, ◌<◌, Bool, true, ◌&&◌, List, [], ◌∷◌, refl, subst, arith, ℤ, pos, negsuc, neg_ℤ, ◌-ℤ◌, ◌<ℤ◌, ◌≤ℤ◌}
 use Rattle.std.proofs.lemmas.Bool.{and_parts}
-use Rattle.plane_predicate.specs.Space.{Coefficients, Coordinates, value, cramer}
+use Rattle.plane_predicate.specs.Space.{Coefficients, Coordinates, value, meeting_by_cramers_rule}
 use Rattle.plane_predicate.proofs.IntegerRing.{sums}
 use Rattle.plane_predicate.proofs.Polynomials.{Poly, var, num, minus, expand}
 use Rattle.plane_predicate.proofs.PolynomialSigns.{is_above, AreAbove, above_by_form}
 use Rattle.plane_predicate.proofs.Vectors.{Form, plane_of, valueP, cramerP}
-use Rattle.plane_polygon.specs.Polygons.{Outline, after, edge, corner, IsPolygon, Covers}
+use Rattle.plane_polygon.specs.Polygons.{Outline, index_after, edge, corner, IsPolygon, Covers}
 use Rattle.plane_polygon.specs.Boxes.{high_x, low_x, high_y, low_y, high_z, low_z}
 
 -- ---- four edges
 pub record FourTurns (n e f g h : Coefficients) : Type 0 where
-  pub first : pos 0 <ℤ (cramer n e f).w
-  pub second : pos 0 <ℤ (cramer n f g).w
-  pub third : pos 0 <ℤ (cramer n g h).w
-  pub fourth : pos 0 <ℤ (cramer n h e).w
-  pub first_g : value g (cramer n e f) <ℤ pos 0
-  pub first_h : value h (cramer n e f) <ℤ pos 0
-  pub second_h : value h (cramer n f g) <ℤ pos 0
-  pub second_e : value e (cramer n f g) <ℤ pos 0
-  pub third_e : value e (cramer n g h) <ℤ pos 0
-  pub third_f : value f (cramer n g h) <ℤ pos 0
-  pub fourth_f : value f (cramer n h e) <ℤ pos 0
-  pub fourth_g : value g (cramer n h e) <ℤ pos 0
+  pub first : pos 0 <ℤ (meeting_by_cramers_rule n e f).w
+  pub second : pos 0 <ℤ (meeting_by_cramers_rule n f g).w
+  pub third : pos 0 <ℤ (meeting_by_cramers_rule n g h).w
+  pub fourth : pos 0 <ℤ (meeting_by_cramers_rule n h e).w
+  pub first_g : value g (meeting_by_cramers_rule n e f) <ℤ pos 0
+  pub first_h : value h (meeting_by_cramers_rule n e f) <ℤ pos 0
+  pub second_h : value h (meeting_by_cramers_rule n f g) <ℤ pos 0
+  pub second_e : value e (meeting_by_cramers_rule n f g) <ℤ pos 0
+  pub third_e : value e (meeting_by_cramers_rule n g h) <ℤ pos 0
+  pub third_f : value f (meeting_by_cramers_rule n g h) <ℤ pos 0
+  pub fourth_f : value f (meeting_by_cramers_rule n h e) <ℤ pos 0
+  pub fourth_g : value g (meeting_by_cramers_rule n h e) <ℤ pos 0
 
 abbrev pub four : Coefficients → Coefficients → Coefficients → Coefficients → Coefficients → Outline
 four n e f g h = record { plane = n; edges = e ∷ f ∷ g ∷ h ∷ [] }
@@ -46,7 +46,7 @@ four_turns n e f g h t i q1 = t.second
 four_turns n e f g h t i q2 = t.third
 four_turns n e f g h t i q3 = t.fourth
 
-four_behind : (n e f g h : Coefficients) → FourTurns n e f g h → (i j : ℕ) → Quarter i → Quarter j → j ≢ i → j ≢ after 4 i → value (edge (four n e f g h) j) (corner (four n e f g h) i) <ℤ pos 0
+four_behind : (n e f g h : Coefficients) → FourTurns n e f g h → (i j : ℕ) → Quarter i → Quarter j → j ≢ i → j ≢ index_after 4 i → value (edge (four n e f g h) j) (corner (four n e f g h) i) <ℤ pos 0
 four_behind n e f g h t i j q0 q0 a b = absurd (a refl)
 four_behind n e f g h t i j q0 q1 a b = absurd (b refl)
 four_behind n e f g h t i j q0 q2 a b = t.first_g

@@ -2,12 +2,12 @@
 use Rattle.std.proofs.Common.{◌≡◌, ◌≢◌, ℕ, zero, suc, ◌<◌, [], ◌∷◌, refl, sym, ap, ap₂, ◌∙◌, subst, arith, ℤ, pos, negsuc, ◌*ℤ◌, neg_ℤ, ◌<ℤ◌}
 use Rattle.std.proofs.Math.IntN.{*ℤ-zero}
 use Rattle.std.proofs.lemmas.Int.{ints}
-use Rattle.plane_predicate.specs.Space.{Coefficients, Coordinates, value, turn, inner, signed_by}
+use Rattle.plane_predicate.specs.Space.{Coefficients, Coordinates, value, orientation_seen_from, inner_product, signed_by}
 use Rattle.plane_predicate.proofs.IntegerRing.{sums}
 use Rattle.plane_predicate.proofs.Polynomials.{Poly, var, times, ring}
 use Rattle.plane_predicate.proofs.Signs.{neg_neg, pos_neg}
 use Rattle.plane_predicate.proofs.Vectors.{Place, form, place, of_plane, of_point, valueP, turnP}
-use Rattle.plane_polygon.specs.Polygons.{Outline, after, edge, sides, corner, corner_point, IsPolygon, HasConvexCorners}
+use Rattle.plane_polygon.specs.Polygons.{Outline, index_after, edge, sides, corner, corner_point, IsPolygon, HasConvexCorners}
 use Rattle.plane_polygon.proofs.CornerSides.{positive_meeting, positive_apart}
 use Rattle.plane_polygon.proofs.Faces.{earlier, after_injective, others_left}
 use Rattle.plane_polygon.proofs.Hull.{after_below, after_other, after_twice, corner_on, directed_apart, turn_is}
@@ -23,7 +23,7 @@ value_scaled : (m : Coefficients) (k : ℤ) (p : Coordinates) → value m (scale
 value_scaled m k p =
     ring (of_plane m (of_point p (k ∷ []))) (valueP (form 0) (scaledP (var 8) (place 4))) (times (var 8) (valueP (form 0) (place 4))) refl
 
-turn_scaled : (n : Coefficients) (a : ℤ) (p : Coordinates) (b : ℤ) (q r : Coordinates) → turn n (scaled a p) (scaled b q) r ≡ a *ℤ (b *ℤ turn n p q r)
+turn_scaled : (n : Coefficients) (a : ℤ) (p : Coordinates) (b : ℤ) (q r : Coordinates) → orientation_seen_from n (scaled a p) (scaled b q) r ≡ a *ℤ (b *ℤ orientation_seen_from n p q r)
 turn_scaled n a p b q r =
     ring (of_plane n (of_point p (of_point q (of_point r (a ∷ b ∷ [])))))
     (turnP (form 0) (scaledP (var 16) (place 4)) (scaledP (var 17) (place 8)) (place 12))
@@ -70,25 +70,25 @@ corner_point_on s i =
     ∙ *ℤ-zero (unit_of (corner s i).w)
 
 same_corner : (s : Outline) → ((i : ℕ) → i < sides s → pos 0 <ℤ (corner s i).w) → (i : ℕ) → i < sides s → corner_point s i ≡ corner s i
-same_corner s h i l = positive_meeting s.plane (edge s i) (edge s (after (sides s) i)) (h i l)
+same_corner s h i l = positive_meeting s.plane (edge s i) (edge s (index_after (sides s) i)) (h i l)
 
--- the turn at a corner
+-- the orientation at a corner
 turn_at : (s : Outline) (i : ℕ) (q : Coordinates) → value s.plane q ≡ pos 0 →
-    turn s.plane (corner_point s i) (corner_point s (after (sides s) i)) q
-    ≡ unit_of (corner s (after (sides s) i)).w *ℤ ((unit_of (corner s i).w *ℤ value (edge s (after (sides s) (after (sides s) i))) (corner s i)) *ℤ (inner s.plane s.plane *ℤ value (edge s (after (sides s) i)) q))
+    orientation_seen_from s.plane (corner_point s i) (corner_point s (index_after (sides s) i)) q
+    ≡ unit_of (corner s (index_after (sides s) i)).w *ℤ ((unit_of (corner s i).w *ℤ value (edge s (index_after (sides s) (index_after (sides s) i))) (corner s i)) *ℤ (inner_product s.plane s.plane *ℤ value (edge s (index_after (sides s) i)) q))
 turn_at s i q e =
-    let j : ℕ = after (sides s) i in
+    let j : ℕ = index_after (sides s) i in
     let a : ℤ = unit_of (corner s i).w in
     let b : ℤ = unit_of (corner s j).w in
-    ap₂ (λ (p r : Coordinates). turn s.plane p r q) (corner_scaled s i) (corner_scaled s j)
+    ap₂ (λ (p r : Coordinates). orientation_seen_from s.plane p r q) (corner_scaled s i) (corner_scaled s j)
     ∙ turn_scaled s.plane a (corner s i) b (corner s j) q
     ∙ ap (λ (t : ℤ). a *ℤ (b *ℤ t)) (turn_is s i q e)
-    ∙ regrouped a b (value (edge s (after (sides s) j)) (corner s i)) (inner s.plane s.plane *ℤ value (edge s j) q)
+    ∙ regrouped a b (value (edge s (index_after (sides s) j)) (corner s i)) (inner_product s.plane s.plane *ℤ value (edge s j) q)
 
 -- the next edge turns left at a corner
-next_turns_left : (s : Outline) → HasConvexCorners s → (i : ℕ) → i < sides s → pos 0 <ℤ (corner s (after (sides s) i)).w
+next_turns_left : (s : Outline) → HasConvexCorners s → (i : ℕ) → i < sides s → pos 0 <ℤ (corner s (index_after (sides s) i)).w
 next_turns_left s h i l =
-    let k : ℕ = sides s in let j : ℕ = after k i in let m : ℕ = after k j in
+    let k : ℕ = sides s in let j : ℕ = index_after k i in let m : ℕ = index_after k j in
     let lj : j < k = after_below k i l in
     let lm : m < k = after_below k j lj in
     let a : ℤ = unit_of (corner s i).w in
@@ -100,10 +100,10 @@ next_turns_left s h i l =
     (h.behind i m l lm (after_twice k i h.three l) (after_other k j h.three lj)) in
     let near : f <ℤ pos 0 =
     h.behind m j lm lj (λ e. after_other k j h.three lj (sym e)) (λ e. after_twice k i h.three l (sym (after_injective k i m l lm e))) in
-    let t : ℤ = (a *ℤ v) *ℤ (inner s.plane s.plane *ℤ f) in
+    let t : ℤ = (a *ℤ v) *ℤ (inner_product s.plane s.plane *ℤ f) in
     let above : pos 0 <ℤ t =
-    neg_neg (a *ℤ v) (inner s.plane s.plane *ℤ f) far
-    (pos_neg (inner s.plane s.plane) f (directed_apart s.plane (edge s i) (edge s j) (h.exist i l)) near) in
+    neg_neg (a *ℤ v) (inner_product s.plane s.plane *ℤ f) far
+    (pos_neg (inner_product s.plane s.plane) f (directed_apart s.plane (edge s i) (edge s j) (h.exist i l)) near) in
     above_by_unit (corner s j).w t (h.exist j lj) above
     (subst (λ (x : ℤ). pos 0 <ℤ x) (turn_at s i q (corner_point_on s m)) (h.left i m l lm (after_twice k i h.three l) (after_other k j h.three lj)))
 
@@ -117,9 +117,9 @@ from_corners s h = record {
   behind = λ i j l m a b. subst (λ (p : Coordinates). value (edge s j) p <ℤ pos 0) (same_corner s (all_turn_left s h) i l) (h.behind i j l m a b);
 }
 
-left_as_points : (s : Outline) → IsPolygon s → (i j : ℕ) → i < sides s → j < sides s → j ≢ i → j ≢ after (sides s) i → pos 0 <ℤ turn s.plane (corner_point s i) (corner_point s (after (sides s) i)) (corner_point s j)
+left_as_points : (s : Outline) → IsPolygon s → (i j : ℕ) → i < sides s → j < sides s → j ≢ i → j ≢ index_after (sides s) i → pos 0 <ℤ orientation_seen_from s.plane (corner_point s i) (corner_point s (index_after (sides s) i)) (corner_point s j)
 left_as_points s h i j l m a b =
-    rw (same_corner s h.turns_left i l, same_corner s h.turns_left (after (sides s) i) (after_below (sides s) i l), same_corner s h.turns_left j m)
+    rw (same_corner s h.turns_left i l, same_corner s h.turns_left (index_after (sides s) i) (after_below (sides s) i l), same_corner s h.turns_left j m)
     (others_left s h i j l m a b)
 
 pub to_corners : (s : Outline) → IsPolygon s → HasConvexCorners s

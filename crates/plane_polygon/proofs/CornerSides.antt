@@ -1,7 +1,7 @@
 -- Corners, and lists of them.
 use Rattle.std.proofs.Common.{◌≡◌, ◌≢◌, ℕ, zero, suc, ◌+◌, Bool, true, false, ◌||◌, List, [], ◌∷◌, ◌++◌, map, refl, sym, ap, ap₂, ◌∙◌, subst, arith, add-one, ℤ, pos, negsuc, ◌<ℤ◌, ◌≤ℤ◌, int_lt, neg_ℤ, inl, inr}
 use Rattle.std.proofs.lemmas.List.{map-append}
-use Rattle.plane_predicate.specs.Space.{Coefficients, Coordinates, cramer, meeting, signed_by, IsPointTimes, IsReduced}
+use Rattle.plane_predicate.specs.Space.{Coefficients, Coordinates, meeting_by_cramers_rule, meeting, signed_by, IsPointTimes, HasNoCommonFactor}
 use Rattle.plane_predicate.specs.Sides.{side_of, is_side_behind, is_side_ahead}
 use Rattle.plane_predicate.proofs.IntegerRing.{sums}
 use Rattle.plane_predicate.specs.Space.{value, opposite_of}
@@ -10,14 +10,14 @@ use Rattle.plane_predicate.proofs.Vectors.{value-opposite}
 use Rattle.std.proofs.lemmas.Int.{ints}
 use Rattle.plane_polygon.specs.Polygons.{Outline, AreReducedFrom}
 use Rattle.plane_polygon.specs.declared.classes.Class.TheVariants.{Across}
-use Rattle.plane_polygon.specs.Parts.{up_to, corners, some_of, is_behind, is_ahead, class_by, class_of}
+use Rattle.plane_polygon.specs.Parts.{indices_below, corners, some_of, is_behind, is_ahead, class_by_sides, class_of}
 
 signed_positive : (w : ℤ) (p : Coordinates) → pos 0 <ℤ w → signed_by w p ≡ p
 signed_positive (pos n) p h = refl
 signed_positive (negsuc n) p h = absurd (omega (arith, sums))
 
-pub positive_meeting : (p q r : Coefficients) → pos 0 <ℤ (cramer p q r).w → meeting p q r ≡ cramer p q r
-positive_meeting p q r h = signed_positive (cramer p q r).w (cramer p q r) h
+pub positive_meeting : (p q r : Coefficients) → pos 0 <ℤ (meeting_by_cramers_rule p q r).w → meeting p q r ≡ meeting_by_cramers_rule p q r
+positive_meeting p q r h = signed_positive (meeting_by_cramers_rule p q r).w (meeting_by_cramers_rule p q r) h
 
 pub positive_apart : (x : ℤ) → pos 0 <ℤ x → x ≢ pos 0
 positive_apart x h e = omega (arith, sums)
@@ -66,8 +66,8 @@ same_some : (p q : Coordinates → Bool) (xs : List Coordinates) → ((x : Coord
 same_some p q [] h = refl
 same_some p q (x ∷ xs) h = ap₂ (λ (a b : Bool). a || b) (h x) (same_some p q xs h)
 
-both_across : (x y u v : Bool) → class_by x y ≡ Across → u ≡ y → v ≡ x → class_by u v ≡ Across
-both_across true true u v e p q = ap₂ class_by p q
+both_across : (x y u v : Bool) → class_by_sides x y ≡ Across → u ≡ y → v ≡ x → class_by_sides u v ≡ Across
+both_across true true u v e p q = ap₂ class_by_sides p q
 both_across true false u v e p q = cc
 both_across false true u v e p q = cc
 both_across false false u v e p q = cc
@@ -90,23 +90,23 @@ pub some_more : {A : Type 0} (p : A → Bool) (xs : List A) (y : A) → some_of 
 some_more p [] y = or_last (p y)
 some_more p (x ∷ xs) y = ap (λ (b : Bool). p x || b) (some_more p xs y) ∙ or_assoc (p x) (some_of p xs) (p y)
 
-reduced_more : (ps qs : List Coordinates) (p q : Coordinates) → AreReducedFrom ps qs → IsPointTimes p q → IsReduced q → AreReducedFrom (ps ++ p ∷ []) (qs ++ q ∷ [])
+reduced_more : (ps qs : List Coordinates) (p q : Coordinates) → AreReducedFrom ps qs → IsPointTimes p q → HasNoCommonFactor q → AreReducedFrom (ps ++ p ∷ []) (qs ++ q ∷ [])
 reduced_more [] [] p q h t r = (t, r, tt)
 reduced_more (p' ∷ ps) (q' ∷ qs) p q h t r = (h.0, h.1, reduced_more ps qs p q h.2 t r)
 reduced_more [] (q' ∷ qs) p q h t r = absurd h
 reduced_more (p' ∷ ps) [] p q h t r = absurd h
 
 -- one more corner
-pub some_step : (p : Coordinates → Bool) (f : ℕ → Coordinates) (n : ℕ) (found here : Bool) → found ≡ some_of p (map f (up_to n)) → here ≡ p (f n) → (found || here) ≡ some_of p (map f (up_to (n + 1)))
+pub some_step : (p : Coordinates → Bool) (f : ℕ → Coordinates) (n : ℕ) (found here : Bool) → found ≡ some_of p (map f (indices_below n)) → here ≡ p (f n) → (found || here) ≡ some_of p (map f (indices_below (n + 1)))
 some_step p f n found here e h =
     ap₂ (λ (b c : Bool). b || c) e h
-    ∙ sym (some_more p (map f (up_to n)) (f n))
-    ∙ ap (some_of p) (sym (map-append f (up_to n) (n ∷ [])))
-    ∙ ap (λ (k : ℕ). some_of p (map f (up_to k))) (sym (add-one n))
+    ∙ sym (some_more p (map f (indices_below n)) (f n))
+    ∙ ap (some_of p) (sym (map-append f (indices_below n) (n ∷ [])))
+    ∙ ap (λ (k : ℕ). some_of p (map f (indices_below k))) (sym (add-one n))
 
 -- one more reduced point
-pub reduced_step : (f : ℕ → Coordinates) (n : ℕ) (found : List Coordinates) (q : Coordinates) → AreReducedFrom (map f (up_to n)) found → IsPointTimes (f n) q → IsReduced q → AreReducedFrom (map f (up_to (n + 1))) (found ++ q ∷ [])
+pub reduced_step : (f : ℕ → Coordinates) (n : ℕ) (found : List Coordinates) (q : Coordinates) → AreReducedFrom (map f (indices_below n)) found → IsPointTimes (f n) q → HasNoCommonFactor q → AreReducedFrom (map f (indices_below (n + 1))) (found ++ q ∷ [])
 reduced_step f n found q h t r =
     subst (λ (ps : List Coordinates). AreReducedFrom ps (found ++ q ∷ []))
-    (sym (map-append f (up_to n) (n ∷ [])) ∙ ap (λ (k : ℕ). map f (up_to k)) (sym (add-one n)))
-    (reduced_more (map f (up_to n)) found (f n) q h t r)
+    (sym (map-append f (indices_below n) (n ∷ [])) ∙ ap (λ (k : ℕ). map f (indices_below k)) (sym (add-one n)))
+    (reduced_more (map f (indices_below n)) found (f n) q h t r)

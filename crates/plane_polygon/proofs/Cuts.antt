@@ -1,7 +1,7 @@
 -- Where a plane crosses an edge.
 use Rattle.std.proofs.Common.{◌≡◌, ◌⊎◌, inl, inr, refl, sym, ap, ◌∙◌, subst, arith, ℤ, pos, ◌+ℤ◌, ◌-ℤ◌, ◌*ℤ◌, neg_ℤ, ◌<ℤ◌, ◌≤ℤ◌}
 use Rattle.std.proofs.Math.IntN.{*ℤ-zero, zero-*ℤ}
-use Rattle.plane_predicate.specs.Space.{Coefficients, Coordinates, value, cramer}
+use Rattle.plane_predicate.specs.Space.{Coefficients, Coordinates, value, meeting_by_cramers_rule}
 use Rattle.plane_predicate.proofs.IntegerRing.{sums, mul_comm_ℤ, mul_neg_left}
 use Rattle.plane_predicate.proofs.Identities.{combine, as_cramer, growth, growths, value_combine, value_swapped, weight_swapped}
 use Rattle.plane_predicate.proofs.Signs.{pos_pos, neg_neg, pos_neg, neg_pos, least_least, least_most, neg_cancel, pos_cancel}
@@ -41,12 +41,12 @@ other_positive : (t g w f : ℤ) → pos 0 <ℤ t → pos 0 <ℤ g → pos 0 <�
 other_positive t g w f ht hg hf e = pos_cancel f w hf (subst (λ (x : ℤ). pos 0 <ℤ x) (same_product (t *ℤ g) (w *ℤ f) e ∙ mul_comm_ℤ w f) (pos_pos t g ht hg))
 
 -- the way along e turns left where it meets r, as it does at the next edge f
-pub crossing_turns : (n e f r : Coefficients) (p q : Coordinates) → Crossing n e r p q → pos 0 <ℤ (cramer n e f).w → value f p <ℤ pos 0 → value f q ≡ pos 0 → pos 0 <ℤ (cramer n e r).w
+pub crossing_turns : (n e f r : Coefficients) (p q : Coordinates) → Crossing n e r p q → pos 0 <ℤ (meeting_by_cramers_rule n e f).w → value f p <ℤ pos 0 → value f q ≡ pos 0 → pos 0 <ℤ (meeting_by_cramers_rule n e r).w
 crossing_turns n e f r p q c t fp fq =
-    other_positive (cramer n e f).w (growth r p q) (cramer n e r).w (growth f p q) t
+    other_positive (meeting_by_cramers_rule n e f).w (growth r p q) (meeting_by_cramers_rule n e r).w (growth f p q) t
     (grows p.w q.w (value r p) (value r q) c.p_weight c.q_weight c.before c.past)
     (grows p.w q.w (value f p) (value f q) c.p_weight c.q_weight fp (zero_least (value f q) fq))
-    (growths n e f r p q ∙ no_growth (cramer e f r).w (cramer n f r).w (growth n p q) (growth e p q) (no_growth p.w q.w (value n q) (value n p) c.q_on c.p_on) (no_growth p.w q.w (value e q) (value e p) c.q_edge c.p_edge))
+    (growths n e f r p q ∙ no_growth (meeting_by_cramers_rule e f r).w (meeting_by_cramers_rule n f r).w (growth n p q) (growth e p q) (no_growth p.w q.w (value n q) (value n p) c.q_on c.p_on) (no_growth p.w q.w (value e q) (value e p) c.q_edge c.p_edge))
 
 -- the point of the way from p to q that lies on r
 abbrev pub crossing : Coefficients → Coordinates → Coordinates → Coordinates
@@ -63,11 +63,11 @@ three_zeros x y z a b c l r hx hy hz e = same_product l r (e ∙ rw (hx, hy, hz,
 
 -- what the meeting of n, e and r says of m, as a combination of p and q
 pub meeting_value : (n e r m : Coefficients) (p q : Coordinates) → Crossing n e r p q →
-    (cramer n e r).w *ℤ (value r q *ℤ value m p +ℤ neg_ℤ (value r p) *ℤ value m q) ≡ (value r q *ℤ p.w +ℤ neg_ℤ (value r p) *ℤ q.w) *ℤ value m (cramer n e r)
+    (meeting_by_cramers_rule n e r).w *ℤ (value r q *ℤ value m p +ℤ neg_ℤ (value r p) *ℤ value m q) ≡ (value r q *ℤ p.w +ℤ neg_ℤ (value r p) *ℤ q.w) *ℤ value m (meeting_by_cramers_rule n e r)
 meeting_value n e r m p q c =
     let v = crossing r p q in
-    ap (λ (x : ℤ). (cramer n e r).w *ℤ x) (sym (value_combine m (value r q) p (neg_ℤ (value r p)) q))
-    ∙ three_zeros (value n v) (value e v) (value r v) (cramer m e r).w (cramer n m r).w (cramer n e m).w ((cramer n e r).w *ℤ value m v) (v.w *ℤ value m (cramer n e r))
+    ap (λ (x : ℤ). (meeting_by_cramers_rule n e r).w *ℤ x) (sym (value_combine m (value r q) p (neg_ℤ (value r p)) q))
+    ∙ three_zeros (value n v) (value e v) (value r v) (meeting_by_cramers_rule m e r).w (meeting_by_cramers_rule n m r).w (meeting_by_cramers_rule n e m).w ((meeting_by_cramers_rule n e r).w *ℤ value m v) (v.w *ℤ value m (meeting_by_cramers_rule n e r))
     (value_combine n (value r q) p (neg_ℤ (value r p)) q ∙ two_zeros (value r q) (neg_ℤ (value r p)) (value n p) (value n q) c.p_on c.q_on)
     (value_combine e (value r q) p (neg_ℤ (value r p)) q ∙ two_zeros (value r q) (neg_ℤ (value r p)) (value e p) (value e q) c.p_edge c.q_edge)
     (value_combine r (value r q) p (neg_ℤ (value r p)) q ∙ swap_zero (value r p) (value r q))
@@ -88,11 +88,11 @@ below_from u v x y hu hv hx hy (inl h) = both_below (u *ℤ x) (v *ℤ y) (inl (
 below_from u v x y hu hv hx hy (inr h) = both_below (u *ℤ x) (v *ℤ y) (inr (pos_neg u x h.1 h.0, least_most v y (lt_le v hv) hy))
 
 -- the meeting is strictly behind m, where neither end is ahead of m and q is behind it, or p is and q is ahead of r
-pub crossing_behind : (n e r m : Coefficients) (p q : Coordinates) → Crossing n e r p q → pos 0 <ℤ (cramer n e r).w → value m p ≤ℤ pos 0 → value m q ≤ℤ pos 0 → (value m q <ℤ pos 0) ⊎ ((value m p <ℤ pos 0) × (pos 0 <ℤ value r q)) → value m (cramer n e r) <ℤ pos 0
+pub crossing_behind : (n e r m : Coefficients) (p q : Coordinates) → Crossing n e r p q → pos 0 <ℤ (meeting_by_cramers_rule n e r).w → value m p ≤ℤ pos 0 → value m q ≤ℤ pos 0 → (value m q <ℤ pos 0) ⊎ ((value m p <ℤ pos 0) × (pos 0 <ℤ value r q)) → value m (meeting_by_cramers_rule n e r) <ℤ pos 0
 crossing_behind n e r m p q c t mp mq h =
-    neg_cancel (value r q *ℤ p.w +ℤ neg_ℤ (value r p) *ℤ q.w) (value m (cramer n e r))
+    neg_cancel (value r q *ℤ p.w +ℤ neg_ℤ (value r p) *ℤ q.w) (value m (meeting_by_cramers_rule n e r))
     (weight_above (value r q *ℤ p.w) (neg_ℤ (value r p) *ℤ q.w) (least_least (value r q) p.w c.past (lt_le p.w c.p_weight)) (pos_pos (neg_ℤ (value r p)) q.w (turned (value r p) c.before) c.q_weight))
-    (subst (λ (x : ℤ). x <ℤ pos 0) (meeting_value n e r m p q c) (pos_neg (cramer n e r).w (value r q *ℤ value m p +ℤ neg_ℤ (value r p) *ℤ value m q) t (below_from (value r q) (neg_ℤ (value r p)) (value m p) (value m q) c.past (turned (value r p) c.before) mp mq h)))
+    (subst (λ (x : ℤ). x <ℤ pos 0) (meeting_value n e r m p q c) (pos_neg (meeting_by_cramers_rule n e r).w (value r q *ℤ value m p +ℤ neg_ℤ (value r p) *ℤ value m q) t (below_from (value r q) (neg_ℤ (value r p)) (value m p) (value m q) c.past (turned (value r p) c.before) mp mq h)))
 
 -- ---- the same with the last two planes exchanged, for the edge by which an outline comes behind r
 pub neg_of_positive : (x y : ℤ) → y ≡ neg_ℤ x → pos 0 <ℤ y → x <ℤ pos 0
@@ -104,22 +104,22 @@ other_negative t g w f ht hg hf e = neg_cancel f w hf (subst (λ (x : ℤ). x <�
 positive_of_neg : (x y : ℤ) → y ≡ neg_ℤ x → x <ℤ pos 0 → pos 0 <ℤ y
 positive_of_neg x y e h = omega (arith, sums)
 
-pub crossing_turns_in : (n e f r : Coefficients) (p q : Coordinates) → Crossing n e r p q → pos 0 <ℤ (cramer n f e).w → value f p <ℤ pos 0 → value f q ≡ pos 0 → pos 0 <ℤ (cramer n r e).w
+pub crossing_turns_in : (n e f r : Coefficients) (p q : Coordinates) → Crossing n e r p q → pos 0 <ℤ (meeting_by_cramers_rule n f e).w → value f p <ℤ pos 0 → value f q ≡ pos 0 → pos 0 <ℤ (meeting_by_cramers_rule n r e).w
 crossing_turns_in n e f r p q c t fp fq =
-    positive_of_neg (cramer n e r).w (cramer n r e).w (weight_swapped n e r)
-    (other_negative (cramer n e f).w (growth r p q) (cramer n e r).w (growth f p q) (neg_of_positive (cramer n e f).w (cramer n f e).w (weight_swapped n e f) t)
+    positive_of_neg (meeting_by_cramers_rule n e r).w (meeting_by_cramers_rule n r e).w (weight_swapped n e r)
+    (other_negative (meeting_by_cramers_rule n e f).w (growth r p q) (meeting_by_cramers_rule n e r).w (growth f p q) (neg_of_positive (meeting_by_cramers_rule n e f).w (meeting_by_cramers_rule n f e).w (weight_swapped n e f) t)
     (grows p.w q.w (value r p) (value r q) c.p_weight c.q_weight c.before c.past)
     (grows p.w q.w (value f p) (value f q) c.p_weight c.q_weight fp (zero_least (value f q) fq))
-    (growths n e f r p q ∙ no_growth (cramer e f r).w (cramer n f r).w (growth n p q) (growth e p q) (no_growth p.w q.w (value n q) (value n p) c.q_on c.p_on) (no_growth p.w q.w (value e q) (value e p) c.q_edge c.p_edge)))
+    (growths n e f r p q ∙ no_growth (meeting_by_cramers_rule e f r).w (meeting_by_cramers_rule n f r).w (growth n p q) (growth e p q) (no_growth p.w q.w (value n q) (value n p) c.q_on c.p_on) (no_growth p.w q.w (value e q) (value e p) c.q_edge c.p_edge)))
 
 pub negative_of_pos : (x y : ℤ) → y ≡ neg_ℤ x → pos 0 <ℤ x → y <ℤ pos 0
 negative_of_pos x y e h = omega (arith, sums)
 
-pub crossing_behind_in : (n e r m : Coefficients) (p q : Coordinates) → Crossing n e r p q → pos 0 <ℤ (cramer n r e).w → value m p ≤ℤ pos 0 → value m q ≤ℤ pos 0 → (value m q <ℤ pos 0) ⊎ ((value m p <ℤ pos 0) × (pos 0 <ℤ value r q)) → value m (cramer n r e) <ℤ pos 0
+pub crossing_behind_in : (n e r m : Coefficients) (p q : Coordinates) → Crossing n e r p q → pos 0 <ℤ (meeting_by_cramers_rule n r e).w → value m p ≤ℤ pos 0 → value m q ≤ℤ pos 0 → (value m q <ℤ pos 0) ⊎ ((value m p <ℤ pos 0) × (pos 0 <ℤ value r q)) → value m (meeting_by_cramers_rule n r e) <ℤ pos 0
 crossing_behind_in n e r m p q c t mp mq h =
-    negative_of_pos (value m (cramer n e r)) (value m (cramer n r e)) (value_swapped m n e r)
-    (pos_cancel (value r q *ℤ p.w +ℤ neg_ℤ (value r p) *ℤ q.w) (value m (cramer n e r))
+    negative_of_pos (value m (meeting_by_cramers_rule n e r)) (value m (meeting_by_cramers_rule n r e)) (value_swapped m n e r)
+    (pos_cancel (value r q *ℤ p.w +ℤ neg_ℤ (value r p) *ℤ q.w) (value m (meeting_by_cramers_rule n e r))
     (weight_above (value r q *ℤ p.w) (neg_ℤ (value r p) *ℤ q.w) (least_least (value r q) p.w c.past (lt_le p.w c.p_weight)) (pos_pos (neg_ℤ (value r p)) q.w (turned (value r p) c.before) c.q_weight))
     (subst (λ (x : ℤ). pos 0 <ℤ x) (meeting_value n e r m p q c)
-    (neg_neg (cramer n e r).w (value r q *ℤ value m p +ℤ neg_ℤ (value r p) *ℤ value m q) (neg_of_positive (cramer n e r).w (cramer n r e).w (weight_swapped n e r) t)
+    (neg_neg (meeting_by_cramers_rule n e r).w (value r q *ℤ value m p +ℤ neg_ℤ (value r p) *ℤ value m q) (neg_of_positive (meeting_by_cramers_rule n e r).w (meeting_by_cramers_rule n r e).w (weight_swapped n e r) t)
     (below_from (value r q) (neg_ℤ (value r p)) (value m p) (value m q) c.past (turned (value r p) c.before) mp mq h))))

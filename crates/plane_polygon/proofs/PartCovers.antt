@@ -1,6 +1,6 @@
 -- The points of the part behind a plane are those of the polygon that are not ahead of the plane.
 use Rattle.std.proofs.Common.{◌≡◌, ℕ, suc, ◌-◌, ◌<◌, List, [], ◌∷◌, ◌++◌, length, sym, ap, ◌∙◌, subst, arith, ℤ, pos, ◌+ℤ◌, ◌*ℤ◌, ◌<ℤ◌, ◌≤ℤ◌, neg_ℤ, append-nil}
-use Rattle.plane_predicate.specs.Space.{Coefficients, Coordinates, value, cramer}
+use Rattle.plane_predicate.specs.Space.{Coefficients, Coordinates, value, meeting_by_cramers_rule}
 use Rattle.plane_predicate.proofs.IntegerRing.{sums}
 use Rattle.plane_predicate.proofs.Identities.{value_swapped, weight_swapped}
 use Rattle.plane_polygon.specs.Polygons.{Outline, edge, sides, corner, IsPolygon, Covers, IsBetween}
@@ -28,21 +28,21 @@ most_of_neg x y e h = omega (arith, sums)
 not_above_sum : (u v x y : ℤ) → pos 0 ≤ℤ u → pos 0 ≤ℤ v → x ≤ℤ pos 0 → y ≤ℤ pos 0 → (u *ℤ x +ℤ v *ℤ y) ≤ℤ pos 0
 not_above_sum u v x y hu hv hx hy = two_most (u *ℤ x) (v *ℤ y) (least_most u x hu hx) (least_most v y hv hy)
 
-meeting_not_ahead : (n e r m : Coefficients) (p q : Coordinates) → Crossing n e r p q → pos 0 <ℤ (cramer n e r).w → value m p ≤ℤ pos 0 → value m q ≤ℤ pos 0 → value m (cramer n e r) ≤ℤ pos 0
+meeting_not_ahead : (n e r m : Coefficients) (p q : Coordinates) → Crossing n e r p q → pos 0 <ℤ (meeting_by_cramers_rule n e r).w → value m p ≤ℤ pos 0 → value m q ≤ℤ pos 0 → value m (meeting_by_cramers_rule n e r) ≤ℤ pos 0
 meeting_not_ahead n e r m p q c t mp mq =
-    most_cancel (value r q *ℤ p.w +ℤ neg_ℤ (value r p) *ℤ q.w) (value m (cramer n e r))
+    most_cancel (value r q *ℤ p.w +ℤ neg_ℤ (value r p) *ℤ q.w) (value m (meeting_by_cramers_rule n e r))
     (weight_above (value r q *ℤ p.w) (neg_ℤ (value r p) *ℤ q.w) (least_least (value r q) p.w c.past (lt_le p.w c.p_weight)) (pos_pos (neg_ℤ (value r p)) q.w (turned (value r p) c.before) c.q_weight))
     (subst (λ (x : ℤ). x ≤ℤ pos 0) (meeting_value n e r m p q c)
-    (least_most (cramer n e r).w (value r q *ℤ value m p +ℤ neg_ℤ (value r p) *ℤ value m q) (lt_le (cramer n e r).w t)
+    (least_most (meeting_by_cramers_rule n e r).w (value r q *ℤ value m p +ℤ neg_ℤ (value r p) *ℤ value m q) (lt_le (meeting_by_cramers_rule n e r).w t)
     (not_above_sum (value r q) (neg_ℤ (value r p)) (value m p) (value m q) c.past (lt_le (neg_ℤ (value r p)) (turned (value r p) c.before)) mp mq)))
 
-meeting_not_ahead_in : (n e r m : Coefficients) (p q : Coordinates) → Crossing n e r p q → pos 0 <ℤ (cramer n r e).w → value m p ≤ℤ pos 0 → value m q ≤ℤ pos 0 → value m (cramer n r e) ≤ℤ pos 0
+meeting_not_ahead_in : (n e r m : Coefficients) (p q : Coordinates) → Crossing n e r p q → pos 0 <ℤ (meeting_by_cramers_rule n r e).w → value m p ≤ℤ pos 0 → value m q ≤ℤ pos 0 → value m (meeting_by_cramers_rule n r e) ≤ℤ pos 0
 meeting_not_ahead_in n e r m p q c t mp mq =
-    most_of_neg (value m (cramer n e r)) (value m (cramer n r e)) (value_swapped m n e r)
-    (least_cancel (value r q *ℤ p.w +ℤ neg_ℤ (value r p) *ℤ q.w) (value m (cramer n e r))
+    most_of_neg (value m (meeting_by_cramers_rule n e r)) (value m (meeting_by_cramers_rule n r e)) (value_swapped m n e r)
+    (least_cancel (value r q *ℤ p.w +ℤ neg_ℤ (value r p) *ℤ q.w) (value m (meeting_by_cramers_rule n e r))
     (weight_above (value r q *ℤ p.w) (neg_ℤ (value r p) *ℤ q.w) (least_least (value r q) p.w c.past (lt_le p.w c.p_weight)) (pos_pos (neg_ℤ (value r p)) q.w (turned (value r p) c.before) c.q_weight))
     (subst (λ (x : ℤ). pos 0 ≤ℤ x) (meeting_value n e r m p q c)
-    (most_most (cramer n e r).w (value r q *ℤ value m p +ℤ neg_ℤ (value r p) *ℤ value m q) (lt_most (cramer n e r).w (neg_of_positive (cramer n e r).w (cramer n r e).w (weight_swapped n e r) t))
+    (most_most (meeting_by_cramers_rule n e r).w (value r q *ℤ value m p +ℤ neg_ℤ (value r p) *ℤ value m q) (lt_most (meeting_by_cramers_rule n e r).w (neg_of_positive (meeting_by_cramers_rule n e r).w (meeting_by_cramers_rule n r e).w (weight_swapped n e r) t))
     (not_above_sum (value r q) (neg_ℤ (value r p)) (value m p) (value m q) c.past (lt_le (neg_ℤ (value r p)) (turned (value r p) c.before)) mp mq))))
 
 arc_corner_within : (s : Outline) (m : Coefficients) (a v i j : ℕ) → Cut s m a v → Which v i → j < sides s → value (edge s j) (corner (arc_outline s m a v) i) ≤ℤ pos 0

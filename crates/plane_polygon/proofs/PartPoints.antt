@@ -5,7 +5,7 @@ use Rattle.std.proofs.lemmas.Int.{ints}
 use Rattle.plane_predicate.specs.Space.{Coefficients, Coordinates, value}
 use Rattle.plane_polygon.specs.Polygons.{Outline, sides, corner, IsPolygon}
 use Rattle.plane_polygon.specs.declared.classes.Class.TheVariants.{Across}
-use Rattle.plane_polygon.specs.Parts.{up_to, corners, some_of, is_behind, is_ahead, class_by, class_of}
+use Rattle.plane_polygon.specs.Parts.{indices_below, corners, some_of, is_behind, is_ahead, class_by_sides, class_of}
 use Rattle.plane_polygon.proofs.Rounds.{step, step_below, step_is, at_most, corner_from, no_alternation}
 use Rattle.plane_polygon.proofs.PartLists.{before_after, before_first}
 use Rattle.plane_polygon.proofs.PartPolygons.{Cut, below, not_below, at_most_or}
@@ -23,15 +23,15 @@ some_append : {A : Type 0} (p : A → Bool) (xs : List A) (y : A) → some_of p 
 some_append p [] y h = inr (either_left (p y) h)
 some_append p (x ∷ xs) y h = some_case (p x) (some_of p (xs ++ y ∷ [])) (some_of p xs) (p y) h (some_append p xs y)
 
-pub some_index : (p : Coordinates → Bool) (f : ℕ → Coordinates) (n : ℕ) → some_of p (map f (up_to n)) ≡ true → (i : ℕ) × (i < n) × (p (f i) ≡ true)
+pub some_index : (p : Coordinates → Bool) (f : ℕ → Coordinates) (n : ℕ) → some_of p (map f (indices_below n)) ≡ true → (i : ℕ) × (i < n) × (p (f i) ≡ true)
 some_index p f zero h = absurd (true≢false (sym h))
 some_index p f (suc n) h =
-    elim (some_append p (map f (up_to n)) (f n) (ap (some_of p) (sym (map-append f (up_to n) (n ∷ []))) ∙ h)) [
+    elim (some_append p (map f (indices_below n)) (f n) (ap (some_of p) (sym (map-append f (indices_below n) (n ∷ []))) ∙ h)) [
       | inl k ↦ (let r = some_index p f n k in (r.0, omega arith, r.2))
       | inr k ↦ (n, omega arith, k)
     ]
 
-both_sides : (x y : Bool) → class_by x y ≡ Across → (x ≡ true) × (y ≡ true)
+both_sides : (x y : Bool) → class_by_sides x y ≡ Across → (x ≡ true) × (y ≡ true)
 both_sides true true e = (refl, refl)
 both_sides true false e = cc
 both_sides false true e = cc

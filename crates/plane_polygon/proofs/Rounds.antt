@@ -2,10 +2,10 @@
 use Rattle.std.proofs.Common.{◌≡◌, ◌≢◌, ◌⊎◌, inl, inr, ℕ, zero, suc, ◌+◌, ◌-◌, ◌<◌, ◌≤◌, sym, ap, ◌∙◌, subst, subst₂, arith, ℤ, pos, ◌+ℤ◌, ◌-ℤ◌, ◌*ℤ◌, ◌<ℤ◌, ◌≤ℤ◌, add-zero, add-suc}
 use Rattle.std.proofs.Math.IntN.{*ℤ-zero}
 use Rattle.std.proofs.lemmas.Bool.Decides.{eqb_tells}
-use Rattle.plane_predicate.specs.Space.{Coefficients, Coordinates, value, turn}
+use Rattle.plane_predicate.specs.Space.{Coefficients, Coordinates, value, orientation_seen_from}
 use Rattle.plane_predicate.proofs.IntegerRing.{sums}
 use Rattle.plane_predicate.proofs.Identities.{turn_round}
-use Rattle.plane_polygon.specs.Polygons.{Outline, after, edge, sides, corner, IsPolygon}
+use Rattle.plane_polygon.specs.Polygons.{Outline, index_after, edge, sides, corner, IsPolygon}
 use Rattle.plane_predicate.proofs.Signs.{signs, neg_neg, pos_neg, least_least, least_most, most_most}
 use Rattle.plane_polygon.proofs.FourPoints.{four_points}
 use Rattle.plane_polygon.proofs.Hull.{after_is, after_below, plane_directed, corner_on, corner_on_edge, corner_on_next, strictly_left}
@@ -13,7 +13,7 @@ use Rattle.plane_polygon.proofs.Hull.{after_is, after_below, plane_directed, cor
 -- t steps round a list of length k, from a
 abbrev pub step : ℕ → ℕ → ℕ → ℕ
 step k a zero = a
-step k a (suc t) = after k (step k a t)
+step k a (suc t) = index_after k (step k a t)
 
 pub step_below : (k a t : ℕ) → a < k → step k a t < k
 step_below k a zero h = h
@@ -29,7 +29,7 @@ step_is k a (suc t) h l =
 
 pub step_step : (k a i t : ℕ) → step k (step k a i) t ≡ step k a (i + t)
 step_step k a i zero = ap (step k a) (sym (add-zero i))
-step_step k a i (suc t) = ap (after k) (step_step k a i t) ∙ ap (step k a) (sym (add-suc i t))
+step_step k a i (suc t) = ap (index_after k) (step_step k a i t) ∙ ap (step k a) (sym (add-suc i t))
 
 pub step_apart : (k a t u : ℕ) → a < k → t < k → u < k → u ≢ t → step k a u ≢ step k a t
 step_apart k a t u h l m n e =
@@ -39,7 +39,7 @@ step_apart k a t u h l m n e =
     ]
 
 -- one more step from the last brings back to the first
-pub step_round : (k a t : ℕ) → a < k → suc t ≡ k → after k (step k a t) ≡ a
+pub step_round : (k a t : ℕ) → a < k → suc t ≡ k → index_after k (step k a t) ≡ a
 step_round k a t h e =
     elim (step_is k a t h (omega arith)) [
       | inl p ↦ elim (after_is k (step k a t)) [ inl q ↦ omega arith | inr q ↦ absurd (omega arith) ]
@@ -53,7 +53,7 @@ corner_from s a t = corner s (step (sides s) a t)
 abbrev pub edge_from : Outline → ℕ → ℕ → Coefficients
 edge_from s a t = edge s (step (sides s) a t)
 
-next_apart : (k a t u : ℕ) → a < k → t < k → u < k → u ≢ suc t → (suc t ≡ k → u ≢ 0) → (suc t ≡ k) ⊎ (suc t < k) → step k a u ≢ after k (step k a t)
+next_apart : (k a t u : ℕ) → a < k → t < k → u < k → u ≢ suc t → (suc t ≡ k → u ≢ 0) → (suc t ≡ k) ⊎ (suc t < k) → step k a u ≢ index_after k (step k a t)
 next_apart k a t u h l m n z (inl e) w = step_apart k a 0 u h (omega arith) m (z e) (w ∙ step_round k a t h e)
 next_apart k a t u h l m n z (inr b) w = step_apart k a (suc t) u h b m n w
 
@@ -76,7 +76,7 @@ pub no_edge_behind : (s : Outline) → IsPolygon s → (i j : ℕ) → i < sides
 no_edge_behind s h i j hi hj =
     elim (eqb_tells j i) [
       | inl p ↦ zero_most (value (edge s j) (corner s i)) (subst (λ (n : ℕ). value (edge s n) (corner s i) ≡ pos 0) (sym p.1) (corner_on_edge s i))
-      | inr p ↦ elim (eqb_tells j (after (sides s) i)) [
+      | inr p ↦ elim (eqb_tells j (index_after (sides s) i)) [
         | inl q ↦ zero_most (value (edge s j) (corner s i)) (subst (λ (n : ℕ). value (edge s n) (corner s i) ≡ pos 0) (sym q.1) (corner_on_next s i))
         | inr q ↦ below_most (value (edge s j) (corner s i)) (h.behind i j hi hj p.1 q.1)
       ]
@@ -87,7 +87,7 @@ not_ahead_from s h a t u ha ht hu = no_edge_behind s h (step (sides s) a t) (ste
 
 -- ---- turns between any three corners in order
 -- corner i, the next one, and corner 0
-near_turn : (s : Outline) → IsPolygon s → (a i : ℕ) → a < sides s → 1 ≤ i → suc i < sides s → pos 0 <ℤ turn s.plane (corner_from s a 0) (corner_from s a i) (corner_from s a (suc i))
+near_turn : (s : Outline) → IsPolygon s → (a i : ℕ) → a < sides s → 1 ≤ i → suc i < sides s → pos 0 <ℤ orientation_seen_from s.plane (corner_from s a 0) (corner_from s a i) (corner_from s a (suc i))
 near_turn s h a i ha low high =
     subst (λ (v : ℤ). pos 0 <ℤ v) (turn_round s.plane (corner_from s a 0) (corner_from s a i) (corner_from s a (suc i)))
     (strictly_left s h (step (sides s) a i) (step_below (sides s) a i ha) (corner_from s a 0) (corner_on s a) (behind_from s h a 0 (suc i) ha (omega arith) high (omega arith) (omega arith) (λ _. omega arith)))
@@ -113,26 +113,26 @@ sign_of_sum t u v p q r hu hv hp hq hr e =
 
 -- what edge 1 says of corners 0, i, i + 1 and j
 edge_one : (s : Outline) → IsPolygon s → (a i j : ℕ) → a < sides s → (m : Coefficients) → value m (corner_from s a 0) ≡ pos 0 →
-    pos 0 -ℤ turn s.plane (corner_from s a 0) (corner_from s a (suc i)) (corner_from s a j) *ℤ value m (corner_from s a i)
-    +ℤ turn s.plane (corner_from s a 0) (corner_from s a i) (corner_from s a j) *ℤ value m (corner_from s a (suc i))
-    -ℤ turn s.plane (corner_from s a 0) (corner_from s a i) (corner_from s a (suc i)) *ℤ value m (corner_from s a j) ≡ pos 0
+    pos 0 -ℤ orientation_seen_from s.plane (corner_from s a 0) (corner_from s a (suc i)) (corner_from s a j) *ℤ value m (corner_from s a i)
+    +ℤ orientation_seen_from s.plane (corner_from s a 0) (corner_from s a i) (corner_from s a j) *ℤ value m (corner_from s a (suc i))
+    -ℤ orientation_seen_from s.plane (corner_from s a 0) (corner_from s a i) (corner_from s a (suc i)) *ℤ value m (corner_from s a j) ≡ pos 0
 edge_one s h a i j ha m e =
-    first_gone (turn s.plane (corner_from s a i) (corner_from s a (suc i)) (corner_from s a j)) (value m (corner_from s a 0))
-    (turn s.plane (corner_from s a 0) (corner_from s a (suc i)) (corner_from s a j) *ℤ value m (corner_from s a i))
-    (turn s.plane (corner_from s a 0) (corner_from s a i) (corner_from s a j) *ℤ value m (corner_from s a (suc i)))
-    (turn s.plane (corner_from s a 0) (corner_from s a i) (corner_from s a (suc i)) *ℤ value m (corner_from s a j))
+    first_gone (orientation_seen_from s.plane (corner_from s a i) (corner_from s a (suc i)) (corner_from s a j)) (value m (corner_from s a 0))
+    (orientation_seen_from s.plane (corner_from s a 0) (corner_from s a (suc i)) (corner_from s a j) *ℤ value m (corner_from s a i))
+    (orientation_seen_from s.plane (corner_from s a 0) (corner_from s a i) (corner_from s a j) *ℤ value m (corner_from s a (suc i)))
+    (orientation_seen_from s.plane (corner_from s a 0) (corner_from s a i) (corner_from s a (suc i)) *ℤ value m (corner_from s a j))
     e
     (four_points s.plane (plane_directed s h) (corner_from s a 0) (corner_from s a i) (corner_from s a (suc i)) (corner_from s a j) (corner_on s (step (sides s) a 0)) (corner_on s (step (sides s) a i)) (corner_on s (step (sides s) a (suc i))) (corner_on s (step (sides s) a j)) m)
 
-far_turn : (s : Outline) → IsPolygon s → (a d i j : ℕ) → a < sides s → 1 ≤ i → j ≡ i + suc d → j < sides s → pos 0 <ℤ turn s.plane (corner_from s a 0) (corner_from s a i) (corner_from s a j)
+far_turn : (s : Outline) → IsPolygon s → (a d i j : ℕ) → a < sides s → 1 ≤ i → j ≡ i + suc d → j < sides s → pos 0 <ℤ orientation_seen_from s.plane (corner_from s a 0) (corner_from s a i) (corner_from s a j)
 far_turn s h a zero i j ha low e high =
     let next : suc i ≡ j = omega arith in
-    subst (λ (n : ℕ). pos 0 <ℤ turn s.plane (corner_from s a 0) (corner_from s a i) (corner_from s a n)) next (near_turn s h a i ha low (omega arith))
+    subst (λ (n : ℕ). pos 0 <ℤ orientation_seen_from s.plane (corner_from s a 0) (corner_from s a i) (corner_from s a n)) next (near_turn s h a i ha low (omega arith))
 far_turn s h a (suc d) i j ha low e high =
     let k = sides s in
-    sign_of_sum (turn s.plane (corner_from s a 0) (corner_from s a i) (corner_from s a j))
-    (turn s.plane (corner_from s a 0) (corner_from s a (suc i)) (corner_from s a j))
-    (turn s.plane (corner_from s a 0) (corner_from s a i) (corner_from s a (suc i)))
+    sign_of_sum (orientation_seen_from s.plane (corner_from s a 0) (corner_from s a i) (corner_from s a j))
+    (orientation_seen_from s.plane (corner_from s a 0) (corner_from s a (suc i)) (corner_from s a j))
+    (orientation_seen_from s.plane (corner_from s a 0) (corner_from s a i) (corner_from s a (suc i)))
     (value (edge_from s a 1) (corner_from s a (suc i))) (value (edge_from s a 1) (corner_from s a i)) (value (edge_from s a 1) (corner_from s a j))
     (far_turn s h a d (suc i) j ha (omega arith) (omega arith) high)
     (near_turn s h a i ha low (omega arith))
@@ -141,16 +141,16 @@ far_turn s h a (suc d) i j ha low e high =
     (behind_from s h a j 1 ha high (omega arith) (omega arith) (omega arith) (λ _. omega arith))
     (edge_one s h a i j ha (edge_from s a 1) (corner_on_next s a))
 
--- three corners in order turn left
-pub any_turn : (s : Outline) → IsPolygon s → (a i j l : ℕ) → a < sides s → i < j → j < l → l < sides s → pos 0 <ℤ turn s.plane (corner_from s a i) (corner_from s a j) (corner_from s a l)
+-- three corners in order bend left
+pub any_turn : (s : Outline) → IsPolygon s → (a i j l : ℕ) → a < sides s → i < j → j < l → l < sides s → pos 0 <ℤ orientation_seen_from s.plane (corner_from s a i) (corner_from s a j) (corner_from s a l)
 any_turn s h a i j l ha b c d =
     let k = sides s in
     let far = far_turn s h (step k a i) (l - j - 1) (j - i) (l - i) (step_below k a i ha) (omega arith) (omega arith) (omega arith) in
     let ej : corner_from s (step k a i) (j - i) ≡ corner_from s a j = ap (corner s) (step_step k a i (j - i) ∙ ap (step k a) (omega arith)) in
     let el : corner_from s (step k a i) (l - i) ≡ corner_from s a l = ap (corner s) (step_step k a i (l - i) ∙ ap (step k a) (omega arith)) in
-    subst₂ (λ (p q : Coordinates). pos 0 <ℤ turn s.plane (corner_from s a i) p q) ej el far
+    subst₂ (λ (p q : Coordinates). pos 0 <ℤ orientation_seen_from s.plane (corner_from s a i) p q) ej el far
 
--- no plane has corners 0 and j behind it, and i and l not, where i is between 0 and j, and l after j
+-- no plane has corners 0 and j behind it, and i and l not, where i is between 0 and j, and l above j
 no_mixed : (x y z w : ℤ) → x <ℤ pos 0 → pos 0 ≤ℤ y → z <ℤ pos 0 → pos 0 ≤ℤ w → x -ℤ y +ℤ z -ℤ w ≡ pos 0 → ⊥
 no_mixed x y z w hx hy hz hw e = omega (arith, sums)
 
@@ -158,12 +158,12 @@ pub no_alternation : (s : Outline) → IsPolygon s → (a i j l : ℕ) → a < s
     value m (corner_from s a 0) <ℤ pos 0 → pos 0 ≤ℤ value m (corner_from s a i) → value m (corner_from s a j) <ℤ pos 0 → pos 0 ≤ℤ value m (corner_from s a l) → ⊥
 no_alternation s h a i j l ha hi hj hl hk m m0 mi mj ml =
     no_mixed
-    (turn s.plane (corner_from s a i) (corner_from s a j) (corner_from s a l) *ℤ value m (corner_from s a 0))
-    (turn s.plane (corner_from s a 0) (corner_from s a j) (corner_from s a l) *ℤ value m (corner_from s a i))
-    (turn s.plane (corner_from s a 0) (corner_from s a i) (corner_from s a l) *ℤ value m (corner_from s a j))
-    (turn s.plane (corner_from s a 0) (corner_from s a i) (corner_from s a j) *ℤ value m (corner_from s a l))
-    (pos_neg (turn s.plane (corner_from s a i) (corner_from s a j) (corner_from s a l)) (value m (corner_from s a 0)) (any_turn s h a i j l ha hj hl hk) m0)
-    (least_least (turn s.plane (corner_from s a 0) (corner_from s a j) (corner_from s a l)) (value m (corner_from s a i)) (lt_le (turn s.plane (corner_from s a 0) (corner_from s a j) (corner_from s a l)) (any_turn s h a 0 j l ha (omega arith) hl hk)) mi)
-    (pos_neg (turn s.plane (corner_from s a 0) (corner_from s a i) (corner_from s a l)) (value m (corner_from s a j)) (any_turn s h a 0 i l ha hi (omega arith) hk) mj)
-    (least_least (turn s.plane (corner_from s a 0) (corner_from s a i) (corner_from s a j)) (value m (corner_from s a l)) (lt_le (turn s.plane (corner_from s a 0) (corner_from s a i) (corner_from s a j)) (any_turn s h a 0 i j ha hi hj (omega arith))) ml)
+    (orientation_seen_from s.plane (corner_from s a i) (corner_from s a j) (corner_from s a l) *ℤ value m (corner_from s a 0))
+    (orientation_seen_from s.plane (corner_from s a 0) (corner_from s a j) (corner_from s a l) *ℤ value m (corner_from s a i))
+    (orientation_seen_from s.plane (corner_from s a 0) (corner_from s a i) (corner_from s a l) *ℤ value m (corner_from s a j))
+    (orientation_seen_from s.plane (corner_from s a 0) (corner_from s a i) (corner_from s a j) *ℤ value m (corner_from s a l))
+    (pos_neg (orientation_seen_from s.plane (corner_from s a i) (corner_from s a j) (corner_from s a l)) (value m (corner_from s a 0)) (any_turn s h a i j l ha hj hl hk) m0)
+    (least_least (orientation_seen_from s.plane (corner_from s a 0) (corner_from s a j) (corner_from s a l)) (value m (corner_from s a i)) (lt_le (orientation_seen_from s.plane (corner_from s a 0) (corner_from s a j) (corner_from s a l)) (any_turn s h a 0 j l ha (omega arith) hl hk)) mi)
+    (pos_neg (orientation_seen_from s.plane (corner_from s a 0) (corner_from s a i) (corner_from s a l)) (value m (corner_from s a j)) (any_turn s h a 0 i l ha hi (omega arith) hk) mj)
+    (least_least (orientation_seen_from s.plane (corner_from s a 0) (corner_from s a i) (corner_from s a j)) (value m (corner_from s a l)) (lt_le (orientation_seen_from s.plane (corner_from s a 0) (corner_from s a i) (corner_from s a j)) (any_turn s h a 0 i j ha hi hj (omega arith))) ml)
     (four_points s.plane (plane_directed s h) (corner_from s a 0) (corner_from s a i) (corner_from s a j) (corner_from s a l) (corner_on s (step (sides s) a 0)) (corner_on s (step (sides s) a i)) (corner_on s (step (sides s) a j)) (corner_on s (step (sides s) a l)) m)

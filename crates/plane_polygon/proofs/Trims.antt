@@ -6,7 +6,7 @@ use Rattle.plane_predicate.specs.Space.{Coefficients, Coordinates, value, opposi
 use Rattle.plane_predicate.proofs.IntegerRing.{sums}
 use Rattle.plane_predicate.proofs.Vectors.{value-opposite}
 use Rattle.plane_polygon.specs.Polygons.{Outline, sides, corner, IsPolygon, Covers}
-use Rattle.plane_polygon.specs.Parts.{up_to, corners, some_of, is_behind, is_ahead, class_by, class_of}
+use Rattle.plane_polygon.specs.Parts.{indices_below, corners, some_of, is_behind, is_ahead, class_by_sides, class_of}
 use Rattle.plane_polygon.specs.Boxes.{trimmed_outline, outline_trimmed_to}
 use Rattle.plane_polygon.specs.declared.classes.Class.{Class}
 use Rattle.plane_polygon.specs.declared.classes.Class.TheVariants.{Behind, Ahead, On, Across}
@@ -21,10 +21,10 @@ neither : (x y : Bool) → (x || y) ≡ false → (x ≡ false) × (y ≡ false)
 neither true y e = cc
 neither false y e = (refl, e)
 
-none_of : (p : Coordinates → Bool) (f : ℕ → Coordinates) (n : ℕ) → some_of p (map f (up_to n)) ≡ false → (i : ℕ) → i < n → p (f i) ≡ false
+none_of : (p : Coordinates → Bool) (f : ℕ → Coordinates) (n : ℕ) → some_of p (map f (indices_below n)) ≡ false → (i : ℕ) → i < n → p (f i) ≡ false
 none_of p f zero h i l = absurd (omega arith)
 none_of p f (suc n) h i l =
-    let both = neither (some_of p (map f (up_to n))) (p (f n)) (sym (some_more p (map f (up_to n)) (f n)) ∙ ap (some_of p) (sym (map-append f (up_to n) (n ∷ []))) ∙ h) in
+    let both = neither (some_of p (map f (indices_below n))) (p (f n)) (sym (some_more p (map f (indices_below n)) (f n)) ∙ ap (some_of p) (sym (map-append f (indices_below n) (n ∷ []))) ∙ h) in
     elim (at_most i n (omega arith)) [ inl e ↦ ap (λ (k : ℕ). p (f k)) e ∙ both.1 | inr b ↦ none_of p f n both.0 i b ]
 
 not_ahead : (x : ℤ) → int_lt (pos 0) x ≡ false → x ≤ℤ pos 0
@@ -50,19 +50,19 @@ none_behind s m h e p c =
     between_within (corner s 0) (corner s w.0) (corner s (suc w.0)) p (opposite_of m) w.2 (at 0 (omega arith)) (at w.0 (omega arith)) (at (suc w.0) (omega arith))
 
 -- ---- classes
-behind_by : (x y : Bool) → class_by x y ≡ Behind → y ≡ false
+behind_by : (x y : Bool) → class_by_sides x y ≡ Behind → y ≡ false
 behind_by true true e = cc
 behind_by true false e = refl
 behind_by false true e = cc
 behind_by false false e = cc
 
-on_by : (x y : Bool) → class_by x y ≡ On → y ≡ false
+on_by : (x y : Bool) → class_by_sides x y ≡ On → y ≡ false
 on_by true true e = cc
 on_by true false e = cc
 on_by false true e = cc
 on_by false false e = refl
 
-ahead_by : (x y : Bool) → class_by x y ≡ Ahead → x ≡ false
+ahead_by : (x y : Bool) → class_by_sides x y ≡ Ahead → x ≡ false
 ahead_by true true e = cc
 ahead_by true false e = cc
 ahead_by false true e = refl

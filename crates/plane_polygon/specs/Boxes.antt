@@ -46,22 +46,22 @@ outline_trimmed_to On s m = s
 abbrev pub trimmed_outline : Outline → Coefficients → Outline
 trimmed_outline s m = outline_trimmed_to (class_of s m) s m
 
--- four edges that go counterclockwise seen from ahead of a direction's part that is above 0, turned round where it is below
-abbrev pub turned : ℤ → Coefficients → Coefficients → Coefficients → Coefficients → List Coefficients
-turned (pos n) p q r s = p ∷ q ∷ r ∷ s ∷ []
-turned (negsuc n) p q r s = p ∷ s ∷ r ∷ q ∷ []
+-- four edges that go counterclockwise seen from ahead of a direction's part that is above 0, and the other way round where it is below
+abbrev pub counterclockwise_edges : ℤ → Coefficients → Coefficients → Coefficients → Coefficients → List Coefficients
+counterclockwise_edges (pos n) p q r s = p ∷ q ∷ r ∷ s ∷ []
+counterclockwise_edges (negsuc n) p q r s = p ∷ s ∷ r ∷ q ∷ []
 
 -- the four box planes of y and z, then cut by those of x, for a plane whose direction has x alone
 abbrev pub box_over_x : Coefficients → Outline
-box_over_x m = trimmed_outline (trimmed_outline (record { plane = m; edges = turned m.a low_y low_z high_y high_z }) high_x) low_x
+box_over_x m = trimmed_outline (trimmed_outline (record { plane = m; edges = counterclockwise_edges m.a low_y low_z high_y high_z }) high_x) low_x
 
 -- the four box planes of x and z, then cut by those of y, for a plane whose direction has no z
 abbrev pub box_over_y : Coefficients → Outline
-box_over_y m = trimmed_outline (trimmed_outline (record { plane = m; edges = turned m.b low_x high_z high_x low_z }) high_y) low_y
+box_over_y m = trimmed_outline (trimmed_outline (record { plane = m; edges = counterclockwise_edges m.b low_x high_z high_x low_z }) high_y) low_y
 
 -- the four box planes of x and y, then cut by those of z, for a plane whose direction has a z
 abbrev pub box_over_z : Coefficients → Outline
-box_over_z m = trimmed_outline (trimmed_outline (record { plane = m; edges = turned m.c low_x low_y high_x high_y }) high_z) low_z
+box_over_z m = trimmed_outline (trimmed_outline (record { plane = m; edges = counterclockwise_edges m.c low_x low_y high_x high_y }) high_z) low_z
 
 -- the box polygon: over the last of x, y and z that the plane's direction has
 abbrev pub box_outline : Coefficients → Outline

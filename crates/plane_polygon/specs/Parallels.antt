@@ -13,7 +13,7 @@ abbrev pub HasAllOn : Coefficients → Coefficients → Side → Type 0
 HasAllOn p m side = (v : Coordinates) → pos 0 <ℤ v.w → value p v ≡ pos 0 → side ≡ side_of (value m v)
 
 -- the directions are equal
-pub record IsAlike (p m : Coefficients) : Type 0 where
+pub record HasSameDirection (p m : Coefficients) : Type 0 where
   pub a : p.a ≡ m.a
   pub b : p.b ≡ m.b
   pub c : p.c ≡ m.c

@@ -6,13 +6,13 @@ use Rattle.plane_polygon.specs.declared.classes.Class.{Class}
 use Rattle.plane_polygon.specs.declared.classes.Class.TheVariants.{Behind, Ahead, On, Across}
 
 -- 0, 1, .. below n
-abbrev pub up_to : ℕ → List ℕ
-up_to zero = []
-up_to (suc n) = up_to n ++ n ∷ []
+abbrev pub indices_below : ℕ → List ℕ
+indices_below zero = []
+indices_below (suc n) = indices_below n ++ n ∷ []
 
 -- the corners in order
 abbrev pub corners : Outline → List Coordinates
-corners s = map (corner s) (up_to (sides s))
+corners s = map (corner s) (indices_below (sides s))
 
 -- some item passes the test
 abbrev pub some_of : {A : Type 0} → (A → Bool) → List A → Bool
@@ -28,24 +28,24 @@ abbrev pub is_ahead : Coefficients → Coordinates → Bool
 is_ahead m p = int_lt (pos 0) (value m p)
 
 -- the class by whether some corners are strictly behind, and whether some are strictly ahead
-abbrev pub class_by : Bool → Bool → Class
-class_by true true = Across
-class_by true false = Behind
-class_by false true = Ahead
-class_by false false = On
+abbrev pub class_by_sides : Bool → Bool → Class
+class_by_sides true true = Across
+class_by_sides true false = Behind
+class_by_sides false true = Ahead
+class_by_sides false false = On
 
 -- how a polygon lies against a plane: on it where all corners are, across it where some corners lie strictly on each
 -- side, else on the side of those that are off it
 abbrev pub class_of : Outline → Coefficients → Class
-class_of s m = class_by (some_of (is_behind m) (corners s)) (some_of (is_ahead m) (corners s))
+class_of s m = class_by_sides (some_of (is_behind m) (corners s)) (some_of (is_ahead m) (corners s))
 
--- the index before i round a list of length k
-abbrev pub before : ℕ → ℕ → ℕ
-before k zero = k - 1
-before k (suc i) = i
+-- the index that i follows round a list of length k
+abbrev pub index_before : ℕ → ℕ → ℕ
+index_before k zero = k - 1
+index_before k (suc i) = i
 
--- what an edge gives to the part behind m, by whether its first and its last corner are strictly behind m: itself where
--- one of them is, and m after it where it goes from such a corner to one that isn't
+-- what an edge gives to the part behind m, by which of its two corners are strictly behind m: itself where one is, and then m
+-- where the edge leaves that side
 abbrev pub edges_kept_by : Bool → Bool → Coefficients → Coefficients → List Coefficients
 edges_kept_by true true e m = e ∷ []
 edges_kept_by true false e m = e ∷ m ∷ []
@@ -54,11 +54,11 @@ edges_kept_by false false e m = []
 
 -- what edge i gives to the part behind m
 abbrev pub edges_kept_at : Outline → Coefficients → ℕ → List Coefficients
-edges_kept_at s m i = edges_kept_by (is_behind m (corner s (before (sides s) i))) (is_behind m (corner s i)) (edge s i) m
+edges_kept_at s m i = edges_kept_by (is_behind m (corner s (index_before (sides s) i))) (is_behind m (corner s i)) (edge s i) m
 
 -- the part of a polygon behind a plane that it is across
 abbrev pub part_behind : Outline → Coefficients → Outline
-part_behind s m = record { plane = s.plane; edges = flat_map (edges_kept_at s m) (up_to (sides s)) }
+part_behind s m = record { plane = s.plane; edges = flat_map (edges_kept_at s m) (indices_below (sides s)) }
 
 -- the part ahead is the part behind the opposite plane
 abbrev pub part_ahead : Outline → Coefficients → Outline

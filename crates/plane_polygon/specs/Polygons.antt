@@ -1,6 +1,6 @@
 -- Convex polygons of space, as planes bounded by planes (Bernstein and Fussell).
 use Rattle.std.specs.Prelude.{◌≡◌, ◌≢◌, ℕ, suc, ◌≤◌, ◌<◌, cond, eqb, List, [], ◌∷◌, length, get_or, ℤ, pos, ◌+ℤ◌, ◌*ℤ◌, ◌<ℤ◌, ◌≤ℤ◌}
-use Rattle.plane_predicate.specs.Space.{Coefficients, Coordinates, value, cramer, meeting, turn, IsPointTimes, IsReduced}
+use Rattle.plane_predicate.specs.Space.{Coefficients, Coordinates, value, meeting_by_cramers_rule, meeting, orientation_seen_from, IsPointTimes, HasNoCommonFactor}
 
 -- a plane with a cyclic list of edge planes, counterclockwise seen from ahead of it
 pub record Outline : Type 0 where
@@ -8,44 +8,44 @@ pub record Outline : Type 0 where
   pub edges : List Coefficients
 
 -- the index that follows i round a list of length k
-abbrev pub after : ℕ → ℕ → ℕ
-after k i = cond (eqb (suc i) k) 0 (suc i)
+abbrev pub index_after : ℕ → ℕ → ℕ
+index_after k i = cond (eqb (suc i) k) 0 (suc i)
 
 -- the plane without a direction, past the end of a list
-abbrev pub nowhere : Coefficients
-nowhere = record { a = pos 0; b = pos 0; c = pos 0; d = pos 0 }
+abbrev pub missing_plane : Coefficients
+missing_plane = record { a = pos 0; b = pos 0; c = pos 0; d = pos 0 }
 
 -- edge i goes from corner i - 1 to corner i
 abbrev pub edge : Outline → ℕ → Coefficients
-edge s i = get_or s.edges i nowhere
+edge s i = get_or s.edges i missing_plane
 
 -- how many edges there are
 abbrev pub sides : Outline → ℕ
 sides s = length s.edges
 
--- corner i is the meeting of the plane with edge i, which ends there, and the next edge, which begins there. Its w comes
--- as Cramer's rule gives it: above 0 exactly where the corner exists and the next edge turns left, seen from ahead
+-- corner i: the meeting of the plane with edge i, which ends there, and the next edge. Its w is that of Cramer's rule: above 0
+-- exactly where it exists and the next edge bends to the left
 abbrev pub corner : Outline → ℕ → Coordinates
-corner s i = cramer s.plane (edge s i) (edge s (after (sides s) i))
+corner s i = meeting_by_cramers_rule s.plane (edge s i) (edge s (index_after (sides s) i))
 
 -- at least three edges; each corner exists, the corners go counterclockwise seen from ahead, and each is strictly behind
 -- every edge other than its own two
 pub record IsPolygon (s : Outline) : Type 0 where
   pub three : 3 ≤ sides s
   pub turns_left : (i : ℕ) → i < sides s → pos 0 <ℤ (corner s i).w
-  pub behind : (i j : ℕ) → i < sides s → j < sides s → j ≢ i → j ≢ after (sides s) i → value (edge s j) (corner s i) <ℤ pos 0
+  pub behind : (i j : ℕ) → i < sides s → j < sides s → j ≢ i → j ≢ index_after (sides s) i → value (edge s j) (corner s i) <ℤ pos 0
 
 -- corner i as a point, with its w above 0 where it exists
 abbrev pub corner_point : Outline → ℕ → Coordinates
-corner_point s i = meeting s.plane (edge s i) (edge s (after (sides s) i))
+corner_point s i = meeting s.plane (edge s i) (edge s (index_after (sides s) i))
 
--- the same said of the corners as points: at least three edges; each corner exists, it is strictly behind every edge other
--- than its own two, and each other corner lies strictly left of the way from a corner to the next, seen from ahead
+-- the same said of the corners as points: at least three, each exists and is strictly behind all edges but its own two, and all
+-- others lie strictly left of each way from a corner to the next
 pub record HasConvexCorners (s : Outline) : Type 0 where
   pub three : 3 ≤ sides s
   pub exist : (i : ℕ) → i < sides s → (corner s i).w ≢ pos 0
-  pub behind : (i j : ℕ) → i < sides s → j < sides s → j ≢ i → j ≢ after (sides s) i → value (edge s j) (corner_point s i) <ℤ pos 0
-  pub left : (i j : ℕ) → i < sides s → j < sides s → j ≢ i → j ≢ after (sides s) i → pos 0 <ℤ turn s.plane (corner_point s i) (corner_point s (after (sides s) i)) (corner_point s j)
+  pub behind : (i j : ℕ) → i < sides s → j < sides s → j ≢ i → j ≢ index_after (sides s) i → value (edge s j) (corner_point s i) <ℤ pos 0
+  pub left : (i j : ℕ) → i < sides s → j < sides s → j ≢ i → j ≢ index_after (sides s) i → pos 0 <ℤ orientation_seen_from s.plane (corner_point s i) (corner_point s (index_after (sides s) i)) (corner_point s j)
 
 -- the points of a polygon: on its plane, and not ahead of any edge
 pub record Covers (s : Outline) (p : Coordinates) : Type 0 where
@@ -53,8 +53,7 @@ pub record Covers (s : Outline) (p : Coordinates) : Type 0 where
   pub on : value s.plane p ≡ pos 0
   pub within : (j : ℕ) → j < sides s → value (edge s j) p ≤ℤ pos 0
 
--- p is a combination of a, b and c with weights of at least 0: k p = u a + v b + t c, as every plane sees it. The planes
--- (1, 0, 0, 0), (0, 1, 0, 0), (0, 0, 1, 0) and (0, 0, 0, -1) see the four numbers of a point
+-- p is a combination of a, b and c with weights of at least 0: k p = u a + v b + t c, as every plane sees it
 pub record IsBetween (a b c p : Coordinates) : Type 0 where
   pub u : ℤ
   pub v : ℤ
@@ -80,11 +79,11 @@ pub record IsStrictlyWithin (s : Outline) (p : Coordinates) : Type 0 where
 -- p is on the plane and strictly left of each way from a corner to the next, seen from ahead
 pub record IsStrictlyLeft (s : Outline) (p : Coordinates) : Type 0 where
   pub on : value s.plane p ≡ pos 0
-  pub left : (i : ℕ) → i < sides s → pos 0 <ℤ turn s.plane (corner s i) (corner s (after (sides s) i)) p
+  pub left : (i : ℕ) → i < sides s → pos 0 <ℤ orientation_seen_from s.plane (corner s i) (corner s (index_after (sides s) i)) p
 
 -- the second points are the first ones, in order, each without a common factor
 abbrev pub AreReducedFrom : List Coordinates → List Coordinates → Type 0
 AreReducedFrom [] [] = Unit {0}
-AreReducedFrom (p ∷ ps) (q ∷ qs) = IsPointTimes p q × IsReduced q × AreReducedFrom ps qs
+AreReducedFrom (p ∷ ps) (q ∷ qs) = IsPointTimes p q × HasNoCommonFactor q × AreReducedFrom ps qs
 AreReducedFrom [] (q ∷ qs) = ⊥
 AreReducedFrom (p ∷ ps) [] = ⊥

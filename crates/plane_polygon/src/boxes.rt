@@ -3,7 +3,7 @@
 ghost use Rattle.std.specs.Prelude.{◌≡◌, ◌≢◌, ◌↔◌, pos, IfOk};
 ghost use Rattle.plane_predicate.specs.Space.{Coordinates, value, IsInClosedWorld, ComesInReach};
 ghost use Rattle.plane_polygon.specs.Polygons.{Covers, IsPolygon};
-ghost use Rattle.plane_polygon.specs.Boxes.{box_outline, box_over_x, box_over_y, box_over_z, trimmed_outline, turned};
+ghost use Rattle.plane_polygon.specs.Boxes.{box_outline, box_over_x, box_over_y, box_over_z, trimmed_outline, counterclockwise_edges};
 
 use crate::planes::{high_x, high_y, high_z, low_x, low_y, low_z};
 use crate::{Class, Polygon, cut, sort_by};
@@ -64,7 +64,7 @@ fn over_x(alloc: Global, plane: &Plane) -> Result<Polygon, NoMemory>
     trim(alloc, below, &low_x())
 }
 
-// The polygon of four edges, which are turned round where `part` is below 0.
+// The polygon of four edges, whose order is reversed where `part` is below 0.
 fn four_edges(
     alloc: Global,
     plane: &Plane,
@@ -77,12 +77,12 @@ fn four_edges(
     requires { IsPolygon
         (record {
           plane = plane.now;
-          edges = turned part first.now second.now third.now fourth.now;
+          edges = counterclockwise_edges part first.now second.now third.now fourth.now;
         }) }
     ensures { IfOk result (λ s. s
         ≡ record {
           plane = plane.now;
-          edges = turned part first.now second.now third.now fourth.now;
+          edges = counterclockwise_edges part first.now second.now third.now fourth.now;
         }) }
 {
     if part < 0 {

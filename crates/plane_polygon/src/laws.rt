@@ -1,8 +1,8 @@
 //! Laws of polygons, for the crates above. They are proved, and do nothing when they run.
 
 ghost use Rattle.std.specs.Prelude.{◌≡◌, ◌≢◌, ◌↔◌, ◌<◌, ◌≤ℤ◌, ◌<ℤ◌, ℕ, pos};
-ghost use Rattle.plane_predicate.specs.Space.{Coefficients, Coordinates, turn, value, IsInClosedWorld, IsPlane, ComesInReach};
-ghost use Rattle.plane_polygon.specs.Polygons.{after, corner, sides, Covers, HasConvexCorners, IsInFan, IsPolygon, IsStrictlyLeft, IsStrictlyWithin, Outline};
+ghost use Rattle.plane_predicate.specs.Space.{Coefficients, Coordinates, orientation_seen_from, value, IsInClosedWorld, IsPlane, ComesInReach};
+ghost use Rattle.plane_polygon.specs.Polygons.{index_after, corner, sides, Covers, HasConvexCorners, IsInFan, IsPolygon, IsStrictlyLeft, IsStrictlyWithin, Outline};
 ghost use Rattle.plane_polygon.specs.Parts.{class_of, part_ahead, part_behind};
 ghost use Rattle.plane_polygon.specs.Boxes.{box_outline};
 ghost use Rattle.plane_polygon.specs.declared.classes.Class.TheVariants.{Across};
@@ -45,8 +45,8 @@ pub fn parts_are_polygons()
 /// way from a corner to the next.
 pub fn corners_go_counterclockwise()
     ensures { (s : Outline) → IsPolygon s → (i j : ℕ) → i < sides s → j < sides s → j ≢ i →
-        j ≢ after (sides s) i →
-        pos 0 <ℤ turn s.plane (corner s i) (corner s (after (sides s) i)) (corner s j) }
+        j ≢ index_after (sides s) i →
+        pos 0 <ℤ orientation_seen_from s.plane (corner s i) (corner s (index_after (sides s) i)) (corner s j) }
 {}
 
 /// A point is strictly behind all edges exactly where it is strictly left of each way from a

@@ -1,7 +1,7 @@
 //! The corners of a polygon.
 
 ghost use Rattle.std.specs.Prelude.{◌≡◌, ◌<◌, ◌<ℤ◌, pos, length, IfOk};
-ghost use Rattle.plane_predicate.specs.Space.{cramer, IsPointTimes, IsReduced};
+ghost use Rattle.plane_predicate.specs.Space.{meeting_by_cramers_rule, IsPointTimes, HasNoCommonFactor};
 ghost use Rattle.plane_polygon.specs.Polygons.{corner, AreReducedFrom, IsPolygon};
 ghost use Rattle.plane_polygon.specs.Parts.{corners};
 
@@ -39,7 +39,7 @@ fn corner_point(plane: &Plane, edges: &[Plane], i: usize) -> Point
     requires polygon { IsPolygon (record { plane = plane.now; edges = edges.now }) }
     ensures times { IsPointTimes (corner (record { plane = plane.now; edges = edges.now }) i)
         result }
-    ensures reduced { IsReduced result }
+    ensures reduced { HasNoCommonFactor result }
 {
     let found = meeting_of(plane, &edges[i], &edges[next_index(i, edges.len())]);
     reduce(&found)
@@ -48,8 +48,8 @@ fn corner_point(plane: &Plane, edges: &[Plane], i: usize) -> Point
 /// The meeting of three planes whose determinant is positive.
 #[tactic(auto, using(crate::proofs::CornerSides::positive_meeting, crate::proofs::CornerSides::positive_apart))]
 pub fn meeting_of(p: &Plane, q: &Plane, r: &Plane) -> Point
-    requires { pos 0 <ℤ (cramer p.now q.now r.now).w }
-    ensures { result ≡ cramer p.now q.now r.now }
+    requires { pos 0 <ℤ (meeting_by_cramers_rule p.now q.now r.now).w }
+    ensures { result ≡ meeting_by_cramers_rule p.now q.now r.now }
 {
     meet(p, q, r).unwrap()
 }

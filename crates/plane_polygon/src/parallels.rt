@@ -2,7 +2,7 @@
 
 ghost use Rattle.std.specs.Prelude.{◌≡◌, true, IfSome};
 ghost use Rattle.plane_predicate.specs.Space.{opposite_of};
-ghost use Rattle.plane_polygon.specs.Parallels.{side_past, HasAllOn, IsAlike};
+ghost use Rattle.plane_polygon.specs.Parallels.{side_past, HasAllOn, HasSameDirection};
 
 use plane_predicate::{Plane, Side, opposite};
 
@@ -23,7 +23,7 @@ pub fn parallel_side(p: &Plane, m: &Plane) -> Option<Side>
 
 /// True only of two planes that have one direction.
 pub fn is_alike(p: &Plane, m: &Plane) -> bool
-    ensures { result ≡ true → IsAlike p.now m.now }
+    ensures { result ≡ true → HasSameDirection p.now m.now }
 {
     p.a == m.a && p.b == m.b && p.c == m.c
 }
@@ -31,7 +31,7 @@ pub fn is_alike(p: &Plane, m: &Plane) -> bool
 /// The side of `m` on which all points of `p` lie, which are those of its opposite, where both have one
 /// direction.
 pub fn side_alike(p: &Plane, m: &Plane) -> Side
-    requires { IsAlike p.now m.now }
+    requires { HasSameDirection p.now m.now }
     ensures own { HasAllOn p.now m.now result }
     ensures opposite { HasAllOn (opposite_of p.now) m.now result }
 {

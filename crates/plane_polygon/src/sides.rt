@@ -1,17 +1,17 @@
 //! On which side of a plane the corners of a polygon lie.
 
 ghost use Rattle.std.specs.Prelude.{◌≡◌, ◌-◌, ◌<◌, ◌<ℤ◌, pos, length, IfSome};
-ghost use Rattle.plane_predicate.specs.Space.{value, cramer};
+ghost use Rattle.plane_predicate.specs.Space.{value, meeting_by_cramers_rule};
 ghost use Rattle.plane_predicate.specs.Sides.{side_of};
-ghost use Rattle.plane_polygon.specs.Polygons.{after, corner, IsPolygon};
+ghost use Rattle.plane_polygon.specs.Polygons.{index_after, corner, IsPolygon};
 
 use crate::parallels::parallel_side;
 use plane_predicate::{Plane, Side, side};
 
-/// The index after `i` round a list of `count` items.
+/// The index that follows `i` round a list of `count` items.
 pub fn next_index(i: usize, count: usize) -> usize
     requires { i < count }
-    ensures { result ≡ after count i }
+    ensures { result ≡ index_after count i }
 {
     if i + 1 == count { 0 } else { i + 1 }
 }
@@ -19,16 +19,16 @@ pub fn next_index(i: usize, count: usize) -> usize
 /// The side of `m` on which a meeting with a positive determinant lies.
 #[tactic(auto, using(crate::proofs::CornerSides::positive_meeting, crate::proofs::CornerSides::positive_apart))]
 pub fn side_at(p: &Plane, q: &Plane, r: &Plane, m: &Plane) -> Side
-    requires { pos 0 <ℤ (cramer p.now q.now r.now).w }
-    ensures { result ≡ side_of (value m.now (cramer p.now q.now r.now)) }
+    requires { pos 0 <ℤ (meeting_by_cramers_rule p.now q.now r.now).w }
+    ensures { result ≡ side_of (value m.now (meeting_by_cramers_rule p.now q.now r.now)) }
 {
     side(p, q, r, m)
 }
 
 // The same, where `m` is parallel to one of the planes that meet.
 fn parallel_to_one(p: &Plane, q: &Plane, r: &Plane, m: &Plane) -> Option<Side>
-    requires { pos 0 <ℤ (cramer p.now q.now r.now).w }
-    ensures { IfSome result (λ s. s ≡ side_of (value m.now (cramer p.now q.now r.now))) }
+    requires { pos 0 <ℤ (meeting_by_cramers_rule p.now q.now r.now).w }
+    ensures { IfSome result (λ s. s ≡ side_of (value m.now (meeting_by_cramers_rule p.now q.now r.now))) }
 {
     if let Some(found) = parallel_side(p, m) {
         return Some(found);

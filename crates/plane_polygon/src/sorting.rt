@@ -2,7 +2,7 @@
 
 ghost use Rattle.std.specs.Prelude.{◌≡◌, ◌||◌};
 ghost use Rattle.plane_polygon.specs.Polygons.{IsPolygon};
-ghost use Rattle.plane_polygon.specs.Parts.{class_by, class_of};
+ghost use Rattle.plane_polygon.specs.Parts.{class_by_sides, class_of};
 
 use crate::sides::corner_side;
 use crate::{Class, Polygon};
@@ -40,7 +40,7 @@ fn either(a: bool, b: bool) -> bool
 
 /// The class by whether some corners are strictly behind, and whether some are strictly ahead.
 pub fn class_from(some_behind: bool, some_ahead: bool) -> Class
-    ensures { result ≡ class_by some_behind some_ahead }
+    ensures { result ≡ class_by_sides some_behind some_ahead }
 {
     match (some_behind, some_ahead) {
         (true, true) => Class::Across,

@@ -2,7 +2,7 @@
 use Rattle.std.proofs.Common.{◌≡◌, [], ◌∷◌, refl, arith, ℤ, pos, ◌+ℤ◌, ◌-ℤ◌, ◌*ℤ◌, ◌<ℤ◌}
 use Rattle.plane_predicate.specs.declared.unit.Unit.{Unit as LengthUnit}
 use Rattle.plane_predicate.specs.declared.unit.Unit.TheVariants.{Whole, Half}
-use Rattle.plane_predicate.specs.Space.{Coefficients, Coordinates, value, turn, IsPointTimes}
+use Rattle.plane_predicate.specs.Space.{Coefficients, Coordinates, value, orientation_seen_from, IsPointTimes}
 use Rattle.plane_predicate.specs.InUnits.{in_steps, in_units}
 use Rattle.plane_predicate.specs.Units.{steps_of}
 use Rattle.plane_predicate.proofs.IntegerRing.{sums, one_mul}
@@ -37,7 +37,7 @@ value_widened k m p =
     (minus (times (var 8) (plus (plus (times M.a P.x) (times M.b P.y)) (times M.c P.z))) (times M.d P.w)) refl
 
 turn_widened : (k : ℤ) (n : Coefficients) (p q r : Coordinates) →
-    turn n (widened k p) (widened k q) (widened k r) ≡ k *ℤ k *ℤ turn n p q r
+    orientation_seen_from n (widened k p) (widened k q) (widened k r) ≡ k *ℤ k *ℤ orientation_seen_from n p q r
 turn_widened k n p q r =
     let K = var 16 in let P = place 4 in let Q = place 8 in let R = place 12 in
     ring (of_plane n (of_point p (of_point q (of_point r (k ∷ [])))))
@@ -48,7 +48,7 @@ pub value_in_steps : (unit : LengthUnit) (m : Coefficients) (p : Coordinates) �
 value_in_steps unit m p = value_widened (steps_of unit) m p
 
 pub turn_in_steps : (unit : LengthUnit) (n : Coefficients) (p q r : Coordinates) →
-    turn n (in_steps unit p) (in_steps unit q) (in_steps unit r) ≡ steps_of unit *ℤ steps_of unit *ℤ turn n p q r
+    orientation_seen_from n (in_steps unit p) (in_steps unit q) (in_steps unit r) ≡ steps_of unit *ℤ steps_of unit *ℤ orientation_seen_from n p q r
 turn_in_steps unit n p q r = turn_widened (steps_of unit) n p q r
 
 pub whole_units : (p : Coordinates) → in_units Whole p ≡ p

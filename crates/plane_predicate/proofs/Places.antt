@@ -1,7 +1,7 @@
 -- The order of the places at which two planes meet the line of two more.
 use Rattle.std.proofs.Common.{◌≡◌, zero, suc, [], refl, sym, ap, ap₂, ◌∙◌, arith, ℤ, pos, negsuc, ◌+ℤ◌, ◌-ℤ◌, ◌*ℤ◌, neg_ℤ, ◌<ℤ◌, inl, inr}
 use Rattle.std.proofs.Math.IntN.{*ℤ-zero, zero-*ℤ}
-use Rattle.plane_predicate.specs.Space.{Coefficients, Coordinates, cramer, minor, value}
+use Rattle.plane_predicate.specs.Space.{Coefficients, Coordinates, meeting_by_cramers_rule, minor, value}
 use Rattle.plane_predicate.specs.Sides.{side_of}
 use Rattle.plane_predicate.specs.declared.sides.Side.TheVariants.{Behind, Ahead}
 use Rattle.plane_predicate.proofs.IntegerRing.{sums, mul_neg_right}
@@ -35,14 +35,14 @@ side_times k x h = elim (signs x) [
 abbrev along : Coefficients → Axis → ℤ
 along m line = m.a *ℤ line.a +ℤ m.b *ℤ line.b +ℤ m.c *ℤ line.c
 
-third_weight : (p m r : Coefficients) → r.a *ℤ minor p.b p.c m.b m.c +ℤ r.b *ℤ minor p.c p.a m.c m.a +ℤ r.c *ℤ minor p.a p.b m.a m.b ≡ (cramer p m r).w
+third_weight : (p m r : Coefficients) → r.a *ℤ minor p.b p.c m.b m.c +ℤ r.b *ℤ minor p.c p.a m.c m.a +ℤ r.c *ℤ minor p.a p.b m.a m.b ≡ (meeting_by_cramers_rule p m r).w
 third_weight p m r =
     let P = form 0 in let M = form 4 in let R = form 8 in
     ring (of_plane p (of_plane m (of_plane r [])))
     (plus (plus (times R.a (minorP P.b P.c M.b M.c)) (times R.b (minorP P.c P.a M.c M.a))) (times R.c (minorP P.a P.b M.a M.b)))
     (determinantP P.a P.b P.c M.a M.b M.c R.a R.b R.c) refl
 
-along_is : (p m r : Coefficients) (line : Axis) → IsAxisOf p m line → along r line ≡ (cramer p m r).w
+along_is : (p m r : Coefficients) (line : Axis) → IsAxisOf p m line → along r line ≡ (meeting_by_cramers_rule p m r).w
 along_is p m r line h = rw (h.a, h.b, h.c) (third_weight p m r)
 
 -- ---- places
@@ -51,20 +51,20 @@ settled c vm w v vp x vq g vr f e hp hm =
     omega (arith, sums, e, ap (λ (k : ℤ). c *ℤ k) hm, *ℤ-zero c, ap (λ (k : ℤ). k *ℤ x) hp, zero-*ℤ x, mul_neg_right vr f)
 
 swapped : (p q r m : Coefficients) (v : Coordinates) →
-    (cramer p q r).w *ℤ value m v -ℤ v.w *ℤ value m (cramer p q r) ≡ value p v *ℤ (cramer m q r).w +ℤ value q v *ℤ (cramer p m r).w +ℤ value r v *ℤ neg_ℤ ((cramer p m q).w)
-swapped p q r m v = as_cramer p q r m v ∙ ap (λ (k : ℤ). value p v *ℤ (cramer m q r).w +ℤ value q v *ℤ (cramer p m r).w +ℤ value r v *ℤ k) (weight_swapped p m q)
+    (meeting_by_cramers_rule p q r).w *ℤ value m v -ℤ v.w *ℤ value m (meeting_by_cramers_rule p q r) ≡ value p v *ℤ (meeting_by_cramers_rule m q r).w +ℤ value q v *ℤ (meeting_by_cramers_rule p m r).w +ℤ value r v *ℤ neg_ℤ ((meeting_by_cramers_rule p m q).w)
+swapped p q r m v = as_cramer p q r m v ∙ ap (λ (k : ℤ). value p v *ℤ (meeting_by_cramers_rule m q r).w +ℤ value q v *ℤ (meeting_by_cramers_rule p m r).w +ℤ value r v *ℤ k) (weight_swapped p m q)
 
 -- the values and products of two places, crossed, are a number above 0 times what the fourth plane says
 crossed : (p m q r : Coefficients) (line : Axis) → IsAxisOf p m line →
-    line.point.w *ℤ value m (cramer p q r) ≡ value r line.point *ℤ along q line -ℤ value q line.point *ℤ along r line
+    line.point.w *ℤ value m (meeting_by_cramers_rule p q r) ≡ value r line.point *ℤ along q line -ℤ value q line.point *ℤ along r line
 crossed p m q r line h =
     let v = line.point in
-    settled (cramer p q r).w (value m v) v.w (value m (cramer p q r)) (value p v) (cramer m q r).w (value q v) (cramer p m r).w (value r v) (cramer p m q).w
+    settled (meeting_by_cramers_rule p q r).w (value m v) v.w (value m (meeting_by_cramers_rule p q r)) (value p v) (meeting_by_cramers_rule m q r).w (value q v) (meeting_by_cramers_rule p m r).w (value r v) (meeting_by_cramers_rule p m q).w
     (swapped p q r m v) h.on.first h.on.second
     ∙ ap₂ (λ (f g : ℤ). value r v *ℤ f -ℤ value q v *ℤ g) (sym (along_is p m q line h)) (sym (along_is p m r line h))
 
 pub side_at_line : (p m q r : Coefficients) (line : Axis) (ends begins : Place) → IsAxisOf p m line → IsPlaceOf q line ends → IsPlaceOf r line begins →
-    side_of (begins.at *ℤ ends.along -ℤ ends.at *ℤ begins.along) ≡ side_of (value m (cramer p q r))
+    side_of (begins.at *ℤ ends.along -ℤ ends.at *ℤ begins.along) ≡ side_of (value m (meeting_by_cramers_rule p q r))
 side_at_line p m q r line ends begins h one other =
     ap side_of (rw (one.at, one.along, other.at, other.along) refl ∙ sym (crossed p m q r line h))
-    ∙ side_times line.point.w (value m (cramer p q r)) h.on.weight
+    ∙ side_times line.point.w (value m (meeting_by_cramers_rule p q r)) h.on.weight

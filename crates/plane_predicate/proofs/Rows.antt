@@ -1,6 +1,6 @@
 -- Planes, meetings and sides that are written out.
 use Rattle.std.proofs.Common.{◌≡◌, [], ◌∷◌, refl, arith, ℤ, pos, negsuc}
-use Rattle.plane_predicate.specs.Space.{Coefficients, Coordinates, value, opposite_of, turn, cramer, meeting, point_at, through, AreCollinear, IsInReach, IsInWorld, IsInClosedWorld, IsPlaneTimes, IsPointTimes}
+use Rattle.plane_predicate.specs.Space.{Coefficients, Coordinates, value, opposite_of, orientation_seen_from, meeting_by_cramers_rule, meeting, point_at, through, AreCollinear, IsInReach, IsInWorld, IsInClosedWorld, IsPlaneTimes, IsPointTimes}
 use Rattle.plane_predicate.specs.Sides.{side_of}
 use Rattle.plane_predicate.specs.declared.sides.Side.TheVariants.{Behind, On, Ahead}
 use Rattle.plane_predicate.proofs.IntegerRing.{sums}
@@ -39,7 +39,7 @@ exchanged_meeting = refl
 half_meeting : meeting (plane (pos 1) (pos 1) (pos 0) (pos 1)) (plane (pos 1) (negsuc 0) (pos 0) (pos 0)) (plane (pos 0) (pos 0) (pos 1) (pos 0)) ≡ point (pos 1) (pos 1) (pos 0) (pos 2)
 half_meeting = refl
 
-no_meeting : (cramer (plane (pos 1) (pos 0) (pos 0) (pos 0)) (plane (pos 1) (pos 0) (pos 0) (pos 1)) (plane (pos 0) (pos 0) (pos 1) (pos 0))).w ≡ pos 0
+no_meeting : (meeting_by_cramers_rule (plane (pos 1) (pos 0) (pos 0) (pos 0)) (plane (pos 1) (pos 0) (pos 0) (pos 1)) (plane (pos 0) (pos 0) (pos 1) (pos 0))).w ≡ pos 0
 no_meeting = refl
 
 -- a meeting isn't reduced
@@ -61,10 +61,10 @@ half_is_behind : side_of (value (plane (pos 1) (pos 0) (pos 0) (pos 1)) (point (
 half_is_behind = refl
 
 -- ---- turns, seen from above the ground
-left_turn : turn (plane (pos 0) (pos 0) (pos 1) (pos 0)) (whole (pos 0) (pos 0) (pos 0)) (whole (pos 1) (pos 0) (pos 0)) (whole (pos 1) (pos 1) (pos 0)) ≡ pos 1
+left_turn : orientation_seen_from (plane (pos 0) (pos 0) (pos 1) (pos 0)) (whole (pos 0) (pos 0) (pos 0)) (whole (pos 1) (pos 0) (pos 0)) (whole (pos 1) (pos 1) (pos 0)) ≡ pos 1
 left_turn = refl
 
-right_turn : turn (plane (pos 0) (pos 0) (pos 1) (pos 0)) (whole (pos 0) (pos 0) (pos 0)) (whole (pos 1) (pos 0) (pos 0)) (whole (pos 1) (negsuc 0) (pos 0)) ≡ negsuc 0
+right_turn : orientation_seen_from (plane (pos 0) (pos 0) (pos 1) (pos 0)) (whole (pos 0) (pos 0) (pos 0)) (whole (pos 1) (pos 0) (pos 0)) (whole (pos 1) (negsuc 0) (pos 0)) ≡ negsuc 0
 right_turn = refl
 
 -- ---- the world box

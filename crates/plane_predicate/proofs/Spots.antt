@@ -1,7 +1,7 @@
 -- Points of the line in which two planes meet.
 use Rattle.std.proofs.Common.{◌≡◌, ◌≢◌, zero, suc, [], refl, sym, ap, ◌∙◌, arith, ℤ, pos, negsuc, ◌<ℤ◌, subst}
 use Rattle.plane_predicate.specs.Space.{Coefficients, Coordinates, minor, signed_by, value}
-use Rattle.plane_predicate.specs.Sides.{turned_by}
+use Rattle.plane_predicate.specs.Sides.{value_signed_by}
 use Rattle.plane_predicate.proofs.IntegerRing.{sums}
 use Rattle.plane_predicate.proofs.Meetings.{value_signed}
 use Rattle.plane_predicate.proofs.Opposites.{same_point}
@@ -15,7 +15,7 @@ signed_above (pos zero) v h e = absurd (h refl)
 signed_above (pos (suc n)) v h e = omega (arith, sums, e)
 signed_above (negsuc n) v h e = omega (arith, sums, e)
 
-turned_zero : (w v : ℤ) → v ≡ pos 0 → turned_by w v ≡ pos 0
+turned_zero : (w v : ℤ) → v ≡ pos 0 → value_signed_by w v ≡ pos 0
 turned_zero (pos n) v h = h
 turned_zero (negsuc n) v h = rw h refl
 

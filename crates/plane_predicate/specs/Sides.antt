@@ -10,9 +10,9 @@ side_of (pos (suc n)) = Ahead
 side_of (negsuc n) = Behind
 
 -- a value with its sign changed where w is below 0
-abbrev pub turned_by : ℤ → ℤ → ℤ
-turned_by (pos n) v = v
-turned_by (negsuc n) v = neg_ℤ v
+abbrev pub value_signed_by : ℤ → ℤ → ℤ
+value_signed_by (pos n) v = v
+value_signed_by (negsuc n) v = neg_ℤ v
 
 -- the side is the one behind the plane
 abbrev pub is_side_behind : Side → Bool

@@ -33,13 +33,13 @@ is_same m n = int_eq m.a n.a && (int_eq m.b n.b && (int_eq m.c n.c && int_eq m.d
 abbrev pub product_with : Coefficients → Coordinates → Coordinates → ℤ
 product_with n p q = n.a *ℤ (p.y *ℤ q.z -ℤ p.z *ℤ q.y) +ℤ n.b *ℤ (p.z *ℤ q.x -ℤ p.x *ℤ q.z) +ℤ n.c *ℤ (p.x *ℤ q.y -ℤ p.y *ℤ q.x)
 
--- the turn of the way from p by q to r, seen from ahead of n: above 0 where it turns left
-abbrev pub turn : Coefficients → Coordinates → Coordinates → Coordinates → ℤ
-turn n p q r = p.w *ℤ product_with n q r +ℤ q.w *ℤ product_with n r p +ℤ r.w *ℤ product_with n p q
+-- the orientation of the way from p by q to r, seen from ahead of n: above 0 where it bends to the left
+abbrev pub orientation_seen_from : Coefficients → Coordinates → Coordinates → Coordinates → ℤ
+orientation_seen_from n p q r = p.w *ℤ product_with n q r +ℤ q.w *ℤ product_with n r p +ℤ r.w *ℤ product_with n p q
 
 -- the product of two directions
-abbrev pub inner : Coefficients → Coefficients → ℤ
-inner m n = m.a *ℤ n.a +ℤ m.b *ℤ n.b +ℤ m.c *ℤ n.c
+abbrev pub inner_product : Coefficients → Coefficients → ℤ
+inner_product m n = m.a *ℤ n.a +ℤ m.b *ℤ n.b +ℤ m.c *ℤ n.c
 
 -- a d - b c
 abbrev pub minor : ℤ → ℤ → ℤ → ℤ → ℤ
@@ -51,8 +51,8 @@ determinant a b c d e f g h i = a *ℤ minor e f h i +ℤ b *ℤ minor f d i g +
 
 -- Cramer's rule for the common point of three planes. Its w is the determinant of the three directions: 0 exactly
 -- where they are dependent, and else of either sign
-abbrev pub cramer : Coefficients → Coefficients → Coefficients → Coordinates
-cramer p q r = record {
+abbrev pub meeting_by_cramers_rule : Coefficients → Coefficients → Coefficients → Coordinates
+meeting_by_cramers_rule p q r = record {
   x = determinant p.d p.b p.c q.d q.b q.c r.d r.b r.c;
   y = determinant p.a p.d p.c q.a q.d q.c r.a r.d r.c;
   z = determinant p.a p.b p.d q.a q.b q.d r.a r.b r.d;
@@ -60,17 +60,17 @@ cramer p q r = record {
 }
 
 -- all signs changed
-abbrev pub negative : Coordinates → Coordinates
-negative p = record { x = neg_ℤ p.x; y = neg_ℤ p.y; z = neg_ℤ p.z; w = neg_ℤ p.w }
+abbrev pub negated_point : Coordinates → Coordinates
+negated_point p = record { x = neg_ℤ p.x; y = neg_ℤ p.y; z = neg_ℤ p.z; w = neg_ℤ p.w }
 
 -- the same point with its w above 0, by the sign of its w
 abbrev pub signed_by : ℤ → Coordinates → Coordinates
 signed_by (pos n) p = p
-signed_by (negsuc n) p = negative p
+signed_by (negsuc n) p = negated_point p
 
 -- the common point of three planes whose directions are independent, with its w above 0
 abbrev pub meeting : Coefficients → Coefficients → Coefficients → Coordinates
-meeting p q r = signed_by (cramer p q r).w (cramer p q r)
+meeting p q r = signed_by (meeting_by_cramers_rule p q r).w (meeting_by_cramers_rule p q r)
 
 -- the point with these three coordinates
 abbrev pub point_at : List ℤ → Coordinates
@@ -184,7 +184,7 @@ pub record AreQuotients (x y z w a b c d : ℤ) : Type 0 where
   pub no_factor : (k : ℕ) → k ∣ unsigned_abs a → k ∣ unsigned_abs b → k ∣ unsigned_abs c → k ∣ unsigned_abs d → k ≡ 1
 
 -- the four numbers have no common factor above 1
-pub record IsReduced (p : Coordinates) : Type 0 where
+pub record HasNoCommonFactor (p : Coordinates) : Type 0 where
   pub reduced : (k : ℕ) → k ∣ unsigned_abs p.x → k ∣ unsigned_abs p.y → k ∣ unsigned_abs p.z → k ∣ unsigned_abs p.w → k ≡ 1
 
 -- all points of m are on n

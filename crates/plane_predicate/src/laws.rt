@@ -3,7 +3,7 @@
 ghost use Rattle.std.specs.Prelude.{◌≡◌, ◌⊎◌, ◌↔◌, ◌+ℤ◌, ◌-ℤ◌, ◌*ℤ◌};
 ghost use Rattle.plane_predicate.specs.declared.unit.Unit.{Unit as LengthUnit};
 ghost use Rattle.plane_predicate.specs.declared.unit.Unit.TheVariants.{Whole};
-ghost use Rattle.plane_predicate.specs.Space.{Coefficients, Coordinates, opposite_of, turn, value, IsPlane, IsPointTimes, HasItsPointsOn, HaveSamePoints};
+ghost use Rattle.plane_predicate.specs.Space.{Coefficients, Coordinates, opposite_of, orientation_seen_from, value, IsPlane, IsPointTimes, HasItsPointsOn, HaveSamePoints};
 ghost use Rattle.plane_predicate.specs.InUnits.{in_steps, in_units};
 ghost use Rattle.plane_predicate.specs.Units.{steps_of};
 
@@ -19,8 +19,8 @@ pub fn planes_with_the_same_points()
 
 /// A point in units is the point in grid steps with its weight multiplied, and a point in grid steps
 /// is the point in units with its coordinates multiplied. The value of a plane (a, b, c, d) at a
-/// point in units is `u (a x + b y + c z) - d w`, where u is how many grid steps a unit has, and a
-/// turn keeps its sign. A whole unit is a grid step.
+/// point in units is `u (a x + b y + c z) - d w`, where u is how many grid steps a unit has, and the
+/// sign of an orientation stays. A whole unit is a grid step.
 pub fn points_in_units_and_grid_steps()
     ensures steps { (unit : LengthUnit) (p : Coordinates) →
         IsPointTimes (in_steps unit (in_units unit p)) p }
@@ -29,9 +29,9 @@ pub fn points_in_units_and_grid_steps()
     ensures value { (unit : LengthUnit) (m : Coefficients) (p : Coordinates) →
         value m (in_steps unit p) ≡ steps_of unit *ℤ (m.a *ℤ p.x +ℤ m.b *ℤ p.y +ℤ m.c *ℤ p.z)
         -ℤ m.d *ℤ p.w }
-    ensures turn { (unit : LengthUnit) (n : Coefficients) (p q r : Coordinates) →
-        turn n (in_steps unit p) (in_steps unit q) (in_steps unit r)
-        ≡ steps_of unit *ℤ steps_of unit *ℤ turn n p q r }
+    ensures orientation_seen_from { (unit : LengthUnit) (n : Coefficients) (p q r : Coordinates) →
+        orientation_seen_from n (in_steps unit p) (in_steps unit q) (in_steps unit r)
+        ≡ steps_of unit *ℤ steps_of unit *ℤ orientation_seen_from n p q r }
     ensures whole_units { (p : Coordinates) → in_units Whole p ≡ p }
     ensures whole_steps { (p : Coordinates) → in_steps Whole p ≡ p }
 {}

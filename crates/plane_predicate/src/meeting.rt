@@ -1,9 +1,9 @@
 //! Where three planes meet, and on which side of a fourth.
 
 ghost use Rattle.std.specs.Prelude.{◌≡◌, ◌≢◌, ◌↔◌, ◌*◌, ◌≤◌, ◌<◌, ◌^◌, ◌*ℤ◌, ◌+ℤ◌, ◌-ℤ◌, pos, unsigned_abs, IfSome, IsNone};
-ghost use Rattle.plane_predicate.specs.Space.{minor, cramer, meeting, value, most_direction, most_offset, opposite_of};
+ghost use Rattle.plane_predicate.specs.Space.{minor, meeting_by_cramers_rule, meeting, value, most_direction, most_offset, opposite_of};
 ghost use Rattle.plane_predicate.specs.Space.{signed_by, HaveSamePoints};
-ghost use Rattle.plane_predicate.specs.Sides.{side_of, turned_by};
+ghost use Rattle.plane_predicate.specs.Sides.{side_of, value_signed_by};
 
 use crate::arithmetic::{dot, minor_of, minors_dot, minus, times};
 use crate::{Plane, Point, Side};
@@ -28,7 +28,7 @@ pub fn meet(p: &Plane, q: &Plane, r: &Plane) -> Option<Point>
     ensures found { IfSome result (λ v. v ≡ meeting p.now q.now r.now) }
     ensures on { IfSome result (λ v. (value p.now v ≡ pos 0) × (value q.now v ≡ pos 0)
         × (value r.now v ≡ pos 0)) }
-    ensures none { IsNone result ↔ (cramer p.now q.now r.now).w ≡ pos 0 }
+    ensures none { IsNone result ↔ (meeting_by_cramers_rule p.now q.now r.now).w ≡ pos 0 }
 {
     let at = cramer_of(p, q, r);
     if at.w == 0 { None } else { Some(point_of(&at)) }
@@ -36,7 +36,7 @@ pub fn meet(p: &Plane, q: &Plane, r: &Plane) -> Option<Point>
 
 /// The side of `s` on which the meeting of `p`, `q` and `r` lies.
 pub fn side(p: &Plane, q: &Plane, r: &Plane, s: &Plane) -> Side
-    requires { (cramer p.now q.now r.now).w ≢ pos 0 }
+    requires { (meeting_by_cramers_rule p.now q.now r.now).w ≢ pos 0 }
     ensures { result ≡ side_of (value s.now (meeting p.now q.now r.now)) }
 {
     let at = cramer_of(p, q, r);
@@ -104,7 +104,7 @@ impl Model for Cramer {
 
 // Cramer's rule.
 fn cramer_of(p: &Plane, q: &Plane, r: &Plane) -> Cramer
-    ensures { result ≡ cramer p.now q.now r.now }
+    ensures { result ≡ meeting_by_cramers_rule p.now q.now r.now }
 {
     let first = cross_of(q, r);
     let second = cross_of(r, p);
@@ -170,7 +170,7 @@ fn point_of(at: &Cramer) -> Point
 // The side that a value says, where the point was taken with the sign of `w`.
 fn side_by(w: i128, value: i128) -> Side
     requires { unsigned_abs value < 2 ^ 127 }
-    ensures { result ≡ side_of (turned_by w value) }
+    ensures { result ≡ side_of (value_signed_by w value) }
 {
     let turned = if w < 0 { -value } else { value };
     if turned < 0 {

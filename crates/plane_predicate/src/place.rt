@@ -1,7 +1,7 @@
 //! Where planes meet a line.
 
 ghost use Rattle.std.specs.Prelude.{◌≡◌, ◌-ℤ◌, ◌*ℤ◌};
-ghost use Rattle.plane_predicate.specs.Space.{Coefficients, cramer, value};
+ghost use Rattle.plane_predicate.specs.Space.{Coefficients, meeting_by_cramers_rule, value};
 ghost use Rattle.plane_predicate.specs.Sides.{side_of};
 ghost use Rattle.plane_predicate.specs.Lines.{Axis, IsAxisOf, IsPlaceOf, IsSmall};
 
@@ -34,7 +34,7 @@ pub fn place_on(line: &Line, m: &Plane) -> Place
 /// which the first two meet. It is that of what Cramer's rule gives, whatever the sign of its `w`.
 pub fn side_between(ends: Place, begins: Place) -> Side
     ensures { (p m q r : Coefficients) (line : Axis) → IsAxisOf p m line → IsPlaceOf q line ends →
-        IsPlaceOf r line begins → result ≡ side_of (value m (cramer p q r)) }
+        IsPlaceOf r line begins → result ≡ side_of (value m (meeting_by_cramers_rule p q r)) }
 {
     side_past(
         product(begins.at, ends.along),

@@ -2,7 +2,7 @@
 
 ghost use Rattle.std.specs.Prelude.{◌≡◌, ◌+◌, ◌*◌, ◌^◌, ◌≤◌, ◌<◌, ◌*ℤ◌, pos, unsigned_abs};
 ghost use Rattle.std.specs.Int.{IsGcd};
-ghost use Rattle.plane_predicate.specs.Space.{IsCommonFactor, AreQuotients, IsPointTimes, IsReduced};
+ghost use Rattle.plane_predicate.specs.Space.{IsCommonFactor, AreQuotients, IsPointTimes, HasNoCommonFactor};
 ghost use Prim.Native.Nat.{◌∣◌};
 
 use crate::{Plane, Point};
@@ -10,7 +10,7 @@ use crate::{Plane, Point};
 /// The same point without a common factor above 1 in its four numbers.
 pub fn reduce(p: &Point) -> Point
     ensures same { IsPointTimes p.now result }
-    ensures reduced { IsReduced result }
+    ensures reduced { HasNoCommonFactor result }
 {
     let least = quotients(p.x, p.y, p.z, p.w);
     Point {

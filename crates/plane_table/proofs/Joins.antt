@@ -6,11 +6,11 @@ use Rattle.std.proofs.lemmas.Bool.{cases_lt, cases_eq}
 use Rattle.std.proofs.lemmas.List.{get_or_append_left, get_or_push, length_push, length-map, get_or_read, same_lists, get_or_default, get_or-set_same, get_or-set_other, map_push}
 use Rattle.std.proofs.lemmas.List.Elements.{All-append, All-head, All-tail, All-cons, All-nil}
 use Rattle.plane_predicate.specs.Space.{Coefficients, opposite_of}
-use Rattle.plane_polygon.specs.Polygons.{nowhere, Outline, IsPolygon}
+use Rattle.plane_polygon.specs.Polygons.{missing_plane, Outline, IsPolygon}
 use Rattle.plane_table.specs.declared.faces.Face.{Face}
-use Rattle.plane_table.specs.Tables.{plane_named, oriented_by_number, opposite_number, AreApart, HasNoTwoAlike, IsNumberIn}
+use Rattle.plane_table.specs.Tables.{plane_named, oriented_by_number, opposite_number, AreApart, HasNoTwoAlike, NamesPlaneIn}
 use Rattle.plane_table.specs.Faces.{outline_of, IsFaceOver}
-use Rattle.plane_table.specs.Joins.{Finds, AreFirstNumbersOf, AreNumbersOf, AreNumbersOfUsed, KeepsNumbers, IsNumbered, IsFound, IsKept, IsMarked, number_among}
+use Rattle.plane_table.specs.Joins.{Finds, AreFirstNumbersOf, AreNumbersOf, AreNumbersOfUsed, KeepsNumbers, HasNumberOver, AreNumbersFound, IsPlaneKept, AreMarkedUsed, number_among}
 use Rattle.plane_table.proofs.Numbers.{even, odd, parity, get_map, named_more, named_last, named_opposite, opposite_in}
 use Rattle.plane_table.proofs.Orders.{apart_back}
 use Rattle.plane_table.proofs.Cuts.{same_outline}
@@ -28,14 +28,14 @@ keeps_on a b c h k = record {
   same = λ n l. k.same n (h.in_range n l) ∙ h.same n l;
 }
 
-pub last_in : (planes : List Coefficients) (m : Coefficients) → IsNumberIn (planes ++ m ∷ []) (2 * length planes)
+pub last_in : (planes : List Coefficients) (m : Coefficients) → NamesPlaneIn (planes ++ m ∷ []) (2 * length planes)
 last_in planes m = let e = length_push planes m in omega arith
 
-pub apart_more : (planes : List Coefficients) (m : Coefficients) → HasNoTwoAlike planes → ((i : ℕ) → i < length planes → AreApart (get_or planes i nowhere) m) → HasNoTwoAlike (planes ++ m ∷ [])
+pub apart_more : (planes : List Coefficients) (m : Coefficients) → HasNoTwoAlike planes → ((i : ℕ) → i < length planes → AreApart (get_or planes i missing_plane) m) → HasNoTwoAlike (planes ++ m ∷ [])
 apart_more planes m h k =
     let n = length_push planes m in
-    let old = λ (i : ℕ) (l : i < length planes). get_or_append_left planes (m ∷ []) nowhere i l in
-    let new = λ (i : ℕ) (e : length planes ≡ i). get_or_push planes m nowhere i e in
+    let old = λ (i : ℕ) (l : i < length planes). get_or_append_left planes (m ∷ []) missing_plane i l in
+    let new = λ (i : ℕ) (e : length planes ≡ i). get_or_push planes m missing_plane i e in
     record {
       apart = λ i j x y d. elim (cases_lt i (length planes)) [
         | inl a ↦ elim (cases_lt j (length planes)) [
@@ -43,7 +43,7 @@ apart_more planes m h k =
           | inr b ↦ (let e : length planes ≡ j = omega arith in let p = old i a in let q = new j e in rw (p, q) (k i a))
         ]
         | inr a ↦ elim (cases_lt j (length planes)) [
-          | inl b ↦ (let e : length planes ≡ i = omega arith in let p = new i e in let q = old j b in rw (p, q) (apart_back (get_or planes j nowhere) m (k j b)))
+          | inl b ↦ (let e : length planes ≡ i = omega arith in let p = new i e in let q = old j b in rw (p, q) (apart_back (get_or planes j missing_plane) m (k j b)))
           | inr b ↦ absurd (d (omega arith))
         ]
       ];
@@ -51,18 +51,18 @@ apart_more planes m h k =
 
 -- ---- a plane at some index
 pub found_at : (planes : List Coefficients) (i n : ℕ) (other plane : Coefficients) → i < length planes → other ≡ get_or planes i other → n / 2 ≡ i → plane ≡ oriented_by_number n other →
-    IsNumberIn planes n × (plane_named planes n ≡ plane)
+    NamesPlaneIn planes n × (plane_named planes n ≡ plane)
 found_at planes i n other plane h r e t =
     let k : n / 2 < length planes = omega arith in
-    (omega arith, ap (λ (j : ℕ). oriented_by_number n (get_or planes j nowhere)) e ∙ ap (oriented_by_number n) (sym (get_or_read planes i other h r nowhere)) ∙ sym t)
+    (omega arith, ap (λ (j : ℕ). oriented_by_number n (get_or planes j missing_plane)) e ∙ ap (oriented_by_number n) (sym (get_or_read planes i other h r missing_plane)) ∙ sym t)
 
-pub numbered_old : (plane : Coefficients) (planes : List Coefficients) (n : ℕ) → HasNoTwoAlike planes → IsNumberIn planes n × (plane_named planes n ≡ plane) → IsNumbered plane planes planes n
+pub numbered_old : (plane : Coefficients) (planes : List Coefficients) (n : ℕ) → HasNoTwoAlike planes → NamesPlaneIn planes n × (plane_named planes n ≡ plane) → HasNumberOver plane planes planes n
 numbered_old plane planes n h k = record { apart = h; keeps = keeps_itself planes; in_range = k.0; same = k.1 }
 
-pub numbered_new : (plane : Coefficients) (planes new : List Coefficients) (n : ℕ) → HasNoTwoAlike planes → ((i : ℕ) → i < length planes → AreApart (get_or planes i nowhere) plane) →
-    new ≡ planes ++ plane ∷ [] → n ≡ 2 * length planes → IsNumbered plane planes new n
+pub numbered_new : (plane : Coefficients) (planes new : List Coefficients) (n : ℕ) → HasNoTwoAlike planes → ((i : ℕ) → i < length planes → AreApart (get_or planes i missing_plane) plane) →
+    new ≡ planes ++ plane ∷ [] → n ≡ 2 * length planes → HasNumberOver plane planes new n
 numbered_new plane planes new n h k e f =
-    let last : IsNumbered plane planes (planes ++ plane ∷ []) (2 * length planes) = record {
+    let last : HasNumberOver plane planes (planes ++ plane ∷ []) (2 * length planes) = record {
       apart = apart_more planes plane h k;
       keeps = keeps_more planes plane;
       in_range = last_in planes plane;
@@ -92,7 +92,7 @@ finds_more planes numbers n from k l f =
     record { in_range = rw e f.in_range; same = ap (plane_named planes) e ∙ f.same }
 
 pub first_more : (old new : List Coefficients) (numbers : List ℕ) (from : List Coefficients) (n : ℕ) → AreFirstNumbersOf old numbers from → KeepsNumbers old new →
-    length numbers < length from → IsNumberIn new n → plane_named new n ≡ get_or from (length numbers) nowhere → AreFirstNumbersOf new (numbers ++ n ∷ []) from
+    length numbers < length from → NamesPlaneIn new n → plane_named new n ≡ get_or from (length numbers) missing_plane → AreFirstNumbersOf new (numbers ++ n ∷ []) from
 first_more old new numbers from n f h l i s =
     let e = length_push numbers n in
     record {
@@ -100,7 +100,7 @@ first_more old new numbers from n f h l i s =
       each = λ k x. elim (cases_lt k (length numbers)) [
         | inl a ↦ finds_more new numbers n from k a (finds_on old new numbers from k h (f.each k a))
         | inr a ↦ (let p : length numbers ≡ k = omega arith in let q = get_or_push numbers n 0 k p in
-            record { in_range = rw q i; same = ap (plane_named new) q ∙ s ∙ ap (λ (j : ℕ). get_or from j nowhere) p })
+            record { in_range = rw q i; same = ap (plane_named new) q ∙ s ∙ ap (λ (j : ℕ). get_or from j missing_plane) p })
       ];
     }
 
@@ -113,14 +113,14 @@ first_all planes numbers from f l =
 pub put_first : (planes new : List Coefficients) (numbers more : List ℕ) (from : List Coefficients) (m : Coefficients) (n : ℕ) → AreFirstNumbersOf planes numbers from → length numbers < length from →
     m ≡ get_or from (length numbers) m → new ≡ planes ++ m ∷ [] → n ≡ 2 * length planes → more ≡ numbers ++ n ∷ [] → AreFirstNumbersOf new more from
 put_first planes new numbers more from m n f l r e k p =
-    let last = first_more planes (planes ++ m ∷ []) numbers from (2 * length planes) f (keeps_more planes m) l (last_in planes m) (named_last planes m ∙ get_or_read from (length numbers) m l r nowhere) in
+    let last = first_more planes (planes ++ m ∷ []) numbers from (2 * length planes) f (keeps_more planes m) l (last_in planes m) (named_last planes m ∙ get_or_read from (length numbers) m l r missing_plane) in
     rw (p, e, k) last
 
 pub alike_first : (planes : List Coefficients) (numbers more : List ℕ) (from : List Coefficients) (m other : Coefficients) (i n : ℕ) → AreFirstNumbersOf planes numbers from → length numbers < length from →
     m ≡ get_or from (length numbers) m → i < length planes → other ≡ get_or planes i other → n / 2 ≡ i → m ≡ oriented_by_number n other → more ≡ numbers ++ n ∷ [] → AreFirstNumbersOf planes more from
 alike_first planes numbers more from m other i n f l r h o e t p =
     let k = found_at planes i n other m h o e t in
-    let last = first_more planes planes numbers from n f (keeps_itself planes) l k.0 (k.1 ∙ get_or_read from (length numbers) m l r nowhere) in
+    let last = first_more planes planes numbers from n f (keeps_itself planes) l k.0 (k.1 ∙ get_or_read from (length numbers) m l r missing_plane) in
     rw p last
 
 -- ---- a polygon's planes
@@ -129,15 +129,15 @@ numbers_map planes numbers from f =
     let c = f.count in
     let n = length-map numbers (plane_named planes) in
     same_lists (map (plane_named planes) numbers) from (n ∙ c) (λ k d l.
-    get_map (plane_named planes) numbers k 0 d (omega arith) ∙ (f.each k (omega arith)).same ∙ get_or_default from k nowhere d (omega arith))
+    get_map (plane_named planes) numbers k 0 d (omega arith) ∙ (f.each k (omega arith)).same ∙ get_or_default from k missing_plane d (omega arith))
 
-pub numbers_in : (planes : List Coefficients) (numbers : List ℕ) (from : List Coefficients) → AreNumbersOf planes numbers from → All (IsNumberIn planes) numbers
+pub numbers_in : (planes : List Coefficients) (numbers : List ℕ) (from : List Coefficients) → AreNumbersOf planes numbers from → All (NamesPlaneIn planes) numbers
 numbers_in planes numbers from f k d l =
     let c = f.count in
-    subst (IsNumberIn planes) (get_or_default numbers k 0 d l) (f.each k (omega arith)).in_range
+    subst (NamesPlaneIn planes) (get_or_default numbers k 0 d l) (f.each k (omega arith)).in_range
 
 pub own_outline : (s : Outline) (first planes : List Coefficients) (n : ℕ) (numbers es : List ℕ) (m : Coefficients) (ms : List Coefficients) →
-    IsNumberIn first n → plane_named first n ≡ m → m ≡ s.plane → KeepsNumbers first planes → AreNumbersOf planes numbers ms → ms ≡ s.edges → es ≡ numbers →
+    NamesPlaneIn first n → plane_named first n ≡ m → m ≡ s.plane → KeepsNumbers first planes → AreNumbersOf planes numbers ms → ms ≡ s.edges → es ≡ numbers →
     outline_of planes (record { plane = n; edges = es }) ≡ s
 own_outline s first planes n numbers es m ms i e f k a g h =
     same_outline (plane_named planes n) s.plane (map (plane_named planes) es) s.edges
@@ -145,22 +145,22 @@ own_outline s first planes n numbers es m ms i e f k a g h =
     (ap (map (plane_named planes)) h ∙ numbers_map planes numbers ms a ∙ g)
 
 pub own_face : (s : Outline) (first planes : List Coefficients) (n : ℕ) (numbers es : List ℕ) (m : Coefficients) (ms : List Coefficients) →
-    IsNumberIn first n → plane_named first n ≡ m → m ≡ s.plane → KeepsNumbers first planes → AreNumbersOf planes numbers ms → ms ≡ s.edges → es ≡ numbers → IsPolygon s →
+    NamesPlaneIn first n → plane_named first n ≡ m → m ≡ s.plane → KeepsNumbers first planes → AreNumbersOf planes numbers ms → ms ≡ s.edges → es ≡ numbers → IsPolygon s →
     IsFaceOver planes (record { plane = n; edges = es })
 own_face s first planes n numbers es m ms i e f k a g h p = record {
   plane = k.in_range n i;
-  edges = subst (All (IsNumberIn planes)) (sym h) (numbers_in planes numbers ms a);
+  edges = subst (All (NamesPlaneIn planes)) (sym h) (numbers_in planes numbers ms a);
   polygon = subst IsPolygon (sym (own_outline s first planes n numbers es m ms i e f k a g h)) p;
 }
 
 -- ---- faces over a list that grew
-pub numbers_kept : (old new : List Coefficients) (numbers : List ℕ) → KeepsNumbers old new → All (IsNumberIn old) numbers →
-    All (IsNumberIn new) numbers × (map (plane_named new) numbers ≡ map (plane_named old) numbers)
-numbers_kept old new [] k h = (All-nil (IsNumberIn new), refl)
+pub numbers_kept : (old new : List Coefficients) (numbers : List ℕ) → KeepsNumbers old new → All (NamesPlaneIn old) numbers →
+    All (NamesPlaneIn new) numbers × (map (plane_named new) numbers ≡ map (plane_named old) numbers)
+numbers_kept old new [] k h = (All-nil (NamesPlaneIn new), refl)
 numbers_kept old new (n ∷ numbers) k h =
-    let first = All-head (IsNumberIn old) n numbers h in
-    let rest = numbers_kept old new numbers k (All-tail (IsNumberIn old) n numbers h) in
-    (All-cons (IsNumberIn new) n numbers (k.in_range n first) rest.0, ap₂ (λ (m : Coefficients) (ms : List Coefficients). m ∷ ms) (k.same n first) rest.1)
+    let first = All-head (NamesPlaneIn old) n numbers h in
+    let rest = numbers_kept old new numbers k (All-tail (NamesPlaneIn old) n numbers h) in
+    (All-cons (NamesPlaneIn new) n numbers (k.in_range n first) rest.0, ap₂ (λ (m : Coefficients) (ms : List Coefficients). m ∷ ms) (k.same n first) rest.1)
 
 pub face_kept : (old new : List Coefficients) (face : Face) → KeepsNumbers old new → IsFaceOver old face →
     IsFaceOver new face × (outline_of new face ≡ outline_of old face)
@@ -195,14 +195,14 @@ both_ok (Err y) P Q R f p q = tt
 
 -- ---- faces over another list
 pub among_found : (planes : List Coefficients) (numbers : List ℕ) (from : List Coefficients) (n : ℕ) → Finds planes numbers from (n / 2) →
-    IsNumberIn planes (number_among numbers n) × (plane_named planes (number_among numbers n) ≡ plane_named from n)
+    NamesPlaneIn planes (number_among numbers n) × (plane_named planes (number_among numbers n) ≡ plane_named from n)
 unfolding number_among
 among_found planes numbers from n f = elim (parity n) [
   | inl e ↦ (let k : number_among numbers n ≡ get_or numbers (n / 2) 0 = ap (λ (j : ℕ). cond (eqb j 0) (get_or numbers (n / 2) 0) (opposite_number (get_or numbers (n / 2) 0))) e in
-      (rw k f.in_range, ap (plane_named planes) k ∙ f.same ∙ sym (even n e (get_or from (n / 2) nowhere))))
+      (rw k f.in_range, ap (plane_named planes) k ∙ f.same ∙ sym (even n e (get_or from (n / 2) missing_plane))))
   | inr e ↦ (let k : number_among numbers n ≡ opposite_number (get_or numbers (n / 2) 0) = ap (λ (j : ℕ). cond (eqb j 0) (get_or numbers (n / 2) 0) (opposite_number (get_or numbers (n / 2) 0))) e in (
     rw k (opposite_in planes (get_or numbers (n / 2) 0) f.in_range),
-    ap (plane_named planes) k ∙ named_opposite planes (get_or numbers (n / 2) 0) ∙ ap opposite_of f.same ∙ sym (odd n e (get_or from (n / 2) nowhere)),
+    ap (plane_named planes) k ∙ named_opposite planes (get_or numbers (n / 2) 0) ∙ ap opposite_of f.same ∙ sym (odd n e (get_or from (n / 2) missing_plane)),
   ))
 ]
 
@@ -215,22 +215,22 @@ among_map planes numbers from (e ∷ es) h =
     (among_map planes numbers from es (All-tail (λ n. Finds planes numbers from (n / 2)) e es h))
 
 among_in : (planes : List Coefficients) (numbers : List ℕ) (from : List Coefficients) (es : List ℕ) → All (λ n. Finds planes numbers from (n / 2)) es →
-    All (IsNumberIn planes) (map (number_among numbers) es)
-among_in planes numbers from [] h = All-nil (IsNumberIn planes)
+    All (NamesPlaneIn planes) (map (number_among numbers) es)
+among_in planes numbers from [] h = All-nil (NamesPlaneIn planes)
 among_in planes numbers from (e ∷ es) h =
-    All-cons (IsNumberIn planes) (number_among numbers e) (map (number_among numbers) es)
+    All-cons (NamesPlaneIn planes) (number_among numbers e) (map (number_among numbers) es)
     (among_found planes numbers from e (All-head (λ n. Finds planes numbers from (n / 2)) e es h)).0
     (among_in planes numbers from es (All-tail (λ n. Finds planes numbers from (n / 2)) e es h))
 
 pub outline_among : (planes : List Coefficients) (numbers : List ℕ) (from : List Coefficients) (face : Face) (p : ℕ) (es : List ℕ) → p ≡ number_among numbers face.plane → es ≡ map (number_among numbers) face.edges →
-    IsFound planes numbers from face → outline_of planes (record { plane = p; edges = es }) ≡ outline_of from face
+    AreNumbersFound planes numbers from face → outline_of planes (record { plane = p; edges = es }) ≡ outline_of from face
 outline_among planes numbers from face p es e k h =
     same_outline (plane_named planes p) (plane_named from face.plane) (map (plane_named planes) es) (map (plane_named from) face.edges)
     (ap (plane_named planes) e ∙ (among_found planes numbers from face.plane h.plane).1)
     (ap (map (plane_named planes)) k ∙ among_map planes numbers from face.edges h.edges)
 
 pub face_among : (planes : List Coefficients) (numbers : List ℕ) (from : List Coefficients) (face : Face) (p : ℕ) (es : List ℕ) → p ≡ number_among numbers face.plane → es ≡ map (number_among numbers) face.edges →
-    IsFound planes numbers from face → IsFaceOver from face → IsFaceOver planes (record { plane = p; edges = es })
+    AreNumbersFound planes numbers from face → IsFaceOver from face → IsFaceOver planes (record { plane = p; edges = es })
 face_among planes numbers from face p es e k h f = record {
   plane = rw e (among_found planes numbers from face.plane h.plane).0;
   edges = rw k (among_in planes numbers from face.edges h.edges);
@@ -238,13 +238,13 @@ face_among planes numbers from face p es e k h f = record {
 }
 
 -- ---- laws
-pub all_found : (planes : List Coefficients) (numbers : List ℕ) (from : List Coefficients) (face : Face) → AreNumbersOf planes numbers from → IsFaceOver from face → IsFound planes numbers from face
+pub all_found : (planes : List Coefficients) (numbers : List ℕ) (from : List Coefficients) (face : Face) → AreNumbersOf planes numbers from → IsFaceOver from face → AreNumbersFound planes numbers from face
 all_found planes numbers from face a f = record {
   plane = (let h = f.plane in a.each (face.plane / 2) (omega arith));
   edges = λ k d l. (let h = f.edges k d l in a.each (get_or face.edges k d / 2) (omega arith));
 }
 
-pub used_found : (planes : List Coefficients) (numbers : List ℕ) (from : List Coefficients) (used : List Bool) (face : Face) → AreNumbersOfUsed planes numbers from used → IsFaceOver from face → IsMarked used face → IsFound planes numbers from face
+pub used_found : (planes : List Coefficients) (numbers : List ℕ) (from : List Coefficients) (used : List Bool) (face : Face) → AreNumbersOfUsed planes numbers from used → IsFaceOver from face → AreMarkedUsed used face → AreNumbersFound planes numbers from face
 used_found planes numbers from used face a f m = record {
   plane = (let h = f.plane in a.each (face.plane / 2) (omega arith) m.plane);
   edges = λ k d l. (let h = f.edges k d l in a.each (get_or face.edges k d / 2) (omega arith) (m.edges k d l));
@@ -264,7 +264,7 @@ mark_kept used j m h e = elim (cases_eq m j) [
 pub record AreKept (planes : List Coefficients) (used : List Bool) (kept : List Coefficients) (numbers : List ℕ) (i : ℕ) : Type 0 where
   pub count : length numbers ≡ i
   pub apart : HasNoTwoAlike kept
-  pub from : (j : ℕ) → j < length kept → (k : ℕ) × (k < i) × (get_or kept j nowhere ≡ get_or planes k nowhere)
+  pub from : (j : ℕ) → j < length kept → (k : ℕ) × (k < i) × (get_or kept j missing_plane ≡ get_or planes k missing_plane)
   pub each : (k : ℕ) → k < i → get_or used k false ≡ true → Finds kept numbers planes k
 
 pub kept_none : (planes : List Coefficients) (used : List Bool) → AreKept planes used [] [] 0
@@ -276,15 +276,15 @@ kept_none planes used = record {
 }
 
 kept_apart : (planes : List Coefficients) (used : List Bool) (kept : List Coefficients) (numbers : List ℕ) (i : ℕ) → AreKept planes used kept numbers i → HasNoTwoAlike planes → i < length planes →
-    HasNoTwoAlike (kept ++ get_or planes i nowhere ∷ [])
-kept_apart planes used kept numbers i h a l = apart_more kept (get_or planes i nowhere) h.apart (λ j x.
+    HasNoTwoAlike (kept ++ get_or planes i missing_plane ∷ [])
+kept_apart planes used kept numbers i h a l = apart_more kept (get_or planes i missing_plane) h.apart (λ j x.
     (let w = h.from j x in let d : w.0 ≢ i = λ e. omega (arith, w.1, e) in
-    subst (λ (p : Coefficients). AreApart p (get_or planes i nowhere)) (sym w.2) (a.apart w.0 i (omega (arith, w.1)) l d)))
+    subst (λ (p : Coefficients). AreApart p (get_or planes i missing_plane)) (sym w.2) (a.apart w.0 i (omega (arith, w.1)) l d)))
 
 kept_used : (planes : List Coefficients) (used : List Bool) (kept : List Coefficients) (numbers : List ℕ) (i : ℕ) → AreKept planes used kept numbers i → HasNoTwoAlike planes → i < length planes →
-    AreKept planes used (kept ++ get_or planes i nowhere ∷ []) (numbers ++ 2 * length kept ∷ []) (i + 1)
+    AreKept planes used (kept ++ get_or planes i missing_plane ∷ []) (numbers ++ 2 * length kept ∷ []) (i + 1)
 kept_used planes used kept numbers i h a l =
-    let p = get_or planes i nowhere in
+    let p = get_or planes i missing_plane in
     let n = length_push numbers (2 * length kept) in
     let m = length_push kept p in
     let c = h.count in
@@ -292,13 +292,13 @@ kept_used planes used kept numbers i h a l =
       count = omega arith;
       apart = kept_apart planes used kept numbers i h a l;
       from = λ j x. elim (cases_lt j (length kept)) [
-        | inl y ↦ (let w = h.from j y in (w.0, omega (arith, w.1), get_or_append_left kept (p ∷ []) nowhere j y ∙ w.2))
-        | inr y ↦ (i, omega arith, get_or_push kept p nowhere j (omega arith))
+        | inl y ↦ (let w = h.from j y in (w.0, omega (arith, w.1), get_or_append_left kept (p ∷ []) missing_plane j y ∙ w.2))
+        | inr y ↦ (i, omega arith, get_or_push kept p missing_plane j (omega arith))
       ];
       each = λ k x e. elim (cases_lt k i) [
         | inl y ↦ finds_more (kept ++ p ∷ []) numbers (2 * length kept) planes k (omega arith) (finds_on kept (kept ++ p ∷ []) numbers planes k (keeps_more kept p) (h.each k y e))
         | inr y ↦ (let s : i ≡ k = omega arith in let q = get_or_push numbers (2 * length kept) 0 k (c ∙ s) in
-            record { in_range = rw q (last_in kept p); same = ap (plane_named (kept ++ p ∷ [])) q ∙ named_last kept p ∙ ap (λ (j : ℕ). get_or planes j nowhere) s })
+            record { in_range = rw q (last_in kept p); same = ap (plane_named (kept ++ p ∷ [])) q ∙ named_last kept p ∙ ap (λ (j : ℕ). get_or planes j missing_plane) s })
       ];
     }
 
@@ -318,9 +318,9 @@ kept_unused planes used kept numbers i n h u =
     }
 
 pub kept_more : (planes : List Coefficients) (used : List Bool) (kept new : List Coefficients) (numbers more : List ℕ) (i n : ℕ) (b : Bool) (p : Coefficients) → AreKept planes used kept numbers i → HasNoTwoAlike planes → i < length planes →
-    b ≡ get_or used i false → p ≡ get_or planes i p → IsKept b p kept new n → more ≡ numbers ++ n ∷ [] → AreKept planes used new more (i + 1)
+    b ≡ get_or used i false → p ≡ get_or planes i p → IsPlaneKept b p kept new n → more ≡ numbers ++ n ∷ [] → AreKept planes used new more (i + 1)
 kept_more planes used kept new numbers more i n true p h a l e r k m =
-    let q = get_or_read planes i p l r nowhere in
+    let q = get_or_read planes i p l r missing_plane in
     rw (m, k.0, k.1, q) (kept_used planes used kept numbers i h a l)
 kept_more planes used kept new numbers more i n false p h a l e r k m = rw (m, k) (kept_unused planes used kept numbers i n h (sym e))
 

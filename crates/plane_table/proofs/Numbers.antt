@@ -3,8 +3,8 @@ use Rattle.std.proofs.Common.{◌≡◌, ◌≢◌, ℕ, zero, suc, ◌+◌, ◌
 use Rattle.std.proofs.lemmas.Bool.{cases_eq}
 use Rattle.std.proofs.lemmas.List.{get_or_append_left, get_or_push}
 use Rattle.plane_predicate.specs.Space.{Coefficients, opposite_of}
-use Rattle.plane_polygon.specs.Polygons.{nowhere}
-use Rattle.plane_table.specs.Tables.{plane_named, oriented_by_number, opposite_number, IsNumberIn}
+use Rattle.plane_polygon.specs.Polygons.{missing_plane}
+use Rattle.plane_table.specs.Tables.{plane_named, oriented_by_number, opposite_number, NamesPlaneIn}
 
 -- ---- opposites
 neg_neg : (x : ℤ) → neg_ℤ (neg_ℤ x) ≡ x
@@ -70,22 +70,22 @@ beside n = elim (parity n) [
 
 pub named_opposite : (planes : List Coefficients) (n : ℕ) → plane_named planes (opposite_number n) ≡ opposite_of (plane_named planes n)
 named_opposite planes n =
-    (beside n).turns (get_or planes (opposite_number n / 2) nowhere)
-    ∙ ap (λ (k : ℕ). opposite_of (oriented_by_number n (get_or planes k nowhere))) (beside n).half
+    (beside n).turns (get_or planes (opposite_number n / 2) missing_plane)
+    ∙ ap (λ (k : ℕ). opposite_of (oriented_by_number n (get_or planes k missing_plane))) (beside n).half
 
-pub opposite_in : (planes : List Coefficients) (n : ℕ) → IsNumberIn planes n → IsNumberIn planes (opposite_number n)
+pub opposite_in : (planes : List Coefficients) (n : ℕ) → NamesPlaneIn planes n → NamesPlaneIn planes (opposite_number n)
 opposite_in planes n h = let e = (beside n).half in omega arith
 
 -- ---- lists that grow
-pub named_more : (planes : List Coefficients) (m : Coefficients) (n : ℕ) → IsNumberIn planes n → plane_named (planes ++ m ∷ []) n ≡ plane_named planes n
-named_more planes m n h = ap (oriented_by_number n) (get_or_append_left planes (m ∷ []) nowhere (n / 2) (omega arith))
+pub named_more : (planes : List Coefficients) (m : Coefficients) (n : ℕ) → NamesPlaneIn planes n → plane_named (planes ++ m ∷ []) n ≡ plane_named planes n
+named_more planes m n h = ap (oriented_by_number n) (get_or_append_left planes (m ∷ []) missing_plane (n / 2) (omega arith))
 
 pub named_last : (planes : List Coefficients) (m : Coefficients) → plane_named (planes ++ m ∷ []) (2 * length planes) ≡ m
 named_last planes m =
     let k : 2 * length planes / 2 ≡ length planes = omega arith in
     let e : 2 * length planes % 2 ≡ 0 = omega arith in
-    even (2 * length planes) e (get_or (planes ++ m ∷ []) (2 * length planes / 2) nowhere)
-    ∙ get_or_push planes m nowhere (2 * length planes / 2) (sym k)
+    even (2 * length planes) e (get_or (planes ++ m ∷ []) (2 * length planes / 2) missing_plane)
+    ∙ get_or_push planes m missing_plane (2 * length planes / 2) (sym k)
 
 -- ---- lists of numbers
 pub get_map : {A B : Type 0} (f : A → B) (xs : List A) (i : ℕ) (d : A) (e : B) → i < length xs → get_or (map f xs) i e ≡ f (get_or xs i d)

@@ -8,7 +8,7 @@ use Rattle.std.proofs.lemmas.Cmp.{then_total, on_total, int_cmp_total, tied_itse
 use Rattle.std.proofs.lemmas.List.{get_or_append_left, get_or_push, get_or_read, length-append}
 use Rattle.std.proofs.lemmas.Int.{ints}
 use Rattle.plane_predicate.specs.Space.{Coefficients, opposite_of}
-use Rattle.plane_polygon.specs.Polygons.{nowhere}
+use Rattle.plane_polygon.specs.Polygons.{missing_plane}
 use Rattle.plane_table.specs.Tables.{AreApart, HasNoTwoAlike}
 use Rattle.plane_table.specs.Orders.{is_low, normal_form, by_numbers, plane_order, ComesNext, IsAscending}
 use Rattle.plane_table.proofs.Numbers.{opposite_opposite}
@@ -95,21 +95,21 @@ apart_back m n h = record {
 }
 
 -- ---- lists in ascending order
-along : (ps : List Coefficients) → IsAscending ps → (i j d : ℕ) → j ≡ i + 1 + d → j < length ps → plane_order (get_or ps i nowhere) (get_or ps j nowhere) ≡ Less
+along : (ps : List Coefficients) → IsAscending ps → (i j d : ℕ) → j ≡ i + 1 + d → j < length ps → plane_order (get_or ps i missing_plane) (get_or ps j missing_plane) ≡ Less
 along ps h i j zero e l =
     let k : j ≡ i + 1 = omega arith in
-    ap (λ (n : ℕ). plane_order (get_or ps i nowhere) (get_or ps n nowhere)) k ∙ h.next i (omega arith)
+    ap (λ (n : ℕ). plane_order (get_or ps i missing_plane) (get_or ps n missing_plane)) k ∙ h.next i (omega arith)
 along ps h i j (suc d) e l =
     let k : j ≡ (i + 1 + d) + 1 = omega arith in
-    total.trans (get_or ps i nowhere) (get_or ps (i + 1 + d) nowhere) (get_or ps j nowhere)
+    total.trans (get_or ps i missing_plane) (get_or ps (i + 1 + d) missing_plane) (get_or ps j missing_plane)
     (along ps h i (i + 1 + d) d refl (omega arith))
-    (ap (λ (n : ℕ). plane_order (get_or ps (i + 1 + d) nowhere) (get_or ps n nowhere)) k ∙ h.next (i + 1 + d) (omega arith))
+    (ap (λ (n : ℕ). plane_order (get_or ps (i + 1 + d) missing_plane) (get_or ps n missing_plane)) k ∙ h.next (i + 1 + d) (omega arith))
 
 pub ascending_apart : (ps : List Coefficients) → IsAscending ps → HasNoTwoAlike ps
 ascending_apart ps h = record {
   apart = λ i j x y n. elim (cases_lt i j) [
-    | inl l ↦ less_apart (get_or ps i nowhere) (get_or ps j nowhere) (along ps h i j (j - (i + 1)) (omega arith) y)
-    | inr l ↦ apart_back (get_or ps j nowhere) (get_or ps i nowhere) (less_apart (get_or ps j nowhere) (get_or ps i nowhere) (along ps h j i (i - (j + 1)) (omega arith) x))
+    | inl l ↦ less_apart (get_or ps i missing_plane) (get_or ps j missing_plane) (along ps h i j (j - (i + 1)) (omega arith) y)
+    | inr l ↦ apart_back (get_or ps j missing_plane) (get_or ps i missing_plane) (less_apart (get_or ps j missing_plane) (get_or ps i missing_plane) (along ps h j i (i - (j + 1)) (omega arith) x))
   ];
 }
 
@@ -117,9 +117,9 @@ ascending_apart ps h = record {
 pub ascending_more : (ps : List Coefficients) (m : Coefficients) → IsAscending ps → ComesNext ps m → IsAscending (ps ++ m ∷ [])
 ascending_more ps m h k = record {
   next = λ i l. (let n = length-append ps (m ∷ []) in elim (cases_lt (i + 1) (length ps)) [
-    | inl a ↦ ap₂ plane_order (get_or_append_left ps (m ∷ []) nowhere i (omega arith)) (get_or_append_left ps (m ∷ []) nowhere (i + 1) a) ∙ h.next i a
+    | inl a ↦ ap₂ plane_order (get_or_append_left ps (m ∷ []) missing_plane i (omega arith)) (get_or_append_left ps (m ∷ []) missing_plane (i + 1) a) ∙ h.next i a
     | inr a ↦ (let e : i + 1 ≡ length ps = omega arith in
-        ap₂ plane_order (get_or_append_left ps (m ∷ []) nowhere i (omega arith)) (get_or_push ps m nowhere (i + 1) (sym e)) ∙ k i e)
+        ap₂ plane_order (get_or_append_left ps (m ∷ []) missing_plane i (omega arith)) (get_or_push ps m missing_plane (i + 1) (sym e)) ∙ k i e)
   ]);
 }
 
@@ -129,21 +129,21 @@ less_is Less e = refl
 less_is Equal e = absurd (true≢false (sym e))
 less_is Greater e = absurd (true≢false (sym e))
 
-compared_at : (ps : List Coefficients) (i : ℕ) (m n : Coefficients) → 1 ≤ i → i < length ps → m ≡ get_or ps (i - 1) m → n ≡ get_or ps i n → plane_order m n ≡ plane_order (get_or ps (i - 1) nowhere) (get_or ps i nowhere)
-compared_at ps i m n l h x y = ap₂ plane_order (get_or_read ps (i - 1) m (omega arith) x nowhere) (get_or_read ps i n h y nowhere)
+compared_at : (ps : List Coefficients) (i : ℕ) (m n : Coefficients) → 1 ≤ i → i < length ps → m ≡ get_or ps (i - 1) m → n ≡ get_or ps i n → plane_order m n ≡ plane_order (get_or ps (i - 1) missing_plane) (get_or ps i missing_plane)
+compared_at ps i m n l h x y = ap₂ plane_order (get_or_read ps (i - 1) m (omega arith) x missing_plane) (get_or_read ps i n h y missing_plane)
 
 pub order_more : (ps : List Coefficients) (i : ℕ) (m n : Coefficients) (b : Bool) → 1 ≤ i → i < length ps → m ≡ get_or ps (i - 1) m → n ≡ get_or ps i n →
-    b ≡ is_lt (plane_order m n) → b ≡ true → ((k : ℕ) → k + 1 < i → plane_order (get_or ps k nowhere) (get_or ps (k + 1) nowhere) ≡ Less) →
-    (k : ℕ) → k + 1 < i + 1 → plane_order (get_or ps k nowhere) (get_or ps (k + 1) nowhere) ≡ Less
+    b ≡ is_lt (plane_order m n) → b ≡ true → ((k : ℕ) → k + 1 < i → plane_order (get_or ps k missing_plane) (get_or ps (k + 1) missing_plane) ≡ Less) →
+    (k : ℕ) → k + 1 < i + 1 → plane_order (get_or ps k missing_plane) (get_or ps (k + 1) missing_plane) ≡ Less
 order_more ps i m n b l h x y e t before k j = elim (cases_lt (k + 1) i) [
   | inl a ↦ before k a
   | inr a ↦ (let p : k ≡ i - 1 = omega arith in let q : k + 1 ≡ i = omega arith in
-      ap₂ (λ (u v : ℕ). plane_order (get_or ps u nowhere) (get_or ps v nowhere)) p q ∙ sym (compared_at ps i m n l h x y) ∙ less_is (plane_order m n) (sym e ∙ t))
+      ap₂ (λ (u v : ℕ). plane_order (get_or ps u missing_plane) (get_or ps v missing_plane)) p q ∙ sym (compared_at ps i m n l h x y) ∙ less_is (plane_order m n) (sym e ∙ t))
 ]
 
 pub order_fails : (ps : List Coefficients) (i : ℕ) (m n : Coefficients) (b : Bool) → 1 ≤ i → i < length ps → m ≡ get_or ps (i - 1) m → n ≡ get_or ps i n →
     b ≡ is_lt (plane_order m n) → b ≡ false → IsAscending ps → ⊥
 order_fails ps i m n b l h x y e f a =
     let k : (i - 1) + 1 ≡ i = omega arith in
-    let c = ap (λ (u : ℕ). plane_order (get_or ps (i - 1) nowhere) (get_or ps u nowhere)) (sym k) ∙ a.next (i - 1) (omega arith) in
+    let c = ap (λ (u : ℕ). plane_order (get_or ps (i - 1) missing_plane) (get_or ps u missing_plane)) (sym k) ∙ a.next (i - 1) (omega arith) in
     true≢false (sym (ap is_lt (compared_at ps i m n l h x y ∙ c)) ∙ sym e ∙ f)

@@ -4,8 +4,8 @@ use Rattle.std.specs.Ordering.{int_eq}
 use Rattle.std.proofs.lemmas.Bool.{cases_eq, eq-eqb, ne_eqb}
 use Rattle.std.proofs.lemmas.Int.{ints}
 use Rattle.plane_predicate.specs.Space.{Coefficients, opposite_of, is_same, IsPlane}
-use Rattle.plane_polygon.specs.Polygons.{nowhere}
-use Rattle.plane_table.specs.Tables.{plane_named, oriented_by_number, opposite_number, AreApart, HasNoTwoAlike, IsNumberIn}
+use Rattle.plane_polygon.specs.Polygons.{missing_plane}
+use Rattle.plane_table.specs.Tables.{plane_named, oriented_by_number, opposite_number, AreApart, HasNoTwoAlike, NamesPlaneIn}
 use Rattle.plane_table.proofs.Numbers.{even, odd, parity, opposite_even, opposite_odd, opposite_opposite, named_opposite, opposite_in}
 
 -- ---- the same four numbers
@@ -73,21 +73,21 @@ apart_turned p q h m n e = elim (parity m) [
 halves_same : (m n : ℕ) → m / 2 ≡ n / 2 → m ≢ n → m ≡ opposite_number n
 halves_same m n e h = elim (parity n) [ inl p ↦ (let k : m ≡ n + 1 = omega arith in k ∙ sym (opposite_even n p)) | inr p ↦ (let k : m ≡ n - 1 = omega arith in k ∙ sym (opposite_odd n p)) ]
 
-numbers_differ : (planes : List Coefficients) (m n : ℕ) → HasNoTwoAlike planes → IsPlane (plane_named planes m) → IsNumberIn planes m → IsNumberIn planes n →
+numbers_differ : (planes : List Coefficients) (m n : ℕ) → HasNoTwoAlike planes → IsPlane (plane_named planes m) → NamesPlaneIn planes m → NamesPlaneIn planes n →
     m ≢ n → plane_named planes m ≢ plane_named planes n
 numbers_differ planes m n h p i j e k = elim (cases_eq (m / 2) (n / 2)) [
   | inl x ↦ no_own_opposite (plane_named planes m) p (ap (plane_named planes) (halves_same m n x e) ∙ named_opposite planes n ∙ ap opposite_of (sym k))
-  | inr x ↦ apart_turned (get_or planes (m / 2) nowhere) (get_or planes (n / 2) nowhere) (h.apart (m / 2) (n / 2) (omega arith) (omega arith) x) m n k
+  | inr x ↦ apart_turned (get_or planes (m / 2) missing_plane) (get_or planes (n / 2) missing_plane) (h.apart (m / 2) (n / 2) (omega arith) (omega arith) x) m n k
 ]
 
 -- two numbers name the same plane exactly where they are equal
-pub same_number : (planes : List Coefficients) (m n : ℕ) → HasNoTwoAlike planes → IsPlane (plane_named planes m) → IsNumberIn planes m → IsNumberIn planes n →
+pub same_number : (planes : List Coefficients) (m n : ℕ) → HasNoTwoAlike planes → IsPlane (plane_named planes m) → NamesPlaneIn planes m → NamesPlaneIn planes n →
     eqb m n ≡ is_same (plane_named planes m) (plane_named planes n)
 same_number planes m n h p i j = elim (cases_eq m n) [
   | inl e ↦ eq-eqb m n e ∙ sym (ap (λ (k : ℕ). is_same (plane_named planes m) (plane_named planes k)) (sym e) ∙ same_itself (plane_named planes m))
   | inr e ↦ ne_eqb m n e ∙ sym (not_equal (plane_named planes m) (plane_named planes n) (numbers_differ planes m n h p i j e))
 ]
 
-pub other_number : (planes : List Coefficients) (m n : ℕ) → HasNoTwoAlike planes → IsPlane (plane_named planes m) → IsNumberIn planes m → IsNumberIn planes n →
+pub other_number : (planes : List Coefficients) (m n : ℕ) → HasNoTwoAlike planes → IsPlane (plane_named planes m) → NamesPlaneIn planes m → NamesPlaneIn planes n →
     eqb m (opposite_number n) ≡ is_same (plane_named planes m) (opposite_of (plane_named planes n))
 other_number planes m n h p i j = same_number planes m (opposite_number n) h p i (opposite_in planes n j) ∙ ap (is_same (plane_named planes m)) (named_opposite planes n)

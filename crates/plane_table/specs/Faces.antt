@@ -5,11 +5,11 @@ use Rattle.plane_predicate.specs.Sides.{side_of, is_side_ahead, is_side_behind}
 use Rattle.plane_predicate.specs.declared.sides.Side.{Side}
 use Rattle.plane_polygon.specs.Polygons.{Outline, corner, IsPolygon}
 use Rattle.plane_polygon.specs.declared.classes.Class.TheVariants.{Across}
-use Rattle.plane_polygon.specs.Parts.{class_by, class_of, corners, is_behind, is_ahead}
+use Rattle.plane_polygon.specs.Parts.{class_by_sides, class_of, corners, is_behind, is_ahead}
 use Rattle.plane_table.specs.declared.faces.Face.{Face}
 use Rattle.plane_table.specs.declared.sorting.CornerSide.{CornerSide}
 use Rattle.plane_table.specs.declared.sorting.CornerSides.{CornerSides}
-use Rattle.plane_table.specs.Tables.{plane_named, IsNumberIn}
+use Rattle.plane_table.specs.Tables.{plane_named, NamesPlaneIn}
 
 -- the outline of a face: the planes that its numbers name
 abbrev pub outline_of : List Coefficients → Face → Outline
@@ -21,8 +21,8 @@ face_size face = 1 + length face.edges
 
 -- each number of the face names a plane, and its outline is a polygon
 pub record IsFaceOver (planes : List Coefficients) (face : Face) : Type 0 where
-  pub plane : IsNumberIn planes face.plane
-  pub edges : All (IsNumberIn planes) face.edges
+  pub plane : NamesPlaneIn planes face.plane
+  pub edges : All (NamesPlaneIn planes) face.edges
   pub polygon : IsPolygon (outline_of planes face)
 
 -- whether a point is strictly behind a plane, and whether it is strictly ahead of it
@@ -49,6 +49,6 @@ corner_on side = record { is_behind = is_side_behind side; is_ahead = is_side_ah
 
 -- how a face lies whose four corners lie on these sides, in order
 pub record AreFourSides (first second third fourth : Side) (sides : CornerSides) : Type 0 where
-  pub class : sides.class ≡ class_by (is_side_behind first || (is_side_behind second || (is_side_behind third || is_side_behind fourth)))
+  pub class : sides.class ≡ class_by_sides (is_side_behind first || (is_side_behind second || (is_side_behind third || is_side_behind fourth)))
       (is_side_ahead first || (is_side_ahead second || (is_side_ahead third || is_side_ahead fourth)))
   pub corners : sides.class ≡ Across → sides.corners.items ≡ corner_on first ∷ corner_on second ∷ corner_on third ∷ corner_on fourth ∷ []

@@ -4,7 +4,7 @@ use Rattle.std.specs.declared.cmp.Ordering.{Ordering}
 use Rattle.std.specs.declared.cmp.Ordering.TheVariants.{Less}
 use Rattle.std.specs.Ordering.{int_cmp, int_eq, ordering_then}
 use Rattle.plane_predicate.specs.Space.{Coefficients, opposite_of}
-use Rattle.plane_polygon.specs.Polygons.{nowhere}
+use Rattle.plane_polygon.specs.Polygons.{missing_plane}
 
 -- the first number that isn't 0 is below 0
 abbrev pub is_low : Coefficients → Bool
@@ -27,8 +27,8 @@ plane_order m n = by_numbers (normal_form m) (normal_form n)
 
 -- each plane comes before the next
 pub record IsAscending (planes : List Coefficients) : Type 0 where
-  pub next : (i : ℕ) → i + 1 < length planes → plane_order (get_or planes i nowhere) (get_or planes (i + 1) nowhere) ≡ Less
+  pub next : (i : ℕ) → i + 1 < length planes → plane_order (get_or planes i missing_plane) (get_or planes (i + 1) missing_plane) ≡ Less
 
 -- a plane comes after the last of a list, if there is one
 abbrev pub ComesNext : List Coefficients → Coefficients → Type 0
-ComesNext planes m = (i : ℕ) → i + 1 ≡ length planes → plane_order (get_or planes i nowhere) m ≡ Less
+ComesNext planes m = (i : ℕ) → i + 1 ≡ length planes → plane_order (get_or planes i missing_plane) m ≡ Less

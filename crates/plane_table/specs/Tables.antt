@@ -2,8 +2,8 @@
 use Rattle.std.specs.Prelude.{◌≡◌, ◌≢◌, ℕ, ◌+◌, ◌-◌, ◌*◌, ◌/◌, ◌%◌, ◌<◌, List, length, get_or, if◌then◌else◌, ◌==◌, Bool, true, All}
 use Rattle.plane_predicate.specs.Space.{Coefficients, opposite_of}
 use Rattle.plane_predicate.specs.Lines.{IsSmall}
-use Rattle.plane_polygon.specs.Polygons.{nowhere}
-use Rattle.plane_polygon.specs.Parallels.{IsAlike}
+use Rattle.plane_polygon.specs.Polygons.{missing_plane}
+use Rattle.plane_polygon.specs.Parallels.{HasSameDirection}
 use Rattle.plane_table.specs.declared.directions.OrientedPlane.{OrientedPlane}
 
 -- a plane for an even number, and its opposite for an odd one
@@ -12,15 +12,15 @@ oriented_by_number n m = if n % 2 == 0 then m else opposite_of m
 
 -- the plane that a number names over a list of planes: 2k names plane k, and 2k + 1 its opposite
 abbrev pub plane_named : List Coefficients → ℕ → Coefficients
-plane_named planes n = oriented_by_number n (get_or planes (n / 2) nowhere)
+plane_named planes n = oriented_by_number n (get_or planes (n / 2) missing_plane)
 
 -- the number that names the opposite plane
 unfoldable pub opposite_number : ℕ → ℕ
 opposite_number n = if n % 2 == 0 then n + 1 else n - 1
 
 -- the number names a plane of the list or its opposite
-abbrev pub IsNumberIn : List Coefficients → ℕ → Type 0
-IsNumberIn planes n = n < 2 * length planes
+abbrev pub NamesPlaneIn : List Coefficients → ℕ → Type 0
+NamesPlaneIn planes n = n < 2 * length planes
 
 -- neither equal nor opposite
 pub record AreApart (m n : Coefficients) : Type 0 where
@@ -30,16 +30,16 @@ pub record AreApart (m n : Coefficients) : Type 0 where
 -- no two planes of the list are equal or opposite
 pub record HasNoTwoAlike (planes : List Coefficients) : Type 0 where
   pub apart : (i j : ℕ) → i < length planes → j < length planes → i ≢ j →
-      AreApart (get_or planes i nowhere) (get_or planes j nowhere)
+      AreApart (get_or planes i missing_plane) (get_or planes j missing_plane)
 
 -- the plane that a number names, with the number of one that has its direction
 pub record IsOrientedAs (planes : List Coefficients) (n : ℕ) (entry : OrientedPlane) : Type 0 where
   pub plane : entry.plane ≡ plane_named planes n
-  pub alike : IsAlike (plane_named planes entry.direction) (plane_named planes n)
+  pub alike : HasSameDirection (plane_named planes entry.direction) (plane_named planes n)
 
 -- past the end of a list of such planes
 abbrev pub no_entry : OrientedPlane
-no_entry = record { plane = nowhere; direction = 0 }
+no_entry = record { plane = missing_plane; direction = 0 }
 
 -- the first planes of the list and their opposites, by number
 pub record AreFirstOriented (planes : List Coefficients) (entries : List OrientedPlane) (first : ℕ) : Type 0 where
@@ -59,4 +59,4 @@ pub record IsTable (planes : List Coefficients) (entries : List OrientedPlane) (
 
 -- each plane that a number names is small
 abbrev pub AreNumbersSmall : List Coefficients → Type 0
-AreNumbersSmall planes = (n : ℕ) → IsNumberIn planes n → IsSmall (plane_named planes n)
+AreNumbersSmall planes = (n : ℕ) → NamesPlaneIn planes n → IsSmall (plane_named planes n)

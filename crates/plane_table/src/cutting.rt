@@ -1,10 +1,10 @@
 //! The parts into which a plane cuts a face.
 
 ghost use Rattle.std.specs.Prelude.{◌≡◌, ◌<◌, ◌++◌, flat_map, length, IfOk, OnOk};
-ghost use Rattle.plane_polygon.specs.Parts.{up_to};
+ghost use Rattle.plane_polygon.specs.Parts.{indices_below};
 ghost use Rattle.plane_table.specs.Tables.{plane_named};
 ghost use Rattle.plane_table.specs.Faces.{outline_of, IsFaceOver};
-ghost use Rattle.plane_table.specs.Cuts.{is_within, numbers_kept_at, kept_numbers, part_in, side_number, IsCrossing};
+ghost use Rattle.plane_table.specs.Cuts.{is_strictly_in_half, numbers_kept_at, kept_numbers, part_in, side_number, IsCrossing};
 
 use crate::{CornerSide, CornerSides, Edges, Face, PlaneTable, opposite_number};
 use plane_polygon::parts_are_polygons;
@@ -76,13 +76,13 @@ fn part_edges(
     requires same { length corners.now ≡ length edges.now }
     ensures { IfOk result
         (λ r. r ≡ flat_map (numbers_kept_at half edges.now number corners.now)
-        (up_to (length edges.now))) }
+        (indices_below (length edges.now))) }
 {
     let number = side_number(number, half);
     let mut kept = Edges::new(alloc);
-    let mut from = is_within(corners[edges.len() - 1], half);
+    let mut from = is_strictly_in_half(corners[edges.len() - 1], half);
     for i in 0..edges.len() {
-        let to = is_within(corners[i], half);
+        let to = is_strictly_in_half(corners[i], half);
         push_kept(&mut kept, from, to, edges[i], number)?;
         from = to;
     }
@@ -90,8 +90,8 @@ fn part_edges(
 }
 
 // Whether a corner lies strictly in a half space.
-fn is_within(side: CornerSide, half: Half) -> bool
-    ensures { result ≡ is_within half side }
+fn is_strictly_in_half(side: CornerSide, half: Half) -> bool
+    ensures { result ≡ is_strictly_in_half half side }
 {
     match half {
         Half::Behind => side.is_behind,

@@ -1,8 +1,8 @@
 //! The planes of a list and their opposites, by number.
 
 ghost use Rattle.std.specs.Prelude.{◌<◌, ◌^◌, length, get_or, IfOk};
-ghost use Rattle.plane_polygon.specs.Polygons.{nowhere};
-ghost use Rattle.plane_polygon.specs.Parallels.{IsAlike};
+ghost use Rattle.plane_polygon.specs.Polygons.{missing_plane};
+ghost use Rattle.plane_polygon.specs.Parallels.{HasSameDirection};
 ghost use Rattle.plane_table.specs.Tables.{plane_named, AreFirstOriented, AreOriented};
 
 use crate::numbering::MOST_PLANES;
@@ -51,7 +51,7 @@ fn direction_of(planes: &[Plane], found: &[OrientedPlane], i: usize) -> u32
     requires index { i < length planes.now }
     requires range { i < 2 ^ 31 }
     requires known { AreFirstOriented planes.now found.now i }
-    ensures { IsAlike (plane_named planes.now result) (get_or planes.now i nowhere) }
+    ensures { HasSameDirection (plane_named planes.now result) (get_or planes.now i missing_plane) }
 {
     if i > 0 {
         let before = found[2 * i - 2];

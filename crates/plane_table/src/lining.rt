@@ -4,7 +4,7 @@ ghost use Rattle.std.specs.Prelude.{◌≡◌, map, IfOk, IfSome};
 ghost use Rattle.plane_predicate.specs.Space.{Coefficients};
 ghost use Rattle.plane_predicate.specs.Lines.{IsAxisOf};
 ghost use Rattle.plane_polygon.specs.Parts.{class_of, corners};
-ghost use Rattle.plane_table.specs.Tables.{plane_named, AreNumbersSmall, IsNumberIn};
+ghost use Rattle.plane_table.specs.Tables.{plane_named, AreNumbersSmall, NamesPlaneIn};
 ghost use Rattle.plane_table.specs.Faces.{outline_of, side_against, AreSidesWhereAcross, IsFaceOver};
 
 use crate::sorting::{CornerList, corner_on, is_either};
@@ -25,7 +25,7 @@ pub fn sides_by_line(
     number: u32,
 ) -> Result<Option<CornerSides>, NoMemory>
     requires face { IsFaceOver table.now face.now }
-    requires number { IsNumberIn table.now number }
+    requires number { NamesPlaneIn table.now number }
     ensures { IfOk result
         (λ r. IfSome r
         (AreSidesWhereAcross (outline_of table.now face.now) (plane_named table.now number))) }

@@ -3,9 +3,9 @@
 ghost use Rattle.std.specs.Prelude.{◌≡◌, ◌<◌, ◌*◌, ◌/◌, ◌^◌, ◌++◌, [], ◌∷◌, ℕ, length, get_or, All, IfOk, IfSome, IfNone};
 ghost use Rattle.plane_predicate.specs.Space.{ComesInReach};
 ghost use Rattle.plane_polygon.specs.Boxes.{box_outline};
-ghost use Rattle.plane_polygon.specs.Polygons.{nowhere};
-ghost use Rattle.plane_table.specs.Tables.{plane_named, oriented_by_number, AreApart, HasNoTwoAlike, IsNumberIn};
-ghost use Rattle.plane_table.specs.Joins.{AreHalfFacesOf, AreNumbersOf, IsFaceOf, IsNumbered, KeepsNumbers};
+ghost use Rattle.plane_polygon.specs.Polygons.{missing_plane};
+ghost use Rattle.plane_table.specs.Tables.{plane_named, oriented_by_number, AreApart, HasNoTwoAlike, NamesPlaneIn};
+ghost use Rattle.plane_table.specs.Joins.{AreHalfFacesOf, AreNumbersOf, IsOwnFaceOf, HasNumberOver, KeepsNumbers};
 
 use crate::ordering::in_order;
 use crate::{Edges, Face};
@@ -30,14 +30,14 @@ pub struct OwnFace {
 /// has a point with coordinates at most 4095 in size.
 pub fn half_face(alloc: Global, plane: &Plane) -> Result<OwnFace, NoMemory>
     requires { ComesInReach plane.now }
-    ensures { IfOk result (λ r. IsFaceOf (box_outline plane.now) r) }
+    ensures { IfOk result (λ r. IsOwnFaceOf (box_outline plane.now) r) }
 {
     face_of(alloc, &box_polygon(alloc, plane)?)
 }
 
 /// A polygon as a face over a list of just the planes that it names.
 pub fn face_of(alloc: Global, polygon: &Polygon) -> Result<OwnFace, NoMemory>
-    ensures { IfOk result (λ r. IsFaceOf polygon.now r) }
+    ensures { IfOk result (λ r. IsOwnFaceOf polygon.now r) }
 {
     let mut planes = Vec::from_slice(alloc, polygon.edges())?;
     planes.push(*polygon.plane())?;
@@ -85,7 +85,7 @@ fn half_faces_over(alloc: Global, known: Vec<Plane>, from: &[Plane]) -> Result<H
 // A polygon as a face over a list to which the planes that it lacks are added.
 fn own_face(alloc: Global, known: Vec<Plane>, polygon: &Polygon) -> Result<OwnFace, NoMemory>
     requires { HasNoTwoAlike known.items }
-    ensures face { IfOk result (λ r. IsFaceOf polygon.now r) }
+    ensures face { IfOk result (λ r. IsOwnFaceOf polygon.now r) }
     ensures keeps { IfOk result (λ r. KeepsNumbers known.items r.planes.items) }
 {
     polygons_keep_their_form(polygon);
@@ -129,7 +129,7 @@ pub fn numbers_of(
 // there.
 fn number_of(plane: &Plane, planes: &mut Vec<Plane>) -> Result<u32, NoMemory>
     requires { HasNoTwoAlike planes.old.items }
-    ensures { IfOk result (λ n. IsNumbered plane.now planes.old.items planes.new.items n) }
+    ensures { IfOk result (λ n. HasNumberOver plane.now planes.old.items planes.new.items n) }
 {
     if planes.len() >= MOST_PLANES {
         return Err(NoMemory);
@@ -158,9 +158,9 @@ pub fn add(plane: &Plane, planes: &mut Vec<Plane>) -> Result<u32, NoMemory>
 fn find(plane: &Plane, planes: &[Plane]) -> Option<u32>
     requires { length planes.now < 2 ^ 31 }
     ensures some { IfSome result
-        (λ n. IsNumberIn planes.now n × (plane_named planes.now n ≡ plane.now)) }
+        (λ n. NamesPlaneIn planes.now n × (plane_named planes.now n ≡ plane.now)) }
     ensures none { IfNone result
-        ((i : ℕ) → i < length planes.now → AreApart (get_or planes.now i nowhere) plane.now) }
+        ((i : ℕ) → i < length planes.now → AreApart (get_or planes.now i missing_plane) plane.now) }
 {
     for i in 0..planes.len() {
         if let Some(number) = number_at(plane, &planes[i], i) {

@@ -4,7 +4,7 @@ ghost use Rattle.std.specs.Prelude.{◌≡◌, ◌<◌, ◌*◌, ℕ, List, true
 ghost use Rattle.plane_predicate.specs.Space.{Coefficients};
 ghost use Rattle.plane_table.specs.Tables.{HasNoTwoAlike};
 ghost use Rattle.plane_table.specs.Faces.{outline_of, IsFaceOver};
-ghost use Rattle.plane_table.specs.Joins.{number_among, AreNumbersOfUsed, IsFound, IsKept, IsMarked};
+ghost use Rattle.plane_table.specs.Joins.{number_among, AreNumbersOfUsed, AreNumbersFound, IsPlaneKept, AreMarkedUsed};
 
 use crate::numbering::{NumberedPlanes, add};
 use crate::{Edges, Face, opposite_number};
@@ -19,10 +19,10 @@ pub fn renumber(alloc: Global, face: &Face, numbers: &[u32]) -> Result<Face, NoM
     requires plane { face.now.plane < 2 * length numbers.now }
     requires edges { All (λ n. n < 2 * length numbers.now) face.now.edges }
     ensures outline { IfOk result
-        (λ f. (from planes : List Coefficients) → IsFound planes numbers.now from face.now →
+        (λ f. (from planes : List Coefficients) → AreNumbersFound planes numbers.now from face.now →
         outline_of planes f ≡ outline_of from face.now) }
     ensures face { IfOk result
-        (λ f. (from planes : List Coefficients) → IsFound planes numbers.now from face.now →
+        (λ f. (from planes : List Coefficients) → AreNumbersFound planes numbers.now from face.now →
         IsFaceOver from face.now → IsFaceOver planes f) }
 {
     let edges = face.edges.items();
@@ -55,7 +55,7 @@ fn number_among(numbers: &[u32], number: u32) -> u32
 pub fn mark_used(face: &Face, used: &mut [bool])
     requires plane { face.now.plane < 2 * length used.old }
     requires edges { All (λ n. n < 2 * length used.old) face.now.edges }
-    ensures marked { IsMarked used.new face.now }
+    ensures marked { AreMarkedUsed used.new face.now }
     ensures others { (k : ℕ) → get_or used.old k false ≡ true → get_or used.new k false ≡ true }
 {
     used[(face.plane / 2) as usize] = true;
@@ -85,7 +85,7 @@ pub fn keep_used(alloc: Global, planes: &[Plane], used: &[bool]) -> Result<Numbe
 
 // The number of a plane that is added to a list where it is used, else 0.
 fn keep(plane: &Plane, is_used: bool, kept: &mut Vec<Plane>) -> Result<u32, NoMemory>
-    ensures { IfOk result (λ n. IsKept is_used plane.now kept.old.items kept.new.items n) }
+    ensures { IfOk result (λ n. IsPlaneKept is_used plane.now kept.old.items kept.new.items n) }
 {
     if is_used { add(plane, kept) } else { Ok(0) }
 }

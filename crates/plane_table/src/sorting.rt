@@ -3,9 +3,9 @@
 ghost use Rattle.std.specs.Prelude.{◌≡◌, ◌<◌, ◌⊎◌, ◌||◌, length, IfOk, IfSome};
 ghost use Rattle.plane_predicate.specs.Sides.{is_side_ahead, is_side_behind};
 ghost use Rattle.plane_polygon.specs.Polygons.{corner};
-ghost use Rattle.plane_polygon.specs.Parts.{class_by};
+ghost use Rattle.plane_polygon.specs.Parts.{class_by_sides};
 ghost use Rattle.plane_polygon.specs.Parallels.{HasAllOn};
-ghost use Rattle.plane_table.specs.Tables.{plane_named, IsNumberIn};
+ghost use Rattle.plane_table.specs.Tables.{plane_named, NamesPlaneIn};
 ghost use Rattle.plane_table.specs.Faces.{corner_on, outline_of, side_against, AreFourSides, AreSidesOf, AreSidesWhereAcross, IsFaceOver, IsSideAt};
 
 use crate::lining::sides_by_line;
@@ -51,7 +51,7 @@ pub fn sides(
     number: u32,
 ) -> Result<CornerSides, NoMemory>
     requires face { IsFaceOver table.now face.now }
-    requires number { IsNumberIn table.now number }
+    requires number { NamesPlaneIn table.now number }
     ensures { IfOk result
         (λ r. AreSidesOf (outline_of table.now face.now) (plane_named table.now number) r) }
 {
@@ -88,7 +88,7 @@ pub fn sides_where_across(
     number: u32,
 ) -> Result<CornerSides, NoMemory>
     requires face { IsFaceOver table.now face.now }
-    requires number { IsNumberIn table.now number }
+    requires number { NamesPlaneIn table.now number }
     ensures { IfOk result
         (λ r. AreSidesWhereAcross (outline_of table.now face.now) (plane_named table.now number) r) }
 {
@@ -120,17 +120,17 @@ pub fn sides_where_across(
 // Whether the table has one direction for two planes, or for one and the opposite of the other. For speed,
 // and no promise.
 fn is_parallel(table: &PlaneTable, m: u32, n: u32) -> bool
-    requires m { IsNumberIn table.now m }
-    requires n { IsNumberIn table.now n }
+    requires m { NamesPlaneIn table.now m }
+    requires n { NamesPlaneIn table.now n }
 {
     table.direction(m) / 2 == table.direction(n) / 2
 }
 
 // The sides of the plane of a number on which all points of two other planes lie, where both are known.
 fn both_known(table: &PlaneTable, one: u32, other: u32, number: u32) -> Option<(Side, Side)>
-    requires one { IsNumberIn table.now one }
-    requires other { IsNumberIn table.now other }
-    requires number { IsNumberIn table.now number }
+    requires one { NamesPlaneIn table.now one }
+    requires other { NamesPlaneIn table.now other }
+    requires number { NamesPlaneIn table.now number }
     ensures { IfSome result
         (λ r. HasAllOn (plane_named table.now one) (plane_named table.now number) r.0 ×
         HasAllOn (plane_named table.now other) (plane_named table.now number) r.1) }
@@ -194,7 +194,7 @@ pub fn corner_on(side: Side) -> CornerSide
 
 // How a face lies that has all its corners on one side.
 fn class_on(side: Side) -> Class
-    ensures { result ≡ class_by (is_side_behind side) (is_side_ahead side) }
+    ensures { result ≡ class_by_sides (is_side_behind side) (is_side_ahead side) }
 {
     match side {
         Side::Behind => Class::Behind,
@@ -214,7 +214,7 @@ fn corner_side(
 ) -> CornerSide
     requires index { i < length face.now.edges }
     requires face { IsFaceOver table.now face.now }
-    requires number { IsNumberIn table.now number }
+    requires number { NamesPlaneIn table.now number }
     requires known { IfSome known (IsSideAt table.now face.now (plane_named table.now number) i) }
     ensures { result ≡ side_against (plane_named table.now number)
         (corner (outline_of table.now face.now) i) }
@@ -230,7 +230,7 @@ fn corner_side(
 fn meeting_side(table: &PlaneTable, face: &Face, i: usize, number: u32) -> Side
     requires index { i < length face.now.edges }
     requires face { IsFaceOver table.now face.now }
-    requires number { IsNumberIn table.now number }
+    requires number { NamesPlaneIn table.now number }
     ensures { IsSideAt table.now face.now (plane_named table.now number) i result }
 {
     let edges = face.edges.items();
@@ -252,8 +252,8 @@ fn first_known(ends: Option<Side>, begins: Option<Side>) -> Option<Side>
 // The side of the plane of a number on which all points of another plane lie, where the table has one
 // direction for them or their opposites.
 fn side_of_all(table: &PlaneTable, of: u32, number: u32) -> Option<Side>
-    requires of { IsNumberIn table.now of }
-    requires number { IsNumberIn table.now number }
+    requires of { NamesPlaneIn table.now of }
+    requires number { NamesPlaneIn table.now number }
     ensures { IfSome result
         (λ s. HasAllOn (plane_named table.now of) (plane_named table.now number) s) }
 {

@@ -2,8 +2,8 @@
 
 ghost use Rattle.std.specs.Prelude.{◌≡◌, true, IfOk};
 ghost use Rattle.plane_predicate.specs.Space.{opposite_of, is_same};
-ghost use Rattle.plane_polygon.specs.Parallels.{IsAlike};
-ghost use Rattle.plane_table.specs.Tables.{plane_named, opposite_number, AreNumbersSmall, HasNoTwoAlike, IsNumberIn};
+ghost use Rattle.plane_polygon.specs.Parallels.{HasSameDirection};
+ghost use Rattle.plane_table.specs.Tables.{plane_named, opposite_number, AreNumbersSmall, HasNoTwoAlike, NamesPlaneIn};
 
 use crate::directions::{OrientedPlane, by_number};
 use plane_predicate::{Plane, are_small};
@@ -59,7 +59,7 @@ impl PlaneTable {
 
     /// The plane that a number names.
     pub fn plane(&self, number: u32) -> &Plane
-        requires { IsNumberIn self.now number }
+        requires { NamesPlaneIn self.now number }
         ensures { result.now ≡ plane_named self.now number }
     {
         &self.oriented[number as usize].plane
@@ -76,16 +76,16 @@ impl PlaneTable {
     /// promise: planes of one direction that follow one another in the list, or whose opposites do, have the
     /// same one.
     pub fn direction(&self, number: u32) -> u32
-        requires { IsNumberIn self.now number }
-        ensures { IsAlike (plane_named self.now result) (plane_named self.now number) }
+        requires { NamesPlaneIn self.now number }
+        ensures { HasSameDirection (plane_named self.now result) (plane_named self.now number) }
     {
         self.oriented[number as usize].direction
     }
 
     /// Whether two numbers name the same plane.
     pub fn is_same(&self, m: u32, n: u32) -> bool
-        requires m { IsNumberIn self.now m }
-        requires n { IsNumberIn self.now n }
+        requires m { NamesPlaneIn self.now m }
+        requires n { NamesPlaneIn self.now n }
         ensures { result ≡ is_same (plane_named self.now m) (plane_named self.now n) }
     {
         // Reading these shows the proof what a table and a plane keep.
@@ -96,8 +96,8 @@ impl PlaneTable {
 
     /// Whether two numbers name opposite planes.
     pub fn is_opposite(&self, m: u32, n: u32) -> bool
-        requires m { IsNumberIn self.now m }
-        requires n { IsNumberIn self.now n }
+        requires m { NamesPlaneIn self.now m }
+        requires n { NamesPlaneIn self.now n }
         ensures { result ≡ is_same (plane_named self.now m) (opposite_of (plane_named self.now n)) }
     {
         // Reading these shows the proof what a table and a plane keep.

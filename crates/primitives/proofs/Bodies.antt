@@ -1,7 +1,7 @@
 -- What shows that a face is one of a shape.
 use Rattle.std.proofs.Common.{◌≡◌, ℕ, ◌+◌, ◌<◌, List, [], length, get_or, pos, ◌<ℤ◌, ◌≤ℤ◌, unsigned_abs, All}
 use Rattle.plane_predicate.specs.Space.{Coefficients}
-use Rattle.primitives.specs.Shapes.{Mesh, value_at, HasTriangle, IsFace}
+use Rattle.primitives.specs.Shapes.{Mesh, value_at, HasTriangle, IsFaceOfShape}
 
 -- a point of a face that is strictly behind a plane
 pub record HasFar (mesh : Mesh) (m : Coefficients) : Type 0 where
@@ -21,7 +21,7 @@ pub record IsOutside (mesh : Mesh) (face : List ℕ) : Type 0 where
   pub within : (i : ℕ) → i < length mesh.points → value_at mesh.points plane i ≤ℤ pos 0
   pub far : HasFar mesh plane
 
-pub outside_is_face : (mesh : Mesh) → All (λ (f : List ℕ). All (λ (i : ℕ). i < length mesh.points) f) mesh.faces → (face : List ℕ) → IsOutside mesh face → IsFace mesh face
+pub outside_is_face : (mesh : Mesh) → All (λ (f : List ℕ). All (λ (i : ℕ). i < length mesh.points) f) mesh.faces → (face : List ℕ) → IsOutside mesh face → IsFaceOfShape mesh face
 outside_is_face mesh there face h = record {
   there = h.there;
   triangle = h.triangle;

@@ -8,7 +8,7 @@ use Rattle.plane_predicate.proofs.Polynomials.{Poly, var, num, times, minus, rin
 use Rattle.plane_predicate.proofs.Signs.{pos_pos}
 use Rattle.plane_predicate.proofs.Vectors.{Form, valueP, minorP}
 use Rattle.int_transform.specs.Maps.{HasSafeCoordinates}
-use Rattle.primitives.specs.Shapes.{corner, value_at, IsFace, IsShape}
+use Rattle.primitives.specs.Shapes.{corner, value_at, IsFaceOfShape, IsShape}
 use Rattle.primitives.proofs.Moves.{whole, wholeP}
 use Rattle.primitives.specs.Boxes.{box_of, box_points, box_faces, cube_of}
 use Rattle.primitives.specs.Sizes.{AreSizes}
@@ -136,7 +136,7 @@ on_face : (a b c d e f : ℤ) (m : Coefficients) (i j k l : ℕ) → value_at (b
 on_face a b c d e f m i j k l hi hj hk hl = All-from_recursion (λ (n : ℕ). value_at (box_points a b c d e f) m n ≡ pos 0) (i ∷ j ∷ k ∷ l ∷ []) (hi, (hj, (hk, (hl, tt))))
 
 -- ---- the six faces
-box_side : (a b c d e f : ℤ) → a <ℤ b → c <ℤ d → e <ℤ f → (face : List ℕ) → IsOutside (box_of a b c d e f) face → IsFace (box_of a b c d e f) face
+box_side : (a b c d e f : ℤ) → a <ℤ b → c <ℤ d → e <ℤ f → (face : List ℕ) → IsOutside (box_of a b c d e f) face → IsFaceOfShape (box_of a b c d e f) face
 box_side a b c d e f hx hy hz face h = outside_is_face (box_of a b c d e f) box_there face h
 
 at_corner : (a b c d e f : ℤ) → a <ℤ b → c <ℤ d → e <ℤ f → (i : ℕ) → i < 8 → IsCorner a b c d e f (corner (box_points a b c d e f) i)
@@ -220,10 +220,10 @@ side_high_z a b c d e f hx hy hz =
       far = record { at_face = 4; at = 0; at_face_in = omega arith; at_in = omega arith; behind = less_behind _ e f (high_z f a c e) hz };
     }
 
-box_sides : (a b c d e f : ℤ) → a <ℤ b → c <ℤ d → e <ℤ f → All (IsFace (box_of a b c d e f)) box_faces
+box_sides : (a b c d e f : ℤ) → a <ℤ b → c <ℤ d → e <ℤ f → All (IsFaceOfShape (box_of a b c d e f)) box_faces
 box_sides a b c d e f hx hy hz =
     let face = box_side a b c d e f hx hy hz in
-    All-from_recursion (IsFace (box_of a b c d e f)) box_faces (
+    All-from_recursion (IsFaceOfShape (box_of a b c d e f)) box_faces (
       face (0 ∷ 2 ∷ 6 ∷ 4 ∷ []) (side_low_x a b c d e f hx hy hz),
       (
         face (1 ∷ 3 ∷ 7 ∷ 5 ∷ []) (side_high_x a b c d e f hx hy hz),

@@ -5,7 +5,7 @@ use Rattle.plane_predicate.specs.declared.unit.Unit.TheVariants.{Whole, Half}
 use Rattle.plane_predicate.proofs.IntegerRing.{sums, one_mul}
 use Rattle.plane_predicate.proofs.Signs.{pos_pos}
 use Rattle.plane_predicate.proofs.Sizes.{size_by}
-use Rattle.primitives.specs.Sizes.{IsSafe, grid_steps, low_at, low_end, high_end}
+use Rattle.primitives.specs.Sizes.{IsSafe, length_in_grid_steps, low_at, low_end, high_end}
 
 -- the ends of a side: it is longer than 0, and they are at most 2^53 - 1 in size
 pub record AreEnds (low high : ℤ) : Type 0 where
@@ -28,11 +28,11 @@ ends_of_steps most center (negsuc n) h s = absurd (omega (arith, sums))
 ends_of_steps most false (pos (suc n)) h s = (omega (arith, sums), omega arith, size_by (pos 0 +ℤ pos (suc n)) most (omega (arith, sums)) (omega (arith, sums)))
 ends_of_steps most true (pos (suc n)) h s = half_ends most (suc n / 2) (suc n) (omega arith) (omega arith) s
 
-steps_above : (unit : LengthUnit) (side : ℤ) → pos 1 ≤ℤ side → pos 0 <ℤ grid_steps unit side
+steps_above : (unit : LengthUnit) (side : ℤ) → pos 1 ≤ℤ side → pos 0 <ℤ length_in_grid_steps unit side
 steps_above Whole side h = omega (arith, sums, one_mul side)
 steps_above Half side h = pos_pos (pos 2) side (omega (arith, sums)) (omega (arith, sums))
 
-pub ends_of_side : (unit : LengthUnit) (center : Bool) (side : ℤ) → pos 1 ≤ℤ side → IsSafe (grid_steps unit side) → AreEnds (low_end unit center side) (high_end unit center side)
+pub ends_of_side : (unit : LengthUnit) (center : Bool) (side : ℤ) → pos 1 ≤ℤ side → IsSafe (length_in_grid_steps unit side) → AreEnds (low_end unit center side) (high_end unit center side)
 ends_of_side unit center side h s =
-    let r = ends_of_steps 9007199254740991 center (grid_steps unit side) (steps_above unit side h) s.size in
+    let r = ends_of_steps 9007199254740991 center (length_in_grid_steps unit side) (steps_above unit side h) s.size in
     record { apart = r.0; low_safe = record { size = r.1 }; high_safe = record { size = r.2 } }

@@ -7,7 +7,7 @@ use Rattle.plane_predicate.proofs.Opposites.{size_of_negative}
 use Rattle.plane_predicate.proofs.Signs.{signs, pos_neg, neg_neg, most_least, most_most}
 use Rattle.plane_predicate.proofs.ThroughPoints.{through_on}
 use Rattle.plane_predicate.proofs.Vectors.{value-opposite}
-use Rattle.primitives.specs.Shapes.{Mesh, corner, value_at, IsFace, IsFacePlane}
+use Rattle.primitives.specs.Shapes.{Mesh, corner, value_at, IsFaceOfShape, IsPlaneOfFace}
 use Rattle.primitives.specs.Spanning.{SpansFace}
 use Rattle.primitives.proofs.Moves.{cancelled}
 use Rattle.primitives.proofs.OnePlane.{GoesThrough, nowhere, not_zero_below, some_direction, two_planes}
@@ -59,7 +59,7 @@ directed_somewhere : (m : Coefficients) → 0 < unsigned_abs m.a + unsigned_abs 
 directed_somewhere m h all = let z = nowhere m all in omega (arith, no_size m.a z.0, no_size m.b z.1, no_size m.c z.2)
 
 -- ---- the point of a face that is strictly behind the face's plane
-abbrev pub far : (mesh : Mesh) (face : List ℕ) → IsFace mesh face → ℕ
+abbrev pub far : (mesh : Mesh) (face : List ℕ) → IsFaceOfShape mesh face → ℕ
 far mesh face is = get_or (get_or mesh.faces is.body.at_face []) is.body.at 0
 
 on_corners : (points : List (List ℤ)) (face : List ℕ) (m : Coefficients) (i j k : ℕ) → i < length face → j < length face → k < length face → All (λ (c : ℕ). value_at points m c ≡ pos 0) face →
@@ -74,7 +74,7 @@ proportion points m n i j k tm tn apart q below =
     two_planes m n (get_or a 0 (pos 0)) (get_or a 1 (pos 0)) (get_or a 2 (pos 0)) (get_or b 0 (pos 0)) (get_or b 1 (pos 0)) (get_or b 2 (pos 0)) (get_or c 0 (pos 0)) (get_or c 1 (pos 0)) (get_or c 2 (pos 0)) tm tn apart q (not_zero_below (value m q) below)
 
 -- the same of the body's plane and another plane through the face's corners
-pub body_proportion : (mesh : Mesh) (face : List ℕ) (is : IsFace mesh face) (n : Coefficients) → All (λ (c : ℕ). value_at mesh.points n c ≡ pos 0) face →
+pub body_proportion : (mesh : Mesh) (face : List ℕ) (is : IsFaceOfShape mesh face) (n : Coefficients) → All (λ (c : ℕ). value_at mesh.points n c ≡ pos 0) face →
     (p : Coordinates) → value is.body.plane p *ℤ value_at mesh.points n (far mesh face is) ≡ value n p *ℤ value_at mesh.points is.body.plane (far mesh face is)
 body_proportion mesh face is n on =
     let t = is.triangle in
@@ -84,12 +84,12 @@ body_proportion mesh face is n on =
     t.apart (corner mesh.points (far mesh face is)) is.body.behind
 
 -- a point behind some plane of a face is behind the body's
-pub behind_body : (mesh : Mesh) (face : List ℕ) (is : IsFace mesh face) (m : Coefficients) → IsFacePlane mesh face m → (p : Coordinates) → value m p <ℤ pos 0 → value is.body.plane p <ℤ pos 0
+pub behind_body : (mesh : Mesh) (face : List ℕ) (is : IsFaceOfShape mesh face) (m : Coefficients) → IsPlaneOfFace mesh face m → (p : Coordinates) → value m p <ℤ pos 0 → value is.body.plane p <ℤ pos 0
 behind_body mesh face is m h p below =
     body_below (value is.body.plane p) (value m p) (value_at mesh.points is.body.plane (far mesh face is)) (value_at mesh.points m (far mesh face is))
     (body_proportion mesh face is m h.on p) below is.body.behind (h.none_ahead is.body.at_face [] is.body.at_face_in is.body.at 0 is.body.at_in)
 
-far_behind : (mesh : Mesh) (face : List ℕ) (is : IsFace mesh face) (n : Coefficients) → IsFacePlane mesh face n → value_at mesh.points n (far mesh face is) <ℤ pos 0
+far_behind : (mesh : Mesh) (face : List ℕ) (is : IsFaceOfShape mesh face) (n : Coefficients) → IsPlaneOfFace mesh face n → value_at mesh.points n (far mesh face is) <ℤ pos 0
 far_behind mesh face is n h =
     let most = h.none_ahead is.body.at_face [] is.body.at_face_in is.body.at 0 is.body.at_in in
     let q = corner mesh.points (far mesh face is) in
@@ -103,7 +103,7 @@ far_behind mesh face is n h =
     ]
 
 -- and behind every plane of the face
-pub behind_each : (mesh : Mesh) (face : List ℕ) (is : IsFace mesh face) (n : Coefficients) → IsFacePlane mesh face n → (p : Coordinates) → value is.body.plane p <ℤ pos 0 → value n p <ℤ pos 0
+pub behind_each : (mesh : Mesh) (face : List ℕ) (is : IsFaceOfShape mesh face) (n : Coefficients) → IsPlaneOfFace mesh face n → (p : Coordinates) → value is.body.plane p <ℤ pos 0 → value n p <ℤ pos 0
 behind_each mesh face is n h p below =
     plane_below (value is.body.plane p) (value n p) (value_at mesh.points is.body.plane (far mesh face is)) (value_at mesh.points n (far mesh face is))
     (body_proportion mesh face is n h.on p) below (far_behind mesh face is n h) is.body.behind
@@ -127,7 +127,7 @@ face_directed : (points : List (List ℤ)) (face : List ℕ) (n : Coefficients) 
 face_directed points face n s = spanned_directed (corner points (get_or face s.first 0)) (corner points (get_or face s.second 0)) (corner points (get_or face s.third 0)) n s.times s.apart
 
 -- the values of the body's plane and of a plane through three corners of the face
-pub spanned_proportion : (mesh : Mesh) (face : List ℕ) (is : IsFace mesh face) (n : Coefficients) → SpansFace mesh.points face n →
+pub spanned_proportion : (mesh : Mesh) (face : List ℕ) (is : IsFaceOfShape mesh face) (n : Coefficients) → SpansFace mesh.points face n →
     (p : Coordinates) → value is.body.plane p *ℤ value_at mesh.points n (far mesh face is) ≡ value n p *ℤ value_at mesh.points is.body.plane (far mesh face is)
 spanned_proportion mesh face is n s =
     let i = get_or face s.first 0 in let j = get_or face s.second 0 in let k = get_or face s.third 0 in
@@ -137,7 +137,7 @@ spanned_proportion mesh face is n s =
     s.apart
     (corner mesh.points (far mesh face is)) is.body.behind
 
-spanned_on : (mesh : Mesh) (face : List ℕ) (is : IsFace mesh face) (n : Coefficients) → SpansFace mesh.points face n → All (λ (c : ℕ). value_at mesh.points n c ≡ pos 0) face
+spanned_on : (mesh : Mesh) (face : List ℕ) (is : IsFaceOfShape mesh face) (n : Coefficients) → SpansFace mesh.points face n → All (λ (c : ℕ). value_at mesh.points n c ≡ pos 0) face
 spanned_on mesh face is n s k d lt =
     let p = corner mesh.points (get_or face k d) in
     let q = corner mesh.points (far mesh face is) in
@@ -145,15 +145,15 @@ spanned_on mesh face is n s k d lt =
     (mul_comm_ℤ (value is.body.plane q) (value n p) ∙ sym (spanned_proportion mesh face is n s p) ∙ ap (λ (z : ℤ). z *ℤ value n q) (is.body.is.on k d lt) ∙ zero_mul (value n q))
 
 -- no point is ahead of it: it is the face's plane
-pub spanned_as_it_is : (mesh : Mesh) (face : List ℕ) → IsFace mesh face → (n : Coefficients) → SpansFace mesh.points face n → All (All (λ (c : ℕ). value_at mesh.points n c ≤ℤ pos 0)) mesh.faces → IsFacePlane mesh face n
+pub spanned_as_it_is : (mesh : Mesh) (face : List ℕ) → IsFaceOfShape mesh face → (n : Coefficients) → SpansFace mesh.points face n → All (All (λ (c : ℕ). value_at mesh.points n c ≤ℤ pos 0)) mesh.faces → IsPlaneOfFace mesh face n
 spanned_as_it_is mesh face is n s none = record { directed = face_directed mesh.points face n s; on = spanned_on mesh face is n s; none_ahead = none }
 
 most_negative : (x : ℤ) → pos 0 ≤ℤ x → neg_ℤ x ≤ℤ pos 0
 most_negative x h = omega (arith, sums, h)
 
 -- some point is ahead of it: its opposite is the face's plane
-pub spanned_opposite : (mesh : Mesh) (face : List ℕ) → IsFace mesh face → (n : Coefficients) → SpansFace mesh.points face n → (f i : ℕ) → f < length mesh.faces → i < length (get_or mesh.faces f []) →
-    pos 0 <ℤ value_at mesh.points n (get_or (get_or mesh.faces f []) i 0) → IsFacePlane mesh face (opposite_of n)
+pub spanned_opposite : (mesh : Mesh) (face : List ℕ) → IsFaceOfShape mesh face → (n : Coefficients) → SpansFace mesh.points face n → (f i : ℕ) → f < length mesh.faces → i < length (get_or mesh.faces f []) →
+    pos 0 <ℤ value_at mesh.points n (get_or (get_or mesh.faces f []) i 0) → IsPlaneOfFace mesh face (opposite_of n)
 spanned_opposite mesh face is n s f i hf hi above =
     let q = corner mesh.points (far mesh face is) in
     let x = corner mesh.points (get_or (get_or mesh.faces f []) i 0) in

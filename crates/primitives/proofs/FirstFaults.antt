@@ -5,7 +5,7 @@ use Rattle.plane_predicate.specs.declared.unit.Unit.{Unit as LengthUnit}
 use Rattle.primitives.specs.declared.stop.ShapeStop.{ShapeStop}
 use Rattle.primitives.specs.declared.stop.ShapeStop.TheVariants.{Kind, NoMemory}
 use Rattle.text_place.specs.declared.fault.FaultKind.TheVariants.{LongList, FewPoints, BadPoint, OutOfRange, NotFlat, NotClosed, NotConvex}
-use Rattle.primitives.specs.Polyhedra.{checks, faults, mesh_of, written_checks, AnswersFirstFault, IsAnsweredWhere, IsFaultOf, IsFirstFault, IsFirstToFail, IsSurfaceFault, IsWritten, IsWrittenFault}
+use Rattle.primitives.specs.Polyhedra.{checks, faults, mesh_of, written_checks, AnswersFirstFault, IsAnsweredWhere, IsFaultOf, IsFirstPolyhedronFault, IsFirstToFail, IsSurfaceFault, PassesWrittenChecks, IsWrittenFault}
 
 -- no two checks are the first to fail
 one_first : (list : List (Type 0)) (m n : ℕ) → IsFirstToFail list m → IsFirstToFail list n → m ≡ n
@@ -33,11 +33,11 @@ first_written unit points faces (suc (suc zero)) g = g
 first_written unit points faces (suc (suc (suc zero))) g = g
 first_written unit points faces (suc (suc (suc (suc n)))) g = absurd g.1.1.1.1
 
-pub written_fault : (unit : LengthUnit) (points : List (List ℤ)) (faces : List (List ℕ)) (stop : ShapeStop) → IsWrittenFault points faces stop → IsFirstFault unit points faces stop
+pub written_fault : (unit : LengthUnit) (points : List (List ℤ)) (faces : List (List ℕ)) (stop : ShapeStop) → IsWrittenFault points faces stop → IsFirstPolyhedronFault unit points faces stop
 written_fault unit points faces (Kind kind) h = record { number = h.number; is = h.is; fails = first_written unit points faces h.number h.fails }
 written_fault unit points faces NoMemory h = absurd h
 
-pub surface_fault : (unit : LengthUnit) (points : List (List ℤ)) (faces : List (List ℕ)) (stop : ShapeStop) → IsWritten points faces → IsSurfaceFault (mesh_of unit points faces) stop → IsFirstFault unit points faces stop
+pub surface_fault : (unit : LengthUnit) (points : List (List ℤ)) (faces : List (List ℕ)) (stop : ShapeStop) → PassesWrittenChecks points faces → IsSurfaceFault (mesh_of unit points faces) stop → IsFirstPolyhedronFault unit points faces stop
 surface_fault unit points faces (Kind kind) w h = record { number = suc (suc (suc (suc h.number))); is = h.is; fails = (w.limits, (w.corners, (w.there, (w.range, h.fails)))) }
 surface_fault unit points faces NoMemory w h = h
 
@@ -75,18 +75,18 @@ fails_at unit points faces kind h =
 same_kind : {A : Type 0} (j k : FaultKind) → (let r : Result A ShapeStop = Err (Kind j) in r ≡ Err (Kind k)) → j ≡ k
 same_kind j k e = cc
 
-only_at : {A : Type 0} (unit : LengthUnit) (points : List (List ℤ)) (faces : List (List ℕ)) (stop : ShapeStop) → IsFirstFault unit points faces stop → (kind : FaultKind) → (let r : Result A ShapeStop = Err stop in r ≡ Err (Kind kind)) → IsFirstToFail (checks unit points faces) (place_of kind)
+only_at : {A : Type 0} (unit : LengthUnit) (points : List (List ℤ)) (faces : List (List ℕ)) (stop : ShapeStop) → IsFirstPolyhedronFault unit points faces stop → (kind : FaultKind) → (let r : Result A ShapeStop = Err stop in r ≡ Err (Kind kind)) → IsFirstToFail (checks unit points faces) (place_of kind)
 only_at unit points faces (Kind j) h kind e = fails_at unit points faces kind (subst (IsFaultOf (checks unit points faces) faults) (same_kind j kind e) h)
 only_at unit points faces NoMemory h kind e = cc
 
-always_at : {A : Type 0} (unit : LengthUnit) (points : List (List ℤ)) (faces : List (List ℕ)) (stop : ShapeStop) → IsFirstFault unit points faces stop → (n : ℕ) → IsFirstToFail (checks unit points faces) n →
+always_at : {A : Type 0} (unit : LengthUnit) (points : List (List ℤ)) (faces : List (List ℕ)) (stop : ShapeStop) → IsFirstPolyhedronFault unit points faces stop → (n : ℕ) → IsFirstToFail (checks unit points faces) n →
     (let r : Result A ShapeStop = Err stop in (r ≡ Err (Kind (get_or faults n NotConvex))) ⊎ (r ≡ Err NoMemory))
 always_at unit points faces (Kind j) h n g =
     inl (ap (λ (k : FaultKind). Err (Kind k)) (h.is ∙ ap (λ (m : ℕ). get_or faults m NotConvex) (one_first (checks unit points faces) h.number n h.fails g)))
 always_at unit points faces NoMemory h n g = inr refl
 
 -- one fault, by the number of its check
-answered : {A : Type 0} (unit : LengthUnit) (points : List (List ℤ)) (faces : List (List ℕ)) (stop : ShapeStop) → IsFirstFault unit points faces stop → (r : Result A ShapeStop) → r ≡ Err stop → (kind : FaultKind) (n : ℕ) (P : Type 0) → place_of kind ≡ n → get_or faults n NotConvex ≡ kind →
+answered : {A : Type 0} (unit : LengthUnit) (points : List (List ℤ)) (faces : List (List ℕ)) (stop : ShapeStop) → IsFirstPolyhedronFault unit points faces stop → (r : Result A ShapeStop) → r ≡ Err stop → (kind : FaultKind) (n : ℕ) (P : Type 0) → place_of kind ≡ n → get_or faults n NotConvex ≡ kind →
     (IsFirstToFail (checks unit points faces) n → P) → (P → IsFirstToFail (checks unit points faces) n) → IsAnsweredWhere r kind P
 answered unit points faces stop h r e kind n P at named to from = record {
   only = λ f. to (subst (IsFirstToFail (checks unit points faces)) at (only_at unit points faces stop h kind (sym e ∙ f)));
@@ -97,7 +97,7 @@ answered unit points faces stop h r e kind n P at named to from = record {
 }
 
 -- a stop that is the first fault
-pub answers_stop : {A : Type 0} (unit : LengthUnit) (points : List (List ℤ)) (faces : List (List ℕ)) (stop : ShapeStop) → IsFirstFault unit points faces stop → (r : Result A ShapeStop) → r ≡ Err stop → AnswersFirstFault unit points faces r
+pub answers_stop : {A : Type 0} (unit : LengthUnit) (points : List (List ℤ)) (faces : List (List ℕ)) (stop : ShapeStop) → IsFirstPolyhedronFault unit points faces stop → (r : Result A ShapeStop) → r ≡ Err stop → AnswersFirstFault unit points faces r
 answers_stop unit points faces stop h r e = record {
   long_list = answered unit points faces stop h r e LongList 0 _ refl refl (λ g. g) (λ g. g);
   few_points = answered unit points faces stop h r e FewPoints 1 _ refl refl (λ g. g) (λ g. g);

@@ -6,7 +6,7 @@ use Rattle.plane_predicate.specs.declared.unit.Unit.{Unit as LengthUnit}
 use Rattle.plane_predicate.specs.declared.unit.Unit.TheVariants.{Whole, Half}
 use Rattle.plane_predicate.specs.Units.{steps_of}
 use Rattle.plane_predicate.proofs.Sizes.{size_product}
-use Rattle.primitives.specs.Polygons.{x_of, y_of, on_grid, polygon_of, IsFlat, IsInRange, IsNear, IsPolygon, IsSafePoint}
+use Rattle.primitives.specs.Polygons.{x_of, y_of, on_grid, polygon_of, IsFlatShape, IsInRange, IsNear, IsWrittenPolygon, IsSafePoint}
 
 steps_most : (unit : LengthUnit) → unsigned_abs (steps_of unit) ≤ 2
 steps_most Whole = omega arith
@@ -24,7 +24,7 @@ near_grid unit points h = All-map IsNear (on_grid unit) points (All-weaker IsInR
 safe_point : (p : List ℤ) → IsNear p → IsSafePoint p
 safe_point p h = record { x_safe = record { size = omega (arith, h.x_size) }; y_safe = record { size = omega (arith, h.y_size) } }
 
-pub polygon_is_flat : (unit : LengthUnit) (points : List (List ℤ)) → IsPolygon unit points → IsFlat (polygon_of unit points)
+pub polygon_is_flat : (unit : LengthUnit) (points : List (List ℤ)) → IsWrittenPolygon unit points → IsFlatShape (polygon_of unit points)
 polygon_is_flat unit points h = record {
   most = omega (arith, h.most, length-map points (on_grid unit));
   convex = h.convex;

@@ -1,17 +1,17 @@
 -- Planes that bound a convex solid, and the one that three corners of a face span.
 use Rattle.std.proofs.Common.{◌≡◌, ℕ, ◌+◌, ◌<◌, List, [], ◌∷◌, get_or, length, refl, sym, ap, ◌∙◌, All, Any, arith, inl, inr, ℤ, pos, negsuc, zero, suc, ◌*ℤ◌, neg_ℤ, ◌<ℤ◌, ◌≤ℤ◌, unsigned_abs}
 use Rattle.std.proofs.lemmas.List.{get_or_default}
-use Rattle.plane_predicate.specs.Space.{Coefficients, Coordinates, point_at, value, inner, through, opposite_of}
+use Rattle.plane_predicate.specs.Space.{Coefficients, Coordinates, point_at, value, inner_product, through, opposite_of}
 use Rattle.plane_predicate.proofs.IntegerRing.{sums, mul_comm_ℤ, mul_neg_left}
 use Rattle.plane_predicate.proofs.Opposites.{size_of_negative}
 use Rattle.plane_predicate.proofs.Polynomials.{var, num, plus, times, minus, ring}
 use Rattle.plane_predicate.proofs.Signs.{signs, neg_pos, most_most}
 use Rattle.plane_predicate.proofs.Vectors.{value-opposite}
-use Rattle.primitives.specs.Shapes.{Mesh, corner, value_at, IsFacePlane, IsOnOnePlane}
+use Rattle.primitives.specs.Shapes.{Mesh, corner, value_at, IsPlaneOfFace, IsOnOnePlane}
 use Rattle.primitives.proofs.FacePlanes.{found}
 use Rattle.primitives.specs.declared.ways.Way.{Way}
-use Rattle.primitives.specs.Bounding.{Bounds, IsBounded}
-use Rattle.primitives.specs.Checks.{HasOuterPlane, IsFlat}
+use Rattle.primitives.specs.Bounding.{IsOuterPlane, IsFaceOfBody}
+use Rattle.primitives.specs.Checks.{HasOuterPlane, IsFlatFace}
 use Rattle.primitives.specs.CornerPlanes.{IsCornerPlane}
 use Rattle.primitives.specs.Ways.{ways_of, IsClockwise}
 use Rattle.primitives.proofs.ThroughCorners.{flat_on, is_zero_or_not, proportion, spanned_directed, spanned_holds}
@@ -24,7 +24,7 @@ pub record AreInProportion (m n : Coefficients) : Type 0 where
 abbrev far : Coefficients → Coordinates
 far f = record { x = f.a; y = f.b; z = f.c; w = pos 0 }
 
-inner_is : (m f : Coefficients) → value m (far f) ≡ inner m f
+inner_is : (m f : Coefficients) → value m (far f) ≡ inner_product m f
 inner_is m f =
     ring (m.a ∷ m.b ∷ m.c ∷ m.d ∷ f.a ∷ f.b ∷ f.c ∷ [])
     (minus (plus (plus (times (var 0) (var 4)) (times (var 1) (var 5))) (times (var 2) (var 6))) (times (var 3) (num (pos 0))))
@@ -52,8 +52,8 @@ some_ahead mesh n f g i e hf here hi below =
     (f, g, hf, here, (i, get_or g i e, hi, get_or_default g i (get_or g i e) e hi, above_opposite n (corner mesh.points (get_or g i e)) below))
 
 -- a plane in proportion with a face's outer plane, where both are below 0 at some point of a face
-bounds_by : (mesh : Mesh) (face : List ℕ) (m n : Coefficients) → IsFacePlane mesh face m → IsClockwise mesh.points face m → AreInProportion m n → (f : ℕ) (d : List ℕ) (i e : ℕ) → f < length mesh.faces → i < length (get_or mesh.faces f d) →
-    value_at mesh.points m (get_or (get_or mesh.faces f d) i e) <ℤ pos 0 → value_at mesh.points n (get_or (get_or mesh.faces f d) i e) <ℤ pos 0 → Bounds mesh face n
+bounds_by : (mesh : Mesh) (face : List ℕ) (m n : Coefficients) → IsPlaneOfFace mesh face m → IsClockwise mesh.points face m → AreInProportion m n → (f : ℕ) (d : List ℕ) (i e : ℕ) → f < length mesh.faces → i < length (get_or mesh.faces f d) →
+    value_at mesh.points m (get_or (get_or mesh.faces f d) i e) <ℤ pos 0 → value_at mesh.points n (get_or (get_or mesh.faces f d) i e) <ℤ pos 0 → IsOuterPlane mesh face n
 bounds_by mesh face m n is clockwise prop f d i e hf hi hm hn =
     let g : List ℕ = get_or mesh.faces f d in
     let q = corner mesh.points (get_or g i e) in
@@ -65,7 +65,7 @@ bounds_by mesh face m n is clockwise prop f d i e hf hi hm hn =
       clockwise = λ k c lt j b lj.
           let w : Way = get_or (ways_of mesh.points face) k c in
           let t = through (point_at w.from) (point_at w.to) (corner mesh.points (get_or face j b)) in
-          most_by (inner m t) (inner n t) (value m q) (value n q) (ap (λ (z : ℤ). z *ℤ value n q) (sym (inner_is m t)) ∙ prop.values (far t) q ∙ ap (λ (z : ℤ). value m q *ℤ z) (inner_is n t)) hm hn (clockwise k c lt j b lj);
+          most_by (inner_product m t) (inner_product n t) (value m q) (value n q) (ap (λ (z : ℤ). z *ℤ value n q) (sym (inner_is m t)) ∙ prop.values (far t) q ∙ ap (λ (z : ℤ). value m q *ℤ z) (inner_is n t)) hm hn (clockwise k c lt j b lj);
     }
 
 times_opposite : (x y z w : ℤ) → x *ℤ y ≡ z *ℤ w → x *ℤ neg_ℤ y ≡ z *ℤ neg_ℤ w
@@ -83,7 +83,7 @@ below_by (pos (suc k)) h n = absurd (omega (arith, sums, h))
 below_by (negsuc k) h n = omega (arith, sums)
 
 -- where neither the spanned plane nor its opposite bounds, though the face has an outer plane, all points of the faces are on it
-pub one_plane : (mesh : Mesh) (face : List ℕ) (n : Coefficients) → IsCornerPlane mesh.points face n → (Bounds mesh face n → ⊥) → (Bounds mesh face (opposite_of n) → ⊥) → HasOuterPlane mesh face → IsOnOnePlane mesh
+pub one_plane : (mesh : Mesh) (face : List ℕ) (n : Coefficients) → IsCornerPlane mesh.points face n → (IsOuterPlane mesh face n → ⊥) → (IsOuterPlane mesh face (opposite_of n) → ⊥) → HasOuterPlane mesh face → IsOnOnePlane mesh
 one_plane mesh face n s first second o =
     let m = o.plane in
     let prop : AreInProportion m n = record { values = proportion mesh.points face m n o.is.on s } in
@@ -102,9 +102,9 @@ one_plane mesh face n s first second o =
     }
 
 -- a plane through a face that bounds makes it a bounded face
-pub bounded_by : (mesh : Mesh) (face : List ℕ) (k : Coefficients) → 0 < unsigned_abs k.a + unsigned_abs k.b + unsigned_abs k.c → All (λ (i : ℕ). value_at mesh.points k i ≡ pos 0) face → Bounds mesh face k → IsBounded mesh face
+pub bounded_by : (mesh : Mesh) (face : List ℕ) (k : Coefficients) → 0 < unsigned_abs k.a + unsigned_abs k.b + unsigned_abs k.c → All (λ (i : ℕ). value_at mesh.points k i ≡ pos 0) face → IsOuterPlane mesh face k → IsFaceOfBody mesh face
 bounded_by mesh face k directed on b =
-    let is : IsFacePlane mesh face k = record { directed = directed; on = on; none_ahead = b.none_ahead } in
+    let is : IsPlaneOfFace mesh face k = record { directed = directed; on = on; none_ahead = b.none_ahead } in
     let f = found (λ (i : ℕ). pos 0 <ℤ value_at mesh.points (opposite_of k) i) mesh.faces b.some_behind in
     record {
       outer = record { plane = k; is = is; clockwise = b.clockwise };
@@ -119,10 +119,10 @@ bounded_by mesh face k directed on b =
       };
     }
 
-pub bounded_spanned : (mesh : Mesh) (face : List ℕ) (n : Coefficients) → IsCornerPlane mesh.points face n → IsFlat mesh.points face → Bounds mesh face n → IsBounded mesh face
+pub bounded_spanned : (mesh : Mesh) (face : List ℕ) (n : Coefficients) → IsCornerPlane mesh.points face n → IsFlatFace mesh.points face → IsOuterPlane mesh face n → IsFaceOfBody mesh face
 bounded_spanned mesh face n s flat b = bounded_by mesh face n (spanned_directed mesh.points face n s) (flat_on mesh.points face n s flat) b
 
-pub bounded_opposite : (mesh : Mesh) (face : List ℕ) (n : Coefficients) → IsCornerPlane mesh.points face n → IsFlat mesh.points face → Bounds mesh face (opposite_of n) → IsBounded mesh face
+pub bounded_opposite : (mesh : Mesh) (face : List ℕ) (n : Coefficients) → IsCornerPlane mesh.points face n → IsFlatFace mesh.points face → IsOuterPlane mesh face (opposite_of n) → IsFaceOfBody mesh face
 bounded_opposite mesh face n s flat b =
     bounded_by mesh face (opposite_of n) (omega (arith, spanned_directed mesh.points face n s, size_of_negative n.a, size_of_negative n.b, size_of_negative n.c))
     (λ k d lt. value-opposite n (corner mesh.points (get_or face k d)) ∙ ap neg_ℤ (flat_on mesh.points face n s flat k d lt)) b

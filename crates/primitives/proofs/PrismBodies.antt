@@ -6,10 +6,10 @@ use Rattle.std.proofs.lemmas.List.FromFn.{get_or-range_with_len, length-range_wi
 use Rattle.plane_predicate.specs.Space.{Coefficients, Coordinates, point_at, value, AreCollinear}
 use Rattle.plane_predicate.proofs.IntegerRing.{sums}
 use Rattle.int_transform.specs.Maps.{HasSafeCoordinates}
-use Rattle.primitives.specs.Shapes.{corner, value_at, IsFace, IsShape}
+use Rattle.primitives.specs.Shapes.{corner, value_at, IsFaceOfShape, IsShape}
 use Rattle.primitives.proofs.Moves.{whole}
 use Rattle.primitives.specs.Sizes.{IsSafe}
-use Rattle.primitives.specs.Polygons.{x_of, y_of, orientation, after, point, HasCorner, IsFlat, IsSafePoint}
+use Rattle.primitives.specs.Polygons.{x_of, y_of, orientation, next_point, point, HasCorner, IsFlatShape, IsSafePoint}
 use Rattle.primitives.specs.Prisms.{at_height, is_same_point, prism_faces, prism_of, prism_points, sides_over}
 use Rattle.primitives.proofs.Bodies.{HasFar, IsOutside, outside_is_face}
 use Rattle.primitives.proofs.BoxBodies.{low_z, high_z, same_on, most_within, less_behind}
@@ -34,7 +34,7 @@ prism_there : (points : List (List ℤ)) (low high : ℤ) → All (λ (f : List 
 prism_there points low high =
     let n = length points in let m = length (prism_points points low high) in let e = length_points points low high in
     all_faces (λ (f : List ℕ). All (λ (i : ℕ). i < m) f) points
-    (all_sides (λ (f : List ℕ). All (λ (i : ℕ). i < m) f) points (λ i lt apart. side_there n m i (after n i) lt (after_in n i lt) e))
+    (all_sides (λ (f : List ℕ). All (λ (i : ℕ). i < m) f) points (λ i lt apart. side_there n m i (next_point n i) lt (after_in n i lt) e))
     (low_there n m e)
     (high_there n m e)
 
@@ -184,9 +184,9 @@ high_outside points low high lt three =
     }
 
 -- ---- the whole
-way_outside : (points : List (List ℤ)) (low high : ℤ) → low <ℤ high → IsFlat points → (i : ℕ) → i < length points → is_same_point (point points i) (point points (after (length points) i)) ≡ false → IsOutside (prism_of points low high) (side_face (length points) i (after (length points) i))
+way_outside : (points : List (List ℤ)) (low high : ℤ) → low <ℤ high → IsFlatShape points → (i : ℕ) → i < length points → is_same_point (point points i) (point points (next_point (length points) i)) ≡ false → IsOutside (prism_of points low high) (side_face (length points) i (next_point (length points) i))
 way_outside points low high lt h i hi apart =
-    let j = after (length points) i in let hj = after_in (length points) i hi in
+    let j = next_point (length points) i in let hj = after_in (length points) i hi in
     let p = point points i in let q = point points j in
     let d = points_differ p q apart in
     elim h.convex.goes [
@@ -194,11 +194,11 @@ way_outside points low high lt h i hi apart =
       | inr right ↦ side_outside points low high i j q p lt h.convex.corner hi hj d (differ_back p q d) (turn_second q p) (turn_first q p) (right i hi)
     ]
 
-prism_sides : (points : List (List ℤ)) (low high : ℤ) → low <ℤ high → IsFlat points → All (IsFace (prism_of points low high)) (prism_faces points)
+prism_sides : (points : List (List ℤ)) (low high : ℤ) → low <ℤ high → IsFlatShape points → All (IsFaceOfShape (prism_of points low high)) (prism_faces points)
 prism_sides points low high lt h =
     let mesh = prism_of points low high in let there = prism_there points low high in
-    all_faces (IsFace mesh) points
-    (all_sides (IsFace mesh) points (λ i hi apart. outside_is_face mesh there (side_face (length points) i (after (length points) i)) (way_outside points low high lt h i hi apart)))
+    all_faces (IsFaceOfShape mesh) points
+    (all_sides (IsFaceOfShape mesh) points (λ i hi apart. outside_is_face mesh there (side_face (length points) i (next_point (length points) i)) (way_outside points low high lt h i hi apart)))
     (outside_is_face mesh there (range_with_len 0 (length points)) (low_outside points low high lt h.convex.corner))
     (outside_is_face mesh there (range_with_len (length points) (length points)) (high_outside points low high lt h.convex.corner))
 
@@ -208,7 +208,7 @@ safe_corner z h p s = record { x_size = s.x_safe.size; y_size = s.y_safe.size; z
 safe_end : (points : List (List ℤ)) (z : ℤ) → IsSafe z → All IsSafePoint points → All (λ (p : List ℤ). HasSafeCoordinates (point_at p)) (map (at_height z) points)
 safe_end points z h s = All-map (λ (p : List ℤ). HasSafeCoordinates (point_at p)) (at_height z) points (All-weaker IsSafePoint (λ (p : List ℤ). HasSafeCoordinates (point_at (at_height z p))) (safe_corner z h) points s)
 
-pub prism_is_shape : (points : List (List ℤ)) (low high : ℤ) → AreEnds low high → IsFlat points → IsShape (prism_of points low high)
+pub prism_is_shape : (points : List (List ℤ)) (low high : ℤ) → AreEnds low high → IsFlatShape points → IsShape (prism_of points low high)
 prism_is_shape points low high ends h = record {
   some = omega (arith, length_faces points);
   faces = prism_sides points low high ends.apart h;

@@ -9,7 +9,7 @@ use Rattle.std.proofs.lemmas.List.FromFn.{get_or-range_with_len, length-range_wi
 use Rattle.plane_predicate.specs.Space.{point_at}
 use Rattle.primitives.specs.Shapes.{corner}
 use Rattle.primitives.proofs.Moves.{whole}
-use Rattle.primitives.specs.Polygons.{x_of, y_of, after, point}
+use Rattle.primitives.specs.Polygons.{x_of, y_of, next_point, point}
 use Rattle.primitives.specs.Prisms.{at_height, is_same_point, side_over, sides_over, prism_faces, prism_points}
 
 -- ---- the corners
@@ -56,13 +56,13 @@ abbrev pub side_face : ℕ → ℕ → ℕ → List ℕ
 side_face n i j = i ∷ j ∷ (n + j) ∷ (n + i) ∷ []
 
 -- the side over point i, with i as an item of the range
-all_from_zero : (P : List ℕ → Type 0) (points : List (List ℤ)) → ((i : ℕ) → i < length points → is_same_point (point points i) (point points (after (length points) i)) ≡ false → P (side_face (length points) i (after (length points) i))) → (i : ℕ) → i < length points → All P (side_over points (0 + i))
+all_from_zero : (P : List ℕ → Type 0) (points : List (List ℤ)) → ((i : ℕ) → i < length points → is_same_point (point points i) (point points (next_point (length points) i)) ≡ false → P (side_face (length points) i (next_point (length points) i))) → (i : ℕ) → i < length points → All P (side_over points (0 + i))
 all_from_zero P points h i lt =
     let e : i ≡ 0 + i = omega arith in
     subst (λ (k : ℕ). All P (side_over points k)) e
-    (all_cond P (side_face (length points) i (after (length points) i)) (is_same_point (point points i) (point points (after (length points) i))) (h i lt))
+    (all_cond P (side_face (length points) i (next_point (length points) i)) (is_same_point (point points i) (point points (next_point (length points) i))) (h i lt))
 
-pub all_sides : (P : List ℕ → Type 0) (points : List (List ℤ)) → ((i : ℕ) → i < length points → is_same_point (point points i) (point points (after (length points) i)) ≡ false → P (side_face (length points) i (after (length points) i))) → All P (sides_over points (length points))
+pub all_sides : (P : List ℕ → Type 0) (points : List (List ℤ)) → ((i : ℕ) → i < length points → is_same_point (point points i) (point points (next_point (length points) i)) ≡ false → P (side_face (length points) i (next_point (length points) i))) → All P (sides_over points (length points))
 all_sides P points h =
     all_flat_map P (side_over points) (range_with_len 0 (length points))
     (all_range (λ (i : ℕ). All P (side_over points i)) 0 (length points) (λ i lt. all_from_zero P points h i lt))
@@ -86,7 +86,7 @@ after_case : (n i : ℕ) → i < n → (b : Bool) → eqb (suc i) n ≡ b → co
 after_case n i lt true e = omega arith
 after_case n i lt false e = let apart = eqb-false (suc i) n e in omega (arith, apart)
 
-pub after_in : (n i : ℕ) → i < n → after n i < n
+pub after_in : (n i : ℕ) → i < n → next_point n i < n
 after_in n i lt = after_case n i lt (eqb (suc i) n) refl
 
 -- ---- the steps of the loops
@@ -111,17 +111,17 @@ sides_next points i =
     ∙ ap (λ (fs : List (List ℕ)). sides_over points i ++ fs) (append-nil (side_over points (0 + i)) ∙ ap (side_over points) e)
 
 -- the side over one more point
-pub side_added : (points : List (List ℤ)) (i j : ℕ) (sides more : List (List ℕ)) (face : List ℕ) → sides ≡ sides_over points i → j ≡ after (length points) i → face ≡ side_face (length points) i j → is_same_point (point points i) (point points j) ≡ false → more ≡ sides ++ face ∷ [] → more ≡ sides_over points (i + 1)
+pub side_added : (points : List (List ℤ)) (i j : ℕ) (sides more : List (List ℕ)) (face : List ℕ) → sides ≡ sides_over points i → j ≡ next_point (length points) i → face ≡ side_face (length points) i j → is_same_point (point points i) (point points j) ≡ false → more ≡ sides ++ face ∷ [] → more ≡ sides_over points (i + 1)
 side_added points i j sides more face es ej ef apart em =
     let n = length points in
-    let fixed : is_same_point (point points i) (point points (after n i)) ≡ false = subst (λ (k : ℕ). is_same_point (point points i) (point points k) ≡ false) ej apart in
-    let over : side_over points i ≡ face ∷ [] = ap (λ (b : Bool). cond b [] (side_face n i (after n i) ∷ [])) fixed ∙ ap (λ (f : List ℕ). f ∷ []) (sym (ef ∙ ap (side_face n i) ej)) in
+    let fixed : is_same_point (point points i) (point points (next_point n i)) ≡ false = subst (λ (k : ℕ). is_same_point (point points i) (point points k) ≡ false) ej apart in
+    let over : side_over points i ≡ face ∷ [] = ap (λ (b : Bool). cond b [] (side_face n i (next_point n i) ∷ [])) fixed ∙ ap (λ (f : List ℕ). f ∷ []) (sym (ef ∙ ap (side_face n i) ej)) in
     em ∙ ap₂ (λ (xs ys : List (List ℕ)). xs ++ ys) es (sym over) ∙ sym (sides_next points i)
 
 -- no side over one more point, which is the same as the next one
-pub side_skipped : (points : List (List ℤ)) (i j : ℕ) (sides more : List (List ℕ)) → sides ≡ sides_over points i → j ≡ after (length points) i → is_same_point (point points i) (point points j) ≡ true → more ≡ sides → more ≡ sides_over points (i + 1)
+pub side_skipped : (points : List (List ℤ)) (i j : ℕ) (sides more : List (List ℕ)) → sides ≡ sides_over points i → j ≡ next_point (length points) i → is_same_point (point points i) (point points j) ≡ true → more ≡ sides → more ≡ sides_over points (i + 1)
 side_skipped points i j sides more es ej same em =
     let n = length points in
-    let fixed : is_same_point (point points i) (point points (after n i)) ≡ true = subst (λ (k : ℕ). is_same_point (point points i) (point points k) ≡ true) ej same in
-    let over : side_over points i ≡ [] = ap (λ (b : Bool). cond b [] (side_face n i (after n i) ∷ [])) fixed in
+    let fixed : is_same_point (point points i) (point points (next_point n i)) ≡ true = subst (λ (k : ℕ). is_same_point (point points i) (point points k) ≡ true) ej same in
+    let over : side_over points i ≡ [] = ap (λ (b : Bool). cond b [] (side_face n i (next_point n i) ∷ [])) fixed in
     em ∙ es ∙ sym (append-nil (sides_over points i)) ∙ ap (λ (xs : List (List ℕ)). sides_over points i ++ xs) (sym over) ∙ sym (sides_next points i)

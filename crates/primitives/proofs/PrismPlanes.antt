@@ -5,7 +5,7 @@ use Rattle.std.proofs.lemmas.List.FromFn.{get_or-range_with_len, length-range_wi
 use Rattle.plane_predicate.specs.Space.{Coefficients, point_at, value}
 use Rattle.int_transform.specs.declared.affine.Affine.{Affine}
 use Rattle.int_transform.specs.Maps.{coordinates, image}
-use Rattle.primitives.specs.Shapes.{Mesh, value_at, IsFacePlane}
+use Rattle.primitives.specs.Shapes.{Mesh, value_at, IsPlaneOfFace}
 use Rattle.primitives.specs.Placing.{moved_mesh, ArePlanesOf}
 use Rattle.primitives.proofs.Distinct.{all_of_distinct}
 use Rattle.primitives.proofs.Lists.{zip_second}
@@ -19,7 +19,7 @@ abbrev IsAtMost : Mesh → Coefficients → ℕ → Type 0
 IsAtMost mesh m i = value_at mesh.points m i ≤ℤ pos 0
 
 -- the corners of the ends, which are faces
-low_most : (f : Affine) (points : List (List ℤ)) (low high : ℤ) (face : List ℕ) (m : Coefficients) → IsFacePlane (moved_mesh f (prism_of points low high)) face m → (i : ℕ) → i < length points → IsAtMost (moved_mesh f (prism_of points low high)) m i
+low_most : (f : Affine) (points : List (List ℤ)) (low high : ℤ) (face : List ℕ) (m : Coefficients) → IsPlaneOfFace (moved_mesh f (prism_of points low high)) face m → (i : ℕ) → i < length points → IsAtMost (moved_mesh f (prism_of points low high)) m i
 low_most f points low high face m is i lt =
     let n = length points in
     let e : 0 + i ≡ i = omega arith in
@@ -30,7 +30,7 @@ low_most f points low high face m is i lt =
     subst (IsAtMost (moved_mesh f (prism_of points low high)) m) at
     (is.none_ahead (length (sides_over points n) + 0) [] (omega (arith, length_faces points)) i 0 within)
 
-high_most : (f : Affine) (points : List (List ℤ)) (low high : ℤ) (face : List ℕ) (m : Coefficients) → IsFacePlane (moved_mesh f (prism_of points low high)) face m → (i : ℕ) → i < length points → IsAtMost (moved_mesh f (prism_of points low high)) m (length points + i)
+high_most : (f : Affine) (points : List (List ℤ)) (low high : ℤ) (face : List ℕ) (m : Coefficients) → IsPlaneOfFace (moved_mesh f (prism_of points low high)) face m → (i : ℕ) → i < length points → IsAtMost (moved_mesh f (prism_of points low high)) m (length points + i)
 high_most f points low high face m is i lt =
     let n = length points in
     let at : get_or (get_or (prism_faces points) (length (sides_over points n) + 1) []) i 0 ≡ n + i =
@@ -40,7 +40,7 @@ high_most f points low high face m is i lt =
     subst (IsAtMost (moved_mesh f (prism_of points low high)) m) at
     (is.none_ahead (length (sides_over points n) + 1) [] (omega (arith, length_faces points)) i 0 within)
 
-each_behind : (f : Affine) (points : List (List ℤ)) (low high : ℤ) (face : List ℕ) (m : Coefficients) → IsFacePlane (moved_mesh f (prism_of points low high)) face m → AreBehind (moved_mesh f (prism_of points low high)) m
+each_behind : (f : Affine) (points : List (List ℤ)) (low high : ℤ) (face : List ℕ) (m : Coefficients) → IsPlaneOfFace (moved_mesh f (prism_of points low high)) face m → AreBehind (moved_mesh f (prism_of points low high)) m
 each_behind f points low high face m is =
     let n = length points in
     let mesh = moved_mesh f (prism_of points low high) in
@@ -52,5 +52,5 @@ each_behind f points low high face m is =
 pub prism_behind : (f : Affine) (points : List (List ℤ)) (low high : ℤ) (planes : List Coefficients) → ArePlanesOf (moved_mesh f (prism_of points low high)) (prism_faces points) planes → AreBehindOrOn (moved_mesh f (prism_of points low high)).points planes
 prism_behind f points low high planes are =
     let mesh = moved_mesh f (prism_of points low high) in
-    let each : All (AreBehind mesh) are.all = zip_second (IsFacePlane mesh) (λ (face : List ℕ). Unit) (AreBehind mesh) (λ face m is t. each_behind f points low high face m is) mesh.faces are.all are.each (λ k d lt. tt) in
+    let each : All (AreBehind mesh) are.all = zip_second (IsPlaneOfFace mesh) (λ (face : List ℕ). Unit) (AreBehind mesh) (λ face m is t. each_behind f points low high face m is) mesh.faces are.all are.each (λ k d lt. tt) in
     subst (All (AreBehind mesh)) (sym are.first) (all_of_distinct (AreBehind mesh) are.all each)

@@ -7,7 +7,7 @@ use Rattle.plane_predicate.proofs.Polynomials.{Poly, var, minus, times, ring}
 use Rattle.plane_predicate.proofs.Signs.{least_least, pos_pos}
 use Rattle.plane_predicate.proofs.Vectors.{minorP}
 use Rattle.primitives.specs.Sizes.{AreSizes}
-use Rattle.primitives.specs.Polygons.{orientation, rectangle_of, square_of, GoesLeft, IsConvex, IsFlat, IsSafePoint}
+use Rattle.primitives.specs.Polygons.{orientation, rectangle_of, square_of, GoesLeft, IsConvex, IsFlatShape, IsSafePoint}
 use Rattle.primitives.proofs.EndFaces.{AreEnds, ends_of_side}
 
 abbrev turnP : Poly → Poly → Poly → Poly → Poly → Poly → Poly
@@ -69,7 +69,7 @@ rectangle_convex a b c d hx hy = record {
   corner = record { first = 0; second = 1; third = 2; first_in = omega arith; second_in = omega arith; third_in = omega arith; apart = some_turn _ a b c d (low_way a b c b d) hx hy };
 }
 
-rectangle_is_flat : (a b c d : ℤ) → AreEnds a b → AreEnds c d → IsFlat (rectangle_of a b c d)
+rectangle_is_flat : (a b c d : ℤ) → AreEnds a b → AreEnds c d → IsFlatShape (rectangle_of a b c d)
 rectangle_is_flat a b c d x y = record {
   most = omega arith;
   convex = rectangle_convex a b c d x.apart y.apart;
@@ -80,7 +80,7 @@ rectangle_is_flat a b c d x y = record {
 pub same_rectangle : (a b c d e f g h : ℤ) → a ≡ e → b ≡ f → c ≡ g → d ≡ h → rectangle_of a b c d ≡ rectangle_of e f g h
 same_rectangle a b c d e f g h ha hb hc hd = λ i. rectangle_of (ha i) (hb i) (hc i) (hd i)
 
-pub square_is_flat : (unit : LengthUnit) (center : Bool) (size : List ℤ) → 2 ≤ length size → AreSizes unit center size → IsFlat (square_of unit center size)
+pub square_is_flat : (unit : LengthUnit) (center : Bool) (size : List ℤ) → 2 ≤ length size → AreSizes unit center size → IsFlatShape (square_of unit center size)
 square_is_flat unit center size two h =
     rectangle_is_flat _ _ _ _
     (ends_of_side unit center (get_or size 0 (pos 0)) (h.long 0 (pos 0) (omega (arith, two))) (h.safe 0 (pos 0) (omega (arith, two))))

@@ -12,7 +12,7 @@ use Rattle.std.specs.declared.cmp.Ordering.{Ordering}
 use Rattle.std.specs.declared.cmp.Ordering.TheVariants.{Equal, Less, Greater}
 use Rattle.std.proofs.lemmas.Map.Lookups.{exact_signed}
 use Rattle.primitives.specs.declared.ways.Way.{Way}
-use Rattle.primitives.specs.Ways.{nowhere, turned, AreDifferentBelow, AreDifferent, AreMetBothWays, IsMet, IsMetBelow, IsMetOnce}
+use Rattle.primitives.specs.Ways.{missing_way, reversed_way, AreDifferentBelow, AreDifferent, AreMetBothWays, IsMet, IsMetBelow, IsMetOnce}
 
 -- an order that tells ways apart
 pub record TellsApart (R : Way → Way → Ordering) : Type 0 where
@@ -30,7 +30,7 @@ pub record HasFirst (R : Way → Way → Ordering) (s : BTreeSet Way) (ways : Li
   pub different : AreDifferentBelow ways n
 
 -- one more way, which is new
-next_found : (R : Way → Way → Ordering) (s n : BTreeSet Way) (ways : List Way) (i : ℕ) (k w : Way) → TellsApart R → get_or ways i nowhere ≡ k → HasFirst R s ways i → (b : Bool) → is_at (R k) w ≡ b → contains R n w ≡ cond b true (contains R s w) → IsTrue (contains R n w) → IsMetBelow ways (i + 1) w
+next_found : (R : Way → Way → Ordering) (s n : BTreeSet Way) (ways : List Way) (i : ℕ) (k w : Way) → TellsApart R → get_or ways i missing_way ≡ k → HasFirst R s ways i → (b : Bool) → is_at (R k) w ≡ b → contains R n w ≡ cond b true (contains R s w) → IsTrue (contains R n w) → IsMetBelow ways (i + 1) w
 next_found R s n ways i k w tells e h true same u t = record { at = i; at_in = omega arith; is = e ∙ tells.exact k w (tells_equal (R k w) same) }
 next_found R s n ways i k w tells e h false same u t =
     let m : IsMetBelow ways i w = (h.found w).0 (sym u ∙ t) in
@@ -47,9 +47,9 @@ cond_there : (b c : Bool) → c ≡ true → cond b true c ≡ true
 cond_there true c h = refl
 cond_there false c h = h
 
-last_or_before : (R : Way → Way → Ordering) (s n : BTreeSet Way) (ways : List Way) (i : ℕ) (k w : Way) → TellsApart R → get_or ways i nowhere ≡ k → HasFirst R s ways i → contains R n w ≡ cond (is_at (R k) w) true (contains R s w) → (m : IsMetBelow ways (i + 1) w) → (m.at ≡ i) ⊎ (m.at < i) → IsTrue (contains R n w)
+last_or_before : (R : Way → Way → Ordering) (s n : BTreeSet Way) (ways : List Way) (i : ℕ) (k w : Way) → TellsApart R → get_or ways i missing_way ≡ k → HasFirst R s ways i → contains R n w ≡ cond (is_at (R k) w) true (contains R s w) → (m : IsMetBelow ways (i + 1) w) → (m.at ≡ i) ⊎ (m.at < i) → IsTrue (contains R n w)
 last_or_before R s n ways i k w tells e h u m (inl here) =
-    let same : k ≡ w = sym e ∙ ap (λ (j : ℕ). get_or ways j nowhere) (sym here) ∙ m.is in
+    let same : k ≡ w = sym e ∙ ap (λ (j : ℕ). get_or ways j missing_way) (sym here) ∙ m.is in
     u ∙ cond_here (is_at (R k) w) (contains R s w) (subst (λ (v : Way). is_at (R k) v ≡ true) same (itself_at R k tells))
 last_or_before R s n ways i k w tells e h u m (inr before) =
     u ∙ cond_there (is_at (R k) w) (contains R s w) ((h.found w).1 (record { at = m.at; at_in = before; is = m.is }))
@@ -58,23 +58,23 @@ at_or_below : (a i : ℕ) → a < i + 1 → (a ≡ i) ⊎ (a < i)
 at_or_below a i h = elim (cases_lt a i) [ inl l ↦ inr l | inr g ↦ inl (omega (arith, h, g)) ]
 
 -- no two of them are the same, since the new one is not among those before it
-next_different : (R : Way → Way → Ordering) (s : BTreeSet Way) (ways : List Way) (i : ℕ) → HasFirst R s ways i → contains R s (get_or ways i nowhere) ≡ false → AreDifferentBelow ways (i + 1)
+next_different : (R : Way → Way → Ordering) (s : BTreeSet Way) (ways : List Way) (i : ℕ) → HasFirst R s ways i → contains R s (get_or ways i missing_way) ≡ false → AreDifferentBelow ways (i + 1)
 next_different R s ways i h new =
-    let not_before : (a : ℕ) → a < i → get_or ways a nowhere ≡ get_or ways i nowhere → ⊥ = λ a lt e. true≢false (sym ((h.found (get_or ways i nowhere)).1 (record { at = a; at_in = lt; is = e })) ∙ new) in
+    let not_before : (a : ℕ) → a < i → get_or ways a missing_way ≡ get_or ways i missing_way → ⊥ = λ a lt e. true≢false (sym ((h.found (get_or ways i missing_way)).1 (record { at = a; at_in = lt; is = e })) ∙ new) in
     record {
       same = λ a b la lb e. elim (at_or_below a i la) [
         | inl here ↦ elim (at_or_below b i lb) [
           | inl there ↦ here ∙ sym there
-          | inr before ↦ absurd (not_before b before (sym e ∙ ap (λ (j : ℕ). get_or ways j nowhere) here))
+          | inr before ↦ absurd (not_before b before (sym e ∙ ap (λ (j : ℕ). get_or ways j missing_way) here))
         ]
         | inr before ↦ elim (at_or_below b i lb) [
-          | inl there ↦ absurd (not_before a before (e ∙ ap (λ (j : ℕ). get_or ways j nowhere) there))
+          | inl there ↦ absurd (not_before a before (e ∙ ap (λ (j : ℕ). get_or ways j missing_way) there))
           | inr both ↦ h.different.same a b before both e
         ]
       ];
     }
 
-pub has_next : (R : Way → Way → Ordering) (s n : BTreeSet Way) (ways : List Way) (i : ℕ) (k : Way) → TellsApart R → get_or ways i nowhere ≡ k → HasFirst R s ways i → contains R s k ≡ false → ((w : Way) → contains R n w ≡ cond (is_at (R k) w) true (contains R s w)) → HasFirst R n ways (i + 1)
+pub has_next : (R : Way → Way → Ordering) (s n : BTreeSet Way) (ways : List Way) (i : ℕ) (k : Way) → TellsApart R → get_or ways i missing_way ≡ k → HasFirst R s ways i → contains R s k ≡ false → ((w : Way) → contains R n w ≡ cond (is_at (R k) w) true (contains R s w)) → HasFirst R n ways (i + 1)
 has_next R s n ways i k tells e h new updates = record {
   found = λ w. (next_found R s n ways i k w tells e h (is_at (R k) w) refl (updates w), λ m. last_or_before R s n ways i k w tells e h (updates w) m (at_or_below m.at i m.at_in));
   different = next_different R s ways i h (subst (λ (v : Way). contains R s v ≡ false) (sym e) new);
@@ -87,9 +87,9 @@ has_none R s ways h = record {
 }
 
 -- a way that is met again
-pub met_again : (R : Way → Way → Ordering) (s : BTreeSet Way) (ways : List Way) (i : ℕ) → i < length ways → HasFirst R s ways i → IsTrue (contains R s (get_or ways i nowhere)) → AreDifferent ways → ⊥
+pub met_again : (R : Way → Way → Ordering) (s : BTreeSet Way) (ways : List Way) (i : ℕ) → i < length ways → HasFirst R s ways i → IsTrue (contains R s (get_or ways i missing_way)) → AreDifferent ways → ⊥
 met_again R s ways i lt h there d =
-    let m = (h.found (get_or ways i nowhere)).0 there in
+    let m = (h.found (get_or ways i missing_way)).0 there in
     let e : m.at ≡ i = d.same m.at i (omega (arith, m.at_in, lt)) lt m.is in
     omega (arith, e, m.at_in)
 
@@ -138,19 +138,19 @@ pub ways_apart : TellsApart cmp-value.it
 ways_apart = record { exact = exact_way; itself = way_itself }
 
 -- ---- ways that are met both ways
-pub met_both_ways : (R : Way → Way → Ordering) (s : BTreeSet Way) (ways : List Way) → ((w : Way) → IsTrue (contains R s w) ↔ IsMet ways w) → AreDifferent ways → All (λ (w : Way). IsTrue (contains R s (turned w))) ways → AreMetBothWays ways
+pub met_both_ways : (R : Way → Way → Ordering) (s : BTreeSet Way) (ways : List Way) → ((w : Way) → IsTrue (contains R s w) ↔ IsMet ways w) → AreDifferent ways → All (λ (w : Way). IsTrue (contains R s (reversed_way w))) ways → AreMetBothWays ways
 met_both_ways R s ways found d h =
     let once : (w : Way) → IsMet ways w → IsMetOnce ways w = λ w m. record { at = m.at; at_in = m.at_in; is = m.is; only = λ k lt e. d.same k m.at lt m.at_in (e ∙ sym m.is) } in
-    λ k e lt. (once (get_or ways k e) (record { at = k; at_in = lt; is = get_or_default ways k nowhere e lt }), once (turned (get_or ways k e)) ((found (turned (get_or ways k e))).0 (h k e lt)))
+    λ k e lt. (once (get_or ways k e) (record { at = k; at_in = lt; is = get_or_default ways k missing_way e lt }), once (reversed_way (get_or ways k e)) ((found (reversed_way (get_or ways k e))).0 (h k e lt)))
 
-pub all_met_back : (R : Way → Way → Ordering) (s : BTreeSet Way) (ways : List Way) → ((w : Way) → IsTrue (contains R s w) ↔ IsMet ways w) → AreMetBothWays ways → All (λ (w : Way). IsTrue (contains R s (turned w))) ways
+pub all_met_back : (R : Way → Way → Ordering) (s : BTreeSet Way) (ways : List Way) → ((w : Way) → IsTrue (contains R s w) ↔ IsMet ways w) → AreMetBothWays ways → All (λ (w : Way). IsTrue (contains R s (reversed_way w))) ways
 all_met_back R s ways found h = λ k e lt.
     let m = (h k e lt).1 in
-    (found (turned (get_or ways k e))).1 (record { at = m.at; at_in = m.at_in; is = m.is })
+    (found (reversed_way (get_or ways k e))).1 (record { at = m.at; at_in = m.at_in; is = m.is })
 
 pub are_different : (ways : List Way) → AreMetBothWays ways → AreDifferent ways
 are_different ways h = record {
   same = λ i j li lj e.
-      let m = (h i nowhere li).0 in
+      let m = (h i missing_way li).0 in
       m.only i li refl ∙ sym (m.only j lj (sym e));
 }

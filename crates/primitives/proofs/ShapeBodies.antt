@@ -6,8 +6,8 @@ use Rattle.plane_predicate.specs.Space.{Coordinates, point_at, IsInReach}
 use Rattle.plane_predicate.proofs.IntegerRing.{sums}
 use Rattle.plane_predicate.proofs.Signs.{signs}
 use Rattle.int_transform.specs.Maps.{HasSafeCoordinates}
-use Rattle.primitives.specs.Shapes.{Mesh, value_at, HasBodyBehind, HasFreeSide, IsFacePlane, IsInRange, IsShape, MakesShape}
-use Rattle.primitives.specs.GridSizes.{IsOnGrid}
+use Rattle.primitives.specs.Shapes.{Mesh, value_at, HasBodyBehind, HasFreeSide, IsPlaneOfFace, IsInRange, IsShape, MakesShape}
+use Rattle.primitives.specs.GridSizes.{IsWithinGridLimits}
 
 -- a corner at which a number isn't 0
 pub record IsOther (f : ℕ → ℤ) (face : List ℕ) : Type 0 where
@@ -46,7 +46,7 @@ other_face f (g ∷ faces) = elim (other_corner f g) [
 below_by : (x : ℤ) → x ≤ℤ pos 0 → (x ≡ pos 0 → ⊥) → x <ℤ pos 0
 below_by x h n = elim (signs x) [ inl below ↦ below | inr other ↦ elim other [ inl none ↦ absurd (n none) | inr above ↦ absurd (omega (arith, sums, h, above)) ] ]
 
-face_plane : (mesh : Mesh) → MakesShape mesh → (face : List ℕ) (s : HasFreeSide mesh.points face) → IsFacePlane mesh face s.plane
+face_plane : (mesh : Mesh) → MakesShape mesh → (face : List ℕ) (s : HasFreeSide mesh.points face) → IsPlaneOfFace mesh face s.plane
 face_plane mesh m face s = record { directed = s.directed; on = s.on; none_ahead = λ f d hf i e hi. s.none_ahead (get_or (get_or mesh.faces f d) i e) [] (m.there f d hf i e hi) }
 
 has_body : (mesh : Mesh) → MakesShape mesh → (face : List ℕ) → HasFreeSide mesh.points face → HasBodyBehind mesh face
@@ -80,11 +80,11 @@ shape_of mesh m = record {
 }
 
 -- points within reach, and in range, are on the grid
-grid_by : (p : List ℤ) → IsInReach (point_at p) → IsOnGrid (point_at p)
+grid_by : (p : List ℤ) → IsInReach (point_at p) → IsWithinGridLimits (point_at p)
 grid_by p h = record { x_size = omega (arith, h.x_size); y_size = omega (arith, h.y_size); z_size = omega (arith, h.z_size) }
 
-pub reach_on_grid : (points : List (List ℤ)) → All (λ p. IsInReach (point_at p)) points → All (λ p. IsOnGrid (point_at p)) points
+pub reach_on_grid : (points : List (List ℤ)) → All (λ p. IsInReach (point_at p)) points → All (λ p. IsWithinGridLimits (point_at p)) points
 reach_on_grid points h = λ k d lt. grid_by (get_or points k d) (h k d lt)
 
-pub range_on_grid : (points : List (List ℤ)) → All (λ p. IsInRange (point_at p)) points → All (λ p. IsOnGrid (point_at p)) points
+pub range_on_grid : (points : List (List ℤ)) → All (λ p. IsInRange (point_at p)) points → All (λ p. IsWithinGridLimits (point_at p)) points
 range_on_grid points h = λ k d lt. (let r = h k d lt in record { x_size = omega (arith, r.x_size); y_size = omega (arith, r.y_size); z_size = omega (arith, r.z_size) })

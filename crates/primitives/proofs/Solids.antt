@@ -6,13 +6,13 @@ use Rattle.primitives.specs.Shapes.{Mesh, corner, value_at, HasBodyBehind, HasTr
 use Rattle.primitives.proofs.Moves.{cancelled}
 use Rattle.plane_predicate.proofs.IntegerRing.{mul_comm_ℤ, zero_mul}
 use Rattle.primitives.proofs.OnePlane.{nowhere, not_zero_below}
-use Rattle.primitives.specs.Bounding.{IsBounded}
+use Rattle.primitives.specs.Bounding.{IsFaceOfBody}
 use Rattle.std.proofs.lemmas.List.{length-map}
 use Rattle.plane_predicate.specs.declared.unit.Unit.{Unit as LengthUnit}
 use Rattle.primitives.specs.Polyhedra.{mesh_of, IsPolyhedron}
 use Rattle.primitives.proofs.PolyhedronGrids.{are_on_grid}
-use Rattle.primitives.specs.Checks.{grid_steps, AreThere, IsConvex, IsFlat}
-use Rattle.primitives.specs.GridSizes.{IsOnGrid}
+use Rattle.primitives.specs.Checks.{grid_steps, AreCornersThere, IsConvex, IsFlatFace}
+use Rattle.primitives.specs.GridSizes.{IsWithinGridLimits}
 use Rattle.primitives.specs.CornerPlanes.{IsCornerPlane}
 use Rattle.primitives.proofs.ThroughCorners.{no_size, proportion, spanned, spanned_directed, spanned_holds}
 
@@ -32,17 +32,17 @@ not_one_plane mesh face t b k directed on all =
     let none = nowhere n everywhere in
     no_size n.a n.b n.c (spanned_directed mesh.points face n s) none.0 none.1 none.2
 
-pub convex_by : (mesh : Mesh) → 0 < length mesh.faces → All (IsFlat mesh.points) mesh.faces → All (IsBounded mesh) mesh.faces → IsConvex mesh
+pub convex_by : (mesh : Mesh) → 0 < length mesh.faces → All (IsFlatFace mesh.points) mesh.faces → All (IsFaceOfBody mesh) mesh.faces → IsConvex mesh
 convex_by mesh some flat h = record {
   faces = λ k d lt. (h k d lt).outer;
   solid = λ p. not_one_plane mesh (get_or mesh.faces 0 []) (flat 0 [] some).triangle (h 0 [] some).body p.plane p.directed (p.on 0 [] some) p.on;
 }
 
-safe_by : (p : Coordinates) → IsOnGrid p → HasSafeCoordinates p
+safe_by : (p : Coordinates) → IsWithinGridLimits p → HasSafeCoordinates p
 safe_by p h = record { x_size = omega (arith, h.x_size); y_size = omega (arith, h.y_size); z_size = omega (arith, h.z_size) }
 
 -- what a shape keeps
-pub shape_by : (mesh : Mesh) → 0 < length mesh.faces → AreThere (length mesh.points) mesh.faces → All (λ (p : List ℤ). IsOnGrid (point_at p)) mesh.points → All (IsFlat mesh.points) mesh.faces → All (HasBodyBehind mesh) mesh.faces → IsShape mesh
+pub shape_by : (mesh : Mesh) → 0 < length mesh.faces → AreCornersThere (length mesh.points) mesh.faces → All (λ (p : List ℤ). IsWithinGridLimits (point_at p)) mesh.points → All (IsFlatFace mesh.points) mesh.faces → All (HasBodyBehind mesh) mesh.faces → IsShape mesh
 shape_by mesh some there grid flat body = record {
   some = some;
   faces = λ k d lt. record { there = there k d lt; triangle = (flat k d lt).triangle; body = body k d lt };
@@ -52,5 +52,5 @@ shape_by mesh some there grid flat body = record {
 pub shape_of : (unit : LengthUnit) (points : List (List ℤ)) (faces : List (List ℕ)) → IsPolyhedron unit points faces → All (HasBodyBehind (mesh_of unit points faces)) faces → IsShape (mesh_of unit points faces)
 shape_of unit points faces h body =
     shape_by (mesh_of unit points faces) (omega (arith, h.written.corners.faces_least))
-    (subst (λ (n : ℕ). AreThere n faces) (sym (length-map points (grid_steps unit))) h.written.there)
+    (subst (λ (n : ℕ). AreCornersThere n faces) (sym (length-map points (grid_steps unit))) h.written.there)
     (are_on_grid unit points h.written.range) h.surface.flat body

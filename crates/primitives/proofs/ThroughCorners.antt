@@ -5,7 +5,7 @@ use Rattle.plane_predicate.proofs.IntegerRing.{sums, mul_comm_ℤ, zero_mul}
 use Rattle.primitives.specs.Shapes.{corner, value_at, HasTriangle}
 use Rattle.primitives.proofs.Moves.{cancelled}
 use Rattle.primitives.proofs.OnePlane.{in_proportion, nowhere, some_direction}
-use Rattle.primitives.specs.Checks.{IsFlat}
+use Rattle.primitives.specs.Checks.{IsFlatFace}
 use Rattle.primitives.specs.CornerPlanes.{IsCornerPlane}
 
 -- a plane through all corners of a face
@@ -52,8 +52,8 @@ spanned_directed points face n s =
 pub triangle_of : (points : List (List ℤ)) (face : List ℕ) (n : Coefficients) → IsCornerPlane points face n → HasTriangle points face
 triangle_of points face n s = record { first = s.first; second = s.second; third = s.third; first_in = s.first_in; second_in = s.second_in; third_in = s.third_in; apart = s.apart }
 
-pub flat_by : (points : List (List ℤ)) (face : List ℕ) (n : Coefficients) → IsCornerPlane points face n → All (λ (i : ℕ). value_at points n i ≡ pos 0) face → IsFlat points face
+pub flat_by : (points : List (List ℤ)) (face : List ℕ) (n : Coefficients) → IsCornerPlane points face n → All (λ (i : ℕ). value_at points n i ≡ pos 0) face → IsFlatFace points face
 flat_by points face n s on = record { triangle = triangle_of points face n s; plane = n; directed = spanned_directed points face n s; on = on }
 
-pub flat_on : (points : List (List ℤ)) (face : List ℕ) (n : Coefficients) → IsCornerPlane points face n → IsFlat points face → All (λ (i : ℕ). value_at points n i ≡ pos 0) face
+pub flat_on : (points : List (List ℤ)) (face : List ℕ) (n : Coefficients) → IsCornerPlane points face n → IsFlatFace points face → All (λ (i : ℕ). value_at points n i ≡ pos 0) face
 flat_on points face n s h = λ k d lt. spanned_holds points face h.plane n h.directed h.on s (corner points (get_or face k d)) (h.on k d lt)

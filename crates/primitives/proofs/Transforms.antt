@@ -8,7 +8,7 @@ use Rattle.plane_predicate.proofs.Polynomials.{var, num, plus, times, minus, rin
 use Rattle.plane_predicate.proofs.Signs.{pos_neg, least_most}
 use Rattle.int_transform.specs.declared.affine.Affine.{Affine}
 use Rattle.int_transform.specs.Maps.{coordinates, determinant_of, image}
-use Rattle.primitives.specs.Shapes.{Mesh, corner, value_at, HasTriangle, IsBehindFace, IsFace, IsFacePlane, IsInside, IsShape}
+use Rattle.primitives.specs.Shapes.{Mesh, corner, value_at, HasTriangle, IsBehindFace, IsFaceOfShape, IsPlaneOfFace, IsInside, IsShape}
 use Rattle.primitives.specs.Placing.{moved_mesh, ArePlanesOf, IsBehindAll, MeetsReach}
 use Rattle.primitives.proofs.Distinct.{all_from_distinct, all_of_distinct, some_distinct}
 use Rattle.primitives.proofs.FacePlanes.{behind_body, behind_each}
@@ -40,7 +40,7 @@ corner-moved_mesh f points i lt = ap point_at (get_or-map (λ (p : List ℤ). co
 abbrev pub AreThere : Mesh → List ℕ → Type 0
 AreThere mesh face = All (λ (i : ℕ). i < length mesh.points) face
 
-faces_there : (mesh : Mesh) → All (IsFace mesh) mesh.faces → All (AreThere mesh) mesh.faces
+faces_there : (mesh : Mesh) → All (IsFaceOfShape mesh) mesh.faces → All (AreThere mesh) mesh.faces
 faces_there mesh h = λ k d lt. (h k d lt).there
 
 -- the value of a plane at a moved corner
@@ -57,7 +57,7 @@ times_below : (x y z : ℤ) → x ≡ y *ℤ z → pos 0 <ℤ y → z <ℤ pos 0
 times_below x y z e hy hz = subst (λ (n : ℤ). n <ℤ pos 0) (sym e) (pos_neg y z hy hz)
 
 -- ---- face planes
-pub plane_after : (f : Affine) (mesh : Mesh) (face : List ℕ) → All (AreThere mesh) mesh.faces → AreThere mesh face → 0 < length face → (m : Coefficients) (n : Follows f m) → IsFacePlane mesh face m → (p : Coordinates) → value m p <ℤ pos 0 → IsFacePlane (moved_mesh f mesh) face n.plane
+pub plane_after : (f : Affine) (mesh : Mesh) (face : List ℕ) → All (AreThere mesh) mesh.faces → AreThere mesh face → 0 < length face → (m : Coefficients) (n : Follows f m) → IsPlaneOfFace mesh face m → (p : Coordinates) → value m p <ℤ pos 0 → IsPlaneOfFace (moved_mesh f mesh) face n.plane
 plane_after f mesh face all there some m n h p below =
     let on : All (λ (i : ℕ). value_at (moved_mesh f mesh).points n.plane i ≡ pos 0) face = λ k d lt. times_zero _ n.by (value_at mesh.points m (get_or face k d)) (value-moved_mesh f mesh n.plane (get_or face k d) (there k d lt) ∙ n.times (corner mesh.points (get_or face k d))) (h.on k d lt) in
     record {
@@ -68,7 +68,7 @@ plane_after f mesh face all there some m n h p below =
           times_most _ n.by (value_at mesh.points m i) (value-moved_mesh f mesh n.plane i (all g e hg k d hk) ∙ n.times (corner mesh.points i)) n.above (h.none_ahead g e hg k d hk);
     }
 
-pub plane_before : (f : Affine) (mesh : Mesh) (face : List ℕ) → All (AreThere mesh) mesh.faces → AreThere mesh face → 0 < length face → (m : Coefficients) → IsFacePlane (moved_mesh f mesh) face m → (p : Coordinates) → value m (image f p) <ℤ pos 0 → IsFacePlane mesh face (pulled m f)
+pub plane_before : (f : Affine) (mesh : Mesh) (face : List ℕ) → All (AreThere mesh) mesh.faces → AreThere mesh face → 0 < length face → (m : Coefficients) → IsPlaneOfFace (moved_mesh f mesh) face m → (p : Coordinates) → value m (image f p) <ℤ pos 0 → IsPlaneOfFace mesh face (pulled m f)
 plane_before f mesh face all there some m h p below =
     let on : All (λ (i : ℕ). value_at mesh.points (pulled m f) i ≡ pos 0) face = λ k d lt. value-pulled m f (corner mesh.points (get_or face k d)) ∙ sym (value-moved_mesh f mesh m (get_or face k d) (there k d lt)) ∙ h.on k d lt in
     record {
@@ -101,7 +101,7 @@ triangle_after f mesh face regular there t =
 some_corner : (points : List (List ℤ)) (face : List ℕ) → HasTriangle points face → 0 < length face
 some_corner points face t = omega (arith, t.first_in)
 
-pub face_after : (f : Affine) (mesh : Mesh) → (determinant_of f ≡ pos 0 → ⊥) → All (IsFace mesh) mesh.faces → (face : List ℕ) → IsFace mesh face → IsFace (moved_mesh f mesh) face
+pub face_after : (f : Affine) (mesh : Mesh) → (determinant_of f ≡ pos 0 → ⊥) → All (IsFaceOfShape mesh) mesh.faces → (face : List ℕ) → IsFaceOfShape mesh face → IsFaceOfShape (moved_mesh f mesh) face
 face_after f mesh regular all face is =
     let n = plane_follows f is.body.plane regular in
     let i = get_or (get_or mesh.faces is.body.at_face []) is.body.at 0 in
@@ -119,11 +119,11 @@ face_after f mesh regular all face is =
       };
     }
 
-pub faces_after : (f : Affine) (mesh : Mesh) → (determinant_of f ≡ pos 0 → ⊥) → All (IsFace mesh) mesh.faces → All (IsFace (moved_mesh f mesh)) mesh.faces
+pub faces_after : (f : Affine) (mesh : Mesh) → (determinant_of f ≡ pos 0 → ⊥) → All (IsFaceOfShape mesh) mesh.faces → All (IsFaceOfShape (moved_mesh f mesh)) mesh.faces
 faces_after f mesh regular all = λ k d lt. face_after f mesh regular all (get_or mesh.faces k d) (all k d lt)
 
 -- ---- points inside
-pub inside-moved_mesh : (f : Affine) (mesh : Mesh) → (determinant_of f ≡ pos 0 → ⊥) → All (IsFace mesh) mesh.faces → (p : Coordinates) → IsInside mesh p ↔ IsInside (moved_mesh f mesh) (image f p)
+pub inside-moved_mesh : (f : Affine) (mesh : Mesh) → (determinant_of f ≡ pos 0 → ⊥) → All (IsFaceOfShape mesh) mesh.faces → (p : Coordinates) → IsInside mesh p ↔ IsInside (moved_mesh f mesh) (image f p)
 inside-moved_mesh f mesh regular all p = (
   λ h k d lt.
       let face = get_or mesh.faces k d in let is = all k d lt in let b = h k d lt in let n = plane_follows f b.plane regular in
@@ -143,22 +143,22 @@ inside-moved_mesh f mesh regular all p = (
 
 -- a face, and a point behind its plane
 pub record IsFaceBefore (mesh : Mesh) (p : Coordinates) (face : List ℕ) : Type 0 where
-  pub is : IsFace mesh face
+  pub is : IsFaceOfShape mesh face
   pub behind : IsBehindFace mesh p face
 
-pub inside-planes : (mesh : Mesh) → All (IsFace mesh) mesh.faces → (planes : List Coefficients) → ArePlanesOf mesh mesh.faces planes → (p : Coordinates) → IsInside mesh p ↔ IsBehindAll planes p
+pub inside-planes : (mesh : Mesh) → All (IsFaceOfShape mesh) mesh.faces → (planes : List Coefficients) → ArePlanesOf mesh mesh.faces planes → (p : Coordinates) → IsInside mesh p ↔ IsBehindAll planes p
 inside-planes mesh all planes h p =
     let P : Coefficients → Type 0 = λ m. value m p <ℤ pos 0 in (
-      λ inside. subst (All P) (sym h.first) (all_of_distinct P h.all (zip_second (IsFacePlane mesh) (IsFaceBefore mesh p) P
+      λ inside. subst (All P) (sym h.first) (all_of_distinct P h.all (zip_second (IsPlaneOfFace mesh) (IsFaceBefore mesh p) P
           (λ face m r b. behind_each mesh face b.is m r p (behind_body mesh face b.is b.behind.plane b.behind.is p b.behind.behind)) mesh.faces h.all h.each
           (λ k d lt. record { is = all k d lt; behind = inside k d lt }))),
-      λ behind. zip_first (IsFacePlane mesh) (IsBehindFace mesh p) P (λ face m r b. record { plane = m; is = r; behind = b }) mesh.faces h.all h.each (all_from_distinct P h.all (subst (All P) h.first behind)),
+      λ behind. zip_first (IsPlaneOfFace mesh) (IsBehindFace mesh p) P (λ face m r b. record { plane = m; is = r; behind = b }) mesh.faces h.all h.each (all_from_distinct P h.all (subst (All P) h.first behind)),
     )
 
 -- ---- the planes of placed points
-pub planes_meet_reach : (mesh : Mesh) → All (IsFace mesh) mesh.faces → All (λ (p : List ℤ). IsInReach (point_at p)) mesh.points → (planes : List Coefficients) → ArePlanesOf mesh mesh.faces planes → All MeetsReach planes
+pub planes_meet_reach : (mesh : Mesh) → All (IsFaceOfShape mesh) mesh.faces → All (λ (p : List ℤ). IsInReach (point_at p)) mesh.points → (planes : List Coefficients) → ArePlanesOf mesh mesh.faces planes → All MeetsReach planes
 planes_meet_reach mesh all reach planes h =
-    subst (All MeetsReach) (sym h.first) (all_of_distinct MeetsReach h.all (zip_second (IsFacePlane mesh) (IsFace mesh) MeetsReach
+    subst (All MeetsReach) (sym h.first) (all_of_distinct MeetsReach h.all (zip_second (IsPlaneOfFace mesh) (IsFaceOfShape mesh) MeetsReach
     (λ face m r is. record { point = corner mesh.points (get_or face 0 0); reach = reach (get_or face 0 0) [] (is.there 0 0 (some_corner mesh.points face is.triangle)); on = r.on 0 0 (some_corner mesh.points face is.triangle) }) mesh.faces h.all h.each all))
 
 -- ---- a placed shape, by its points and faces
@@ -174,9 +174,9 @@ some_points mesh h = let is = h.faces 0 [] h.some in omega (arith, is.there 0 0 
 same_mesh : (f : Affine) (mesh : Mesh) (points : List (List ℤ)) (faces : List (List ℕ)) → IsPlaced f mesh points faces → let m : Mesh = record { points = points; faces = faces } in moved_mesh f mesh ≡ m
 same_mesh f mesh points faces h = λ i. record { points = sym h.points_are i; faces = sym h.faces_are i }
 
-pub placed_faces : (f : Affine) (mesh : Mesh) (points : List (List ℤ)) (faces : List (List ℕ)) → IsPlaced f mesh points faces → All (IsFace (record { points = points; faces = faces })) faces
+pub placed_faces : (f : Affine) (mesh : Mesh) (points : List (List ℤ)) (faces : List (List ℕ)) → IsPlaced f mesh points faces → All (IsFaceOfShape (record { points = points; faces = faces })) faces
 placed_faces f mesh points faces h =
-    subst (λ (m : Mesh). All (IsFace m) m.faces) (same_mesh f mesh points faces h) (faces_after f mesh (h.regular (some_points mesh h.shape)) h.shape.faces)
+    subst (λ (m : Mesh). All (IsFaceOfShape m) m.faces) (same_mesh f mesh points faces h) (faces_after f mesh (h.regular (some_points mesh h.shape)) h.shape.faces)
 
 planes_placed : (f : Affine) (mesh : Mesh) (points : List (List ℤ)) (faces : List (List ℕ)) (planes : List Coefficients) → IsPlaced f mesh points faces → ArePlanesOf (record { points = points; faces = faces }) faces planes → ArePlanesOf (moved_mesh f mesh) mesh.faces planes
 planes_placed f mesh points faces planes h r = subst (λ (m : Mesh). ArePlanesOf m m.faces planes) (sym (same_mesh f mesh points faces h)) r
@@ -188,7 +188,7 @@ inside-placed f mesh points faces planes h r p =
     let second = inside-planes (moved_mesh f mesh) (faces_after f mesh regular h.shape.faces) planes (planes_placed f mesh points faces planes h r) (image f p) in
     (λ inside. second.0 (first.0 inside), λ behind. first.1 (second.1 behind))
 
-some_planes : (mesh : Mesh) (faces : List (List ℕ)) (all : List Coefficients) → AllZip (IsFacePlane mesh) faces all → 0 < length faces → 0 < length all
+some_planes : (mesh : Mesh) (faces : List (List ℕ)) (all : List Coefficients) → AllZip (IsPlaneOfFace mesh) faces all → 0 < length faces → 0 < length all
 some_planes mesh [] all h lt = absurd (omega (arith, lt))
 some_planes mesh (face ∷ faces) [] h lt = absurd h
 some_planes mesh (face ∷ faces) (m ∷ all) h lt = omega arith

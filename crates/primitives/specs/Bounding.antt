@@ -7,12 +7,12 @@ use Rattle.primitives.specs.Ways.{IsClockwise}
 
 -- from ahead of a plane the face goes round clockwise, no point of a face is ahead of it, and some point is ahead of
 -- its opposite
-pub record Bounds (mesh : Mesh) (face : List ℕ) (m : Coefficients) : Type 0 where
+pub record IsOuterPlane (mesh : Mesh) (face : List ℕ) (m : Coefficients) : Type 0 where
   pub none_ahead : All (λ f. All (λ i. value_at mesh.points m i ≤ℤ pos 0) f) mesh.faces
   pub some_behind : Any (λ f. Any (λ i. pos 0 <ℤ value_at mesh.points (opposite_of m) i) f) mesh.faces
   pub clockwise : IsClockwise mesh.points face m
 
 -- a face that is convex and has the body behind it
-pub record IsBounded (mesh : Mesh) (face : List ℕ) : Type 0 where
+pub record IsFaceOfBody (mesh : Mesh) (face : List ℕ) : Type 0 where
   pub outer : HasOuterPlane mesh face
   pub body : HasBodyBehind mesh face

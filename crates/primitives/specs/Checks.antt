@@ -4,7 +4,7 @@ use Rattle.plane_predicate.specs.declared.unit.Unit.{Unit as LengthUnit}
 use Rattle.plane_predicate.specs.Space.{Coefficients, point_at}
 use Rattle.plane_predicate.specs.InUnits.{in_steps}
 use Rattle.int_transform.specs.Maps.{coordinates}
-use Rattle.primitives.specs.Shapes.{Mesh, value_at, HasTriangle, IsFacePlane, IsOnOnePlane}
+use Rattle.primitives.specs.Shapes.{Mesh, value_at, HasTriangle, IsPlaneOfFace, IsOnOnePlane}
 use Rattle.primitives.specs.Ways.{all_ways, AreMetBothWays, IsClockwise}
 
 -- at most 128 points, and at most 64 faces of at most 64 corners each
@@ -19,8 +19,8 @@ pub record HasEnoughCorners (faces : List (List ℕ)) : Type 0 where
   pub corners_least : All (λ f. 3 ≤ length f) faces
 
 -- each corner of a face is the number of one of so many points, from 0
-abbrev pub AreThere : ℕ → List (List ℕ) → Type 0
-AreThere points faces = All (λ f. All (λ i. i < points) f) faces
+abbrev pub AreCornersThere : ℕ → List (List ℕ) → Type 0
+AreCornersThere points faces = All (λ f. All (λ i. i < points) f) faces
 
 -- a point that is written in units, in grid steps
 abbrev pub grid_steps : LengthUnit → List ℤ → List ℤ
@@ -31,7 +31,7 @@ abbrev pub in_grid_steps : LengthUnit → List (List ℤ) → List (List ℤ)
 in_grid_steps unit points = map (grid_steps unit) points
 
 -- a face whose corners don't lie on one line, but on one plane
-pub record IsFlat (points : List (List ℤ)) (face : List ℕ) : Type 0 where
+pub record IsFlatFace (points : List (List ℤ)) (face : List ℕ) : Type 0 where
   pub triangle : HasTriangle points face
   pub plane : Coefficients
   pub directed : 0 < unsigned_abs plane.a + unsigned_abs plane.b + unsigned_abs plane.c
@@ -44,7 +44,7 @@ IsClosed points faces = AreMetBothWays (all_ways points faces)
 -- a plane through a face, from ahead of which the face goes round clockwise, with no point of a face ahead
 pub record HasOuterPlane (mesh : Mesh) (face : List ℕ) : Type 0 where
   pub plane : Coefficients
-  pub is : IsFacePlane mesh face plane
+  pub is : IsPlaneOfFace mesh face plane
   pub clockwise : IsClockwise mesh.points face plane
 
 -- each face is convex, with no point of a face ahead of it, and not all points of the faces are on one plane

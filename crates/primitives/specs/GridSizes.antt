@@ -3,7 +3,7 @@ use Rattle.std.specs.Prelude.{◌≤◌, unsigned_abs}
 use Rattle.plane_predicate.specs.Space.{Coefficients, Coordinates}
 
 -- coordinates of at most 65,535 units, in grid steps
-pub record IsOnGrid (p : Coordinates) : Type 0 where
+pub record IsWithinGridLimits (p : Coordinates) : Type 0 where
   pub x_size : unsigned_abs p.x ≤ 131070
   pub y_size : unsigned_abs p.y ≤ 131070
   pub z_size : unsigned_abs p.z ≤ 131070

@@ -8,7 +8,7 @@ use Rattle.int_transform.specs.declared.affine.Affine.{Affine}
 use Rattle.int_transform.specs.Maps.{coordinates, image, map_of, LeavesRange, StaysInRange}
 use Rattle.primitives.specs.declared.stop.ShapeStop.{ShapeStop}
 use Rattle.primitives.specs.declared.stop.ShapeStop.TheVariants.{Kind, NoMemory}
-use Rattle.primitives.specs.Shapes.{Mesh, IsFacePlane}
+use Rattle.primitives.specs.Shapes.{Mesh, IsPlaneOfFace}
 
 -- the shape with its points moved
 abbrev pub moved_mesh : Affine → Mesh → Mesh
@@ -26,7 +26,7 @@ distinct_planes (m ∷ planes) = m ∷ filter (λ n. not (same m n)) (distinct_p
 -- the planes of some faces in order, of equal ones the first
 pub record ArePlanesOf (mesh : Mesh) (faces : List (List ℕ)) (planes : List Coefficients) : Type 0 where
   pub all : List Coefficients
-  pub each : AllZip (IsFacePlane mesh) faces all
+  pub each : AllZip (IsPlaneOfFace mesh) faces all
   pub first : planes ≡ distinct_planes all
 
 -- a point that is strictly behind every plane

@@ -6,9 +6,9 @@ use Rattle.plane_predicate.specs.Space.{minor}
 use Rattle.plane_predicate.specs.declared.unit.Unit.{Unit as LengthUnit}
 use Rattle.primitives.specs.declared.stop.ShapeStop.{ShapeStop}
 use Rattle.primitives.specs.declared.stop.ShapeStop.TheVariants.{Kind, NoMemory}
-use Rattle.primitives.specs.Sizes.{IsSafe, grid_steps, low_end, high_end}
+use Rattle.primitives.specs.Sizes.{IsSafe, length_in_grid_steps, low_end, high_end}
 
--- the coordinates of a point of the plane
+-- the first coordinate of a point of the plane
 abbrev pub x_of : List ℤ → ℤ
 x_of p = get_or p 0 (pos 0)
 
@@ -22,8 +22,8 @@ abbrev pub orientation : List ℤ → List ℤ → List ℤ → ℤ
 orientation p q r = minor (x_of q -ℤ x_of p) (y_of q -ℤ y_of p) (x_of r -ℤ x_of p) (y_of r -ℤ y_of p)
 
 -- the number of the point that follows point i of n, round the polygon
-abbrev pub after : ℕ → ℕ → ℕ
-after n i = cond (eqb (suc i) n) 0 (suc i)
+abbrev pub next_point : ℕ → ℕ → ℕ
+next_point n i = cond (eqb (suc i) n) 0 (suc i)
 
 -- point i of a polygon
 abbrev pub point : List (List ℤ) → ℕ → List ℤ
@@ -42,11 +42,11 @@ pub record HasCorner (points : List (List ℤ)) : Type 0 where
 -- no point lies strictly to the right of a way from a point to the next. Equal points make no way: nothing is to the
 -- right of it
 abbrev pub GoesLeft : List (List ℤ) → Type 0
-GoesLeft points = (i : ℕ) → i < length points → All (λ r. pos 0 ≤ℤ orientation (point points i) (point points (after (length points) i)) r) points
+GoesLeft points = (i : ℕ) → i < length points → All (λ r. pos 0 ≤ℤ orientation (point points i) (point points (next_point (length points) i)) r) points
 
 -- the same of the ways in the other direction
 abbrev pub GoesRight : List (List ℤ) → Type 0
-GoesRight points = (i : ℕ) → i < length points → All (λ r. pos 0 ≤ℤ orientation (point points (after (length points) i)) (point points i) r) points
+GoesRight points = (i : ℕ) → i < length points → All (λ r. pos 0 ≤ℤ orientation (point points (next_point (length points) i)) (point points i) r) points
 
 -- a convex polygon: in one of its two directions no point lies strictly to the right of a way from a point to the next,
 -- and not all points lie on one line
@@ -60,7 +60,7 @@ pub record IsSafePoint (p : List ℤ) : Type 0 where
   pub y_safe : IsSafe (y_of p)
 
 -- what a flat keeps: a convex polygon of at most 64 points
-pub record IsFlat (points : List (List ℤ)) : Type 0 where
+pub record IsFlatShape (points : List (List ℤ)) : Type 0 where
   pub most : length points ≤ 64
   pub convex : IsConvex points
   pub safe : All IsSafePoint points
@@ -87,14 +87,14 @@ pub record IsNear (p : List ℤ) : Type 0 where
 
 -- a written point in grid steps
 abbrev pub on_grid : LengthUnit → List ℤ → List ℤ
-on_grid unit p = grid_steps unit (x_of p) ∷ grid_steps unit (y_of p) ∷ []
+on_grid unit p = length_in_grid_steps unit (x_of p) ∷ length_in_grid_steps unit (y_of p) ∷ []
 
 -- written points in grid steps (User Manual, polygon)
 abbrev pub polygon_of : LengthUnit → List (List ℤ) → List (List ℤ)
 polygon_of unit points = map (on_grid unit) points
 
 -- written points with nothing wrong
-pub record IsPolygon (unit : LengthUnit) (points : List (List ℤ)) : Type 0 where
+pub record IsWrittenPolygon (unit : LengthUnit) (points : List (List ℤ)) : Type 0 where
   pub most : length points ≤ 64
   pub least : 3 ≤ length points
   pub range : All IsInRange points

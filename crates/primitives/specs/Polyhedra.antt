@@ -7,37 +7,37 @@ use Rattle.plane_predicate.specs.Space.{point_at}
 use Rattle.primitives.specs.declared.stop.ShapeStop.{ShapeStop}
 use Rattle.primitives.specs.declared.stop.ShapeStop.TheVariants.{Kind, NoMemory}
 use Rattle.primitives.specs.Shapes.{Mesh, IsInRange}
-use Rattle.primitives.specs.Checks.{in_grid_steps, AreThere, HasEnoughCorners, IsClosed, IsConvex, IsFlat, IsWithinLimits}
+use Rattle.primitives.specs.Checks.{in_grid_steps, AreCornersThere, HasEnoughCorners, IsClosed, IsConvex, IsFlatFace, IsWithinLimits}
 
 -- the points in grid steps, and the faces as they are listed
 abbrev pub mesh_of : LengthUnit → List (List ℤ) → List (List ℕ) → Mesh
 mesh_of unit points faces = record { points = in_grid_steps unit points; faces = faces }
 
 -- the checks of the arguments as they are written
-pub record IsWritten (points : List (List ℤ)) (faces : List (List ℕ)) : Type 0 where
+pub record PassesWrittenChecks (points : List (List ℤ)) (faces : List (List ℕ)) : Type 0 where
   pub limits : IsWithinLimits points faces
   pub corners : HasEnoughCorners faces
-  pub there : AreThere (length points) faces
+  pub there : AreCornersThere (length points) faces
   pub range : All (λ p. IsInRange (point_at p)) points
 
 -- the checks of the surface that the faces form: it is that of a convex solid
 pub record IsSurface (mesh : Mesh) : Type 0 where
-  pub flat : All (IsFlat mesh.points) mesh.faces
+  pub flat : All (IsFlatFace mesh.points) mesh.faces
   pub closed : IsClosed mesh.points mesh.faces
   pub convex : IsConvex mesh
 
 -- all checks pass
 pub record IsPolyhedron (unit : LengthUnit) (points : List (List ℤ)) (faces : List (List ℕ)) : Type 0 where
-  pub written : IsWritten points faces
+  pub written : PassesWrittenChecks points faces
   pub surface : IsSurface (mesh_of unit points faces)
 
 -- the checks of the arguments in their order, and more behind them
 abbrev pub written_checks : List (List ℤ) → List (List ℕ) → List (Type 0) → List (Type 0)
-written_checks points faces more = IsWithinLimits points faces ∷ HasEnoughCorners faces ∷ AreThere (length points) faces ∷ All (λ p. IsInRange (point_at p)) points ∷ more
+written_checks points faces more = IsWithinLimits points faces ∷ HasEnoughCorners faces ∷ AreCornersThere (length points) faces ∷ All (λ p. IsInRange (point_at p)) points ∷ more
 
 -- what the faces are tested for once all points are in range, in order
 abbrev pub surface_checks : Mesh → List (Type 0)
-surface_checks mesh = All (IsFlat mesh.points) mesh.faces ∷ IsClosed mesh.points mesh.faces ∷ IsConvex mesh ∷ []
+surface_checks mesh = All (IsFlatFace mesh.points) mesh.faces ∷ IsClosed mesh.points mesh.faces ∷ IsConvex mesh ∷ []
 
 -- all that a polyhedron is tested for, in order
 abbrev pub checks : LengthUnit → List (List ℤ) → List (List ℕ) → List (Type 0)
@@ -64,9 +64,9 @@ pub record IsFaultOf (list : List (Type 0)) (names : List FaultKind) (kind : Fau
   pub fails : IsFirstToFail list number
 
 -- the fault of the first check that fails. Want of memory may come at any time
-abbrev pub IsFirstFault : LengthUnit → List (List ℤ) → List (List ℕ) → ShapeStop → Type 0
-IsFirstFault unit points faces (Kind kind) = IsFaultOf (checks unit points faces) faults kind
-IsFirstFault unit points faces NoMemory = ⊤
+abbrev pub IsFirstPolyhedronFault : LengthUnit → List (List ℤ) → List (List ℕ) → ShapeStop → Type 0
+IsFirstPolyhedronFault unit points faces (Kind kind) = IsFaultOf (checks unit points faces) faults kind
+IsFirstPolyhedronFault unit points faces NoMemory = ⊤
 
 -- the fault of the first test that points and faces fail as they are written, before points are counted in grid steps
 abbrev pub IsWrittenFault : List (List ℤ) → List (List ℕ) → ShapeStop → Type 0
@@ -87,8 +87,8 @@ pub record IsAnsweredWhere {A : Type 0} (answer : Result A ShapeStop) (kind : Fa
 pub record AnswersFirstFault (unit : LengthUnit) (points : List (List ℤ)) (faces : List (List ℕ)) {A : Type 0} (answer : Result A ShapeStop) : Type 0 where
   pub long_list : IsAnsweredWhere answer LongList (IsWithinLimits points faces → ⊥)
   pub few_points : IsAnsweredWhere answer FewPoints (IsWithinLimits points faces × (HasEnoughCorners faces → ⊥))
-  pub bad_point : IsAnsweredWhere answer BadPoint (IsWithinLimits points faces × HasEnoughCorners faces × (AreThere (length points) faces → ⊥))
-  pub out_of_range : IsAnsweredWhere answer OutOfRange (IsWithinLimits points faces × HasEnoughCorners faces × AreThere (length points) faces × (All (λ p. IsInRange (point_at p)) points → ⊥))
-  pub not_flat : IsAnsweredWhere answer NotFlat (IsWritten points faces × (All (IsFlat (in_grid_steps unit points)) faces → ⊥))
-  pub not_closed : IsAnsweredWhere answer NotClosed (IsWritten points faces × All (IsFlat (in_grid_steps unit points)) faces × (IsClosed (in_grid_steps unit points) faces → ⊥))
-  pub not_convex : IsAnsweredWhere answer NotConvex (IsWritten points faces × All (IsFlat (in_grid_steps unit points)) faces × IsClosed (in_grid_steps unit points) faces × (IsConvex (mesh_of unit points faces) → ⊥))
+  pub bad_point : IsAnsweredWhere answer BadPoint (IsWithinLimits points faces × HasEnoughCorners faces × (AreCornersThere (length points) faces → ⊥))
+  pub out_of_range : IsAnsweredWhere answer OutOfRange (IsWithinLimits points faces × HasEnoughCorners faces × AreCornersThere (length points) faces × (All (λ p. IsInRange (point_at p)) points → ⊥))
+  pub not_flat : IsAnsweredWhere answer NotFlat (PassesWrittenChecks points faces × (All (IsFlatFace (in_grid_steps unit points)) faces → ⊥))
+  pub not_closed : IsAnsweredWhere answer NotClosed (PassesWrittenChecks points faces × All (IsFlatFace (in_grid_steps unit points)) faces × (IsClosed (in_grid_steps unit points) faces → ⊥))
+  pub not_convex : IsAnsweredWhere answer NotConvex (PassesWrittenChecks points faces × All (IsFlatFace (in_grid_steps unit points)) faces × IsClosed (in_grid_steps unit points) faces × (IsConvex (mesh_of unit points faces) → ⊥))

@@ -6,7 +6,7 @@ use Rattle.plane_predicate.specs.Space.{Coefficients, point_at, value}
 use Rattle.plane_predicate.specs.declared.unit.Unit.{Unit as LengthUnit}
 use Rattle.primitives.specs.Shapes.{Mesh}
 use Rattle.primitives.specs.Sizes.{low_end, high_end}
-use Rattle.primitives.specs.Polygons.{x_of, y_of, point, after}
+use Rattle.primitives.specs.Polygons.{x_of, y_of, point, next_point}
 
 -- a point of the plane at a height
 abbrev pub at_height : ℤ → List ℤ → List ℤ
@@ -19,7 +19,7 @@ is_same_point p q = int_eq (x_of p) (x_of q) && int_eq (y_of p) (y_of q)
 -- the corners of the side over the way from point i to the next one, where the two differ
 abbrev pub side_over : List (List ℤ) → ℕ → List (List ℕ)
 side_over points i =
-    let n = length points in let j = after n i in
+    let n = length points in let j = next_point n i in
     cond (is_same_point (point points i) (point points j)) [] ((i ∷ j ∷ (n + j) ∷ (n + i) ∷ []) ∷ [])
 
 -- the sides over the first so many points, in the order of the points

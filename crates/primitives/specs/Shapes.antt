@@ -17,7 +17,7 @@ abbrev pub value_at : List (List ℤ) → Coefficients → ℕ → ℤ
 value_at points m i = value m (corner points i)
 
 -- the plane of a face goes through the face's points and is turned so that no point of any face is ahead of it
-pub record IsFacePlane (mesh : Mesh) (face : List ℕ) (m : Coefficients) : Type 0 where
+pub record IsPlaneOfFace (mesh : Mesh) (face : List ℕ) (m : Coefficients) : Type 0 where
   pub directed : 0 < unsigned_abs m.a + unsigned_abs m.b + unsigned_abs m.c
   pub on : All (λ i. value_at mesh.points m i ≡ pos 0) face
   pub none_ahead : All (λ f. All (λ i. value_at mesh.points m i ≤ℤ pos 0) f) mesh.faces
@@ -25,7 +25,7 @@ pub record IsFacePlane (mesh : Mesh) (face : List ℕ) (m : Coefficients) : Type
 -- a point is strictly behind the plane of a face
 pub record IsBehindFace (mesh : Mesh) (p : Coordinates) (face : List ℕ) : Type 0 where
   pub plane : Coefficients
-  pub is : IsFacePlane mesh face plane
+  pub is : IsPlaneOfFace mesh face plane
   pub behind : value plane p <ℤ pos 0
 
 -- a point inside a shape is strictly behind the plane of each face
@@ -45,7 +45,7 @@ pub record HasTriangle (points : List (List ℤ)) (face : List ℕ) : Type 0 whe
 -- a face plane that some point of a face is strictly behind
 pub record HasBodyBehind (mesh : Mesh) (face : List ℕ) : Type 0 where
   pub plane : Coefficients
-  pub is : IsFacePlane mesh face plane
+  pub is : IsPlaneOfFace mesh face plane
   pub at_face : ℕ
   pub at : ℕ
   pub at_face_in : at_face < length mesh.faces
@@ -53,7 +53,7 @@ pub record HasBodyBehind (mesh : Mesh) (face : List ℕ) : Type 0 where
   pub behind : value_at mesh.points plane (get_or (get_or mesh.faces at_face []) at 0) <ℤ pos 0
 
 -- a face of a shape: its points are there and not on one line, and it has a plane with the body behind it
-pub record IsFace (mesh : Mesh) (face : List ℕ) : Type 0 where
+pub record IsFaceOfShape (mesh : Mesh) (face : List ℕ) : Type 0 where
   pub there : All (λ i. i < length mesh.points) face
   pub triangle : HasTriangle mesh.points face
   pub body : HasBodyBehind mesh face
@@ -61,7 +61,7 @@ pub record IsFace (mesh : Mesh) (face : List ℕ) : Type 0 where
 -- what a shape keeps: at least one face, and coordinates at most 2^53 - 1 in size
 pub record IsShape (mesh : Mesh) : Type 0 where
   pub some : 0 < length mesh.faces
-  pub faces : All (IsFace mesh) mesh.faces
+  pub faces : All (IsFaceOfShape mesh) mesh.faces
   pub safe : All (λ p. HasSafeCoordinates (point_at p)) mesh.points
 
 -- coordinates at most 65,535 in size
@@ -83,8 +83,8 @@ pub record HasFreeSide (points : List (List ℤ)) (face : List ℕ) : Type 0 whe
   pub on : All (λ i. value_at points plane i ≡ pos 0) face
   pub none_ahead : All (λ p. value plane (point_at p) ≤ℤ pos 0) points
 
--- points and faces that make a shape: coordinates at most 65,535 in size, at least one face, corners that are there and
--- not on one line, a plane of each face with no point on its one side, and not all points of the faces on one plane
+-- points and faces that make a shape: coordinates at most 65,535 in size, some face, corners that are there and not on one
+-- line, each face with all points on one side, and not all on one plane
 pub record MakesShape (mesh : Mesh) : Type 0 where
   pub range : All (λ p. IsInRange (point_at p)) mesh.points
   pub some : 0 < length mesh.faces

@@ -12,16 +12,16 @@ pub record IsSafe (number : ℤ) : Type 0 where
   pub size : unsigned_abs number ≤ 9007199254740991
 
 -- a side or height in grid steps
-abbrev pub grid_steps : LengthUnit → ℤ → ℤ
-grid_steps unit side = steps_of unit *ℤ side
+abbrev pub length_in_grid_steps : LengthUnit → ℤ → ℤ
+length_in_grid_steps unit side = steps_of unit *ℤ side
 
 -- a side or height that is at least 1
-abbrev pub IsLong : ℤ → Type 0
-IsLong side = pos 1 ≤ℤ side
+abbrev pub IsAtLeastOne : ℤ → Type 0
+IsAtLeastOne side = pos 1 ≤ℤ side
 
 -- a side or height that has an even number of grid steps
 abbrev pub IsEven : LengthUnit → ℤ → Type 0
-IsEven unit side = unsigned_abs (grid_steps unit side) % 2 ≡ 0
+IsEven unit side = unsigned_abs (length_in_grid_steps unit side) % 2 ≡ 0
 
 -- the ends of a side or height lie on grid points: it may have any length where it isn't centred
 abbrev pub AreOnGrid : LengthUnit → Bool → List ℤ → Type 0
@@ -30,16 +30,16 @@ AreOnGrid unit true sides = All (IsEven unit) sides
 
 -- sides and heights with nothing wrong
 pub record AreSizes (unit : LengthUnit) (center : Bool) (sides : List ℤ) : Type 0 where
-  pub long : All IsLong sides
+  pub long : All IsAtLeastOne sides
   pub on_grid : AreOnGrid unit center sides
-  pub safe : All (λ s. IsSafe (grid_steps unit s)) sides
+  pub safe : All (λ s. IsSafe (length_in_grid_steps unit s)) sides
 
 -- the first fault of sides and heights: one is below 1; else one is centred and has an odd number of grid steps; else one
 -- has more than 2^53 - 1 grid steps
 abbrev pub IsSizeFault : LengthUnit → Bool → List ℤ → FaultKind → Type 0
 IsSizeFault unit center sides BadSize = Any (λ s. s <ℤ pos 1) sides
-IsSizeFault unit center sides NotOnGrid = All IsLong sides × (center ≡ true) × Any (λ s. unsigned_abs (grid_steps unit s) % 2 ≡ 1) sides
-IsSizeFault unit center sides TooLarge = All IsLong sides × AreOnGrid unit center sides × Any (λ s. IsSafe (grid_steps unit s) → ⊥) sides
+IsSizeFault unit center sides NotOnGrid = All IsAtLeastOne sides × (center ≡ true) × Any (λ s. unsigned_abs (length_in_grid_steps unit s) % 2 ≡ 1) sides
+IsSizeFault unit center sides TooLarge = All IsAtLeastOne sides × AreOnGrid unit center sides × Any (λ s. IsSafe (length_in_grid_steps unit s) → ⊥) sides
 IsSizeFault unit center sides kind = ⊥
 
 -- the stops of sides and heights: their first fault, or want of memory
@@ -54,8 +54,8 @@ low_at true steps = neg_ℤ (pos (unsigned_abs steps / 2))
 
 -- where a side or height begins, in grid steps
 abbrev pub low_end : LengthUnit → Bool → ℤ → ℤ
-low_end unit center side = low_at center (grid_steps unit side)
+low_end unit center side = low_at center (length_in_grid_steps unit side)
 
 -- where it ends
 abbrev pub high_end : LengthUnit → Bool → ℤ → ℤ
-high_end unit center side = low_end unit center side +ℤ grid_steps unit side
+high_end unit center side = low_end unit center side +ℤ length_in_grid_steps unit side

@@ -6,6 +6,6 @@ use Rattle.primitives.specs.declared.stop.ShapeStop.{ShapeStop}
 use Rattle.primitives.specs.declared.stop.ShapeStop.TheVariants.{Kind, NoMemory as NoMemoryStop}
 
 -- what a shape is answered where placing its points stops
-abbrev pub stop_of : StepFault → ShapeStop
-stop_of TooLarge = Kind TooLargeKind
-stop_of NoMemory = NoMemoryStop
+abbrev pub shape_stop_of : StepFault → ShapeStop
+shape_stop_of TooLarge = Kind TooLargeKind
+shape_stop_of NoMemory = NoMemoryStop

@@ -4,7 +4,7 @@ ghost use Rattle.std.specs.Prelude.{◌<◌, ◌<ℤ◌, ◌≤ℤ◌, pos, All,
 ghost use Rattle.std.specs.Bool.{OnTrue, OnFalse};
 ghost use Rattle.plane_predicate.specs.Space.{point_at, value};
 ghost use Rattle.primitives.specs.Shapes.{value_at};
-ghost use Rattle.primitives.specs.GridSizes.{IsOnGrid};
+ghost use Rattle.primitives.specs.GridSizes.{IsWithinGridLimits};
 
 use crate::corners::Corners;
 use crate::facing::{FacePlane, is_ahead};
@@ -12,7 +12,7 @@ use crate::facing::{FacePlane, is_ahead};
 /// Whether some point of a face is strictly ahead of a plane.
 #[tactic(auto, using(crate::proofs::NoneAhead::none_of_faces))]
 pub fn has_ahead(points: &[[i64; 3]], faces: &[Corners], plane: &FacePlane) -> bool
-    requires grid { All (λ p. IsOnGrid (point_at p)) points.now }
+    requires grid { All (λ p. IsWithinGridLimits (point_at p)) points.now }
     requires there { All (λ f. All (λ i. i < length points.now) f) faces.now }
     ensures some { OnTrue result (Any (λ f. Any (λ i. pos 0 <ℤ value_at points.now plane.now i) f)
         faces.now) }
@@ -25,7 +25,7 @@ pub fn has_ahead(points: &[[i64; 3]], faces: &[Corners], plane: &FacePlane) -> b
 
 // Whether some point is strictly ahead of a plane.
 fn has_point_ahead(points: &[[i64; 3]], plane: &FacePlane) -> bool
-    requires grid { All (λ p. IsOnGrid (point_at p)) points.now }
+    requires grid { All (λ p. IsWithinGridLimits (point_at p)) points.now }
     ensures { OnFalse result (All (λ p. value plane.now (point_at p) ≤ℤ pos 0) points.now) }
 {
     for point in points {
@@ -38,7 +38,7 @@ fn has_point_ahead(points: &[[i64; 3]], plane: &FacePlane) -> bool
 
 // Whether some corner of a face is strictly ahead of a plane.
 fn has_corner_ahead(points: &[[i64; 3]], faces: &[Corners], plane: &FacePlane) -> bool
-    requires grid { All (λ p. IsOnGrid (point_at p)) points.now }
+    requires grid { All (λ p. IsWithinGridLimits (point_at p)) points.now }
     requires there { All (λ f. All (λ i. i < length points.now) f) faces.now }
     ensures some { OnTrue result (Any (λ f. Any (λ i. pos 0 <ℤ value_at points.now plane.now i) f)
         faces.now) }
@@ -55,7 +55,7 @@ fn has_corner_ahead(points: &[[i64; 3]], faces: &[Corners], plane: &FacePlane) -
 
 /// Whether some point of one face is strictly ahead of a plane.
 pub fn face_has_ahead(points: &[[i64; 3]], face: &[u32], plane: &FacePlane) -> bool
-    requires grid { All (λ p. IsOnGrid (point_at p)) points.now }
+    requires grid { All (λ p. IsWithinGridLimits (point_at p)) points.now }
     requires there { All (λ i. i < length points.now) face.now }
     ensures some { OnTrue result (Any (λ i. pos 0 <ℤ value_at points.now plane.now i) face.now) }
     ensures none { OnFalse result (All (λ i. value_at points.now plane.now i ≤ℤ pos 0) face.now) }

@@ -4,10 +4,10 @@ ghost use Rattle.std.specs.Prelude.{◌≡◌, ◌<◌, ◌<ℤ◌, ◌≤ℤ◌
 ghost use Rattle.std.specs.Bool.{OnTrue, OnFalse};
 ghost use Rattle.plane_predicate.specs.Space.{point_at, opposite_of};
 ghost use Rattle.primitives.specs.Shapes.{value_at};
-ghost use Rattle.primitives.specs.Bounding.{Bounds, IsBounded};
+ghost use Rattle.primitives.specs.Bounding.{IsOuterPlane, IsFaceOfBody};
 ghost use Rattle.primitives.specs.Shapes.{IsOnOnePlane};
-ghost use Rattle.primitives.specs.GridSizes.{IsOnGrid};
-ghost use Rattle.primitives.specs.Checks.{AreThere, HasOuterPlane, IsFlat};
+ghost use Rattle.primitives.specs.GridSizes.{IsWithinGridLimits};
+ghost use Rattle.primitives.specs.Checks.{AreCornersThere, HasOuterPlane, IsFlatFace};
 ghost use Rattle.primitives.specs.CornerPlanes.{IsCornerPlane};
 ghost use Rattle.primitives.specs.Ways.{AreWaysOnGrid, HasNoneLeft, IsWayOnGrid};
 
@@ -25,13 +25,13 @@ pub fn is_bounded_by(
     ways: &[Way],
     plane: &FacePlane,
 ) -> bool
-    requires grid { All (λ p. IsOnGrid (point_at p)) points.now }
-    requires there { AreThere (length points.now) faces.now }
+    requires grid { All (λ p. IsWithinGridLimits (point_at p)) points.now }
+    requires there { AreCornersThere (length points.now) faces.now }
     requires face_there { All (λ i. i < length points.now) face.now }
-    requires flat { IsFlat points.now face.now }
+    requires flat { IsFlatFace points.now face.now }
     requires ways { AreWaysOnGrid points.now face.now ways.now }
     requires spans { IsCornerPlane points.now face.now plane.now }
-    ensures all { OnTrue result (IsBounded (record { points = points.now; faces = faces.now })
+    ensures all { OnTrue result (IsFaceOfBody (record { points = points.now; faces = faces.now })
         face.now) }
     ensures past { OnFalse result (HasOuterPlane (record { points = points.now; faces = faces.now })
         face.now → IsOnOnePlane (record { points = points.now; faces = faces.now })) }
@@ -53,14 +53,14 @@ fn bounds(
     plane: &FacePlane,
     other: &FacePlane,
 ) -> bool
-    requires grid { All (λ p. IsOnGrid (point_at p)) points.now }
-    requires there { AreThere (length points.now) faces.now }
+    requires grid { All (λ p. IsWithinGridLimits (point_at p)) points.now }
+    requires there { AreCornersThere (length points.now) faces.now }
     requires face_there { All (λ i. i < length points.now) face.now }
     requires ways { AreWaysOnGrid points.now face.now ways.now }
     requires opposite_is { other.now ≡ opposite_of plane.now }
-    ensures all { OnTrue result (Bounds (record { points = points.now; faces = faces.now }) face.now
+    ensures all { OnTrue result (IsOuterPlane (record { points = points.now; faces = faces.now }) face.now
         plane.now) }
-    ensures past { OnFalse result (Bounds (record { points = points.now; faces = faces.now })
+    ensures past { OnFalse result (IsOuterPlane (record { points = points.now; faces = faces.now })
         face.now plane.now → ⊥) }
 {
     if has_ahead(points, faces, plane) {
@@ -74,7 +74,7 @@ fn bounds(
 
 // Whether no corner of a face is strictly to the left of some ways as seen from ahead of a plane.
 fn is_clockwise(points: &[[i64; 3]], face: &[u32], ways: &[Way], plane: &FacePlane) -> bool
-    requires grid { All (λ p. IsOnGrid (point_at p)) points.now }
+    requires grid { All (λ p. IsWithinGridLimits (point_at p)) points.now }
     requires there { All (λ i. i < length points.now) face.now }
     requires ways_grid { All IsWayOnGrid ways.now }
     ensures all { OnTrue result (All (HasNoneLeft points.now face.now plane.now) ways.now) }
@@ -90,10 +90,10 @@ fn is_clockwise(points: &[[i64; 3]], face: &[u32], ways: &[Way], plane: &FacePla
 
 // Whether no corner of a face is strictly to the left of one way as seen from ahead of a plane.
 fn has_none_left(points: &[[i64; 3]], face: &[u32], way: Way, plane: &FacePlane) -> bool
-    requires grid { All (λ p. IsOnGrid (point_at p)) points.now }
+    requires grid { All (λ p. IsWithinGridLimits (point_at p)) points.now }
     requires there { All (λ i. i < length points.now) face.now }
-    requires from { IsOnGrid (point_at way.from) }
-    requires to { IsOnGrid (point_at way.to) }
+    requires from { IsWithinGridLimits (point_at way.from) }
+    requires to { IsWithinGridLimits (point_at way.to) }
     ensures all { OnTrue result (HasNoneLeft points.now face.now plane.now way) }
     ensures past { OnFalse result (HasNoneLeft points.now face.now plane.now way → ⊥) }
 {

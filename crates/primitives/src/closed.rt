@@ -3,8 +3,8 @@
 ghost use Rattle.std.specs.Prelude.{◌≡◌, ◌<◌, ◌↔◌, All, Any, IfOk, IfSome, IsNone, IsTrue, length};
 ghost use Rattle.std.specs.Bool.{OnTrue, OnFalse};
 ghost use Rattle.std.specs.BTreeSet.{contains};
-ghost use Rattle.primitives.specs.Checks.{AreThere, IsClosed};
-ghost use Rattle.primitives.specs.Ways.{AreDifferent, AreMetBothWays, IsMet, turned};
+ghost use Rattle.primitives.specs.Checks.{AreCornersThere, IsClosed};
+ghost use Rattle.primitives.specs.Ways.{AreDifferent, AreMetBothWays, IsMet, reversed_way};
 
 use crate::Corners;
 use crate::ways::{Way, ways_of_faces};
@@ -13,7 +13,7 @@ use std::collections::BTreeSet;
 
 /// Whether each way along a face is met exactly once in its direction and exactly once in the other.
 pub fn are_closed(alloc: Global, points: &[[i64; 3]], faces: &[Corners]) -> Result<bool, AllocError>
-    requires { AreThere (length points.now) faces.now }
+    requires { AreCornersThere (length points.now) faces.now }
     ensures all { IfOk result (λ b. OnTrue b (IsClosed points.now faces.now)) }
     ensures past { IfOk result (λ b. OnFalse b (IsClosed points.now faces.now → ⊥)) }
 {
@@ -50,10 +50,10 @@ fn met(alloc: Global, ways: &[Way]) -> Result<Option<BTreeSet<Way>>, AllocError>
 
 // Whether each of some ways has its way back in a set.
 fn are_met_back(met: &BTreeSet<Way>, ways: &[Way]) -> bool
-    ensures all { OnTrue result (All (λ w. IsTrue (contains ⟦<Way as Ord>⟧.cmp met.now (turned w)))
+    ensures all { OnTrue result (All (λ w. IsTrue (contains ⟦<Way as Ord>⟧.cmp met.now (reversed_way w)))
         ways.now) }
     ensures past { OnFalse result (All
-        (λ w. IsTrue (contains ⟦<Way as Ord>⟧.cmp met.now (turned w))) ways.now → ⊥) }
+        (λ w. IsTrue (contains ⟦<Way as Ord>⟧.cmp met.now (reversed_way w))) ways.now → ⊥) }
 {
     for way in ways {
         if !met.contains(&way.back()) {

@@ -3,7 +3,7 @@
 ghost use Rattle.std.specs.Prelude.{◌≡◌, ◌*◌, ◌<◌, ◌≤◌, ◌≤ℤ◌, ◌-ℤ◌, pos, unsigned_abs, All, Any, length};
 ghost use Rattle.std.specs.Bool.{OnTrue, OnFalse};
 ghost use Rattle.plane_predicate.specs.Space.{minor};
-ghost use Rattle.primitives.specs.Polygons.{after as after_of, point, orientation, GoesLeft, GoesRight, IsConvex, IsNear};
+ghost use Rattle.primitives.specs.Polygons.{next_point as after_of, point, orientation, GoesLeft, GoesRight, IsConvex, IsNear};
 
 use crate::facing::minor_between;
 
@@ -58,7 +58,7 @@ fn goes_left(points: &[[i64; 2]]) -> bool
     ensures no { OnFalse result (GoesLeft points.now → ⊥) }
 {
     for i in 0..points.len() {
-        if !stays_left(points, points[i], points[after(points.len(), i)]) {
+        if !stays_left(points, points[i], points[next_point(points.len(), i)]) {
             return false;
         }
     }
@@ -72,7 +72,7 @@ fn goes_right(points: &[[i64; 2]]) -> bool
     ensures no { OnFalse result (GoesRight points.now → ⊥) }
 {
     for i in 0..points.len() {
-        if !stays_left(points, points[after(points.len(), i)], points[i]) {
+        if !stays_left(points, points[next_point(points.len(), i)], points[i]) {
             return false;
         }
     }
@@ -80,7 +80,7 @@ fn goes_right(points: &[[i64; 2]]) -> bool
 }
 
 /// The number of the point that follows point `i` of so many, round the polygon.
-pub fn after(count: usize, i: usize) -> usize
+pub fn next_point(count: usize, i: usize) -> usize
     requires { i < count }
     ensures value { result ≡ after_of count i }
     ensures there { result < count }

@@ -4,9 +4,9 @@ ghost use Rattle.std.specs.Prelude.{◌<◌, All, IfOk, length};
 ghost use Rattle.std.specs.Bool.{OnTrue, OnFalse};
 ghost use Rattle.plane_predicate.specs.Space.{point_at};
 ghost use Rattle.primitives.specs.Shapes.{IsOnOnePlane};
-ghost use Rattle.primitives.specs.GridSizes.{IsOnGrid};
-ghost use Rattle.primitives.specs.Checks.{AreThere, HasOuterPlane, IsConvex, IsFlat};
-ghost use Rattle.primitives.specs.Bounding.{IsBounded};
+ghost use Rattle.primitives.specs.GridSizes.{IsWithinGridLimits};
+ghost use Rattle.primitives.specs.Checks.{AreCornersThere, HasOuterPlane, IsConvex, IsFlatFace};
+ghost use Rattle.primitives.specs.Bounding.{IsFaceOfBody};
 
 use crate::Corners;
 use crate::bounding::is_bounded_by;
@@ -17,11 +17,11 @@ use std::alloc::{AllocError, Global};
 /// Whether each face is convex with no point of a face ahead of it, and some point of a face is off
 /// its plane.
 pub fn are_convex(alloc: Global, points: &[[i64; 3]], faces: &[Corners]) -> Result<bool, AllocError>
-    requires grid { All (λ p. IsOnGrid (point_at p)) points.now }
-    requires there { AreThere (length points.now) faces.now }
-    requires flat { All (IsFlat points.now) faces.now }
+    requires grid { All (λ p. IsWithinGridLimits (point_at p)) points.now }
+    requires there { AreCornersThere (length points.now) faces.now }
+    requires flat { All (IsFlatFace points.now) faces.now }
     ensures all { IfOk result (λ b. OnTrue b (All
-        (IsBounded (record { points = points.now; faces = faces.now })) faces.now)) }
+        (IsFaceOfBody (record { points = points.now; faces = faces.now })) faces.now)) }
     ensures past { IfOk result (λ b. OnFalse b (IsConvex
         (record { points = points.now; faces = faces.now }) → ⊥)) }
 {
@@ -41,11 +41,11 @@ fn is_bounded(
     faces: &[Corners],
     face: &[u32],
 ) -> Result<bool, AllocError>
-    requires grid { All (λ p. IsOnGrid (point_at p)) points.now }
-    requires there { AreThere (length points.now) faces.now }
+    requires grid { All (λ p. IsWithinGridLimits (point_at p)) points.now }
+    requires there { AreCornersThere (length points.now) faces.now }
     requires face_there { All (λ i. i < length points.now) face.now }
-    requires flat { IsFlat points.now face.now }
-    ensures all { IfOk result (λ b. OnTrue b (IsBounded
+    requires flat { IsFlatFace points.now face.now }
+    ensures all { IfOk result (λ b. OnTrue b (IsFaceOfBody
         (record { points = points.now; faces = faces.now }) face.now)) }
     ensures past { IfOk result (λ b. OnFalse b (HasOuterPlane
         (record { points = points.now; faces = faces.now }) face.now →

@@ -3,7 +3,7 @@
 ghost use Rattle.std.specs.Prelude.{◌<◌, All, IfSome, IsNone, length};
 ghost use Rattle.plane_predicate.specs.Space.{point_at};
 ghost use Rattle.primitives.specs.Shapes.{HasTriangle};
-ghost use Rattle.primitives.specs.GridSizes.{IsOnGrid};
+ghost use Rattle.primitives.specs.GridSizes.{IsWithinGridLimits};
 ghost use Rattle.primitives.specs.CornerPlanes.{IsCornerPlane};
 
 use crate::facing::{FacePlane, plane_through};
@@ -12,7 +12,7 @@ use crate::find_triangle;
 /// The plane through three corners of a face that are not on one line. `None` where all corners are
 /// on one line.
 pub fn spanned(points: &[[i64; 3]], face: &[u32]) -> Option<FacePlane>
-    requires grid { All (λ p. IsOnGrid (point_at p)) points.now }
+    requires grid { All (λ p. IsWithinGridLimits (point_at p)) points.now }
     requires there { All (λ i. i < length points.now) face.now }
     ensures some { IfSome result (IsCornerPlane points.now face.now) }
     ensures none { IsNone result → HasTriangle points.now face.now → ⊥ }

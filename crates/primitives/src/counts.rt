@@ -2,7 +2,7 @@
 
 ghost use Rattle.std.specs.Prelude.{◌≤◌, ◌<◌, All, Any, length};
 ghost use Rattle.std.specs.Bool.{OnTrue, OnFalse};
-ghost use Rattle.primitives.specs.Checks.{AreThere, HasEnoughCorners, IsWithinLimits};
+ghost use Rattle.primitives.specs.Checks.{AreCornersThere, HasEnoughCorners, IsWithinLimits};
 
 use crate::Corners;
 
@@ -24,8 +24,8 @@ pub fn has_enough_corners(faces: &[Corners]) -> bool
 
 /// Whether each corner of a face is one of the points.
 pub fn are_there(points: usize, faces: &[Corners]) -> bool
-    ensures all { OnTrue result (AreThere points faces.now) }
-    ensures past { OnFalse result (AreThere points faces.now → ⊥) }
+    ensures all { OnTrue result (AreCornersThere points faces.now) }
+    ensures past { OnFalse result (AreCornersThere points faces.now → ⊥) }
 {
     for face in faces {
         if !is_there(points, face.items()) {

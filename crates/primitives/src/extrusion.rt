@@ -5,7 +5,7 @@ ghost use Rattle.std.specs.List.{range_with_len};
 ghost use Rattle.primitives.specs.Prisms.{at_height, extrusion_of, is_same_point as is_same, prism_faces, prism_points, sides_over};
 ghost use Rattle.primitives.specs.Sizes.{AreSizes, IsSafe, IsSizeStop};
 
-use crate::convex::after;
+use crate::convex::next_point;
 use crate::flat::Flat;
 use crate::sizes::{Ends, ends_of, size_fault};
 use crate::{Corners, Shape, ShapeStop};
@@ -80,7 +80,7 @@ fn sides_of(alloc: Global, points: &[[i64; 2]]) -> Result<Vec<Corners>, AllocErr
 {
     let mut sides = Vec::new(alloc);
     for i in 0..points.len() {
-        let next = after(points.len(), i);
+        let next = next_point(points.len(), i);
         if !is_same_point(points[i], points[next]) {
             sides.push(side_of(alloc, i, next, points.len())?)?;
         }

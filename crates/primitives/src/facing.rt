@@ -3,7 +3,7 @@
 ghost use Rattle.std.specs.Prelude.{◌≡◌, ◌≤◌, ◌*◌, ◌-ℤ◌, ◌*ℤ◌, ◌+ℤ◌, ◌<ℤ◌, ◌≤ℤ◌, pos, unsigned_abs};
 ghost use Rattle.std.specs.Bool.{OnTrue, OnFalse};
 ghost use Rattle.plane_predicate.specs.Space.{point_at, minor, opposite_of, through, value};
-ghost use Rattle.primitives.specs.GridSizes.{IsOnGrid};
+ghost use Rattle.primitives.specs.GridSizes.{IsWithinGridLimits};
 ghost use Rattle.primitives.specs.Spanning.{HasNoDirection};
 
 use plane_predicate::Plane;
@@ -37,9 +37,9 @@ impl Model for FacePlane {
 
 /// The plane through three points, with the direction of `(q - p) x (r - p)`.
 pub fn plane_through(p: [i64; 3], q: [i64; 3], r: [i64; 3]) -> FacePlane
-    requires p_grid { IsOnGrid (point_at p) }
-    requires q_grid { IsOnGrid (point_at q) }
-    requires r_grid { IsOnGrid (point_at r) }
+    requires p_grid { IsWithinGridLimits (point_at p) }
+    requires q_grid { IsWithinGridLimits (point_at q) }
+    requires r_grid { IsWithinGridLimits (point_at r) }
     ensures { result ≡ through (point_at p) (point_at q) (point_at r) }
 {
     let a = minor_between(p[1], p[2], q[1], q[2], r[1], r[2]);
@@ -83,7 +83,7 @@ pub fn has_direction(plane: &FacePlane) -> bool
 
 /// Whether a point is strictly ahead of a plane.
 pub fn is_ahead(m: &FacePlane, at: [i64; 3]) -> bool
-    requires { IsOnGrid (point_at at) }
+    requires { IsWithinGridLimits (point_at at) }
     ensures some { OnTrue result (pos 0 <ℤ value m.now (point_at at)) }
     ensures none { OnFalse result (value m.now (point_at at) ≤ℤ pos 0) }
 {
@@ -92,7 +92,7 @@ pub fn is_ahead(m: &FacePlane, at: [i64; 3]) -> bool
 
 /// Whether a plane goes through a point.
 pub fn goes_through(m: &FacePlane, at: [i64; 3]) -> bool
-    requires { IsOnGrid (point_at at) }
+    requires { IsWithinGridLimits (point_at at) }
     ensures on { OnTrue result (value m.now (point_at at) ≡ pos 0) }
     ensures off { OnFalse result (value m.now (point_at at) ≡ pos 0 → ⊥) }
 {
@@ -101,7 +101,7 @@ pub fn goes_through(m: &FacePlane, at: [i64; 3]) -> bool
 
 // The value of a plane at a point: above 0 where the point is ahead.
 fn value_at(m: &FacePlane, at: [i64; 3]) -> i64
-    requires { IsOnGrid (point_at at) }
+    requires { IsWithinGridLimits (point_at at) }
     ensures { result ≡ value m.now (point_at at) }
 {
     offset(m.a, m.b, m.c, at[0], at[1], at[2]) - m.d

@@ -2,19 +2,19 @@
 
 ghost use Rattle.std.specs.Prelude.{◌≡◌, ◌≤◌, ◌*◌, ◌*ℤ◌, ◌+ℤ◌, ◌<ℤ◌, ◌≤ℤ◌, pos, unsigned_abs};
 ghost use Rattle.std.specs.Bool.{OnTrue, OnFalse};
-ghost use Rattle.plane_predicate.specs.Space.{point_at, inner, through};
-ghost use Rattle.primitives.specs.GridSizes.{IsOnGrid};
+ghost use Rattle.plane_predicate.specs.Space.{point_at, inner_product, through};
+ghost use Rattle.primitives.specs.GridSizes.{IsWithinGridLimits};
 
 use crate::facing::{FacePlane, plane_through};
 
 /// Whether the way from `p` by `q` to `r` turns left as seen from ahead of a plane.
 pub fn turns_left(m: &FacePlane, p: [i64; 3], q: [i64; 3], r: [i64; 3]) -> bool
-    requires p_grid { IsOnGrid (point_at p) }
-    requires q_grid { IsOnGrid (point_at q) }
-    requires r_grid { IsOnGrid (point_at r) }
+    requires p_grid { IsWithinGridLimits (point_at p) }
+    requires q_grid { IsWithinGridLimits (point_at q) }
+    requires r_grid { IsWithinGridLimits (point_at r) }
     ensures left { OnTrue result (pos 0
-        <ℤ inner m.now (through (point_at p) (point_at q) (point_at r))) }
-    ensures other { OnFalse result (inner m.now (through (point_at p) (point_at q) (point_at r))
+        <ℤ inner_product m.now (through (point_at p) (point_at q) (point_at r))) }
+    ensures other { OnFalse result (inner_product m.now (through (point_at p) (point_at q) (point_at r))
         ≤ℤ pos 0) }
 {
     turn_at(m, p, q, r) > 0
@@ -23,10 +23,10 @@ pub fn turns_left(m: &FacePlane, p: [i64; 3], q: [i64; 3], r: [i64; 3]) -> bool
 // How the way from `p` by `q` to `r` turns as seen from ahead of a plane: above 0 where it turns
 // left.
 fn turn_at(m: &FacePlane, p: [i64; 3], q: [i64; 3], r: [i64; 3]) -> i128
-    requires p_grid { IsOnGrid (point_at p) }
-    requires q_grid { IsOnGrid (point_at q) }
-    requires r_grid { IsOnGrid (point_at r) }
-    ensures { result ≡ inner m.now (through (point_at p) (point_at q) (point_at r)) }
+    requires p_grid { IsWithinGridLimits (point_at p) }
+    requires q_grid { IsWithinGridLimits (point_at q) }
+    requires r_grid { IsWithinGridLimits (point_at r) }
+    ensures { result ≡ inner_product m.now (through (point_at p) (point_at q) (point_at r)) }
 {
     let n = plane_through(p, q, r);
     directions_dot(m.a, m.b, m.c, n.a, n.b, n.c)

@@ -1,5 +1,5 @@
 ghost use Rattle.std.specs.Prelude.{◌≡◌};
-ghost use Rattle.primitives.specs.Polygons.{IsFlat};
+ghost use Rattle.primitives.specs.Polygons.{IsFlatShape};
 
 use std::marker::Model;
 
@@ -15,19 +15,19 @@ pub struct Flat {
 
 impl Model for Flat {
     ghost use Rattle.std.specs.Prelude.{List, ℤ};
-    ghost use Rattle.primitives.specs.Polygons.{IsFlat};
+    ghost use Rattle.primitives.specs.Polygons.{IsFlatShape};
 
     ghost Value = { List (List ℤ) };
 
     ghost view = { λ f. f.points.items };
 
-    ghost invariant = { λ f. IsFlat f.points.items };
+    ghost invariant = { λ f. IsFlatShape f.points.items };
 }
 
 impl Flat {
     /// The flat of points that meet what a flat keeps.
     pub fn of(points: Vec<[i64; 2]>) -> Self
-        requires { IsFlat points.items }
+        requires { IsFlatShape points.items }
         ensures { result ≡ points.items }
     {
         Flat { points }
@@ -36,7 +36,7 @@ impl Flat {
     /// Its points in grid steps, in order.
     pub fn points(&self) -> &[[i64; 2]]
         ensures points { result.now ≡ self.now }
-        ensures flat { IsFlat self.now }
+        ensures flat { IsFlatShape self.now }
     {
         &self.points
     }

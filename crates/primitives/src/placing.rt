@@ -4,7 +4,7 @@ ghost use Rattle.std.specs.Prelude.{◌<◌, ◌↔◌, All, Any, IfOk, IfErr, O
 ghost use Rattle.std.specs.Bool.{OnTrue, OnFalse};
 ghost use Rattle.plane_predicate.specs.Space.{Coordinates, point_at, IsInReach};
 ghost use Rattle.int_transform.specs.Maps.{image, map_of, StaysInRange};
-ghost use Rattle.primitives.specs.Shapes.{IsFace, IsInside};
+ghost use Rattle.primitives.specs.Shapes.{IsFaceOfShape, IsInside};
 ghost use Rattle.primitives.specs.Placing.{moved_mesh, ArePlanesOf, IsBehindAll, IsPlacingStop, MeetsReach};
 
 use crate::planes::planes_of;
@@ -28,7 +28,7 @@ pub fn place(alloc: Global, shape: &Shape, steps: &[Step]) -> Result<Vec<Plane>,
     ensures some { IfOk result (λ v. 0 < length v.items) }
     ensures reach { IfOk result (λ v. All MeetsReach v.items) }
     // no step flattens the shape: its faces stay faces of a body
-    ensures solid { OnOk result (All (IsFace (moved_mesh (map_of steps.now) shape.now))
+    ensures solid { OnOk result (All (IsFaceOfShape (moved_mesh (map_of steps.now) shape.now))
         shape.now.faces) }
 
     ensures in_range { OnOk result (All (λ p. StaysInRange steps.now (point_at p))

@@ -3,7 +3,7 @@
 ghost use Rattle.std.specs.Prelude.{◌≡◌, All, IfOk};
 ghost use Rattle.std.specs.List.{list_any};
 ghost use Rattle.plane_predicate.specs.Space.{point_at, IsInReach};
-ghost use Rattle.primitives.specs.Shapes.{IsFace, IsFacePlane};
+ghost use Rattle.primitives.specs.Shapes.{IsFaceOfShape, IsPlaneOfFace};
 ghost use Rattle.primitives.specs.Placing.{same, ArePlanesOf};
 
 use crate::ahead::has_ahead;
@@ -20,7 +20,7 @@ pub fn planes_of(
     faces: &[Corners],
 ) -> Result<Vec<Plane>, AllocError>
     requires reach { All (λ p. IsInReach (point_at p)) points.now }
-    requires faces_are { All (IsFace (record { points = points.now; faces = faces.now }))
+    requires faces_are { All (IsFaceOfShape (record { points = points.now; faces = faces.now }))
         faces.now }
     ensures { IfOk result (λ v. ArePlanesOf (record { points = points.now; faces = faces.now })
         faces.now v.items) }
@@ -38,10 +38,10 @@ pub fn planes_of(
 // The plane of one face.
 fn face_plane(points: &[[i64; 3]], faces: &[Corners], face: &[u32]) -> Plane
     requires reach { All (λ p. IsInReach (point_at p)) points.now }
-    requires faces_are { All (IsFace (record { points = points.now; faces = faces.now }))
+    requires faces_are { All (IsFaceOfShape (record { points = points.now; faces = faces.now }))
         faces.now }
-    requires face_is { IsFace (record { points = points.now; faces = faces.now }) face.now }
-    ensures { IsFacePlane (record { points = points.now; faces = faces.now }) face.now result }
+    requires face_is { IsFaceOfShape (record { points = points.now; faces = faces.now }) face.now }
+    ensures { IsPlaneOfFace (record { points = points.now; faces = faces.now }) face.now result }
 {
     let plane = spanned(points, face);
     if has_ahead(points, faces, &of_plane(&plane)) {

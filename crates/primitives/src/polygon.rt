@@ -2,7 +2,7 @@
 
 ghost use Rattle.std.specs.Prelude.{◌≡◌, All, Any, IfOk, IfErr, OnOk};
 ghost use Rattle.std.specs.Bool.{OnTrue, OnFalse};
-ghost use Rattle.primitives.specs.Polygons.{on_grid as on_grid_of, polygon_of, IsInRange, IsPolygon, IsPolygonStop};
+ghost use Rattle.primitives.specs.Polygons.{on_grid as on_grid_of, polygon_of, IsInRange, IsWrittenPolygon, IsPolygonStop};
 
 use crate::ShapeStop;
 use crate::convex::is_convex;
@@ -19,7 +19,7 @@ use text_place::FaultKind;
 /// exactly where else the polygon is not convex.
 pub fn polygon_flat(alloc: Global, points: &[[i64; 2]], unit: Unit) -> Result<Flat, ShapeStop>
     ensures flat { IfOk result (λ flat. flat ≡ polygon_of unit points.now) }
-    ensures checks { OnOk result (IsPolygon unit points.now) }
+    ensures checks { OnOk result (IsWrittenPolygon unit points.now) }
     ensures stops { IfErr result (IsPolygonStop unit points.now) }
 {
     if points.len() > 64 {

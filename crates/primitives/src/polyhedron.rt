@@ -3,9 +3,9 @@
 ghost use Rattle.std.specs.Prelude.{◌≡◌, ◌<◌, All, IfOk, IfErr, OnOk, length};
 ghost use Rattle.plane_predicate.specs.Space.{point_at};
 ghost use Rattle.primitives.specs.Shapes.{HasBodyBehind};
-ghost use Rattle.primitives.specs.GridSizes.{IsOnGrid};
-ghost use Rattle.primitives.specs.Checks.{in_grid_steps, AreThere};
-ghost use Rattle.primitives.specs.Polyhedra.{mesh_of, AnswersFirstFault, IsFirstFault, IsPolyhedron, IsSurface, IsSurfaceFault, IsWritten, IsWrittenFault};
+ghost use Rattle.primitives.specs.GridSizes.{IsWithinGridLimits};
+ghost use Rattle.primitives.specs.Checks.{in_grid_steps, AreCornersThere};
+ghost use Rattle.primitives.specs.Polyhedra.{mesh_of, AnswersFirstFault, IsFirstPolyhedronFault, IsPolyhedron, IsSurface, IsSurfaceFault, PassesWrittenChecks, IsWrittenFault};
 
 use crate::closed::are_closed;
 use crate::convex_faces::are_convex;
@@ -28,7 +28,7 @@ pub fn polyhedron_shape(
     ensures shape { IfOk result (λ s. s ≡ mesh_of unit points.now faces.now) }
     ensures polyhedron { OnOk result (IsPolyhedron unit points.now faces.now) }
     ensures first_fault { AnswersFirstFault unit points.now faces.now result }
-    ensures fault { IfErr result (IsFirstFault unit points.now faces.now) }
+    ensures fault { IfErr result (IsFirstPolyhedronFault unit points.now faces.now) }
 {
     let placed = checked_points(alloc, points, faces, unit)?;
     Ok(Shape::of(placed, copied(alloc, faces)?))
@@ -44,7 +44,7 @@ fn checked_points(
     ensures points { IfOk result (λ v. v.items ≡ in_grid_steps unit points.now) }
     ensures polyhedron { OnOk result (IsPolyhedron unit points.now faces.now) }
     ensures body { OnOk result (All (HasBodyBehind (mesh_of unit points.now faces.now)) faces.now) }
-    ensures fault { IfErr result (IsFirstFault unit points.now faces.now) }
+    ensures fault { IfErr result (IsFirstPolyhedronFault unit points.now faces.now) }
 {
     check_written(points, faces)?;
     let placed = points_in_grid_steps(alloc, points, unit)?;
@@ -54,7 +54,7 @@ fn checked_points(
 
 // The checks of the arguments as they are written.
 fn check_written(points: &[[i64; 3]], faces: &[Corners]) -> Result<(), ShapeStop>
-    ensures written { OnOk result (IsWritten points.now faces.now) }
+    ensures written { OnOk result (PassesWrittenChecks points.now faces.now) }
     ensures fault { IfErr result (IsWrittenFault points.now faces.now) }
 {
     if !is_within_limits(points, faces) {
@@ -74,8 +74,8 @@ fn check_written(points: &[[i64; 3]], faces: &[Corners]) -> Result<(), ShapeStop
 
 // The checks of the surface that the faces form.
 fn check_surface(alloc: Global, points: &[[i64; 3]], faces: &[Corners]) -> Result<(), ShapeStop>
-    requires grid { All (λ p. IsOnGrid (point_at p)) points.now }
-    requires there { AreThere (length points.now) faces.now }
+    requires grid { All (λ p. IsWithinGridLimits (point_at p)) points.now }
+    requires there { AreCornersThere (length points.now) faces.now }
     requires some { 0 < length faces.now }
     requires corners { All (λ f. 0 < length f) faces.now }
     ensures surface { OnOk result (IsSurface (record { points = points.now; faces = faces.now })) }

@@ -3,7 +3,7 @@
 ghost use Rattle.std.specs.Prelude.{◌≡◌, ◌≤◌, ℤ, pos, ◌%◌, ◌<ℤ◌, ◌≤ℤ◌, unsigned_abs, All, Any, IfSome, IsNone};
 ghost use Rattle.std.specs.Bool.{OnTrue, OnFalse};
 ghost use Rattle.plane_predicate.specs.Units.{steps_of};
-ghost use Rattle.primitives.specs.Sizes.{grid_steps, high_end, low_at, low_end, AreSizes, IsEven, IsLong, IsSafe, IsSizeFault};
+ghost use Rattle.primitives.specs.Sizes.{length_in_grid_steps, high_end, low_at, low_end, AreSizes, IsEven, IsAtLeastOne, IsSafe, IsSizeFault};
 
 use plane_predicate::Unit;
 use text_place::FaultKind;
@@ -38,7 +38,7 @@ pub fn size_fault(sides: &[i64], center: bool, unit: Unit) -> Option<FaultKind>
 
 // Whether all sides are at least 1.
 fn are_long(sides: &[i64]) -> bool
-    ensures all { OnTrue result (All IsLong sides.now) }
+    ensures all { OnTrue result (All IsAtLeastOne sides.now) }
     ensures some { OnFalse result (Any (λ s. s <ℤ pos 1) sides.now) }
 {
     for side in sides {
@@ -53,7 +53,7 @@ fn are_long(sides: &[i64]) -> bool
 fn are_even(sides: &[i64], unit: Unit) -> bool
     requires { All IsSafe sides.now }
     ensures all { OnTrue result (All (IsEven unit) sides.now) }
-    ensures some { OnFalse result (Any (λ s. unsigned_abs (grid_steps unit s) % 2 ≡ 1) sides.now) }
+    ensures some { OnFalse result (Any (λ s. unsigned_abs (length_in_grid_steps unit s) % 2 ≡ 1) sides.now) }
 {
     for side in sides {
         if in_steps(*side, unit).unsigned_abs() % 2 == 1 {
@@ -66,8 +66,8 @@ fn are_even(sides: &[i64], unit: Unit) -> bool
 // Whether all sides have at most 2^53 - 1 grid steps.
 fn are_safe(sides: &[i64], unit: Unit) -> bool
     requires { All IsSafe sides.now }
-    ensures all { OnTrue result (All (λ s. IsSafe (grid_steps unit s)) sides.now) }
-    ensures some { OnFalse result (Any (λ s. IsSafe (grid_steps unit s) → ⊥) sides.now) }
+    ensures all { OnTrue result (All (λ s. IsSafe (length_in_grid_steps unit s)) sides.now) }
+    ensures some { OnFalse result (Any (λ s. IsSafe (length_in_grid_steps unit s) → ⊥) sides.now) }
 {
     for side in sides {
         if !is_safe(in_steps(*side, unit)) {
@@ -88,7 +88,7 @@ fn is_safe(number: i64) -> bool
 /// A length in grid steps.
 pub fn in_steps(length: i64, unit: Unit) -> i64
     requires { IsSafe length }
-    ensures { result ≡ grid_steps unit length }
+    ensures { result ≡ length_in_grid_steps unit length }
 {
     unit.per() * length
 }

@@ -4,7 +4,7 @@ ghost use Rattle.std.specs.Prelude.{◌<◌, All, IfSome, IsNone, get_or, length
 ghost use Rattle.std.specs.Bool.{OnTrue};
 ghost use Rattle.plane_predicate.specs.Space.{point_at, AreCollinear, IsInReach};
 ghost use Rattle.primitives.specs.Shapes.{corner, HasTriangle};
-ghost use Rattle.primitives.specs.GridSizes.{IsOnGrid};
+ghost use Rattle.primitives.specs.GridSizes.{IsWithinGridLimits};
 ghost use Rattle.primitives.specs.Spanning.{IsThird, IsTriangle, SpansFace};
 
 use crate::facing::{has_direction, plane_through};
@@ -20,7 +20,7 @@ pub struct Triangle {
 
 /// Three corners of a face that are not on one line. `None` where all corners are on one line.
 pub fn find_triangle(points: &[[i64; 3]], face: &[u32]) -> Option<Triangle>
-    requires grid { All (λ p. IsOnGrid (point_at p)) points.now }
+    requires grid { All (λ p. IsWithinGridLimits (point_at p)) points.now }
     requires there { All (λ i. i < length points.now) face.now }
     ensures some { IfSome result (IsTriangle points.now face.now) }
     ensures none { IsNone result → HasTriangle points.now face.now → ⊥ }
@@ -38,7 +38,7 @@ pub fn find_triangle(points: &[[i64; 3]], face: &[u32]) -> Option<Triangle>
 
 // Whether a face has three corners in front that are not on one line.
 fn begins_with_triangle(points: &[[i64; 3]], face: &[u32]) -> bool
-    requires grid { All (λ p. IsOnGrid (point_at p)) points.now }
+    requires grid { All (λ p. IsWithinGridLimits (point_at p)) points.now }
     requires there { All (λ i. i < length points.now) face.now }
     ensures { OnTrue result (IsTriangle points.now face.now
         (record { first = 0; second = 1; third = 2 })) }
@@ -54,7 +54,7 @@ fn begins_with_triangle(points: &[[i64; 3]], face: &[u32]) -> bool
 
 // Three corners of a face that are not on one line, of which one is the first. `None` where all corners are on one line.
 fn search_triangle(points: &[[i64; 3]], face: &[u32]) -> Option<Triangle>
-    requires grid { All (λ p. IsOnGrid (point_at p)) points.now }
+    requires grid { All (λ p. IsWithinGridLimits (point_at p)) points.now }
     requires there { All (λ i. i < length points.now) face.now }
     ensures some { IfSome result (IsTriangle points.now face.now) }
     ensures none { IsNone result → HasTriangle points.now face.now → ⊥ }
@@ -74,7 +74,7 @@ fn search_triangle(points: &[[i64; 3]], face: &[u32]) -> Option<Triangle>
 // A corner of a face that is not on one line with the first corner and a second one. `None` where
 // all corners are on one line with them.
 fn third_corner(points: &[[i64; 3]], face: &[u32], second: usize) -> Option<usize>
-    requires grid { All (λ p. IsOnGrid (point_at p)) points.now }
+    requires grid { All (λ p. IsWithinGridLimits (point_at p)) points.now }
     requires there { All (λ i. i < length points.now) face.now }
     requires second_in { second < length face.now }
     ensures some { IfSome result (IsThird points.now face.now second) }

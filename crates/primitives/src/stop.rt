@@ -12,9 +12,9 @@ pub enum ShapeStop {
 }
 
 impl From<StepFault> for ShapeStop {
-    ghost use Rattle.primitives.specs.Stops.{stop_of};
+    ghost use Rattle.primitives.specs.Stops.{shape_stop_of};
 
-    ghost from_gives = { λ fault stop. stop ≡ stop_of fault };
+    ghost from_gives = { λ fault stop. stop ≡ shape_stop_of fault };
 
     fn from(fault: StepFault) -> ShapeStop {
         match fault {

@@ -1,8 +1,8 @@
 //! The ways along the edges of faces.
 
 ghost use Rattle.std.specs.Prelude.{◌≡◌, ◌<◌, ◌++◌, All, IfOk, OnOk, length};
-ghost use Rattle.primitives.specs.Ways.{after, all_ways, ways_of, way_between, turned};
-ghost use Rattle.primitives.specs.Checks.{AreThere};
+ghost use Rattle.primitives.specs.Ways.{next_in_face, all_ways, ways_of, way_between, reversed_way};
+ghost use Rattle.primitives.specs.Checks.{AreCornersThere};
 
 use crate::Corners;
 use std::alloc::{AllocError, Global};
@@ -17,7 +17,7 @@ pub struct Way {
 impl Way {
     /// The way back.
     pub fn back(self) -> Way
-        ensures { result ≡ turned self }
+        ensures { result ≡ reversed_way self }
     {
         let from = self.to;
         let to = self.from;
@@ -31,7 +31,7 @@ pub fn ways_of_faces(
     points: &[[i64; 3]],
     faces: &[Corners],
 ) -> Result<Vec<Way>, AllocError>
-    requires { AreThere (length points.now) faces.now }
+    requires { AreCornersThere (length points.now) faces.now }
     ensures { IfOk result (λ v. v.items ≡ all_ways points.now faces.now) }
 {
     let mut ways = Vec::new(alloc);
@@ -56,7 +56,7 @@ pub fn push_ways(ways: &mut Vec<Way>, points: &[[i64; 3]], face: &[u32]) -> Resu
 // The place that follows in a face of so many corners: the first follows the last.
 fn next_place(place: usize, corners: usize) -> usize
     requires { place < corners }
-    ensures next { result ≡ after place corners }
+    ensures next { result ≡ next_in_face place corners }
     ensures within { result < corners }
 {
     if place + 1 == corners { 0 } else { place + 1 }

@@ -4,7 +4,7 @@ use Rattle.std.specs.Prelude.{MatchOption}
 use Rattle.script_reader.specs.declared.script.Command.{Command}
 use Rattle.script_reader.specs.declared.script.Command.TheVariants.{Put, Set, Cut, Show, Export, Bad}
 use Rattle.edit_session.specs.declared.fault.SessionFault.{SessionFault}
-use Rattle.edit_session.specs.Sessions.{State, source_of, refusal, next}
+use Rattle.edit_session.specs.Sessions.{State, source_of, refusal, state_after_command}
 use Rattle.reply_text.specs.declared.reply.Reply.{Reply}
 use Rattle.reply_text.specs.declared.reply.Reply.TheVariants as reply
 use Rattle.reply_text.specs.Answers.{IsDone, Answers, Fits, SameWants, IsExport}
@@ -59,6 +59,6 @@ own_replies E x s (c ∷ cs) (r ∷ rs) (q ∷ qs) h g w =
     g)
     (λ a. ⊎_elim
     (λ b. absurd (answer_has_memory E x s c r a.0 (w.0.1 b.0)))
-    (λ b. heads_and_tails r q rs qs (one_answer E x s c r q a.0 b.0) (own_replies E x (next s c) cs rs qs a.1 b.1 w.1))
+    (λ b. heads_and_tails r q rs qs (one_answer E x s c r q a.0 b.0) (own_replies E x (state_after_command s c) cs rs qs a.1 b.1 w.1))
     g)
     h

@@ -5,7 +5,7 @@ use Rattle.text_place.specs.Decimals.{numeral}
 use Rattle.script_reader.specs.declared.script.Command.{Command}
 use Rattle.script_reader.specs.declared.script.ClientScript.{ClientScript}
 use Rattle.script_reader.specs.Lines.{newline}
-use Rattle.edit_session.specs.Sessions.{State, start, next}
+use Rattle.edit_session.specs.Sessions.{State, start_state, state_after_command}
 use Rattle.reply_text.specs.declared.reply.Reply.{Reply}
 use Rattle.reply_text.specs.declared.reply.Reply.TheVariants as reply
 use Rattle.reply_text.specs.Texts.{reply_body, replies_text, client_text, output}
@@ -20,7 +20,7 @@ other_line : (r : Reply) (x y : List ℕ) → r ≢ reply.NoMem → reply_body r
 other_line (reply.Lines n) x y h e = let letter : 110 ≡ 111 = ap second e in absurd (omega (arith, letter))
 other_line (reply.Refused why) x y h e = let letter : 110 ≡ 114 = ap second e in absurd (omega (arith, letter))
 other_line (reply.Faulted f) x y h e = let letter : 110 ≡ 102 = ap second e in absurd (omega (arith, letter))
-other_line (reply.Complex c) x y h e = let letter : 110 ≡ 99 = ap second e in absurd (omega (arith, letter))
+other_line (reply.PassedLimit c) x y h e = let letter : 110 ≡ 99 = ap second e in absurd (omega (arith, letter))
 other_line reply.NoMem x y h e = absurd (h refl)
 other_line (reply.Text lines) x y h e = let letter : 110 ≡ 116 = ap second e in absurd (omega (arith, letter))
 other_line (reply.Solid bytes) x y h e = let letter : 110 ≡ 115 = ap second e in absurd (omega (arith, letter))
@@ -62,7 +62,7 @@ same_replies E i n s (c ∷ cs) (r ∷ rs) (q ∷ qs) x y h g e =
     g)
     (λ a. ⊎_elim
     (λ b. absurd (wanting q r (replies_text (suc n) qs ++ y) (replies_text (suc n) rs ++ x) b.0 (answer_has_memory E i s c r a.0) (sym printed)))
-    (λ b. let same : r ≡ q = one_answer E i s c r q a.0 b.0 in with_first r q rs qs x y same (same_replies E i (suc n) (next s c) cs rs qs x y a.1 b.1 (after same)))
+    (λ b. let same : r ≡ q = one_answer E i s c r q a.0 b.0 in with_first r q rs qs x y same (same_replies E i (suc n) (state_after_command s c) cs rs qs x y a.1 b.1 (after same)))
     g)
     h
 
@@ -83,7 +83,7 @@ same_output E i (client ∷ clients) (r ∷ rs) [] x y h g e = absurd g
 same_output E i (client ∷ clients) (r ∷ rs) (q ∷ qs) x y h g e =
     let behind = output clients rs ++ x in
     let after = output clients qs ++ y in
-    let one = same_replies E i 1 start client.commands r q behind after h.0 g.0
+    let one = same_replies E i 1 start_state client.commands r q behind after h.0 g.0
     (client_texts client.name r q behind after
     (sym (append_assoc (client_text client.name r) (output clients rs) x) ∙ e ∙ append_assoc (client_text client.name q) (output clients qs) y)) in
     let more = same_output E i clients rs qs x y h.1 g.1 one.1 in

@@ -6,13 +6,13 @@ use Rattle.script_reader.specs.declared.script.Command.{Command}
 use Rattle.script_reader.specs.declared.script.Command.TheVariants.{Put, Set, Cut, Show, Export, Bad}
 use Rattle.script_reader.specs.declared.script.ClientScript.{ClientScript}
 use Rattle.edit_session.specs.declared.fault.SessionFault.TheVariants.{NoSuchLine, TooManyExports, BadCommand}
-use Rattle.edit_session.specs.Sessions.{State, start}
-use Rattle.reply_text.specs.declared.reply.Complex.TheVariants as limit
+use Rattle.edit_session.specs.Sessions.{State, start_state}
+use Rattle.reply_text.specs.declared.reply.PassedLimit.TheVariants as limit
 use Rattle.reply_text.specs.declared.reply.Reply.{Reply}
 use Rattle.reply_text.specs.declared.reply.Reply.TheVariants as reply
 use Rattle.reply_text.specs.Texts.{replies_text, output}
 use Rattle.reply_text.specs.Answers.{Fits}
-use Rattle.reply_text.specs.Sums.{LackNoSolid, WhereSolid, SumTo, AllSumTo}
+use Rattle.reply_text.specs.Sums.{LackNoSolid, CountsWhereSolid, SumTo, AllSumTo}
 
 -- an export gives its source back
 abbrev GivesBack : List ℕ → Reply → Type 0
@@ -29,7 +29,7 @@ replies =
     ∷ reply.Text (codes "// one" ∷ codes "cube(3);" ∷ codes "cube(2);" ∷ [])
     ∷ reply.Lines 2 ∷ reply.Solid (codes "cube(3);\ncube(2);\n") ∷ reply.Refused BadCommand ∷ []
 
-replies_fit : Fits GivesBack start commands replies
+replies_fit : Fits GivesBack start_state commands replies
 replies_fit = inr (refl, inr (refl, inr (refl, inr (refl, inr (refl, inr (refl, inr (refl, inr (refl, inr (refl, tt)))))))))
 
 abbrev client : ClientScript
@@ -46,7 +46,7 @@ no_clients = refl
 abbrev GivesNothing : List ℕ → Reply → Type 0
 GivesNothing source r = (source ≡ []) × (r ≡ reply.Solid (codes "4OFF\n0 0 0\n"))
 
-empty_export_fits : Fits GivesNothing start (Export ∷ []) (reply.Solid (codes "4OFF\n0 0 0\n") ∷ [])
+empty_export_fits : Fits GivesNothing start_state (Export ∷ []) (reply.Solid (codes "4OFF\n0 0 0\n") ∷ [])
 empty_export_fits = inr ((refl, refl), tt)
 
 abbrev exporting : ClientScript
@@ -58,7 +58,7 @@ empty_output_is = refl
 
 -- ---- want of memory
 -- a command that is answered so counts as not given
-not_given_fits : Fits GivesBack start (Put 1 (codes "x") ∷ Put 2 (codes "y") ∷ Put 1 (codes "z") ∷ []) (reply.NoMem ∷ reply.Refused NoSuchLine ∷ reply.Lines 1 ∷ [])
+not_given_fits : Fits GivesBack start_state (Put 1 (codes "x") ∷ Put 2 (codes "y") ∷ Put 1 (codes "z") ∷ []) (reply.NoMem ∷ reply.Refused NoSuchLine ∷ reply.Lines 1 ∷ [])
 not_given_fits = inl (refl, refl, inr (refl, inr (refl, tt)))
 
 abbrev nearly_exported : State
@@ -69,7 +69,7 @@ exports_fit : Fits GivesBack nearly_exported (Export ∷ Export ∷ Export ∷ [
 exports_fit = inl (refl, refl, inr (refl, inr (refl, tt)))
 
 -- a command that the session refuses lacks no memory, and nor does a cut
-refused_is_told : Fits GivesBack start (Set 1 (codes "x") ∷ []) (reply.NoMem ∷ []) → ⊥
+refused_is_told : Fits GivesBack start_state (Set 1 (codes "x") ∷ []) (reply.NoMem ∷ []) → ⊥
 refused_is_told (inl (e, may, rest)) = cc may
 refused_is_told (inr (answer, rest)) = cc answer
 
@@ -78,7 +78,7 @@ cut_takes_no_memory (inl (e, may, rest)) = may
 cut_takes_no_memory (inr (answer, rest)) = cc answer
 
 -- ---- lines
-lines_are : replies_text 9 (reply.Faulted (record { kind = UnknownName; place = record { line = 1; column = 23 } }) ∷ reply.NoMem ∷ reply.Complex (limit.Solid 7) ∷ reply.Complex (limit.Sum 12) ∷ reply.Complex limit.Facets ∷ reply.Complex limit.Corners ∷ reply.Complex limit.Vertices ∷ reply.Text [] ∷ []) ≡ codes "9 fault 1:23 UnknownName\n10 nomem\n11 complex solid 7\n12 complex sum 12\n13 complex facets\n14 complex corners\n15 complex vertices\n16 text 0\n"
+lines_are : replies_text 9 (reply.Faulted (record { kind = UnknownName; place = record { line = 1; column = 23 } }) ∷ reply.NoMem ∷ reply.PassedLimit (limit.Solid 7) ∷ reply.PassedLimit (limit.Sum 12) ∷ reply.PassedLimit limit.Facets ∷ reply.PassedLimit limit.Corners ∷ reply.PassedLimit limit.Vertices ∷ reply.Text [] ∷ []) ≡ codes "9 fault 1:23 UnknownName\n10 nomem\n11 complex solid 7\n12 complex sum 12\n13 complex facets\n14 complex corners\n15 complex vertices\n16 text 0\n"
 unfolding numeral
 lines_are = refl
 
@@ -88,10 +88,10 @@ HasLength source r n = n ≡ length source
 
 -- the same where the export lacks no solid
 abbrev HasSolidLength : List ℕ → Reply → ℕ → Type 0
-HasSolidLength = WhereSolid (λ source n. n ≡ length source)
+HasSolidLength = CountsWhereSolid (λ source n. n ≡ length source)
 
 -- two lines of nine bytes, exported once
-sum_is : SumTo HasLength start commands replies 18
+sum_is : SumTo HasLength start_state commands replies 18
 sum_is = (
   0,
   18,
@@ -154,11 +154,11 @@ one_counts : SumTo HasSolidLength one_source (Export ∷ Export ∷ []) (reply.N
 one_counts = (0, 2, inr ((λ has. has), refl), (2, 0, inl (tt, refl), refl, refl), refl)
 
 -- a fault, a limit of the boundary and a refusal lack no solid, and a line that had no memory is no export
-none_lacks : LackNoSolid (Put 1 (codes "x") ∷ Export ∷ Export ∷ Export ∷ []) (reply.NoMem ∷ reply.Faulted (record { kind = UnknownName; place = record { line = 1; column = 1 } }) ∷ reply.Complex limit.Facets ∷ reply.Refused TooManyExports ∷ [])
+none_lacks : LackNoSolid (Put 1 (codes "x") ∷ Export ∷ Export ∷ Export ∷ []) (reply.NoMem ∷ reply.Faulted (record { kind = UnknownName; place = record { line = 1; column = 1 } }) ∷ reply.PassedLimit limit.Facets ∷ reply.Refused TooManyExports ∷ [])
 none_lacks = (tt, ((λ size. size), (tt, tt)))
 
 one_wants : LackNoSolid (Export ∷ []) (reply.NoMem ∷ []) → ⊥
 one_wants h = h.0
 
-one_is_large : LackNoSolid (Export ∷ []) (reply.Complex (limit.Sum 3) ∷ []) → ⊥
+one_is_large : LackNoSolid (Export ∷ []) (reply.PassedLimit (limit.Sum 3) ∷ []) → ⊥
 one_is_large h = h.0 tt

@@ -3,7 +3,7 @@ use Rattle.std.specs.Prelude.{◌≡◌, ◌≢◌, ◌↔◌, ℕ, List, [], �
 use Rattle.script_reader.specs.declared.script.Command.{Command}
 use Rattle.script_reader.specs.declared.script.Command.TheVariants.{Put, Set, Cut, Show, Export, Bad}
 use Rattle.script_reader.specs.declared.script.ClientScript.{ClientScript}
-use Rattle.edit_session.specs.Sessions.{State, start, source_of, refusal, after_accepted, next}
+use Rattle.edit_session.specs.Sessions.{State, start_state, source_of, refusal, after_accepted, state_after_command}
 use Rattle.edit_session.specs.Asking.{MayWantMemory}
 use Rattle.reply_text.specs.declared.reply.Reply.{Reply}
 use Rattle.reply_text.specs.declared.reply.Reply.TheVariants as reply
@@ -27,14 +27,14 @@ module _ (Exports : List ℕ → Reply → Type 0) where
   -- memory ran out at a command at which it may, which counts as not given.
   abbrev pub Fits : State → List Command → List Reply → Type 0
   Fits s [] [] = Unit {0}
-  Fits s (c ∷ cs) (r ∷ rs) = ((r ≡ reply.NoMem) × MayWantMemory s c × Fits s cs rs) ⊎ (Answers s c r × Fits (next s c) cs rs)
+  Fits s (c ∷ cs) (r ∷ rs) = ((r ≡ reply.NoMem) × MayWantMemory s c × Fits s cs rs) ⊎ (Answers s c r × Fits (state_after_command s c) cs rs)
   Fits s (c ∷ cs) [] = ⊥
   Fits s [] (r ∷ rs) = ⊥
 
   -- the replies of each client fit its own commands
   abbrev pub AllFit : List ClientScript → List (List Reply) → Type 0
   AllFit [] [] = Unit {0}
-  AllFit (client ∷ clients) (replies ∷ more) = Fits start client.commands replies × AllFit clients more
+  AllFit (client ∷ clients) (replies ∷ more) = Fits start_state client.commands replies × AllFit clients more
   AllFit (client ∷ clients) [] = ⊥
   AllFit [] (replies ∷ more) = ⊥
 
@@ -48,7 +48,7 @@ SameWants [] (q ∷ qs) = ⊥
 -- the state after a command that was answered so
 abbrev pub state_after : State → Command → Reply → State
 state_after s c reply.NoMem = s
-state_after s c _ = next s c
+state_after s c _ = state_after_command s c
 
 -- a source has one reply to its export, and it isn't that of want of memory
 pub record IsExport (Exports : List ℕ → Reply → Type 0) : Type 0 where

@@ -17,7 +17,7 @@ abbrev pub first_words : Reply → List ℕ
 first_words (reply.Lines n) = codes " ok " ++ numeral n
 first_words (reply.Refused why) = codes " refused " ++ refusal_word why
 first_words (reply.Faulted f) = fault_words f
-first_words (reply.Complex c) = codes " complex " ++ limit_words c
+first_words (reply.PassedLimit c) = codes " complex " ++ limit_words c
 first_words reply.NoMem = codes " nomem"
 first_words (reply.Text lines) = codes " text " ++ numeral (length lines)
 first_words (reply.Solid bytes) = codes " solid " ++ numeral (line_count bytes)

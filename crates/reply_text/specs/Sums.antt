@@ -3,15 +3,15 @@ use Rattle.std.specs.Prelude.{◌≡◌, ℕ, ◌+◌, List, [], ◌∷◌, ◌�
 use Rattle.script_reader.specs.declared.script.Command.{Command}
 use Rattle.script_reader.specs.declared.script.Command.TheVariants.{Export}
 use Rattle.script_reader.specs.declared.script.ClientScript.{ClientScript}
-use Rattle.edit_session.specs.Sessions.{State, start, source_of, refusal}
-use Rattle.reply_text.specs.declared.reply.Complex.{Complex}
-use Rattle.reply_text.specs.declared.reply.Complex.TheVariants as limit
+use Rattle.edit_session.specs.Sessions.{State, start_state, source_of, refusal}
+use Rattle.reply_text.specs.declared.reply.PassedLimit.{PassedLimit}
+use Rattle.reply_text.specs.declared.reply.PassedLimit.TheVariants as limit
 use Rattle.reply_text.specs.declared.reply.Reply.{Reply}
 use Rattle.reply_text.specs.declared.reply.Reply.TheVariants as reply
 use Rattle.reply_text.specs.Answers.{state_after}
 
 -- a limit of size: of one solid, or of all together
-abbrev pub IsSizeLimit : Complex → Type 0
+abbrev pub IsSizeLimit : PassedLimit → Type 0
 IsSizeLimit (limit.Solid number) = Unit {0}
 IsSizeLimit (limit.Sum number) = Unit {0}
 IsSizeLimit _ = ⊥
@@ -19,7 +19,7 @@ IsSizeLimit _ = ⊥
 -- an export that is answered so lacks no solid: memory did not run out, and no limit of size was passed
 abbrev pub LacksNoSolid : Reply → Type 0
 LacksNoSolid reply.NoMem = ⊥
-LacksNoSolid (reply.Complex passed) = IsSizeLimit passed → ⊥
+LacksNoSolid (reply.PassedLimit passed) = IsSizeLimit passed → ⊥
 LacksNoSolid _ = Unit {0}
 
 -- no export among these commands lacks its solid
@@ -34,8 +34,8 @@ AllLackNoSolid (client ∷ clients) (replies ∷ more) = LackNoSolid client.comm
 AllLackNoSolid _ _ = Unit {0}
 
 -- a number of a source counts where the reply to its export lacks no solid, and else there is none
-abbrev pub WhereSolid : (List ℕ → ℕ → Type 0) → List ℕ → Reply → ℕ → Type 0
-WhereSolid Counts source r n = (LacksNoSolid r × Counts source n) ⊎ ((LacksNoSolid r → ⊥) × (n ≡ 0))
+abbrev pub CountsWhereSolid : (List ℕ → ℕ → Type 0) → List ℕ → Reply → ℕ → Type 0
+CountsWhereSolid Counts source r n = (LacksNoSolid r × Counts source n) ⊎ ((LacksNoSolid r → ⊥) × (n ≡ 0))
 
 -- `Counts` relates a source and the reply to its export to a number
 module _ (Counts : List ℕ → Reply → ℕ → Type 0) where
@@ -58,6 +58,6 @@ module _ (Counts : List ℕ → Reply → ℕ → Type 0) where
   AllSumTo [] [] n = n ≡ 0
   AllSumTo (client ∷ clients) (replies ∷ more) n =
       (here : ℕ) × (others : ℕ)
-      × SumTo start client.commands replies here × AllSumTo clients more others × (n ≡ here + others)
+      × SumTo start_state client.commands replies here × AllSumTo clients more others × (n ≡ here + others)
   AllSumTo (client ∷ clients) [] n = ⊥
   AllSumTo [] (replies ∷ more) n = ⊥

@@ -6,8 +6,8 @@ use Rattle.script_reader.specs.declared.script.ClientScript.{ClientScript}
 use Rattle.script_reader.specs.Lines.{space, newline}
 use Rattle.edit_session.specs.declared.fault.SessionFault.{SessionFault}
 use Rattle.edit_session.specs.declared.fault.SessionFault.TheVariants.{NoSuchLine, TooManyLines, TooManyShows, TooManyExports, BadCommand, NoMemory}
-use Rattle.reply_text.specs.declared.reply.Complex.{Complex}
-use Rattle.reply_text.specs.declared.reply.Complex.TheVariants as limit
+use Rattle.reply_text.specs.declared.reply.PassedLimit.{PassedLimit}
+use Rattle.reply_text.specs.declared.reply.PassedLimit.TheVariants as limit
 use Rattle.reply_text.specs.declared.reply.Reply.{Reply}
 use Rattle.reply_text.specs.declared.reply.Reply.TheVariants as reply
 
@@ -21,7 +21,7 @@ refusal_word BadCommand = codes "BadCommand"
 refusal_word NoMemory = codes "NoMemory"
 
 -- how a limit that was passed is told
-abbrev pub limit_words : Complex → List ℕ
+abbrev pub limit_words : PassedLimit → List ℕ
 limit_words (limit.Solid n) = codes "solid " ++ numeral n
 limit_words (limit.Sum n) = codes "sum " ++ numeral n
 limit_words limit.Facets = codes "facets"
@@ -38,7 +38,7 @@ reply_body (reply.Lines n) = codes " ok " ++ numeral n ++ newline
 reply_body (reply.Refused why) = codes " refused " ++ refusal_word why ++ newline
 reply_body (reply.Faulted f) =
     codes " fault " ++ numeral f.place.line ++ codes ":" ++ numeral f.place.column ++ space ++ word_of f.kind ++ newline
-reply_body (reply.Complex c) = codes " complex " ++ limit_words c ++ newline
+reply_body (reply.PassedLimit c) = codes " complex " ++ limit_words c ++ newline
 reply_body reply.NoMem = codes " nomem" ++ newline
 reply_body (reply.Text lines) =
     codes " text " ++ numeral (length lines) ++ newline ++ flat_map (λ line. line ++ newline) lines

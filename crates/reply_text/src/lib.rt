@@ -8,5 +8,5 @@ mod text;
 
 pub use exporting::Exporting;
 pub use laws::{one_output, own_replies};
-pub use reply::{Complex, Replies, Reply};
+pub use reply::{PassedLimit, Replies, Reply};
 pub use text::{push_reply, push_words};

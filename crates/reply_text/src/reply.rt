@@ -8,7 +8,7 @@ use text_place::{Bytes, Fault, Lines};
 
 /// The limit that an export passes.
 #[derive(Clone, Copy)]
-pub enum Complex {
+pub enum PassedLimit {
     /// The solid of this node is too large.
     Solid(u32),
     /// The solids up to this node are too large together.
@@ -28,7 +28,7 @@ pub enum Reply {
     /// An export whose source has a fault.
     Faulted(Fault),
     /// An export that passes a limit.
-    Complex(Complex),
+    PassedLimit(PassedLimit),
     /// Memory ran out, and the command counts as not given.
     NoMem,
     /// A show: the lines of the source.

@@ -6,7 +6,7 @@ ghost use Rattle.script_reader.specs.Lines.{newline};
 ghost use Rattle.reply_text.specs.Texts.{refusal_word, limit_words, line_count, reply_body};
 ghost use Rattle.reply_text.specs.Parts.{fault_words, first_words, further_lines, Grows};
 
-use crate::reply::{Complex, Reply};
+use crate::reply::{PassedLimit, Reply};
 use edit_session::SessionFault;
 use std::alloc::Global;
 use text_place::{Bytes, Fault, NoMemory, push_decimal, word};
@@ -37,21 +37,21 @@ fn push_number(alloc: Global, out: &mut Vec<u8>, number: u64) -> Result<(), NoMe
     push_decimal(alloc, out, i128::from(number))
 }
 
-fn push_limit(alloc: Global, out: &mut Vec<u8>, limit: Complex) -> Result<(), NoMemory>
+fn push_limit(alloc: Global, out: &mut Vec<u8>, limit: PassedLimit) -> Result<(), NoMemory>
     ensures { OnOk result (out.new.items ≡ out.old.items ++ limit_words limit) }
 {
     match limit {
-        Complex::Solid(node) => {
+        PassedLimit::Solid(node) => {
             push_text(out, "solid ")?;
             push_number(alloc, out, u64::from(node))
         }
-        Complex::Sum(node) => {
+        PassedLimit::Sum(node) => {
             push_text(out, "sum ")?;
             push_number(alloc, out, u64::from(node))
         }
-        Complex::Facets => push_text(out, "facets"),
-        Complex::Corners => push_text(out, "corners"),
-        Complex::Vertices => push_text(out, "vertices"),
+        PassedLimit::Facets => push_text(out, "facets"),
+        PassedLimit::Corners => push_text(out, "corners"),
+        PassedLimit::Vertices => push_text(out, "vertices"),
     }
 }
 
@@ -84,7 +84,7 @@ fn push_first(alloc: Global, out: &mut Vec<u8>, reply: &Reply) -> Result<(), NoM
             push_text(out, refusal_text(*why))
         }
         Reply::Faulted(fault) => push_fault(alloc, out, *fault),
-        Reply::Complex(limit) => {
+        Reply::PassedLimit(limit) => {
             push_text(out, " complex ")?;
             push_limit(alloc, out, *limit)
         }

@@ -7,8 +7,8 @@ use Rattle.plane_predicate.proofs.Opposites.{from_zero, size_of_negative}
 use Rattle.plane_predicate.proofs.Polynomials.{Poly, var, num, plus, minus, times, ring}
 use Rattle.plane_predicate.proofs.Signs.{least_least, zero_cancel}
 use Rattle.plane_predicate.proofs.Vectors.{minorP}
-use Rattle.primitives.specs.Polygons.{orientation, x_of, y_of, GoesLeft, IsConvex, IsFlat, IsSafePoint}
-use Rattle.primitives.specs.Sizes.{grid_steps, IsSafe}
+use Rattle.primitives.specs.Polygons.{orientation, x_of, y_of, GoesLeft, IsConvex, IsFlatShape, IsSafePoint}
+use Rattle.primitives.specs.Sizes.{length_in_grid_steps, IsSafe}
 use Rattle.round_four.specs.Circles.{circle_of, circle_points, IsCircleSize}
 use Rattle.round_four.proofs.Corners.{circle_within, left_far, minus_sign, plus_sign, reach}
 use Rattle.round_four.proofs.Radii.{steps_above}
@@ -64,7 +64,7 @@ circle_convex r h = record {
   corner = record { first = 0; second = 1; third = 2; first_in = omega arith; second_in = omega arith; third_in = omega arith; apart = some_turn r _ _ (first_way r (neg_ℤ r) (pos 0)) (left_far (pos 1) r) h };
 }
 
-circle_is_flat : (r : ℤ) → pos 0 <ℤ r → IsSafe r → IsSafe (neg_ℤ r) → IsSafe (pos 0) → IsFlat (circle_points r)
+circle_is_flat : (r : ℤ) → pos 0 <ℤ r → IsSafe r → IsSafe (neg_ℤ r) → IsSafe (pos 0) → IsFlatShape (circle_points r)
 circle_is_flat r h right left none = record {
   most = omega arith;
   convex = circle_convex r h;
@@ -75,7 +75,7 @@ circle_is_flat r h right left none = record {
 near_safe : (n : ℤ) → unsigned_abs n ≤ 65535 → IsSafe n
 near_safe n h = record { size = omega (arith, h) }
 
-pub sized_circle_is_flat : (unit : LengthUnit) (radius : ℤ) → IsCircleSize unit radius → IsFlat (circle_of unit radius)
+pub sized_circle_is_flat : (unit : LengthUnit) (radius : ℤ) → IsCircleSize unit radius → IsFlatShape (circle_of unit radius)
 sized_circle_is_flat unit radius h =
-    let r = grid_steps unit radius in
+    let r = length_in_grid_steps unit radius in
     circle_is_flat r (steps_above unit radius h.long) (near_safe r h.range) (near_safe (neg_ℤ r) (omega (arith, size_of_negative r, h.range))) (near_safe (pos 0) (omega arith))

@@ -10,7 +10,7 @@ use Rattle.plane_predicate.proofs.Opposites.{size_of_negative}
 use Rattle.int_transform.specs.Maps.{HasSafeCoordinates}
 use Rattle.primitives.specs.Shapes.{Mesh, IsShape}
 use Rattle.primitives.specs.Prisms.{at_height}
-use Rattle.primitives.specs.Sizes.{grid_steps, low_end}
+use Rattle.primitives.specs.Sizes.{length_in_grid_steps, low_end}
 use Rattle.round_four.specs.Circles.{circle_points}
 use Rattle.round_four.specs.Cylinders.{cylinder_between, cylinder_of, faces_from_apex, faces_of_two, faces_to_apex, AreCylinderSizes}
 use Rattle.round_four.proofs.Corners.{apex_at, apex_corners, both_corners, circle_corners}
@@ -119,7 +119,7 @@ between_is_shape (pos (suc m)) (pos (suc n)) l k ha hb some hk sa sb sl sh =
 
 pub cylinder_is_shape : (unit : LengthUnit) (center : Bool) (height low high : ℤ) → AreCylinderSizes unit center height low high → IsShape (cylinder_of unit center height low high)
 cylinder_is_shape unit center height low high h =
-    between_is_shape (grid_steps unit low) (grid_steps unit high) (low_end unit center height) (grid_steps unit height)
+    between_is_shape (length_in_grid_steps unit low) (length_in_grid_steps unit high) (low_end unit center height) (length_in_grid_steps unit height)
     (steps_least unit low h.body.low_least) (steps_least unit high h.body.high_least)
     (λ e g. h.body.some (no_steps unit low e) (no_steps unit high g))
     (steps_above unit height h.body.long)

@@ -3,7 +3,7 @@ use Rattle.std.proofs.Common.{◌≡◌, ℕ, ◌<◌, List, [], ◌∷◌, ◌+
 use Rattle.std.proofs.lemmas.List.Elements.{All-from_recursion}
 use Rattle.plane_predicate.specs.Space.{point_at}
 use Rattle.plane_predicate.proofs.IntegerRing.{sums}
-use Rattle.primitives.specs.Shapes.{Mesh, value_at, IsFace}
+use Rattle.primitives.specs.Shapes.{Mesh, value_at, IsFaceOfShape}
 use Rattle.primitives.specs.Prisms.{at_height}
 use Rattle.round_four.specs.Circles.{circle_points}
 use Rattle.round_four.specs.Cylinders.{faces_from_apex}
@@ -91,11 +91,11 @@ from_apex_there =
       ),
     )
 
-pub from_apex_faces : (b l k : ℤ) → pos 0 <ℤ b → pos 0 <ℤ k → All (λ (p : List ℤ). IsCorner (pos 0) b l (l +ℤ k) (point_at p)) (from_apex b l (l +ℤ k)).points → All (IsFace (from_apex b l (l +ℤ k))) faces_from_apex
+pub from_apex_faces : (b l k : ℤ) → pos 0 <ℤ b → pos 0 <ℤ k → All (λ (p : List ℤ). IsCorner (pos 0) b l (l +ℤ k) (point_at p)) (from_apex b l (l +ℤ k)).points → All (IsFaceOfShape (from_apex b l (l +ℤ k))) faces_from_apex
 from_apex_faces b l k hb hk all =
     let mesh = from_apex b l (l +ℤ k) in
-    let face : (f : List ℕ) → IsOutside mesh f → IsFace mesh f = outside_is_face mesh from_apex_there in
-    All-from_recursion (IsFace mesh) faces_from_apex (
+    let face : (f : List ℕ) → IsOutside mesh f → IsFaceOfShape mesh f = outside_is_face mesh from_apex_there in
+    All-from_recursion (IsFaceOfShape mesh) faces_from_apex (
       face (0 ∷ 2 ∷ 1 ∷ []) (first_side b l k hb hk all),
       (
         face (0 ∷ 3 ∷ 2 ∷ []) (second_side b l k hb hk all),

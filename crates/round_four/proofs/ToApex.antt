@@ -3,7 +3,7 @@ use Rattle.std.proofs.Common.{◌≡◌, ℕ, ◌<◌, List, [], ◌∷◌, ◌+
 use Rattle.std.proofs.lemmas.List.Elements.{All-from_recursion}
 use Rattle.plane_predicate.specs.Space.{point_at}
 use Rattle.plane_predicate.proofs.IntegerRing.{sums}
-use Rattle.primitives.specs.Shapes.{Mesh, value_at, IsFace}
+use Rattle.primitives.specs.Shapes.{Mesh, value_at, IsFaceOfShape}
 use Rattle.primitives.specs.Prisms.{at_height}
 use Rattle.round_four.specs.Circles.{circle_points}
 use Rattle.round_four.specs.Cylinders.{faces_to_apex}
@@ -91,11 +91,11 @@ to_apex_there =
       ),
     )
 
-pub to_apex_faces : (a l k : ℤ) → pos 0 <ℤ a → pos 0 <ℤ k → All (λ (p : List ℤ). IsCorner a (pos 0) l (l +ℤ k) (point_at p)) (to_apex a l (l +ℤ k)).points → All (IsFace (to_apex a l (l +ℤ k))) faces_to_apex
+pub to_apex_faces : (a l k : ℤ) → pos 0 <ℤ a → pos 0 <ℤ k → All (λ (p : List ℤ). IsCorner a (pos 0) l (l +ℤ k) (point_at p)) (to_apex a l (l +ℤ k)).points → All (IsFaceOfShape (to_apex a l (l +ℤ k))) faces_to_apex
 to_apex_faces a l k ha hk all =
     let mesh = to_apex a l (l +ℤ k) in
-    let face : (f : List ℕ) → IsOutside mesh f → IsFace mesh f = outside_is_face mesh to_apex_there in
-    All-from_recursion (IsFace mesh) faces_to_apex (
+    let face : (f : List ℕ) → IsOutside mesh f → IsFaceOfShape mesh f = outside_is_face mesh to_apex_there in
+    All-from_recursion (IsFaceOfShape mesh) faces_to_apex (
       face (0 ∷ 1 ∷ 4 ∷ []) (first_side a l k ha hk all),
       (
         face (1 ∷ 2 ∷ 4 ∷ []) (second_side a l k ha hk all),

@@ -3,7 +3,7 @@ use Rattle.std.proofs.Common.{◌≡◌, ℕ, ◌<◌, List, [], ◌∷◌, ◌+
 use Rattle.std.proofs.lemmas.List.Elements.{All-from_recursion}
 use Rattle.plane_predicate.specs.Space.{point_at}
 use Rattle.plane_predicate.proofs.IntegerRing.{sums}
-use Rattle.primitives.specs.Shapes.{Mesh, value_at, IsFace}
+use Rattle.primitives.specs.Shapes.{Mesh, value_at, IsFaceOfShape}
 use Rattle.primitives.specs.Prisms.{at_height}
 use Rattle.round_four.specs.Circles.{circle_points}
 use Rattle.round_four.specs.Cylinders.{faces_of_two}
@@ -105,11 +105,11 @@ two_there =
       ),
     )
 
-pub two_faces : (a b l k : ℤ) → pos 0 <ℤ a → pos 0 <ℤ b → pos 0 <ℤ k → All (λ (p : List ℤ). IsCorner a b l (l +ℤ k) (point_at p)) (two a b l (l +ℤ k)).points → All (IsFace (two a b l (l +ℤ k))) faces_of_two
+pub two_faces : (a b l k : ℤ) → pos 0 <ℤ a → pos 0 <ℤ b → pos 0 <ℤ k → All (λ (p : List ℤ). IsCorner a b l (l +ℤ k) (point_at p)) (two a b l (l +ℤ k)).points → All (IsFaceOfShape (two a b l (l +ℤ k))) faces_of_two
 two_faces a b l k ha hb hk all =
     let mesh = two a b l (l +ℤ k) in
-    let face : (f : List ℕ) → IsOutside mesh f → IsFace mesh f = outside_is_face mesh two_there in
-    All-from_recursion (IsFace mesh) faces_of_two (
+    let face : (f : List ℕ) → IsOutside mesh f → IsFaceOfShape mesh f = outside_is_face mesh two_there in
+    All-from_recursion (IsFaceOfShape mesh) faces_of_two (
       face (0 ∷ 1 ∷ 5 ∷ 4 ∷ []) (first_side a b l k ha hb hk all),
       (
         face (1 ∷ 2 ∷ 6 ∷ 5 ∷ []) (second_side a b l k ha hb hk all),

@@ -9,7 +9,7 @@ use Rattle.primitives.specs.declared.stop.ShapeStop.{ShapeStop}
 use Rattle.primitives.specs.declared.stop.ShapeStop.TheVariants.{Kind, NoMemory}
 use Rattle.round_four.specs.Circles.{circle_points}
 use Rattle.primitives.specs.Prisms.{at_height}
-use Rattle.primitives.specs.Sizes.{grid_steps, high_end, low_end, IsEven}
+use Rattle.primitives.specs.Sizes.{length_in_grid_steps, high_end, low_end, IsEven}
 
 -- the corners of one end of a cylinder: those of its circle, or one apex where the radius is 0
 abbrev pub end_points : ℤ → ℤ → List (List ℤ)
@@ -57,7 +57,7 @@ cylinder_between a b l h = record { points = end_points a l ++ end_points b h; f
 -- the cylinder with this height and these two radii in units (User Manual, cylinder, with $fn = 4)
 abbrev pub cylinder_of : LengthUnit → Bool → ℤ → ℤ → ℤ → Mesh
 cylinder_of unit center height low high =
-    cylinder_between (grid_steps unit low) (grid_steps unit high) (low_end unit center height) (high_end unit center height)
+    cylinder_between (length_in_grid_steps unit low) (length_in_grid_steps unit high) (low_end unit center height) (high_end unit center height)
 
 -- sizes that make a body: a height of at least 1, radii of at least 0, and not both of them 0
 pub record HasBody (height low high : ℤ) : Type 0 where
@@ -81,7 +81,7 @@ pub record AreNear (a b c d : ℤ) : Type 0 where
 -- radii and heights of both ends, in grid steps, that are at most 65535 in size
 abbrev pub IsInRange : LengthUnit → Bool → ℤ → ℤ → ℤ → Type 0
 IsInRange unit center height low high =
-    AreNear (grid_steps unit low) (grid_steps unit high) (low_end unit center height) (high_end unit center height)
+    AreNear (length_in_grid_steps unit low) (length_in_grid_steps unit high) (low_end unit center height) (high_end unit center height)
 
 -- sizes with nothing wrong
 pub record AreCylinderSizes (unit : LengthUnit) (center : Bool) (height low high : ℤ) : Type 0 where
@@ -89,11 +89,11 @@ pub record AreCylinderSizes (unit : LengthUnit) (center : Bool) (height low high
   pub on_grid : IsOnGrid unit center height
   pub range : IsInRange unit center height low high
 
--- the first fault of the sizes of a cylinder: they make no body; else the height is centred and has an odd number of grid
--- steps; else a radius or the height of an end is past 65535 grid steps in size
+-- the first fault of a cylinder's sizes: they make no body; else the height is centred and odd in grid steps; else a radius or
+-- the height of an end is past 65535 grid steps in size
 abbrev pub IsCylinderFault : LengthUnit → Bool → ℤ → ℤ → ℤ → FaultKind → Type 0
 IsCylinderFault unit center height low high BadSize = HasBody height low high → ⊥
-IsCylinderFault unit center height low high NotOnGrid = HasBody height low high × (center ≡ true) × (unsigned_abs (grid_steps unit height) % 2 ≡ 1)
+IsCylinderFault unit center height low high NotOnGrid = HasBody height low high × (center ≡ true) × (unsigned_abs (length_in_grid_steps unit height) % 2 ≡ 1)
 IsCylinderFault unit center height low high OutOfRange = HasBody height low high × IsOnGrid unit center height × (IsInRange unit center height low high → ⊥)
 IsCylinderFault unit center height low high kind = ⊥
 

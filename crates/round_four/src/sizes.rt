@@ -2,7 +2,7 @@
 
 ghost use Rattle.std.specs.Prelude.{◌≡◌, ◌≤◌, ◌%◌, true, unsigned_abs, IfSome, IsNone};
 ghost use Rattle.std.specs.Bool.{OnTrue, OnFalse};
-ghost use Rattle.primitives.specs.Sizes.{grid_steps, IsEven, IsSafe};
+ghost use Rattle.primitives.specs.Sizes.{length_in_grid_steps, IsEven, IsSafe};
 ghost use Rattle.round_four.specs.Cylinders.{AreCylinderSizes, AreNear, HasBody, IsCylinderFault, IsInRange, IsOnGrid};
 
 use plane_predicate::Unit;
@@ -48,7 +48,7 @@ fn is_on_grid(height: i64, center: bool, unit: Unit) -> bool
     requires { IsSafe height }
     ensures all { OnTrue result (IsOnGrid unit center height) }
     ensures none { OnFalse result ((center ≡ true)
-        × (unsigned_abs (grid_steps unit height) % 2 ≡ 1)) }
+        × (unsigned_abs (length_in_grid_steps unit height) % 2 ≡ 1)) }
 {
     !center || is_even(height, unit)
 }
@@ -57,7 +57,7 @@ fn is_on_grid(height: i64, center: bool, unit: Unit) -> bool
 fn is_even(height: i64, unit: Unit) -> bool
     requires { IsSafe height }
     ensures even { OnTrue result (IsEven unit height) }
-    ensures odd { OnFalse result (unsigned_abs (grid_steps unit height) % 2 ≡ 1) }
+    ensures odd { OnFalse result (unsigned_abs (length_in_grid_steps unit height) % 2 ≡ 1) }
 {
     in_steps(height, unit).unsigned_abs() % 2 == 0
 }

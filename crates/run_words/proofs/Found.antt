@@ -12,8 +12,8 @@ use Rattle.clap.specs.declared.parser.matches.ArgMatches.{ArgMatches}
 use Rattle.clap.proofs.WalkLemmas.{first_value-rows, one_text-rows}
 use Rattle.run_words.specs.declared.given.GivenOptions.{GivenOptions}
 use Rattle.run_words.specs.declared.settings.Settings.{Settings}
-use Rattle.run_words.specs.Words.{AreInRange, chosen_settings}
-use Rattle.run_words.specs.Reading.{Make, SayGiven, Says, SaysFlag}
+use Rattle.run_words.specs.Words.{AreSettingsInRange, chosen_settings}
+use Rattle.run_words.specs.Reading.{MakeSettings, SayGiven, Says, SaysFlag}
 use Rattle.run_words.proofs.Rows.{one_says}
 
 pub if_none : {T : Type 0} (r : Option T) (P : Type 0) → P → IfNone r P
@@ -55,19 +55,19 @@ found_is m r p name rows is = go (out-ArgMatches m).subcommand (sym (ap (option_
         λ i. Some (the_name i, the_rows i)
 
 -- ---- one choice
-same_made : (rows : List Row) (given : GivenOptions) (ones other : Settings) → ones ≡ chosen_settings given → SayGiven rows given → Make (Some (codes "run", rows)) other → other ≡ ones
+same_made : (rows : List Row) (given : GivenOptions) (ones other : Settings) → ones ≡ chosen_settings given → SayGiven rows given → MakeSettings (Some (codes "run", rows)) other → other ≡ ones
 same_made rows given ones other is says (inl h) = h.3 ∙ ap (λ (g : GivenOptions). chosen_settings g) (one_says rows h.1 given h.2 says) ∙ sym is
 same_made rows given ones other is says (inr h) = cc h.0
 
 pub one_made : (r : Option Settings) (rows : List Row) (given : GivenOptions) (ones : Settings) → ones ≡ chosen_settings given → SayGiven rows given
-    → IfSome r (λ same. (same ≡ ones) × AreInRange ones) → IfSome r (λ same. (other : Settings) → Make (Some (codes "run", rows)) other → other ≡ same)
+    → IfSome r (λ same. (same ≡ ones) × AreSettingsInRange ones) → IfSome r (λ same. (other : Settings) → MakeSettings (Some (codes "run", rows)) other → other ≡ same)
 one_made None rows given ones is says found = tt
 one_made (Some same) rows given ones is says found = λ other h. same_made rows given ones other is says h ∙ sym found.0
 
 pub none_made : (r : Option Settings) (rows : List Row) (given : GivenOptions) (ones : Settings) → ones ≡ chosen_settings given → SayGiven rows given
-    → IfNone r (AreInRange ones → ⊥) → IfNone r ((other : Settings) → Make (Some (codes "run", rows)) other → AreInRange other → ⊥)
+    → IfNone r (AreSettingsInRange ones → ⊥) → IfNone r ((other : Settings) → MakeSettings (Some (codes "run", rows)) other → AreSettingsInRange other → ⊥)
 none_made (Some same) rows given ones is says none = tt
-none_made None rows given ones is says none = λ other h range. none (subst AreInRange (same_made rows given ones other is says h) range)
+none_made None rows given ones is says none = λ other h range. none (subst AreSettingsInRange (same_made rows given ones other is says h) range)
 
 pub err_is : {T E : Type 0} (a b : E) → ◌≡◌ {A = Result T E} (Err a) (Err b) → a ≡ b
 err_is a b e = cc e

@@ -3,7 +3,7 @@ use Rattle.std.proofs.Common.{◌≡◌, ◌∙◌, ℕ, Bool, true, false, inl,
 use Rattle.std.specs.Prelude.{bytes_eq}
 use Rattle.clap.specs.Walk.{Held, Row, Text, Walk, first_of, has_row}
 use Rattle.run_words.specs.declared.given.GivenOptions.{GivenOptions}
-use Rattle.run_words.specs.Words.{Key, Workers, Memo, Share, RunOption, Number, Half, Tally, key_name, equals, IsNumeralOf, IsNext, AreOptions, with_option, Adds}
+use Rattle.run_words.specs.Words.{OptionKey, Workers, Memo, Share, RunOption, Number, Half, Tally, key_name, equals_sign, IsNumeralOf, BeginsWithOption, AreOptions, with_option, AddOptions}
 use Rattle.run_words.proofs.Rows.{FlagRow, RowsSay, first_more, first_new, flag_kept, flag_new}
 use Rattle.run_words.proofs.Built.{HasNoSeparator, run_leaf, Leads, both_fine, ends, faults, next_word, then}
 use Rattle.run_words.proofs.Steps.{Piece, Valued, HalfGiven, TallyGiven, Stands, apart_of, doomed, idle_at, joined, joined_leads, key_id, name_leads, name_of, new_stands, row_at, value_leads, value_met, value_missing, value_stands, waits}
@@ -11,7 +11,7 @@ use Rattle.run_words.proofs.Options.{IsOption, IsSpelled, final, is_free, option
 
 -- each value is a numeral
 abbrev pub AreNumerals : List Row → Type 0
-AreNumerals rows = (key : Key) (text : Text) → first_of (key_id key) rows ≡ Some text → (n : ℕ) × IsNumeralOf text n
+AreNumerals rows = (key : OptionKey) (text : Text) → first_of (key_id key) rows ≡ Some text → (n : ℕ) × IsNumeralOf text n
 
 abbrev pub FlagsSay : List Row → Type 0
 FlagsSay rows = ((half : Bool) × FlagRow rows (codes "half") half) × ((tally : Bool) × FlagRow rows (codes "tally") tally)
@@ -22,7 +22,7 @@ pub record Gathers (rows : List Row) (words : List Text) (all : List Row) : Type
   pub adds : all ≡ rows ++ tail
   pub flags : FlagsSay rows → FlagsSay all
   pub options : (given : GivenOptions) → RowsSay rows given → AreNumerals all
-      → (options : List RunOption) × (given' : GivenOptions) × AreOptions words options × Adds given options given' × RowsSay all given'
+      → (options : List RunOption) × (given' : GivenOptions) × AreOptions words options × AddOptions given options given' × RowsSay all given'
 
 gathers_none : (rows : List Row) → Gathers rows [] rows
 gathers_none rows = record {
@@ -39,7 +39,7 @@ flags_more (Valued Share text) rows free h = ((h.0.0, flag_kept (codes "half") r
 flags_more HalfGiven rows free h = ((true, flag_new (codes "half") rows free refl), (h.1.0, flag_kept (codes "tally") rows (row_at HalfGiven) h.1.0 refl h.1.1))
 flags_more TallyGiven rows free h = ((h.0.0, flag_kept (codes "half") rows (row_at TallyGiven) h.0.0 refl h.0.1), (true, flag_new (codes "tally") rows free refl))
 
-same_name : (key : Key) → bytes_eq (key_id key) (key_id key) ≡ true
+same_name : (key : OptionKey) → bytes_eq (key_id key) (key_id key) ≡ true
 same_name Workers = refl
 same_name Memo = refl
 same_name Share = refl
@@ -54,12 +54,12 @@ option_of TallyGiven rows tail free numerals = (Tally, tt)
 
 -- the words are the piece, in one word or in two, and others
 abbrev IsWritten : Piece → List Text → List Text → Type 0
-IsWritten (Valued key text) words rest = (words ≡ (key_name key ++ equals ++ text) ∷ rest) ⊎ (words ≡ key_name key ∷ text ∷ rest)
+IsWritten (Valued key text) words rest = (words ≡ (key_name key ++ equals_sign ++ text) ∷ rest) ⊎ (words ≡ key_name key ∷ text ∷ rest)
 IsWritten p words rest = words ≡ joined p ∷ rest
 
-next_of : (p : Piece) (o : RunOption) (words rest : List Text) → IsSpelled p o → IsWritten p words rest → IsNext words o rest
-next_of (Valued key text) (Number other n) words rest s (inl e) = (text, s.1, inl (subst (λ (k : Key). words ≡ (key_name k ++ equals ++ text) ∷ rest) s.0 e))
-next_of (Valued key text) (Number other n) words rest s (inr e) = (text, s.1, inr (subst (λ (k : Key). words ≡ key_name k ∷ text ∷ rest) s.0 e))
+next_of : (p : Piece) (o : RunOption) (words rest : List Text) → IsSpelled p o → IsWritten p words rest → BeginsWithOption words o rest
+next_of (Valued key text) (Number other n) words rest s (inl e) = (text, s.1, inl (subst (λ (k : OptionKey). words ≡ (key_name k ++ equals_sign ++ text) ∷ rest) s.0 e))
+next_of (Valued key text) (Number other n) words rest s (inr e) = (text, s.1, inr (subst (λ (k : OptionKey). words ≡ key_name k ∷ text ∷ rest) s.0 e))
 next_of (Valued key text) Half words rest s e = absurd s
 next_of (Valued key text) Tally words rest s e = absurd s
 next_of HalfGiven (Number key n) words rest s e = absurd s
@@ -102,7 +102,7 @@ in_one_word p seen rows pending word words is free stands more fine =
     written HalfGiven e = e
     written TallyGiven e = e
 
-in_two_words : (key : Key) (seen rows : List Row) (pending : Option (Text × List Text)) (word text : Text) (words : List Text) → word ≡ key_name key → HasNoSeparator (text ∷ words)
+in_two_words : (key : OptionKey) (seen rows : List Row) (pending : Option (Text × List Text)) (word text : Text) (words : List Text) → word ≡ key_name key → HasNoSeparator (text ∷ words)
     → Stands seen rows pending
     → ((rows' : List Row) (pending' : Option (Text × List Text)) → Stands (seen ++ row_at (Valued key text) ∷ []) rows' pending' → IsGathered (seen ++ row_at (Valued key text) ∷ []) (idle_at rows' pending') words)
     → IsGathered seen (idle_at rows pending) (word ∷ text ∷ words)

@@ -11,7 +11,7 @@ use Rattle.clap.proofs.OnLiterals.{clap_on_literals}
 use Rattle.clap.proofs.CutLemmas.{Lacks}
 use Rattle.clap.proofs.LexerLemmas.{name_and_value-at, name_and_value-without}
 use Rattle.run_words.specs.declared.given.GivenOptions.{GivenOptions}
-use Rattle.run_words.specs.Words.{Key, Workers, Memo, Share, RunOption, Number, Half, Tally, key_name, equals, IsNumeralOf, AreOptions, IsFree, with_option, Adds}
+use Rattle.run_words.specs.Words.{OptionKey, Workers, Memo, Share, RunOption, Number, Half, Tally, key_name, equals_sign, IsNumeralOf, AreOptions, IsNotGiven, with_option, AddOptions}
 use Rattle.run_words.proofs.Rows.{KeyRow, FlagRow, RowsSay, full, first_new, flag_kept, flag_new, key_kept, no_flag, no_text, row}
 use Rattle.run_words.proofs.Built.{run_leaf, Leads, at_hand, ends, faults, separator, test, then}
 use Rattle.run_words.proofs.Steps.{Piece, Valued, HalfGiven, TallyGiven, Stands, idle_at, idle_turn, joined, joined_leads, key_id, name_leads, name_of, new_stands, row_at, run_defaults, used_once, value_leads, value_stands, waits, plain_fine, plain_met}
@@ -69,7 +69,7 @@ long_spelled word name value e = one (strip_byte 45 word) refl e
 
 -- ---- which option a name is
 pub data Named (name : Text) : Type 0 where
-  a_key : (key : Key) → name ≡ key_id key → Named name
+  a_key : (key : OptionKey) → name ≡ key_id key → Named name
   half : name ≡ codes "half" → Named name
   tally : name ≡ codes "tally" → Named name
   unknown : arg_by_long run_leaf.rules name ≡ None → Named name
@@ -92,19 +92,19 @@ named name = elim (test (codes "workers") name) [
   ]
 ]
 
-dashed_key : (key : Key) → 45 ∷ 45 ∷ key_id key ≡ key_name key
+dashed_key : (key : OptionKey) → 45 ∷ 45 ∷ key_id key ≡ key_name key
 dashed_key Workers = refl
 dashed_key Memo = refl
 dashed_key Share = refl
 
-dashed_value : (key : Key) (value : Text) → 45 ∷ 45 ∷ key_id key ++ 61 ∷ value ≡ key_name key ++ equals ++ value
+dashed_value : (key : OptionKey) (value : Text) → 45 ∷ 45 ∷ key_id key ++ 61 ∷ value ≡ key_name key ++ equals_sign ++ value
 dashed_value Workers value = refl
 dashed_value Memo value = refl
 dashed_value Share value = refl
 
 -- a word that clap takes where nothing waits is an option in one word, or the name of one that has a number
 abbrev pub IsOption : List Row → Text → Type 0
-IsOption all word = ((p : Piece) × (word ≡ joined p) × (has_row (name_of p) all ≡ false)) ⊎ ((key : Key) × (word ≡ key_name key))
+IsOption all word = ((p : Piece) × (word ≡ joined p) × (has_row (name_of p) all ≡ false)) ⊎ ((key : OptionKey) × (word ≡ key_name key))
 
 pub option_at : (all rows : List Row) (pending : Option (Text × List Text)) (word : Text) → Stands all rows pending → bytes_eq word separator ≡ false
     → turn_fault run_leaf [] (idle_at rows pending) word ≡ [] → IsOption all word
@@ -149,7 +149,7 @@ IsSpelled HalfGiven Half = Unit {0}
 IsSpelled TallyGiven Tally = Unit {0}
 IsSpelled _ _ = ⊥
 
-abbrev key_option : (key : Key) → GivenOptions → Option ℕ
+abbrev key_option : (key : OptionKey) → GivenOptions → Option ℕ
 key_option Workers given = given.workers
 key_option Memo given = given.memo
 key_option Share given = given.share
@@ -209,10 +209,10 @@ say_more TallyGiven (Number key n) rows given s free h = absurd s
 say_more TallyGiven Half rows given s free h = absurd s
 
 -- where the rows have none of the name, the option is free, and the other way round
-pub is_free : (p : Piece) (o : RunOption) (rows : List Row) (given : GivenOptions) → IsSpelled p o → has_row (name_of p) rows ≡ false → RowsSay rows given → IsFree given o
-is_free (Valued key text) (Number Workers n) rows given s free h = key_free (codes "workers") rows given.workers (subst (λ (k : Key). has_row (key_id k) rows ≡ false) s.0 free) h.0
-is_free (Valued key text) (Number Memo n) rows given s free h = key_free (codes "memo") rows given.memo (subst (λ (k : Key). has_row (key_id k) rows ≡ false) s.0 free) h.1
-is_free (Valued key text) (Number Share n) rows given s free h = key_free (codes "share") rows given.share (subst (λ (k : Key). has_row (key_id k) rows ≡ false) s.0 free) h.2
+pub is_free : (p : Piece) (o : RunOption) (rows : List Row) (given : GivenOptions) → IsSpelled p o → has_row (name_of p) rows ≡ false → RowsSay rows given → IsNotGiven given o
+is_free (Valued key text) (Number Workers n) rows given s free h = key_free (codes "workers") rows given.workers (subst (λ (k : OptionKey). has_row (key_id k) rows ≡ false) s.0 free) h.0
+is_free (Valued key text) (Number Memo n) rows given s free h = key_free (codes "memo") rows given.memo (subst (λ (k : OptionKey). has_row (key_id k) rows ≡ false) s.0 free) h.1
+is_free (Valued key text) (Number Share n) rows given s free h = key_free (codes "share") rows given.share (subst (λ (k : OptionKey). has_row (key_id k) rows ≡ false) s.0 free) h.2
 is_free HalfGiven Half rows given s free h = flag_free (codes "half") rows given.half free h.3
 is_free TallyGiven Tally rows given s free h = flag_free (codes "tally") rows given.tally free h.4
 is_free (Valued key text) Half rows given s free h = absurd s
@@ -222,7 +222,7 @@ is_free HalfGiven Tally rows given s free h = absurd s
 is_free TallyGiven (Number key n) rows given s free h = absurd s
 is_free TallyGiven Half rows given s free h = absurd s
 
-free_key_row : (key : Key) (n : ℕ) (rows : List Row) (given : GivenOptions) → IsFree given (Number key n) → RowsSay rows given → has_row (key_id key) rows ≡ false
+free_key_row : (key : OptionKey) (n : ℕ) (rows : List Row) (given : GivenOptions) → IsNotGiven given (Number key n) → RowsSay rows given → has_row (key_id key) rows ≡ false
 free_key_row Workers n rows given free h = free_key (codes "workers") rows given.workers free h.0
 free_key_row Memo n rows given free h = free_key (codes "memo") rows given.memo free h.1
 free_key_row Share n rows given free h = free_key (codes "share") rows given.share free h.2
@@ -255,7 +255,7 @@ numeral_plain (d ∷ ds) n h = go (d == 45) refl
         absurd (omega (arith, below))
     go false t = (rw t refl, rw t refl, rw t refl)
 
-pub taken : (options : List RunOption) (words : List Text) (given all : GivenOptions) (seen rows : List Row) (pending : Option (Text × List Text)) → AreOptions words options → Adds given options all
+pub taken : (options : List RunOption) (words : List Text) (given all : GivenOptions) (seen rows : List Row) (pending : Option (Text × List Text)) → AreOptions words options → AddOptions given options all
     → Stands seen rows pending → RowsSay seen given → IsTaken (idle_at rows pending) words all
 taken [] words given all seen rows pending none adds stands h =
     subst (λ (ws : List Text). IsTaken (idle_at rows pending) ws all) (sym none)

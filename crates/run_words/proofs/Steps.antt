@@ -9,17 +9,17 @@ use Rattle.clap.specs.Faults.{default_fault, defaults_fault, given_default_fault
 use Rattle.clap.specs.declared.error.kind.ErrorKind.TheVariants.{InvalidValue}
 use Rattle.clap.specs.declared.parser.matches.ValueSource.TheVariants.{CommandLine}
 use Rattle.clap.proofs.OnLiterals.{clap_on_literals}
-use Rattle.run_words.specs.Words.{Key, Workers, Memo, Share, key_name, equals}
+use Rattle.run_words.specs.Words.{OptionKey, Workers, Memo, Share, key_name, equals_sign}
 use Rattle.run_words.proofs.Rows.{row, full, new_use}
 use Rattle.run_words.proofs.Built.{HasNoSeparator, number_rule, flag_rule, run_leaf, Leads, at_hand, both_fine, fine_then, one_step, next_word, test, then, word_is, separator, faults}
 
 -- ---- an option as it is written, with the text of its value
 pub data Piece : Type 0 where
-  Valued : Key → Text → Piece
+  Valued : OptionKey → Text → Piece
   HalfGiven : Piece
   TallyGiven : Piece
 
-abbrev pub key_id : Key → Text
+abbrev pub key_id : OptionKey → Text
 key_id Workers = codes "workers"
 key_id Memo = codes "memo"
 key_id Share = codes "share"
@@ -45,7 +45,7 @@ row_at TallyGiven = row CommandLine (codes "tally") (codes "true" ∷ [])
 
 -- as one word
 abbrev pub joined : Piece → Text
-joined (Valued key text) = key_name key ++ equals ++ text
+joined (Valued key text) = key_name key ++ equals_sign ++ text
 joined HalfGiven = codes "--half"
 joined TallyGiven = codes "--tally"
 
@@ -122,70 +122,70 @@ pub new_stands : (rows : List Row) → Stands rows rows None
 new_stands rows = (refl, refl)
 
 -- ---- an option in two words
-abbrev pub waits : Key → List Row → Walk
+abbrev pub waits : OptionKey → List Row → Walk
 waits key rows = record (idle_at rows (Some (key_id key, []))) { waiting = option (key_id key) }
 
-turn_apart : (key : Key) (rows : List Row) (pending : Option (Text × List Text))
+turn_apart : (key : OptionKey) (rows : List Row) (pending : Option (Text × List Text))
     → turn_fault run_leaf [] (idle_at rows pending) (key_name key) ≡ or_else (settle_fault run_leaf.rules false (at_hand rows pending)) []
 unfolding clap_on_literals
 turn_apart Workers rows pending = refl
 turn_apart Memo rows pending = refl
 turn_apart Share rows pending = refl
 
-walk_apart : (key : Key) (rows : List Row) (pending : Option (Text × List Text))
+walk_apart : (key : OptionKey) (rows : List Row) (pending : Option (Text × List Text))
     → walked run_leaf.rules [] (idle_at rows pending) (key_name key) ≡ waits key (settled_rows run_leaf.rules pending rows)
 unfolding clap_on_literals
 walk_apart Workers rows pending = refl
 walk_apart Memo rows pending = refl
 walk_apart Share rows pending = refl
 
-pub name_leads : (key : Key) (all rows : List Row) (pending : Option (Text × List Text)) (words : List Text) → Stands all rows pending
+pub name_leads : (key : OptionKey) (all rows : List Row) (pending : Option (Text × List Text)) (words : List Text) → Stands all rows pending
     → Leads run_leaf (idle_at rows pending) (key_name key ∷ words) (waits key all) words
 name_leads key all rows pending words stands =
     one_step run_leaf (idle_at rows pending) (waits key all) (key_name key) words (turn_apart key rows pending ∙ rw stands.1 refl)
     (walk_apart key rows pending ∙ ap (waits key) stands.0)
 
 -- the next word is the value of an option that waits for one
-abbrev pub IsPlain : Key → List Row → Text → Type 0
+abbrev pub IsPlain : OptionKey → List Row → Text → Type 0
 IsPlain key rows text =
     word_met run_leaf.rules [] false (option (key_id key)) 1 text (at_hand rows (Some (key_id key, [])))
     ≡ plain_word run_leaf.rules (option (key_id key)) text (at_hand rows (Some (key_id key, [])))
 
-value_walk : (key : Key) (rows : List Row) (text : Text) → IsPlain key rows text → walked run_leaf.rules [] (waits key rows) text ≡ idle_at rows (Some (key_id key, text ∷ []))
+value_walk : (key : OptionKey) (rows : List Row) (text : Text) → IsPlain key rows text → walked run_leaf.rules [] (waits key rows) text ≡ idle_at rows (Some (key_id key, text ∷ []))
 unfolding clap_on_literals
 value_walk Workers rows text met = ap (λ (m : Held × Step). after_step run_leaf.rules text (waits Workers rows) m.0 m.1) met
 value_walk Memo rows text met = ap (λ (m : Held × Step). after_step run_leaf.rules text (waits Memo rows) m.0 m.1) met
 value_walk Share rows text met = ap (λ (m : Held × Step). after_step run_leaf.rules text (waits Share rows) m.0 m.1) met
 
-settle_value : (key : Key) (rows : List Row) (text : Text)
+settle_value : (key : OptionKey) (rows : List Row) (text : Text)
     → settle_fault run_leaf.rules false (at_hand rows (Some (key_id key, text ∷ []))) ≡ use_fault false (rule_at (Valued key text)) (text ∷ []) rows
 settle_value Workers rows text = refl
 settle_value Memo rows text = refl
 settle_value Share rows text = refl
 
-rows_value : (key : Key) (rows : List Row) (text : Text)
+rows_value : (key : OptionKey) (rows : List Row) (text : Text)
     → settled_rows run_leaf.rules (Some (key_id key, text ∷ [])) rows ≡ used (rule_at (Valued key text)) (text ∷ []) rows
 rows_value Workers rows text = refl
 rows_value Memo rows text = refl
 rows_value Share rows text = refl
 
 -- a word without a dash in front is such a value
-pub plain_met : (key : Key) (rows : List Row) (text : Text) → long_of text ≡ None → short_of text ≡ None → bytes_eq text separator ≡ false → IsPlain key rows text
+pub plain_met : (key : OptionKey) (rows : List Row) (text : Text) → long_of text ≡ None → short_of text ≡ None → bytes_eq text separator ≡ false → IsPlain key rows text
 plain_met key rows text long short sep = rw (sep, long, short) refl
 
-pub plain_fine : (key : Key) (rows : List Row) (text : Text) → long_of text ≡ None → short_of text ≡ None → bytes_eq text separator ≡ false → turn_fault run_leaf [] (waits key rows) text ≡ []
+pub plain_fine : (key : OptionKey) (rows : List Row) (text : Text) → long_of text ≡ None → short_of text ≡ None → bytes_eq text separator ≡ false → turn_fault run_leaf [] (waits key rows) text ≡ []
 plain_fine Workers rows text long short sep = rw (sep, long, short) refl
 plain_fine Memo rows text long short sep = rw (sep, long, short) refl
 plain_fine Share rows text long short sep = rw (sep, long, short) refl
 
-pub value_stands : (key : Key) (rows : List Row) (text : Text) → has_row (key_id key) rows ≡ false
+pub value_stands : (key : OptionKey) (rows : List Row) (text : Text) → has_row (key_id key) rows ≡ false
     → Stands (rows ++ row_at (Valued key text) ∷ []) rows (Some (key_id key, text ∷ []))
 value_stands key rows text free = (
   rows_value key rows text ∙ use_is (Valued key text) rows free,
   settle_value key rows text ∙ use_fine (Valued key text) rows free,
 )
 
-pub value_leads : (key : Key) (rows : List Row) (text : Text) (words : List Text) → turn_fault run_leaf [] (waits key rows) text ≡ [] → IsPlain key rows text
+pub value_leads : (key : OptionKey) (rows : List Row) (text : Text) (words : List Text) → turn_fault run_leaf [] (waits key rows) text ≡ [] → IsPlain key rows text
     → Leads run_leaf (waits key rows) (text ∷ words) (idle_at rows (Some (key_id key, text ∷ []))) words
 value_leads key rows text words fine met = one_step run_leaf (waits key rows) (idle_at rows (Some (key_id key, text ∷ []))) text words fine (value_walk key rows text met)
 
@@ -193,7 +193,7 @@ value_leads key rows text words fine met = one_step run_leaf (waits key rows) (i
 pub apart_of : {word : Text} → word ≢ separator → bytes_eq word separator ≡ false
 apart_of {word} apart = elim (test word separator) [ inl is ↦ absurd (apart is) | inr e ↦ e ]
 
-again_wrong : (key : Key) (rows : List Row) (text : Text) → has_row (key_id key) rows ≡ true → settle_fault run_leaf.rules false (at_hand rows (Some (key_id key, text ∷ []))) ≡ [] → ⊥
+again_wrong : (key : OptionKey) (rows : List Row) (text : Text) → has_row (key_id key) rows ≡ true → settle_fault run_leaf.rules false (at_hand rows (Some (key_id key, text ∷ []))) ≡ [] → ⊥
 again_wrong Workers rows text again e = full _ _ (rw again at e)
 again_wrong Memo rows text again e = full _ _ (rw again at e)
 again_wrong Share rows text again e = full _ _ (rw again at e)
@@ -214,19 +214,19 @@ long_waits (Some a) v h k bad is e = go (takes_values a) v e
     go false (Some t) f = full _ _ f
     go false None f = bad (sym is ∙ (both_fine _ _ f).0)
 
-waits_in_vain : (key : Key) (rows : List Row) → settle_fault run_leaf.rules false (at_hand rows (Some (key_id key, []))) ≡ InvalidValue ∷ []
+waits_in_vain : (key : OptionKey) (rows : List Row) → settle_fault run_leaf.rules false (at_hand rows (Some (key_id key, []))) ≡ InvalidValue ∷ []
 waits_in_vain Workers rows = refl
 waits_in_vain Memo rows = refl
 waits_in_vain Share rows = refl
 
-pub value_met : (key : Key) (rows : List Row) (text : Text) → bytes_eq text separator ≡ false → turn_fault run_leaf [] (waits key rows) text ≡ [] → IsPlain key rows text
+pub value_met : (key : OptionKey) (rows : List Row) (text : Text) → bytes_eq text separator ≡ false → turn_fault run_leaf [] (waits key rows) text ≡ [] → IsPlain key rows text
 value_met key rows text sep fine =
     elim (word_is run_leaf [] (option (key_id key)) 1 text rows (Some (key_id key, [])) no_short refl sep (both_fine _ _ fine).0) [
       | inl long ↦ absurd (long_waits (arg_by_long run_leaf.rules long.0.0) long.0.1 (at_hand rows (Some (key_id key, []))) (InvalidValue ∷ []) (full _ _) (waits_in_vain key rows) long.2)
       | inr met ↦ met
     ]
 
-pub value_missing : (key : Key) (rows : List Row) → faults run_leaf (waits key rows) [] ≡ [] → ⊥
+pub value_missing : (key : OptionKey) (rows : List Row) → faults run_leaf (waits key rows) [] ≡ [] → ⊥
 unfolding clap_on_literals
 value_missing key rows e = full _ _ (sym (waits_in_vain key rows) ∙ (both_fine _ _ e).0)
 
@@ -241,7 +241,7 @@ idle_turn rows pending word sep fine =
     ]
 
 -- a value that was given twice is found fault with at the next word, or at the end
-pub doomed : (key : Key) (rows : List Row) (text : Text) (words : List Text) → HasNoSeparator words → has_row (key_id key) rows ≡ true
+pub doomed : (key : OptionKey) (rows : List Row) (text : Text) (words : List Text) → HasNoSeparator words → has_row (key_id key) rows ≡ true
     → faults run_leaf (idle_at rows (Some (key_id key, text ∷ []))) words ≡ [] → ⊥
 unfolding clap_on_literals
 doomed key rows text [] none again e = again_wrong key rows text again (both_fine _ _ e).0

@@ -18,9 +18,9 @@ use Rattle.clap.proofs.WalkLemmas.{walk_stopped}
 use Rattle.run_words.specs.declared.given.GivenOptions.{GivenOptions}
 use Rattle.run_words.specs.declared.settings.Settings.{Settings}
 use Rattle.run_words.specs.declared.settings.Settings.TheVariants.{Demo}
-use Rattle.run_words.specs.Words.{Key, Workers, Memo, Share, RunOption, Number, Half, Tally, key_name, equals, AreOptions, IsNumeralOf, Adds, AreRunOptions, AreDemoWords, AreInRange, Chooses, chosen_settings, no_options}
+use Rattle.run_words.specs.Words.{OptionKey, Workers, Memo, Share, RunOption, Number, Half, Tally, key_name, equals_sign, AreOptions, IsNumeralOf, AddOptions, AreRunOptions, AreDemoWords, AreSettingsInRange, Chooses, chosen_settings, no_options}
 use Rattle.run_words.specs.Program.{program}
-use Rattle.run_words.specs.Reading.{has_separator, HaveFlags, HasFlags, Make, Says, SayGiven}
+use Rattle.run_words.specs.Reading.{has_separator, HaveFlags, HasFlags, MakeSettings, Says, SayGiven}
 use Rattle.run_words.proofs.Rows.{RowsSay, added, number, flag_default, full, no_default, one_says, whole, whole_first, whole_half, whole_says, whole_tally}
 use Rattle.run_words.proofs.Built.{HasNoSeparator, run_leaf, demo_leaf, top, names, both_fine, ends, faults, fine_then, next_word, separator, test, word_is, workers_rule, memo_rule, share_rule, half_rule, tally_rule}
 use Rattle.run_words.proofs.Steps.{apart_of, idle_at, new_stands}
@@ -65,7 +65,7 @@ run_found words settings none fine given says is =
     let rows = final (ends run_leaf (walk_from nothing_held) words) in
     let says' : SayGiven (whole rows) given = subst (λ (xs : List Row). SayGiven xs given) (run_rows_are words) says in
     let h = (gathered words [] [] None none (new_stands []) fine).options no_options nothing_said (numerals_in rows given says') in
-    (h.0, given, h.2, subst (λ (g : GivenOptions). Adds no_options h.0 g) (one_says (whole rows) h.1 given (whole_says rows h.1 h.4) says') h.3, is)
+    (h.0, given, h.2, subst (λ (g : GivenOptions). AddOptions no_options h.0 g) (one_says (whole rows) h.1 given (whole_says rows h.1 h.4) says') h.3, is)
 
 run_flags : (words : List Text) → HasNoSeparator words → faults run_leaf (walk_from nothing_held) words ≡ [] → HaveFlags (run_rows words)
 run_flags words none fine =
@@ -234,19 +234,19 @@ none_apart (word ∷ words) e = go (bytes_eq word separator) refl e (none_apart 
 word_apart : (word : Text) (words : List Text) → bytes_eq word separator ≡ false → has_separator words ≡ false → has_separator (word ∷ words) ≡ false
 word_apart word words e f = rw e f
 
-key_apart : (key : Key) → bytes_eq (key_name key) separator ≡ false
+key_apart : (key : OptionKey) → bytes_eq (key_name key) separator ≡ false
 key_apart Workers = refl
 key_apart Memo = refl
 key_apart Share = refl
 
-value_apart : (key : Key) (text : Text) → bytes_eq (key_name key ++ equals ++ text) separator ≡ false
+value_apart : (key : OptionKey) (text : Text) → bytes_eq (key_name key ++ equals_sign ++ text) separator ≡ false
 value_apart Workers text = refl
 value_apart Memo text = refl
 value_apart Share text = refl
 
 options_apart : (options : List RunOption) (words : List Text) → AreOptions words options → has_separator words ≡ false
 options_apart [] words e = rw e refl
-options_apart (Number key n ∷ os) words (rest, (text, numeral, inl e), more) = rw e (word_apart (key_name key ++ equals ++ text) rest (value_apart key text) (options_apart os rest more))
+options_apart (Number key n ∷ os) words (rest, (text, numeral, inl e), more) = rw e (word_apart (key_name key ++ equals_sign ++ text) rest (value_apart key text) (options_apart os rest more))
 options_apart (Number key n ∷ os) words (rest, (text, numeral, inr e), more) =
     rw e (word_apart (key_name key) (text ∷ rest) (key_apart key) (word_apart text rest (numeral_plain text n numeral).2 (options_apart os rest more)))
 options_apart (Half ∷ os) words (rest, (word, is, e), more) = rw (e, is) (options_apart os rest more)
@@ -261,7 +261,7 @@ pub separator_outside : (words : List Text) → has_separator words ≡ true →
 separator_outside words e settings h = true≢false (sym e ∙ chosen_apart words settings h)
 
 -- ---- what the call promises
-pub chosen_taken : (words : List Text) (settings : Settings) → Chooses words settings → (fault_of program words ≡ []) × Make (subcommand_of program words) settings
+pub chosen_taken : (words : List Text) (settings : Settings) → Chooses words settings → (fault_of program words ≡ []) × MakeSettings (subcommand_of program words) settings
 chosen_taken [] settings h = absurd h
 chosen_taken (first ∷ rest) settings (range, inl (is, h)) =
     let taken_so = run_taken rest settings h in
@@ -287,15 +287,15 @@ taken_are (first ∷ rest) none fine = elim (test (codes "run") first) [
   ]
 ]
 
-pub made_chosen : (words : List Text) → has_separator words ≡ false → fault_of program words ≡ [] → (settings : Settings) → AreInRange settings → Make (subcommand_of program words) settings → Chooses words settings
+pub made_chosen : (words : List Text) → has_separator words ≡ false → fault_of program words ≡ [] → (settings : Settings) → AreSettingsInRange settings → MakeSettings (subcommand_of program words) settings → Chooses words settings
 made_chosen words none fine settings range made = go (taken_are words (none_apart words none) fine)
   where
     go : Taken words → Chooses words settings
-    go (a_run rest is f apart) = elim (subst (λ (o : Option (Text × List Row)). Make o settings) (ap (subcommand_of program) is ∙ run_rows_found rest) made) [
+    go (a_run rest is f apart) = elim (subst (λ (o : Option (Text × List Row)). MakeSettings o settings) (ap (subcommand_of program) is ∙ run_rows_found rest) made) [
       | inl h ↦ rw is (range, inl (refl, run_found rest settings apart f h.1 h.2 h.3))
       | inr h ↦ cc h.0
     ]
-    go (a_demo rest is f apart) = elim (subst (λ (o : Option (Text × List Row)). Make o settings) (ap (subcommand_of program) is ∙ demo_rows_found rest) made) [
+    go (a_demo rest is f apart) = elim (subst (λ (o : Option (Text × List Row)). MakeSettings o settings) (ap (subcommand_of program) is ∙ demo_rows_found rest) made) [
       | inl h ↦ cc h.0
       | inr h ↦ rw is (range, inr (refl, demo_found rest settings apart f h.1 h.2 h.3))
     ]

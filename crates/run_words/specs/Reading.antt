@@ -35,9 +35,9 @@ abbrev pub HaveFlags : List Row → Type 0
 HaveFlags rows = ((half : Bool) × SaysFlag rows (codes "half") half) × ((tally : Bool) × SaysFlag rows (codes "tally") tally)
 
 -- the subcommand that was found and its rows make these settings
-abbrev pub Make : Option (Text × List Row) → Settings → Type 0
-Make None settings = ⊥
-Make (Some found) settings =
+abbrev pub MakeSettings : Option (Text × List Row) → Settings → Type 0
+MakeSettings None settings = ⊥
+MakeSettings (Some found) settings =
     ((found.0 ≡ codes "run") × (given : GivenOptions) × SayGiven found.1 given × (settings ≡ chosen_settings given))
     ⊎ ((found.0 ≡ codes "demo") × (n : ℕ) × Says (first_of (codes "parts") found.1) (Some n) × (settings ≡ Demo n))
 

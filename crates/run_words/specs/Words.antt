@@ -7,27 +7,27 @@ use Rattle.run_words.specs.declared.settings.Settings.{Settings}
 use Rattle.run_words.specs.declared.settings.Settings.TheVariants.{Run, Demo}
 
 -- an option that has a number
-pub data Key : Type 0 where
-  Workers : Key
-  Memo : Key
-  Share : Key
+pub data OptionKey : Type 0 where
+  Workers : OptionKey
+  Memo : OptionKey
+  Share : OptionKey
 
 -- an option, with its number if it has one
 pub data RunOption : Type 0 where
-  Number : Key → ℕ → RunOption
+  Number : OptionKey → ℕ → RunOption
   Half : RunOption
   Tally : RunOption
 
 -- the byte of `=`
-abbrev pub equals : List ℕ
-equals = 61 ∷ []
+abbrev pub equals_sign : List ℕ
+equals_sign = 61 ∷ []
 
 -- 1 to 7 digits that write this number; leading zeros are allowed
 abbrev pub IsNumeralOf : List ℕ → ℕ → Type 0
 IsNumeralOf digits n = IsShortNumeral digits × (n ≡ digits_value 10 digits)
 
 -- how an option that has a value is written
-abbrev pub key_name : Key → List ℕ
+abbrev pub key_name : OptionKey → List ℕ
 key_name Workers = codes "--workers"
 key_name Memo = codes "--memo"
 key_name Share = codes "--share"
@@ -39,24 +39,24 @@ IsFlag word Tally = word ≡ codes "--tally"
 IsFlag word (Number key n) = ⊥
 
 -- the words begin with an option and go on with the rest: the option is one word, `--NAME` or `--NAME=N`, or two, `--NAME N`
-abbrev pub IsNext : List (List ℕ) → RunOption → List (List ℕ) → Type 0
-IsNext words (Number key n) rest =
+abbrev pub BeginsWithOption : List (List ℕ) → RunOption → List (List ℕ) → Type 0
+BeginsWithOption words (Number key n) rest =
     (digits : List ℕ) × IsNumeralOf digits n
-    × ((words ≡ (key_name key ++ equals ++ digits) ∷ rest) ⊎ (words ≡ key_name key ∷ digits ∷ rest))
-IsNext words option rest = (word : List ℕ) × IsFlag word option × (words ≡ word ∷ rest)
+    × ((words ≡ (key_name key ++ equals_sign ++ digits) ∷ rest) ⊎ (words ≡ key_name key ∷ digits ∷ rest))
+BeginsWithOption words option rest = (word : List ℕ) × IsFlag word option × (words ≡ word ∷ rest)
 
 -- the words are these options
 abbrev pub AreOptions : List (List ℕ) → List RunOption → Type 0
 AreOptions words [] = words ≡ []
-AreOptions words (option ∷ options) = (rest : List (List ℕ)) × IsNext words option rest × AreOptions rest options
+AreOptions words (option ∷ options) = (rest : List (List ℕ)) × BeginsWithOption words option rest × AreOptions rest options
 
 -- the option was not given yet
-abbrev pub IsFree : GivenOptions → RunOption → Type 0
-IsFree given (Number Workers n) = given.workers ≡ None
-IsFree given (Number Memo n) = given.memo ≡ None
-IsFree given (Number Share n) = given.share ≡ None
-IsFree given Half = given.half ≡ false
-IsFree given Tally = given.tally ≡ false
+abbrev pub IsNotGiven : GivenOptions → RunOption → Type 0
+IsNotGiven given (Number Workers n) = given.workers ≡ None
+IsNotGiven given (Number Memo n) = given.memo ≡ None
+IsNotGiven given (Number Share n) = given.share ≡ None
+IsNotGiven given Half = given.half ≡ false
+IsNotGiven given Tally = given.tally ≡ false
 
 -- with one option more
 abbrev pub with_option : GivenOptions → RunOption → GivenOptions
@@ -66,10 +66,10 @@ with_option given (Number Share n) = record given { share = Some n }
 with_option given Half = record given { half = true }
 with_option given Tally = record given { tally = true }
 
--- these options, each given at most once, make the one what was given into the other
-abbrev pub Adds : GivenOptions → List RunOption → GivenOptions → Type 0
-Adds given [] all = all ≡ given
-Adds given (option ∷ options) all = IsFree given option × Adds (with_option given option) options all
+-- the second is the first with these options added, of which each is given at most once in all
+abbrev pub AddOptions : GivenOptions → List RunOption → GivenOptions → Type 0
+AddOptions given [] all = all ≡ given
+AddOptions given (option ∷ options) all = IsNotGiven given option × AddOptions (with_option given option) options all
 
 -- what is given before any option is read
 abbrev pub no_options : GivenOptions
@@ -85,16 +85,16 @@ abbrev pub chosen_settings : GivenOptions → Settings
 chosen_settings given = Run (or_else given.workers 4) (or_else given.memo 500000) (or_else given.share 0) given.half given.tally
 
 -- the numbers are in their ranges
-abbrev pub AreInRange : Settings → Type 0
-AreInRange (Run workers memo share half tally) =
+abbrev pub AreSettingsInRange : Settings → Type 0
+AreSettingsInRange (Run workers memo share half tally) =
     (1 ≤ workers) × (workers ≤ 64) × (memo ≤ 2000000) × (share ≤ 125000) × (16 * share ≤ memo)
-AreInRange (Demo n) = (1 ≤ n) × (n ≤ 200)
+AreSettingsInRange (Demo n) = (1 ≤ n) × (n ≤ 200)
 
 -- the words behind `run` choose these settings
 abbrev pub AreRunOptions : List (List ℕ) → Settings → Type 0
 AreRunOptions words settings =
     (options : List RunOption) × (given : GivenOptions)
-    × AreOptions words options × Adds no_options options given × (settings ≡ chosen_settings given)
+    × AreOptions words options × AddOptions no_options options given × (settings ≡ chosen_settings given)
 
 -- the words behind `demo` choose these settings
 abbrev pub AreDemoWords : List (List ℕ) → Settings → Type 0
@@ -104,7 +104,7 @@ AreDemoWords words settings = (digits : List ℕ) × (n : ℕ) × (words ≡ dig
 abbrev pub Chooses : List (List ℕ) → Settings → Type 0
 Chooses [] settings = ⊥
 Chooses (first ∷ rest) settings =
-    AreInRange settings
+    AreSettingsInRange settings
     × (((first ≡ codes "run") × AreRunOptions rest settings) ⊎ ((first ≡ codes "demo") × AreDemoWords rest settings))
 
 -- the words are outside the grammar

@@ -5,8 +5,8 @@ ghost use Rattle.clap.specs.Words.{found_of, kind_of, rows_of, subcommand_rows_o
 ghost use Rattle.clap.specs.declared.error.kind.ErrorKind.TheVariants.{OutOfMemory};
 ghost use Rattle.run_words.specs.declared.settings.Settings.{Settings};
 ghost use Rattle.run_words.specs.declared.settings.WordsFault.TheVariants.{NoMemory};
-ghost use Rattle.run_words.specs.Words.{chosen_settings, AreInRange, Chooses, AreOutside};
-ghost use Rattle.run_words.specs.Reading.{HaveFlags, HasFlags, Make, has_separator as have_separator};
+ghost use Rattle.run_words.specs.Words.{chosen_settings, AreSettingsInRange, Chooses, AreOutside};
+ghost use Rattle.run_words.specs.Reading.{HaveFlags, HasFlags, MakeSettings, has_separator as have_separator};
 
 use crate::command::program;
 use crate::given::{GivenOptions, given_in, number_in};
@@ -54,8 +54,8 @@ impl From<AllocError> for WordsFault {
 
 // The settings, where the numbers are in their ranges.
 fn in_range(settings: Settings) -> Option<Settings>
-    ensures found { IfSome result (λ same. (same ≡ settings) × AreInRange settings) }
-    ensures none { IfNone result (AreInRange settings → ⊥) }
+    ensures found { IfSome result (λ same. (same ≡ settings) × AreSettingsInRange settings) }
+    ensures none { IfNone result (AreSettingsInRange settings → ⊥) }
 {
     let holds = match settings {
         Settings::Run {
@@ -103,9 +103,9 @@ fn parse<'a>(alloc: Global, words: &'a [String]) -> Result<ArgMatches<'a>, Words
     requires { have_separator (map string_bytes words.now) ≡ false }
     ensures chosen { IfOk result (λ matches. (settings : Settings)
         → Chooses (map string_bytes words.now) settings
-        → Make (subcommand_rows_of matches) settings) }
-    ensures made { IfOk result (λ matches. (settings : Settings) → AreInRange settings
-        → Make (subcommand_rows_of matches) settings
+        → MakeSettings (subcommand_rows_of matches) settings) }
+    ensures made { IfOk result (λ matches. (settings : Settings) → AreSettingsInRange settings
+        → MakeSettings (subcommand_rows_of matches) settings
         → Chooses (map string_bytes words.now) settings) }
     ensures flags { IfOk result (λ matches. HasFlags (subcommand_rows_of matches)) }
     ensures refused { IsErrOf result WordsFault.BadWords → AreOutside (map string_bytes words.now) }
@@ -121,12 +121,12 @@ fn parse<'a>(alloc: Global, words: &'a [String]) -> Result<ArgMatches<'a>, Words
 fn run_settings(run: &ArgMatches<'_>) -> Option<Settings>
     requires { HaveFlags (rows_of (found_of run.now)) }
     ensures found { IfSome result (λ settings.
-        Make (Some (codes "run", rows_of (found_of run.now))) settings × AreInRange settings) }
+        MakeSettings (Some (codes "run", rows_of (found_of run.now))) settings × AreSettingsInRange settings) }
     ensures only { IfSome result (λ settings. (other : Settings)
-        → Make (Some (codes "run", rows_of (found_of run.now))) other → other ≡ settings) }
+        → MakeSettings (Some (codes "run", rows_of (found_of run.now))) other → other ≡ settings) }
     ensures none { IfNone result
-        ((settings : Settings) → Make (Some (codes "run", rows_of (found_of run.now))) settings
-        → AreInRange settings → ⊥) }
+        ((settings : Settings) → MakeSettings (Some (codes "run", rows_of (found_of run.now))) settings
+        → AreSettingsInRange settings → ⊥) }
 {
     let given = given_in(run)?;
     in_range(with_defaults(given))
@@ -135,12 +135,12 @@ fn run_settings(run: &ArgMatches<'_>) -> Option<Settings>
 // The settings of what clap found behind `demo`.
 fn demo_settings(demo: &ArgMatches<'_>) -> Option<Settings>
     ensures found { IfSome result (λ settings.
-        Make (Some (codes "demo", rows_of (found_of demo.now))) settings × AreInRange settings) }
+        MakeSettings (Some (codes "demo", rows_of (found_of demo.now))) settings × AreSettingsInRange settings) }
     ensures only { IfSome result (λ settings. (other : Settings)
-        → Make (Some (codes "demo", rows_of (found_of demo.now))) other → other ≡ settings) }
+        → MakeSettings (Some (codes "demo", rows_of (found_of demo.now))) other → other ≡ settings) }
     ensures none { IfNone result
-        ((settings : Settings) → Make (Some (codes "demo", rows_of (found_of demo.now))) settings
-        → AreInRange settings → ⊥) }
+        ((settings : Settings) → MakeSettings (Some (codes "demo", rows_of (found_of demo.now))) settings
+        → AreSettingsInRange settings → ⊥) }
 {
     let parts = number_in(demo, "parts")??;
     in_range(Settings::Demo(parts))
@@ -149,13 +149,13 @@ fn demo_settings(demo: &ArgMatches<'_>) -> Option<Settings>
 // The settings of what clap found.
 fn settings_in(matches: &ArgMatches<'_>) -> Option<Settings>
     requires { HasFlags (subcommand_rows_of matches.now) }
-    ensures found { IfSome result (λ settings. Make (subcommand_rows_of matches.now) settings
-        × AreInRange settings) }
+    ensures found { IfSome result (λ settings. MakeSettings (subcommand_rows_of matches.now) settings
+        × AreSettingsInRange settings) }
     ensures only { IfSome result (λ settings. (other : Settings)
-        → Make (subcommand_rows_of matches.now) other → other ≡ settings) }
+        → MakeSettings (subcommand_rows_of matches.now) other → other ≡ settings) }
     ensures none { IfNone result
-        ((settings : Settings) → Make (subcommand_rows_of matches.now) settings
-        → AreInRange settings → ⊥) }
+        ((settings : Settings) → MakeSettings (subcommand_rows_of matches.now) settings
+        → AreSettingsInRange settings → ⊥) }
 {
     let (name, found) = matches.subcommand()?;
     if name == "run" {

@@ -1,7 +1,7 @@
 -- The places that a text holds, in its order.
 use Rattle.std.specs.Prelude.{List, [], ◌∷◌, ◌++◌, flat_map, Contains}
 use Rattle.text_place.specs.declared.fault.Place.{Place}
-use Rattle.scad_ast.specs.Terms.{Term, NumberTerm, TextTerm, TruthTerm, UndefTerm, ChildCountTerm, SpecialTerm, NameTerm, CallTerm, ParenTerm, ListTerm, RangeTerm, SteppedRangeTerm, PostfixTerm, UnaryTerm, ChainTerm, ChoiceTerm, Terms, no_terms, and_term, ArgTerms, no_args, and_named, and_special, and_positional, SuffixTerms, no_suffixes, and_index, and_member, LinkTerms, no_links, and_link, ParamTerm, PlainTerm, DefaultTerm, BinderTerm, MarkTerm, StatementTerm, EmptyStatement, BlockStatement, AssignmentTerm, SpecialAssignmentTerm, ModuleTerm, FunctionTerm, InstanceStatement, StatementTerms, no_statements, and_statement, InstanceTerm, AnInstance, CoreTerm, IfTerm, IfElseTerm, ForTerm, IntersectionForTerm, ModuleCallTerm, BodyTerm, EmptyBody, BlockBody, InstanceBody, args_from, statements_from}
+use Rattle.scad_ast.specs.Terms.{Term, NumberTerm, TextTerm, TruthTerm, UndefTerm, ChildCountTerm, SpecialTerm, NameTerm, CallTerm, ParenTerm, ListTerm, RangeTerm, SteppedRangeTerm, PostfixTerm, UnaryTerm, ChainTerm, ChoiceTerm, Terms, no_terms, and_term, ArgTerms, no_args, and_named, and_special, and_positional, SuffixTerms, no_suffixes, and_index, and_member, LinkTerms, no_links, and_link, ParamTerm, PlainTerm, DefaultTerm, BinderTerm, ModifierTerm, StatementTerm, EmptyStatement, BlockStatement, AssignmentTerm, SpecialAssignmentTerm, ModuleTerm, FunctionTerm, InstanceStatement, StatementTerms, no_statements, and_statement, InstanceTerm, AnInstance, CoreTerm, IfTerm, IfElseTerm, ForTerm, IntersectionForTerm, ModuleCallTerm, BodyTerm, EmptyBody, BlockBody, InstanceBody, args_from, statements_from}
 
 -- those of an expression, and of what stands in one: of its first token and of the first token of each expression in it,
 -- of named arguments and members, and of operators, `?`, `.` and the `[` of indices; the brackets of calls' arguments
@@ -53,8 +53,8 @@ places_of_param (DefaultTerm at name value) = at ∷ places_of_term value
 abbrev pub places_of_binder : BinderTerm → List Place
 places_of_binder binder = binder.at ∷ places_of_term binder.values
 
-abbrev pub places_of_mark : MarkTerm → List Place
-places_of_mark mark = mark.at ∷ []
+abbrev pub places_of_modifier : ModifierTerm → List Place
+places_of_modifier mark = mark.at ∷ []
 
 -- of statements, and of their parts: of each form's first token, of the name of a module and of a function, and of the
 -- parameters, loops' variables, modifiers, expressions, statements and bodies in it
@@ -75,7 +75,7 @@ abbrev mutual
   places_of_statements (and_statement first rest) = places_of_statement first ++ places_of_statements rest
 
   pub places_of_instance : InstanceTerm → List Place
-  places_of_instance (AnInstance at marks core) = at ∷ flat_map places_of_mark marks ++ places_of_core core
+  places_of_instance (AnInstance at marks core) = at ∷ flat_map places_of_modifier marks ++ places_of_core core
 
   pub places_of_core : CoreTerm → List Place
   places_of_core (IfTerm at test body) = at ∷ places_of_term test ++ places_of_body body

@@ -15,7 +15,7 @@ use Rattle.scad_ast.specs.declared.statement.Body.{Body}
 use Rattle.scad_ast.specs.declared.statement.Body.TheOpen.{Statement-F, Empty, Block, Assignment, SpecialAssignment, Module, Function, Instantiation, Statements-F, Instance-F, Core-F, If, IfElse, For, IntersectionFor, Call, Body-F, Semicolon, Braces, Single}
 use Rattle.scad_ast.specs.declared.statement.Body.TheFolds.{fold-Statement, fold-Statements, fold-Instance, fold-Core, fold-Body}
 use Rattle.scad_ast.specs.ExprView.{term_of, args_of}
-use Rattle.scad_ast.specs.Terms.{ParamTerm, PlainTerm, DefaultTerm, BinderTerm, MarkTerm, StatementTerm, EmptyStatement, BlockStatement, AssignmentTerm, SpecialAssignmentTerm, ModuleTerm, FunctionTerm, InstanceStatement, InstanceTerm, AnInstance, CoreTerm, IfTerm, IfElseTerm, ForTerm, IntersectionForTerm, ModuleCallTerm, BodyTerm, EmptyBody, BlockBody, InstanceBody, statements_from}
+use Rattle.scad_ast.specs.Terms.{ParamTerm, PlainTerm, DefaultTerm, BinderTerm, ModifierTerm, StatementTerm, EmptyStatement, BlockStatement, AssignmentTerm, SpecialAssignmentTerm, ModuleTerm, FunctionTerm, InstanceStatement, InstanceTerm, AnInstance, CoreTerm, IfTerm, IfElseTerm, ForTerm, IntersectionForTerm, ModuleCallTerm, BodyTerm, EmptyBody, BlockBody, InstanceBody, statements_from}
 
 -- what a parameter, a variable of a loop and a modifier stand for, and lists of them
 abbrev pub param_of : Param → ParamTerm
@@ -31,11 +31,11 @@ binder_of binder = record { at = binder.place; name = binder.name; values = term
 abbrev pub binders_of : Binders → List BinderTerm
 binders_of binders = map binder_of binders.items.items
 
-abbrev pub mark_of : PlacedModifier → MarkTerm
-mark_of placed = record { at = placed.place; modifier = placed.modifier }
+abbrev pub modifier_of : PlacedModifier → ModifierTerm
+modifier_of placed = record { at = placed.place; modifier = placed.modifier }
 
-abbrev pub marks_of : PlacedModifiers → List MarkTerm
-marks_of marks = map mark_of marks.items.items
+abbrev pub modifiers_of : PlacedModifiers → List ModifierTerm
+modifiers_of marks = map modifier_of marks.items.items
 
 -- one layer of a body, an instance or a statement, with what stands in it seen already
 abbrev pub body_step : Body-F BodyTerm CoreTerm StatementTerm InstanceTerm (List StatementTerm) → BodyTerm
@@ -51,7 +51,7 @@ core_step (IntersectionFor at binders body) = IntersectionForTerm at (binders_of
 core_step (Call at name args body) = ModuleCallTerm at name (args_of args) body.value
 
 abbrev pub instance_step : Instance-F BodyTerm CoreTerm StatementTerm InstanceTerm (List StatementTerm) → InstanceTerm
-instance_step instance = AnInstance instance.place (marks_of instance.marks) instance.core
+instance_step instance = AnInstance instance.place (modifiers_of instance.marks) instance.core
 
 abbrev pub statement_step : Statement-F BodyTerm CoreTerm StatementTerm InstanceTerm (List StatementTerm) → StatementTerm
 statement_step (Empty at) = EmptyStatement at

@@ -66,7 +66,7 @@ pub data ArgTerm : Type 0 where
   SpecialArgTerm : (at : Place) → (name : List ℕ) → (value : Term) → ArgTerm
   PositionalTerm : (value : Term) → ArgTerm
 
--- lists of expressions, of operators, of indexes and members, and of arguments, as an expression holds them
+-- expressions of a list, as an expression holds them
 abbrev pub terms_from : List Term → Terms
 terms_from [] = no_terms
 terms_from (term ∷ terms) = and_term term (terms_from terms)
@@ -90,23 +90,23 @@ args_from (SpecialArgTerm at name value ∷ rest) = and_special at name value (a
 args_from (PositionalTerm value ∷ rest) = and_positional value (args_from rest)
 
 -- the place of the first token
-abbrev pub place_of : Term → Place
-place_of (NumberTerm at n) = at
-place_of (TextTerm at bytes) = at
-place_of (TruthTerm at truth) = at
-place_of (UndefTerm at) = at
-place_of (ChildCountTerm at) = at
-place_of (SpecialTerm at name) = at
-place_of (NameTerm at name) = at
-place_of (CallTerm at name args) = at
-place_of (ParenTerm at inner) = at
-place_of (ListTerm at items) = at
-place_of (RangeTerm at from to) = at
-place_of (SteppedRangeTerm at from step to) = at
-place_of (PostfixTerm at of rest) = at
-place_of (UnaryTerm at op of) = at
-place_of (ChainTerm at first rest) = at
-place_of (ChoiceTerm at test mark one other) = at
+abbrev pub place_of_term : Term → Place
+place_of_term (NumberTerm at n) = at
+place_of_term (TextTerm at bytes) = at
+place_of_term (TruthTerm at truth) = at
+place_of_term (UndefTerm at) = at
+place_of_term (ChildCountTerm at) = at
+place_of_term (SpecialTerm at name) = at
+place_of_term (NameTerm at name) = at
+place_of_term (CallTerm at name args) = at
+place_of_term (ParenTerm at inner) = at
+place_of_term (ListTerm at items) = at
+place_of_term (RangeTerm at from to) = at
+place_of_term (SteppedRangeTerm at from step to) = at
+place_of_term (PostfixTerm at of rest) = at
+place_of_term (UnaryTerm at op of) = at
+place_of_term (ChainTerm at first rest) = at
+place_of_term (ChoiceTerm at test mark one other) = at
 
 -- a parameter, without a default or with one
 pub data ParamTerm : Type 0 where
@@ -120,7 +120,7 @@ pub record BinderTerm : Type 0 where
   pub values : Term
 
 -- a modifier before an instance
-pub record MarkTerm : Type 0 where
+pub record ModifierTerm : Type 0 where
   pub at : Place
   pub modifier : Modifier
 
@@ -142,7 +142,7 @@ mutual
 
   -- an instance: its modifiers, and what stands behind them
   pub data InstanceTerm : Type 0 where
-    AnInstance : (at : Place) → (marks : List MarkTerm) → (core : CoreTerm) → InstanceTerm
+    AnInstance : (at : Place) → (marks : List ModifierTerm) → (core : CoreTerm) → InstanceTerm
 
   -- an instance without its modifiers: a choice, a loop or a call of a module
   pub data CoreTerm : Type 0 where
@@ -163,10 +163,11 @@ abbrev pub statements_from : List StatementTerm → StatementTerms
 statements_from [] = no_statements
 statements_from (statement ∷ statements) = and_statement statement (statements_from statements)
 
--- the place of the first token of an instance, a statement, what stands behind modifiers, and a body
+-- the place of an instance: that of its first token, which is its first modifier where it has one
 abbrev pub place_of_instance : InstanceTerm → Place
 place_of_instance (AnInstance at marks core) = at
 
+-- the place of a statement's first token
 abbrev pub place_of_statement : StatementTerm → Place
 place_of_statement (EmptyStatement at) = at
 place_of_statement (BlockStatement at content) = at
@@ -184,6 +185,7 @@ place_of_core (ForTerm at binders body) = at
 place_of_core (IntersectionForTerm at binders body) = at
 place_of_core (ModuleCallTerm at name args body) = at
 
+-- the place of a body's first token
 abbrev pub place_of_body : BodyTerm → Place
 place_of_body (EmptyBody at) = at
 place_of_body (BlockBody at content) = at

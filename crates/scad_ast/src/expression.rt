@@ -1,5 +1,5 @@
 ghost use Rattle.std.specs.Prelude.{◌≡◌};
-ghost use Rattle.scad_ast.specs.Terms.{place_of};
+ghost use Rattle.scad_ast.specs.Terms.{place_of_term};
 ghost use Rattle.scad_ast.specs.ExprView.{term_of};
 
 use crate::operator::{BinaryOp, UnaryOp};
@@ -149,7 +149,7 @@ pub struct Args {
 impl Expr {
     /// The place of the first token.
     pub fn place(&self) -> Place
-        ensures { result ≡ place_of (term_of self.now) }
+        ensures { result ≡ place_of_term (term_of self.now) }
     {
         match self {
             Expr::Number(place, _)

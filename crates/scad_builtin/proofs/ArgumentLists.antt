@@ -3,12 +3,12 @@ use Rattle.std.proofs.Common.{◌≡◌, suc, List, [], ◌∷◌, ◌++◌, len
 use Rattle.text_place.specs.declared.fault.FaultKind.TheVariants.{TypeMismatch}
 use Rattle.scad_value.specs.declared.value.Value.{Value}
 use Rattle.scad_value.specs.Values.{Val, NumberVal, TruthVal, TextVal, ListVal, RangeVal, UndefVal, vals_from, count_of}
-use Rattle.scad_value.specs.Operators.{Answer}
+use Rattle.scad_value.specs.Operators.{AnswerOrFault}
 use Rattle.scad_value.specs.View.{val_of, vals_in}
 use Rattle.scad_builtin.specs.declared.function.Builtin.{Builtin}
 use Rattle.scad_builtin.specs.declared.function.Builtin.TheVariants.{Abs, Sign, Floor, Ceil, Round, Min, Max, Len, Concat, Pow, IsUndef, IsNum, IsBool, IsList}
-use Rattle.scad_builtin.specs.Builtins.{of_one, of_two, best, best_among, list_of, items_as, joined_items, builtin_value}
-use Rattle.scad_builtin.specs.Rows.{row_of}
+use Rattle.scad_builtin.specs.Builtins.{of_one, of_two, best_number, best_among, list_of, items_as, joined_items, builtin_value}
+use Rattle.scad_builtin.specs.Rows.{value_row}
 
 pub length_in : (vs : List Value) (ws : List Val) → vals_in vs ≡ ws → length ws ≡ length vs
 length_in vs ws e = ap length (sym e) ∙ mapped vs
@@ -17,13 +17,13 @@ length_in vs ws e = ap length (sym e) ∙ mapped vs
     mapped [] = refl
     mapped (v ∷ vs) = ap suc (mapped vs)
 
-pub not_one : (row : Val → Answer Val) (ws : List Val) → (length ws ≡ 1 → ⊥) → of_one row (vals_from ws)
+pub not_one : (row : Val → AnswerOrFault Val) (ws : List Val) → (length ws ≡ 1 → ⊥) → of_one row (vals_from ws)
     ≡ Err TypeMismatch
 not_one row [] h = refl
 not_one row (v ∷ []) h = absurd (h refl)
 not_one row (v ∷ w ∷ ws) h = refl
 
-pub not_two : (row : Val → Val → Answer Val) (ws : List Val) → (length ws ≡ 2 → ⊥) → of_two row (vals_from ws)
+pub not_two : (row : Val → Val → AnswerOrFault Val) (ws : List Val) → (length ws ≡ 2 → ⊥) → of_two row (vals_from ws)
     ≡ Err TypeMismatch
 not_two row [] h = refl
 not_two row (v ∷ []) h = refl
@@ -32,7 +32,7 @@ not_two row (u ∷ v ∷ w ∷ ws) h = refl
 
 -- other than one value is no list of numbers
 pub not_alone : (before : ℤ → ℤ → Bool) (ws : List Val) → (length ws ≡ 1 → ⊥)
-    → best_among before (vals_from ws) ≡ best before (vals_from ws)
+    → best_among before (vals_from ws) ≡ best_number before (vals_from ws)
 not_alone before [] h = refl
 not_alone before (v ∷ []) h = absurd (h refl)
 not_alone before (NumberVal n ∷ w ∷ ws) h = refl
@@ -62,7 +62,7 @@ joined_push (w ∷ vs) v = ap (λ l. items_as (val_of w) ++ l) (joined_push vs v
 -- the functions of one value
 pub by_row : (builtin : Builtin) (ws : List Val) → (builtin ≡ Min → ⊥) → (builtin ≡ Max → ⊥)
     → (builtin ≡ Concat → ⊥) → (builtin ≡ Pow → ⊥)
-    → builtin_value builtin (vals_from ws) ≡ of_one (row_of builtin) (vals_from ws)
+    → builtin_value builtin (vals_from ws) ≡ of_one (value_row builtin) (vals_from ws)
 by_row Abs ws a b c d = refl
 by_row Sign ws a b c d = refl
 by_row Floor ws a b c d = refl

@@ -5,23 +5,23 @@ use Rattle.std.proofs.lemmas.Bool.{and_parts, and_from, ltb-false, lt-ltb}
 use Rattle.text_place.specs.declared.fault.FaultKind.TheVariants.{TooLarge, LongList}
 use Rattle.scad_value.specs.declared.value.Value.{Value}
 use Rattle.scad_value.specs.declared.stop.ValueStop.{ValueStop}
-use Rattle.scad_value.specs.Values.{Val, NumberVal, TruthVal, TextVal, ListVal, Vals, no_vals, and_val, vals_from, count_of, parts_of, is_long, is_small, has_small_numbers, have_small_numbers, is_bounded}
-use Rattle.scad_value.specs.Operators.{Answer, number_or_too_large, number, value_or_long_list}
+use Rattle.scad_value.specs.Values.{Val, NumberVal, TruthVal, TextVal, ListVal, Vals, no_vals, and_val, vals_from, count_of, parts_of, is_too_long_or_deep, is_small, has_small_numbers, have_small_numbers, is_bounded}
+use Rattle.scad_value.specs.Operators.{AnswerOrFault, number_or_too_large, number_answer, value_or_long_list}
 use Rattle.scad_value.specs.View.{MeetsAnswer, GivesBounded}
 use Rattle.scad_builtin.specs.declared.function.Builtin.{Builtin}
 use Rattle.scad_builtin.specs.declared.function.Builtin.TheVariants.{Abs, Sign, Floor, Ceil, Round, Min, Max, Len, Concat, Pow, IsUndef, IsNum, IsBool, IsList}
-use Rattle.scad_builtin.specs.Builtins.{of_number, sign_of, better, best_of, best, best_among, length_of, list_of, items_as, joined_items, power, power_row, power_of, is_undef, is_num, is_bool, is_list, of_one, of_two, builtin_value, are_bounded}
+use Rattle.scad_builtin.specs.Builtins.{of_number, sign_of, better_number, best_of, best_number, best_among, length_of, list_of, items_as, joined_items, power, power_row, power_of_values, is_undef, is_num, is_bool, is_list, of_one, of_two, builtin_value, are_bounded}
 use Rattle.scad_builtin.proofs.Powers.{by_sign}
 
-abbrev IsBoundedAnswer : Answer Val → Type 0
+abbrev IsBoundedAnswer : AnswerOrFault Val → Type 0
 IsBoundedAnswer (Ok v) = IsTrue (is_bounded v)
 IsBoundedAnswer (Err kind) = Unit {0}
 
-abbrev IsSmallAnswer : Answer ℤ → Type 0
+abbrev IsSmallAnswer : AnswerOrFault ℤ → Type 0
 IsSmallAnswer (Ok n) = IsTrue (is_small n)
 IsSmallAnswer (Err kind) = Unit {0}
 
-told : (r : Result Value ValueStop) (answer : Answer Val) → MeetsAnswer r answer → IsBoundedAnswer answer
+told : (r : Result Value ValueStop) (answer : AnswerOrFault Val) → MeetsAnswer r answer → IsBoundedAnswer answer
     → GivesBounded r
 told (Ok v) answer t b = subst IsBoundedAnswer t b
 told (Err stop) answer t b = tt
@@ -34,11 +34,11 @@ sized_small n = by_size (is_small n) refl
     by_size true e = e
     by_size false e = tt
 
-number_bounded : (answer : Answer ℤ) → IsSmallAnswer answer → IsBoundedAnswer (number answer)
+number_bounded : (answer : AnswerOrFault ℤ) → IsSmallAnswer answer → IsBoundedAnswer (number_answer answer)
 number_bounded (Ok n) s = and_from _ _ s refl
 number_bounded (Err kind) s = tt
 
-of_number_bounded : (row : ℤ → Answer ℤ) → ((n : ℤ) → IsTrue (is_small n) → IsSmallAnswer (row n)) → (v : Val)
+of_number_bounded : (row : ℤ → AnswerOrFault ℤ) → ((n : ℤ) → IsTrue (is_small n) → IsSmallAnswer (row n)) → (v : Val)
     → IsTrue (has_small_numbers v) → IsBoundedAnswer (of_number row v)
 of_number_bounded row small (NumberVal n) s = number_bounded (row n) (small n s)
 of_number_bounded row small v s = tt
@@ -56,7 +56,7 @@ power_small (pos (suc (suc n))) (negsuc e) = tt
 power_small (negsuc zero) (negsuc e) = by_sign (λ n. IsTrue (is_small n)) refl refl (suc e)
 power_small (negsuc (suc n)) (negsuc e) = tt
 
-power_bounded : (v w : Val) → IsBoundedAnswer (power_of v w)
+power_bounded : (v w : Val) → IsBoundedAnswer (power_of_values v w)
 power_bounded (NumberVal b) (NumberVal e) = number_bounded (power_row b e) (power_small b e)
 power_bounded v w = tt
 
@@ -69,7 +69,7 @@ length_bounded v = tt
 
 -- the best number
 better_small : (before : ℤ → ℤ → Bool) (a b : ℤ) → IsTrue (is_small a) → IsTrue (is_small b)
-    → IsTrue (is_small (better before a b))
+    → IsTrue (is_small (better_number before a b))
 better_small before a b s t = by_test (before b a)
   where
     by_test : (x : Bool) → IsTrue (is_small (cond x b a))
@@ -80,11 +80,11 @@ best_of_bounded : (before : ℤ → ℤ → Bool) (m : ℤ) (vs : Vals) → IsTr
     → IsTrue (have_small_numbers vs) → IsBoundedAnswer (best_of before m vs)
 best_of_bounded before m no_vals s t = and_from _ _ s refl
 best_of_bounded before m (and_val (NumberVal n) vs) s t = let p = and_parts _ _ t in
-    best_of_bounded before (better before m n) vs (better_small before m n s p.0) p.1
+    best_of_bounded before (better_number before m n) vs (better_small before m n s p.0) p.1
 best_of_bounded before m (and_val v vs) s t = tt
 
 best_bounded : (before : ℤ → ℤ → Bool) (vs : Vals) → IsTrue (have_small_numbers vs)
-    → IsBoundedAnswer (best before vs)
+    → IsBoundedAnswer (best_number before vs)
 best_bounded before (and_val (NumberVal n) vs) t = let p = and_parts _ _ t in
     best_of_bounded before n vs p.0 p.1
 best_bounded before vs t = tt
@@ -120,23 +120,23 @@ or_first true y h = h
 or_first false y h = refl
 
 made_bounded : (v : Val) → IsTrue (has_small_numbers v) → IsBoundedAnswer (value_or_long_list (Ok v))
-made_bounded v s = by_length (is_long v) refl
+made_bounded v s = by_length (is_too_long_or_deep v) refl
   where
-    few : is_long v ≡ false → ltb (parts_of v) (2 ^ 20) ≡ true
+    few : is_too_long_or_deep v ≡ false → ltb (parts_of v) (2 ^ 20) ≡ true
     few h = lt-ltb (parts_of v) (2 ^ 20) (omega (arith, ltb-false 4096 (parts_of v) (or_first _ _ h)))
 
-    by_length : (b : Bool) → is_long v ≡ b → IsBoundedAnswer (cond b (Err LongList) (Ok v))
+    by_length : (b : Bool) → is_too_long_or_deep v ≡ b → IsBoundedAnswer (cond b (Err LongList) (Ok v))
     by_length true e = tt
     by_length false e = and_from _ _ s (few e)
 
 -- functions of one value and of two
-of_one_bounded : (row : Val → Answer Val)
+of_one_bounded : (row : Val → AnswerOrFault Val)
     → ((v : Val) → IsTrue (has_small_numbers v) → IsBoundedAnswer (row v)) → (vs : Vals) → IsTrue (have_small_numbers vs) → IsBoundedAnswer (of_one row vs)
 of_one_bounded row bounded no_vals s = tt
 of_one_bounded row bounded (and_val v no_vals) s = bounded v (and_parts _ _ s).0
 of_one_bounded row bounded (and_val v (and_val w vs)) s = tt
 
-of_two_bounded : (row : Val → Val → Answer Val) → ((v w : Val) → IsBoundedAnswer (row v w)) → (vs : Vals)
+of_two_bounded : (row : Val → Val → AnswerOrFault Val) → ((v w : Val) → IsBoundedAnswer (row v w)) → (vs : Vals)
     → IsBoundedAnswer (of_two row vs)
 of_two_bounded row bounded no_vals = tt
 of_two_bounded row bounded (and_val v no_vals) = tt
@@ -164,7 +164,7 @@ applied_bounded Min vs s = best_among_bounded int_lt vs s
 applied_bounded Max vs s = best_among_bounded (λ a b. int_lt b a) vs s
 applied_bounded Len vs s = of_one_bounded length_of (λ v t. length_bounded v) vs s
 applied_bounded Concat vs s = made_bounded (ListVal (vals_from (joined_items vs))) (joined_small vs s)
-applied_bounded Pow vs s = of_two_bounded power_of power_bounded vs
+applied_bounded Pow vs s = of_two_bounded power_of_values power_bounded vs
 applied_bounded IsUndef vs s = of_one_bounded (λ v. Ok (TruthVal (is_undef v))) (λ v t. refl) vs s
 applied_bounded IsNum vs s = of_one_bounded (λ v. Ok (TruthVal (is_num v))) (λ v t. refl) vs s
 applied_bounded IsBool vs s = of_one_bounded (λ v. Ok (TruthVal (is_bool v))) (λ v t. refl) vs s

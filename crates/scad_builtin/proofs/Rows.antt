@@ -3,10 +3,10 @@ use Rattle.std.proofs.Common.{◌≡◌, ℤ, pos, negsuc, List, [], ◌∷◌, 
 use Rattle.std.specs.Prelude.{codes}
 use Rattle.text_place.specs.declared.fault.FaultKind.TheVariants.{TypeMismatch, ZeroDivisor, NotWhole, TooLarge}
 use Rattle.scad_value.specs.Values.{Val, NumberVal, TruthVal, TextVal, ListVal, RangeVal, UndefVal, vals_from}
-use Rattle.scad_value.specs.Operators.{Answer}
+use Rattle.scad_value.specs.Operators.{AnswerOrFault}
 use Rattle.scad_builtin.specs.declared.function.Builtin.{Builtin}
 use Rattle.scad_builtin.specs.declared.function.Builtin.TheVariants.{Abs, Sign, Round, Min, Max, Len, Concat, Pow, IsUndef, IsNum, IsList}
-use Rattle.scad_builtin.specs.Builtins.{builtin_of, is_left_out_function, takes, builtin_value}
+use Rattle.scad_builtin.specs.Builtins.{builtin_of, is_left_out_function, takes_count, builtin_value}
 
 abbrev num : ℤ → Val
 num n = NumberVal n
@@ -14,7 +14,7 @@ num n = NumberVal n
 abbrev listed : List Val → Val
 listed vs = ListVal (vals_from vs)
 
-abbrev given : Builtin → List Val → Answer Val
+abbrev given : Builtin → List Val → AnswerOrFault Val
 given builtin vs = builtin_value builtin (vals_from vs)
 
 -- abs(-5), sign(0), sign(-5), round(7), abs(undef)
@@ -121,8 +121,8 @@ norm_is_left_out = refl
 pow_is_not_left_out : is_left_out_function (codes "pow") ≡ false
 pow_is_not_left_out = refl
 
-takes_none : takes Min 0 ≡ false
+takes_none : takes_count Min 0 ≡ false
 takes_none = refl
 
-takes_two : takes Pow 2 ≡ true
+takes_two : takes_count Pow 2 ≡ true
 takes_two = refl

@@ -1,8 +1,8 @@
 ghost use Rattle.std.specs.Prelude.{◌≡◌, int_lt};
 ghost use Rattle.scad_value.specs.Values.{vals_from, and_val, no_vals};
-ghost use Rattle.scad_value.specs.Operators.{number};
+ghost use Rattle.scad_value.specs.Operators.{number_answer};
 ghost use Rattle.scad_value.specs.View.{val_of, vals_of, vals_in, MeetsAnswer};
-ghost use Rattle.scad_builtin.specs.Builtins.{better, best_of, best, best_among};
+ghost use Rattle.scad_builtin.specs.Builtins.{better_number, best_of, best_number, best_among};
 ghost use Rattle.scad_builtin.specs.Rows.{is_before};
 
 use crate::arguments::only;
@@ -19,7 +19,7 @@ pub(crate) enum Wanted {
 impl Wanted {
     // The wanted one of two numbers.
     fn better(self, left: i64, right: i64) -> i64
-        ensures { result ≡ better (is_before self) left right }
+        ensures { result ≡ better_number (is_before self) left right }
     {
         match self {
             Wanted::Least => least(left, right),
@@ -30,14 +30,14 @@ impl Wanted {
 
 // The lesser of two numbers.
 fn least(left: i64, right: i64) -> i64
-    ensures { result ≡ better int_lt left right }
+    ensures { result ≡ better_number int_lt left right }
 {
     if left < right { left } else { right }
 }
 
 // The greater of two numbers.
 fn greatest(left: i64, right: i64) -> i64
-    ensures { result ≡ better (λ a b. int_lt b a) left right }
+    ensures { result ≡ better_number (λ a b. int_lt b a) left right }
 {
     if left > right { left } else { right }
 }
@@ -65,7 +65,7 @@ fn best_in(wanted: Wanted, value: &Value) -> Result<Value, ValueStop>
 
 // The best of one or more numbers.
 fn best(wanted: Wanted, values: &[Value]) -> Result<Value, ValueStop>
-    ensures { MeetsAnswer result (best (is_before wanted) (vals_from (vals_in values.now))) }
+    ensures { MeetsAnswer result (best_number (is_before wanted) (vals_from (vals_in values.now))) }
 {
     match values {
         [first, rest @ ..] => best_from(wanted, first, rest),
@@ -75,7 +75,7 @@ fn best(wanted: Wanted, values: &[Value]) -> Result<Value, ValueStop>
 
 // The best of a first value and further ones, which are all numbers.
 fn best_from(wanted: Wanted, first: &Value, rest: &[Value]) -> Result<Value, ValueStop>
-    ensures { MeetsAnswer result (best (is_before wanted)
+    ensures { MeetsAnswer result (best_number (is_before wanted)
         (and_val (val_of first.now) (vals_from (vals_in rest.now)))) }
 {
     match first {
@@ -86,7 +86,7 @@ fn best_from(wanted: Wanted, first: &Value, rest: &[Value]) -> Result<Value, Val
 
 // The best of a number and further ones.
 fn best_of(wanted: Wanted, first: i64, rest: &[Value]) -> Result<i64, FaultKind>
-    ensures { number result ≡ best_of (is_before wanted) first (vals_from (vals_in rest.now)) }
+    ensures { number_answer result ≡ best_of (is_before wanted) first (vals_from (vals_in rest.now)) }
 {
     let mut best = first;
     for value in rest {

@@ -1,8 +1,8 @@
 ghost use Rattle.std.specs.Prelude.{◌≡◌, IsTrue};
 ghost use Rattle.scad_value.specs.Values.{vals_from};
 ghost use Rattle.scad_value.specs.View.{val_of, vals_of, MeetsAnswer, GivesBounded};
-ghost use Rattle.scad_builtin.specs.Builtins.{takes, builtin_value, of_one, are_bounded};
-ghost use Rattle.scad_builtin.specs.Rows.{row_of};
+ghost use Rattle.scad_builtin.specs.Builtins.{takes_count, builtin_value, of_one, are_bounded};
+ghost use Rattle.scad_builtin.specs.Rows.{value_row};
 
 use crate::arguments::only;
 use crate::best::{Wanted, best_among};
@@ -34,7 +34,7 @@ pub enum Builtin {
 impl Builtin {
     /// Whether the function takes so many arguments.
     pub fn takes(self, count: usize) -> bool
-        ensures { result ≡ takes self count }
+        ensures { result ≡ takes_count self count }
     {
         match self {
             Builtin::Min | Builtin::Max => count > 0,
@@ -70,7 +70,7 @@ impl Builtin {
 
     // The value of a function of one value, or TypeMismatch where there is another number.
     fn of_only(self, values: &Values) -> Result<Value, ValueStop>
-        ensures { MeetsAnswer result (of_one (row_of self) (vals_from (vals_of values.now))) }
+        ensures { MeetsAnswer result (of_one (value_row self) (vals_from (vals_of values.now))) }
     {
         match only(values.items()) {
             Some(value) => self.of_one(value),
@@ -80,7 +80,7 @@ impl Builtin {
 
     // The value by the rows of functions of one value.
     fn of_one(self, value: &Value) -> Result<Value, ValueStop>
-        ensures { MeetsAnswer result (row_of self (val_of value.now)) }
+        ensures { MeetsAnswer result (value_row self (val_of value.now)) }
     {
         match self {
             Builtin::Abs => of_number(NumberRow::Size, value),

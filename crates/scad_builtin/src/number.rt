@@ -2,7 +2,7 @@ ghost use Rattle.std.specs.Prelude.{◌≡◌, ◌≤◌, ◌<ℤ◌, pos, negsu
 ghost use Rattle.scad_value.specs.Values.{vals_from};
 ghost use Rattle.scad_value.specs.Operators.{number_or_too_large};
 ghost use Rattle.scad_value.specs.View.{val_of, vals_of, MeetsAnswer};
-ghost use Rattle.scad_builtin.specs.Builtins.{of_number, of_two, power, power_of, power_row};
+ghost use Rattle.scad_builtin.specs.Builtins.{of_number, of_two, power, power_of_values, power_row};
 ghost use Rattle.scad_builtin.specs.Rows.{number_row};
 
 use crate::arguments::both;
@@ -51,17 +51,17 @@ pub(crate) fn of_number(row: NumberRow, value: &Value) -> Result<Value, ValueSto
 
 /// The power of two numbers.
 pub(crate) fn power(values: &Values) -> Result<Value, ValueStop>
-    ensures { MeetsAnswer result (of_two power_of (vals_from (vals_of values.now))) }
+    ensures { MeetsAnswer result (of_two power_of_values (vals_from (vals_of values.now))) }
 {
     match both(values.items()) {
-        Some((base, exponent)) => power_of(base, exponent),
+        Some((base, exponent)) => power_of_values(base, exponent),
         None => Err(ValueStop::Kind(FaultKind::TypeMismatch)),
     }
 }
 
 // The power of two values, which are numbers, or TypeMismatch.
-fn power_of(base: &Value, exponent: &Value) -> Result<Value, ValueStop>
-    ensures { MeetsAnswer result (power_of (val_of base.now) (val_of exponent.now)) }
+fn power_of_values(base: &Value, exponent: &Value) -> Result<Value, ValueStop>
+    ensures { MeetsAnswer result (power_of_values (val_of base.now) (val_of exponent.now)) }
 {
     match (base, exponent) {
         (Value::Number(b), Value::Number(e)) => Ok(Value::Number(power_row(*b, *e)?)),

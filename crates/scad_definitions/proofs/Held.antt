@@ -1,8 +1,8 @@
 -- Lists in memory with one item changed.
 use Rattle.std.proofs.Common.{◌≡◌, ℕ, zero, suc, ◌<◌, List, [], ◌∷◌, ◌++◌, length, map, get_or, set, Bool, true, false, cond, Option, Some, None, refl, sym, ap, subst, ◌∙◌, arith}
 use Rattle.std.proofs.lemmas.List.{map-set}
-use Rattle.scad_definitions.specs.Newest.{next}
-use Rattle.scad_definitions.specs.Blocks.{Assigned, same_name, place_in, with_assigned, SourceBlock, nothing_there}
+use Rattle.scad_definitions.specs.Newest.{one_further}
+use Rattle.scad_definitions.specs.Blocks.{SourceAssignment, same_assigned_name, place_of_assignment, with_assigned, SourceBlock, nothing_there}
 use Rattle.scad_definitions.specs.declared.text.Entry.{Entry}
 use Rattle.scad_definitions.specs.declared.text.LocalDefinitions.{LocalDefinitions}
 use Rattle.scad_definitions.specs.declared.text.Assignment.{Assignment}
@@ -37,14 +37,14 @@ entry_alike (z ∷ es) (suc k) x y h e f = ap (λ (l : List SourceBlock). entry_
 none_some : (i : ℕ) (o : Option ℕ) → o ≡ None → o ≡ Some i → ⊥
 none_some i o f g = cc
 
-module _ (a : Assigned) where
+module _ (a : SourceAssignment) where
   -- the same with the expression of `a`
-  changed : Assigned → Assigned
+  changed : SourceAssignment → SourceAssignment
   changed b = record b { value = a.value }
 
-  with_first : (b : Assigned) (bs : List Assigned) (i : ℕ) (t : Bool) (o : Option ℕ)
+  with_first : (b : SourceAssignment) (bs : List SourceAssignment) (i : ℕ) (t : Bool) (o : Option ℕ)
       → ((k : ℕ) → o ≡ Some k → with_assigned bs a ≡ set bs k (changed (get_or bs k a)))
-      → cond t (Some zero) (next o) ≡ Some i
+      → cond t (Some zero) (one_further o) ≡ Some i
       → cond t (changed b ∷ bs) (b ∷ with_assigned bs a) ≡ set (b ∷ bs) i (changed (get_or (b ∷ bs) i a))
   with_first b bs i true o rest e =
       let z : zero ≡ i = cc in
@@ -54,34 +54,34 @@ module _ (a : Assigned) where
       subst (λ n. b ∷ with_assigned bs a ≡ set (b ∷ bs) n (changed (get_or (b ∷ bs) n a))) z (ap (λ l. b ∷ l) (rest k refl))
   with_first b bs i false None rest e = absurd (none_some i None refl e)
 
-  assigned_there : (bs : List Assigned) (i : ℕ) → place_in bs a ≡ Some i → with_assigned bs a ≡ set bs i (changed (get_or bs i a))
+  assigned_there : (bs : List SourceAssignment) (i : ℕ) → place_of_assignment bs a ≡ Some i → with_assigned bs a ≡ set bs i (changed (get_or bs i a))
   unfolding changed
   assigned_there [] i e = absurd (none_some i None refl e)
-  assigned_there (b ∷ bs) i e = with_first b bs i (same_name b a) (place_in bs a) (assigned_there bs) e
+  assigned_there (b ∷ bs) i e = with_first b bs i (same_assigned_name b a) (place_of_assignment bs a) (assigned_there bs) e
 
-  behind_first : (b : Assigned) (bs : List Assigned) (t : Bool) (o : Option ℕ)
+  behind_first : (b : SourceAssignment) (bs : List SourceAssignment) (t : Bool) (o : Option ℕ)
       → (o ≡ None → with_assigned bs a ≡ bs ++ a ∷ [])
-      → cond t (Some zero) (next o) ≡ None → cond t (changed b ∷ bs) (b ∷ with_assigned bs a) ≡ (b ∷ bs) ++ a ∷ []
+      → cond t (Some zero) (one_further o) ≡ None → cond t (changed b ∷ bs) (b ∷ with_assigned bs a) ≡ (b ∷ bs) ++ a ∷ []
   behind_first b bs true o rest e = absurd (none_some zero (Some zero) e refl)
   behind_first b bs false (Some k) rest e = absurd (none_some (suc k) (Some (suc k)) e refl)
   behind_first b bs false None rest e = ap (λ l. b ∷ l) (rest refl)
 
-  assigned_new : (bs : List Assigned) → place_in bs a ≡ None → with_assigned bs a ≡ bs ++ a ∷ []
+  assigned_new : (bs : List SourceAssignment) → place_of_assignment bs a ≡ None → with_assigned bs a ≡ bs ++ a ∷ []
   unfolding changed
   assigned_new [] e = refl
-  assigned_new (b ∷ bs) e = behind_first b bs (same_name b a) (place_in bs a) (assigned_new bs) e
+  assigned_new (b ∷ bs) e = behind_first b bs (same_assigned_name b a) (place_of_assignment bs a) (assigned_new bs) e
 
 pub assigned_set : (bs : List Assignment) (i : ℕ) (x a : Assignment) → i < length bs → x ≡ get_or bs i x
-    → Some i ≡ place_in (map assigned_of bs) (assigned_of a)
+    → Some i ≡ place_of_assignment (map assigned_of bs) (assigned_of a)
     → map assigned_of (set bs i (record { place = x.place; special = x.special; name = x.name; value = a.value }))
     ≡ with_assigned (map assigned_of bs) (assigned_of a)
 unfolding changed
 assigned_set bs i x a h e f =
     map-set assigned_of bs i (record { place = x.place; special = x.special; name = x.name; value = a.value })
-    ∙ ap (λ (y : Assigned). set (map assigned_of bs) i (changed (assigned_of a) y)) (sym (at_mapped assigned_of bs i x (assigned_of a) h e))
+    ∙ ap (λ (y : SourceAssignment). set (map assigned_of bs) i (changed (assigned_of a) y)) (sym (at_mapped assigned_of bs i x (assigned_of a) h e))
     ∙ sym (assigned_there (assigned_of a) (map assigned_of bs) i (sym f))
 
-pub assigned_pushed : (bs cs : List Assignment) (a : Assignment) → cs ≡ bs ++ a ∷ [] → None ≡ place_in (map assigned_of bs) (assigned_of a)
+pub assigned_pushed : (bs cs : List Assignment) (a : Assignment) → cs ≡ bs ++ a ∷ [] → None ≡ place_of_assignment (map assigned_of bs) (assigned_of a)
     → map assigned_of cs ≡ with_assigned (map assigned_of bs) (assigned_of a)
 assigned_pushed bs cs a e f = ap (map assigned_of) e ∙ mapped bs ∙ sym (assigned_new (assigned_of a) (map assigned_of bs) (sym f))
   where

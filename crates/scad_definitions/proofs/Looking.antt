@@ -8,8 +8,8 @@ use Rattle.scad_definitions.specs.Newest.{Pairs, find_in}
 use Rattle.scad_ast.specs.declared.statement.Param.{Param}
 use Rattle.scad_ast.specs.Names.{is_among}
 use Rattle.scad_ast.specs.StatementView.{param_of}
-use Rattle.scad_definitions.specs.Arguments.{first_named, later, name_of, names_of, ArgumentsOf, with_argument}
-use Rattle.scad_definitions.specs.Newest.{next}
+use Rattle.scad_definitions.specs.Arguments.{first_named, number_behind, parameter_name, parameter_names, ArgumentsOf, with_argument}
+use Rattle.scad_definitions.specs.Newest.{one_further}
 use Rattle.scad_definitions.specs.ArgumentsView.{destination_term}
 use Rattle.scad_definitions.specs.declared.parameters.Destination.{Destination}
 use Rattle.scad_definitions.specs.declared.parameters.Destination.TheVariants.{Parameter, Special}
@@ -26,7 +26,7 @@ told_found (p ∷ ps) name = by_name (bytes_eq p.0 name) (told_found ps name)
     by_name true rest = refl
     by_name false rest = rest
 
-later_next : (i : ℕ) (o : Option ℕ) → later (i + 1) o ≡ later i (next o)
+later_next : (i : ℕ) (o : Option ℕ) → number_behind (i + 1) o ≡ number_behind i (one_further o)
 later_next i None = refl
 later_next i (Some k) = let e : i + 1 + k ≡ i + suc k = omega arith in ap (λ n. Some n) e
 
@@ -35,25 +35,25 @@ first_here i = omega arith
 
 -- the newest number of a name is that of the first
 number_found : (names : List (List ℕ)) (i : ℕ) (name : List ℕ)
-    → find_in (numbered_from i names) name ≡ later i (first_named names name)
+    → find_in (numbered_from i names) name ≡ number_behind i (first_named names name)
 number_found [] i name = refl
 number_found (n ∷ ns) i name = by_name (bytes_eq n name)
     (number_found ns (i + 1) name ∙ later_next i (first_named ns name))
   where
-    by_name : (b : Bool) → find_in (numbered_from (i + 1) ns) name ≡ later i (next (first_named ns name))
+    by_name : (b : Bool) → find_in (numbered_from (i + 1) ns) name ≡ number_behind i (one_further (first_named ns name))
         → cond b (Some i) (find_in (numbered_from (i + 1) ns) name)
-        ≡ later i (cond b (Some zero) (next (first_named ns name)))
+        ≡ number_behind i (cond b (Some zero) (one_further (first_named ns name)))
     by_name true rest = ap (λ n. Some n) (first_here i)
     by_name false rest = rest
 
-later_zero : (o : Option ℕ) → later 0 o ≡ o
+later_zero : (o : Option ℕ) → number_behind 0 o ≡ o
 later_zero None = refl
 later_zero (Some k) = let e : 0 + k ≡ k = omega arith in ap (λ n. Some n) e
 
 pub first_found : (names : List (List ℕ)) (name : List ℕ) → find_in (numbered_from 0 names) name ≡ first_named names name
 first_found names name = number_found names 0 name ∙ later_zero (first_named names name)
 
-within_next : (m : ℕ) (o : Option ℕ) → IfSome o (λ k. k < m) → IfSome (next o) (λ k. k < suc m)
+within_next : (m : ℕ) (o : Option ℕ) → IfSome o (λ k. k < m) → IfSome (one_further o) (λ k. k < suc m)
 within_next m None h = tt
 within_next m (Some k) h = omega arith
 
@@ -66,8 +66,8 @@ first_within [] name = tt
 first_within (n ∷ ns) name = by_name (bytes_eq n name)
     (within_next (length ns) (first_named ns name) (first_within ns name))
   where
-    by_name : (b : Bool) → IfSome (next (first_named ns name)) (λ k. k < suc (length ns))
-        → IfSome (cond b (Some zero) (next (first_named ns name))) (λ k. k < suc (length ns))
+    by_name : (b : Bool) → IfSome (one_further (first_named ns name)) (λ k. k < suc (length ns))
+        → IfSome (cond b (Some zero) (one_further (first_named ns name))) (λ k. k < suc (length ns))
     by_name true rest = none_before (length ns)
     by_name false rest = rest
 
@@ -88,9 +88,9 @@ numbered_none names n e = ap (λ k. numbered_from n (drop k names)) e ∙ ap (nu
 
 -- the name of a parameter
 pub name_of_param : (ps : List Param) (k : ℕ) (p : Param) → k < length ps → p ≡ get_or ps k p
-    → name_of (param_of p) ≡ get_or (names_of (map param_of ps)) k []
+    → parameter_name (param_of p) ≡ get_or (parameter_names (map param_of ps)) k []
 name_of_param [] k p h e = absurd (omega arith)
-name_of_param (q ∷ ps) zero p h e = ap (λ (x : Param). name_of (param_of x)) e
+name_of_param (q ∷ ps) zero p h e = ap (λ (x : Param). parameter_name (param_of x)) e
 name_of_param (q ∷ ps) (suc k) p h e = name_of_param ps k p (omega arith) e
 
 -- what is lent is there where it is

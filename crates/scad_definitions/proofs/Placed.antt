@@ -4,8 +4,8 @@ use Rattle.std.specs.Prelude.{◌&&◌, IfSome}
 use Rattle.std.specs.Bool.{beq}
 use Rattle.std.specs.Str.{bytes_eq}
 use Rattle.std.specs.Cmp.Lexicographic.{bytes_decides}
-use Rattle.scad_definitions.specs.Newest.{next}
-use Rattle.scad_definitions.specs.Blocks.{Assigned, same_name, place_in}
+use Rattle.scad_definitions.specs.Newest.{one_further}
+use Rattle.scad_definitions.specs.Blocks.{SourceAssignment, same_assigned_name, place_of_assignment}
 use Rattle.scad_definitions.specs.Newest.{Pairs, find_in}
 use Rattle.scad_definitions.specs.TextView.{assigned_of}
 use Rattle.scad_definitions.specs.declared.text.Assignment.{Assignment}
@@ -28,7 +28,7 @@ itself true m = (bytes_decides m m).1 refl
 itself false m = (bytes_decides m m).1 refl
 
 -- what has the name of a third one has each other's
-met : (b a q : Assigned) → same_name b q ≡ true → same_name a q ≡ true → same_name b a ≡ true
+met : (b a q : SourceAssignment) → same_assigned_name b q ≡ true → same_assigned_name a q ≡ true → same_assigned_name b a ≡ true
 met b a q x y =
     let u = alike b.special q.special b.name q.name x in
     let v = alike a.special q.special a.name q.name y in
@@ -37,41 +37,41 @@ met b a q x y =
     ∙ itself b.special b.name
 
 -- the place of a name with one more behind, which wasn't there
-pub place_behind : (bs : List Assigned) (a q : Assigned) → place_in bs a ≡ None
-    → place_in (bs ++ a ∷ []) q ≡ cond (same_name a q) (Some (length bs)) (place_in bs q)
+pub place_behind : (bs : List SourceAssignment) (a q : SourceAssignment) → place_of_assignment bs a ≡ None
+    → place_of_assignment (bs ++ a ∷ []) q ≡ cond (same_assigned_name a q) (Some (length bs)) (place_of_assignment bs q)
 place_behind [] a q e = refl
-place_behind (b ∷ bs) a q e = by_first (same_name b a) (place_in bs a) refl (place_behind bs a q) e
+place_behind (b ∷ bs) a q e = by_first (same_assigned_name b a) (place_of_assignment bs a) refl (place_behind bs a q) e
   where
     by_tests : (bq aq : Bool) → (bq ≡ true → aq ≡ true → ⊥)
-        → cond bq (Some zero) (next (cond aq (Some (length bs)) (place_in bs q)))
-        ≡ cond aq (Some (suc (length bs))) (cond bq (Some zero) (next (place_in bs q)))
+        → cond bq (Some zero) (one_further (cond aq (Some (length bs)) (place_of_assignment bs q)))
+        ≡ cond aq (Some (suc (length bs))) (cond bq (Some zero) (one_further (place_of_assignment bs q)))
     by_tests true true apart = absurd (apart refl refl)
     by_tests true false apart = refl
     by_tests false true apart = refl
     by_tests false false apart = refl
 
-    by_first : (t : Bool) (o : Option ℕ) → t ≡ same_name b a
-        → (o ≡ None → place_in (bs ++ a ∷ []) q ≡ cond (same_name a q) (Some (length bs)) (place_in bs q))
-        → cond t (Some zero) (next o) ≡ None
-        → place_in ((b ∷ bs) ++ a ∷ []) q ≡ cond (same_name a q) (Some (suc (length bs))) (place_in (b ∷ bs) q)
+    by_first : (t : Bool) (o : Option ℕ) → t ≡ same_assigned_name b a
+        → (o ≡ None → place_of_assignment (bs ++ a ∷ []) q ≡ cond (same_assigned_name a q) (Some (length bs)) (place_of_assignment bs q))
+        → cond t (Some zero) (one_further o) ≡ None
+        → place_of_assignment ((b ∷ bs) ++ a ∷ []) q ≡ cond (same_assigned_name a q) (Some (suc (length bs))) (place_of_assignment (b ∷ bs) q)
     by_first true o s go e = absurd (some_none zero e)
     by_first false (Some k) s go e = absurd (some_none (suc k) e)
     by_first false None s go e =
-        ap (λ r. cond (same_name b q) (Some zero) (next r)) (go refl)
-        ∙ by_tests (same_name b q) (same_name a q) (λ x y. false_true (s ∙ met b a q x y))
+        ap (λ r. cond (same_assigned_name b q) (Some zero) (one_further r)) (go refl)
+        ∙ by_tests (same_assigned_name b q) (same_assigned_name a q) (λ x y. false_true (s ∙ met b a q x y))
 
 -- the places with one more
-pub placed_more : (old new : Bool → Pairs ℕ) (bs : List Assigned) (a : Assigned) (name : List ℕ) (place : ℕ)
+pub placed_more : (old new : Bool → Pairs ℕ) (bs : List SourceAssignment) (a : SourceAssignment) (name : List ℕ) (place : ℕ)
     → ((kind : Bool) → new kind ≡ cond (beq a.special kind) ((name, place) ∷ old kind) (old kind))
     → name ≡ a.name → place ≡ length bs
-    → ((q : Assigned) → find_in (old q.special) q.name ≡ place_in bs q) → place_in bs a ≡ None
-    → (q : Assigned) → find_in (new q.special) q.name ≡ place_in (bs ++ a ∷ []) q
+    → ((q : SourceAssignment) → find_in (old q.special) q.name ≡ place_of_assignment bs q) → place_of_assignment bs a ≡ None
+    → (q : SourceAssignment) → find_in (new q.special) q.name ≡ place_of_assignment (bs ++ a ∷ []) q
 placed_more old new bs a name place put n p all none q =
     ap (λ ps. find_in ps q.name) (put q.special)
     ∙ by_kind (beq a.special q.special)
     ∙ ap (λ m. cond (beq a.special q.special && bytes_eq m q.name) (Some place) (find_in (old q.special) q.name)) n
-    ∙ ap (λ k. cond (same_name a q) (Some k) (find_in (old q.special) q.name)) p
-    ∙ ap (λ o. cond (same_name a q) (Some (length bs)) o) (all q)
+    ∙ ap (λ k. cond (same_assigned_name a q) (Some k) (find_in (old q.special) q.name)) p
+    ∙ ap (λ o. cond (same_assigned_name a q) (Some (length bs)) o) (all q)
     ∙ sym (place_behind bs a q none)
   where
     by_kind : (t : Bool) → find_in (cond t ((name, place) ∷ old q.special) (old q.special)) q.name
@@ -80,26 +80,26 @@ placed_more old new bs a name place put n p all none q =
     by_kind false = refl
 
 -- another expression moves no place
-pub placed_alike : (bs : List Assignment) (i : ℕ) (x y : Assignment) (q : Assigned) → i < length bs → x ≡ get_or bs i x
-    → same_name (assigned_of y) q ≡ same_name (assigned_of x) q
-    → place_in (map assigned_of (set bs i y)) q ≡ place_in (map assigned_of bs) q
+pub placed_alike : (bs : List Assignment) (i : ℕ) (x y : Assignment) (q : SourceAssignment) → i < length bs → x ≡ get_or bs i x
+    → same_assigned_name (assigned_of y) q ≡ same_assigned_name (assigned_of x) q
+    → place_of_assignment (map assigned_of (set bs i y)) q ≡ place_of_assignment (map assigned_of bs) q
 placed_alike [] i x y q h e s = absurd (omega arith)
 placed_alike (b ∷ bs) zero x y q h e s =
-    ap (λ t. cond t (Some zero) (next (place_in (map assigned_of bs) q))) (s ∙ ap (λ (u : Assignment). same_name (assigned_of u) q) e)
+    ap (λ t. cond t (Some zero) (one_further (place_of_assignment (map assigned_of bs) q))) (s ∙ ap (λ (u : Assignment). same_assigned_name (assigned_of u) q) e)
 placed_alike (b ∷ bs) (suc i) x y q h e s =
-    ap (λ o. cond (same_name (assigned_of b) q) (Some zero) (next o)) (placed_alike bs i x y q (omega arith) e s)
+    ap (λ o. cond (same_assigned_name (assigned_of b) q) (Some zero) (one_further o)) (placed_alike bs i x y q (omega arith) e s)
 
 -- a place is one of the assignments
-pub place_there : (bs : List Assignment) (a : Assigned) (o : Option ℕ) → o ≡ place_in (map assigned_of bs) a → IfSome o (λ k. k < length bs)
+pub place_there : (bs : List Assignment) (a : SourceAssignment) (o : Option ℕ) → o ≡ place_of_assignment (map assigned_of bs) a → IfSome o (λ k. k < length bs)
 place_there bs a None e = tt
 place_there bs a (Some k) e = within bs k (sym e)
   where
-    within : (bs : List Assignment) (k : ℕ) → place_in (map assigned_of bs) a ≡ Some k → k < length bs
+    within : (bs : List Assignment) (k : ℕ) → place_of_assignment (map assigned_of bs) a ≡ Some k → k < length bs
     within [] k e = absurd (some_none k (sym e))
-    within (b ∷ bs) k e = by_test (same_name (assigned_of b) a) (place_in (map assigned_of bs) a) k (λ j. within bs j) e
+    within (b ∷ bs) k e = by_test (same_assigned_name (assigned_of b) a) (place_of_assignment (map assigned_of bs) a) k (λ j. within bs j) e
       where
         by_test : (t : Bool) (o : Option ℕ) (k : ℕ) → ((j : ℕ) → o ≡ Some j → j < length bs)
-            → cond t (Some zero) (next o) ≡ Some k → k < suc (length bs)
+            → cond t (Some zero) (one_further o) ≡ Some k → k < suc (length bs)
         by_test true o k go e = let z : zero ≡ k = cc in omega (arith, z)
         by_test false (Some j) k go e = let z : suc j ≡ k = cc in omega (arith, z, go j refl)
         by_test false None k go e = absurd (some_none k (sym e))

@@ -10,7 +10,7 @@ use Rattle.std.specs.Str.{bytes_eq}
 use Rattle.std.specs.declared.vec.Vec.{Vec}
 use Rattle.std.proofs.lemmas.Bool.{cases_Bool, cond-true, cond-false}
 use Rattle.std.proofs.lemmas.Map.Text.{is_eq-slice_cmp}
-use Rattle.scad_definitions.specs.Index.{place_at}
+use Rattle.scad_definitions.specs.Index.{place_of_name}
 
 others : {K X : Type 0} (eq : K → K → Bool) (test : K → Bool) (old new : List (K × X)) → KeepsOthers eq test old new → (other : K → Bool) → IsKeyTest eq other → AreApart test other → lookup other new ≡ lookup other old
 unfolding KeepsOthers
@@ -30,6 +30,6 @@ by_name f g bs w here other cs =
 
 pub updated : {Y : Type 0} (name : List ℕ) (m n : BTreeMap (Vec ℕ Y) ℕ) (w : Option ℕ)
     → UpdatesBy (λ x y. slice_cmp nat_cmp x.items y.items) (λ key. slice_cmp nat_cmp name key.items) m n w
-    → (other : List ℕ) → place_at n other ≡ cond (bytes_eq name other) w (place_at m other)
-updated name m n w h = by_name (place_at m) (place_at n) name w h.1
+    → (other : List ℕ) → place_of_name n other ≡ cond (bytes_eq name other) w (place_of_name m other)
+updated name m n w h = by_name (place_of_name m) (place_of_name n) name w h.1
     (λ cs e. others _ _ _ _ h.3 _ (λ x y. (eq_by_cmp_equiv nat_list_cmp_total).congr cs x.items y.items) (λ key. apart name cs key.items e))

@@ -5,8 +5,8 @@ use Rattle.std.proofs.lemmas.List.{get_or-set_same}
 use Rattle.scad_ast.specs.declared.statement.Statement.{Statement}
 use Rattle.scad_ast.specs.Terms.{StatementTerm, InstanceStatement, InstanceTerm, StatementTerms, no_statements, and_statement, statements_from}
 use Rattle.scad_ast.specs.StatementView.{statement_of}
-use Rattle.scad_definitions.specs.Blocks.{SourceFunction, SourceModule, Entity, a_block, a_function, a_module, Assigned, entities_of, entities_in, entities_of_instance, count_functions, count_modules, count_blocks, local_functions, local_function, local_modules, local_module, assigned_in, assigned_by, with_assigned, all_assigned, functions_among, modules_among, bodies_from, LocalTerms, no_locals, locals_of_block, SourceBlock, nothing_there, entry_at, entries_from, BlockTable}
-use Rattle.scad_definitions.specs.Walk.{locals_with, locals_by, with_entity, with_entities, with_block_begun, ended, entry_ended, nothing_walked}
+use Rattle.scad_definitions.specs.Blocks.{SourceFunction, SourceModule, Entity, a_block, a_function, a_module, SourceAssignment, entities_of, entities_in, entities_of_instance, count_functions, count_modules, count_blocks, local_functions, local_function, local_modules, local_module, assigned_in, assigned_by, with_assigned, all_assigned, functions_among, modules_among, bodies_from, LocalTerms, no_locals, locals_of_block, SourceBlock, nothing_there, entry_at, entries_from, BlockTable}
+use Rattle.scad_definitions.specs.Walk.{locals_with, locals_by, with_entity, with_entities, with_block_begun, with_block_ended, entry_ended, nothing_walked}
 use Rattle.std.specs.Prelude.{OnOk}
 use Rattle.std.proofs.Common.{Result, Ok, Err}
 use Rattle.scad_definitions.proofs.Scans.{statements_here}
@@ -47,7 +47,7 @@ walked_more w v whole ss i s h e f told =
     ∙ sym (after_joined w (entities_of (statement_of s)) (entities_in rest))
     ∙ ap (λ l. with_entities w (entities_in l)) (sym (statements_here ss i s h e)) ∙ told
 
-assigned_joined : (before xs ys : List Assigned) → all_assigned before (xs ++ ys) ≡ all_assigned (all_assigned before xs) ys
+assigned_joined : (before xs ys : List SourceAssignment) → all_assigned before (xs ++ ys) ≡ all_assigned (all_assigned before xs) ys
 assigned_joined before [] ys = refl
 assigned_joined before (x ∷ xs) ys = assigned_joined (with_assigned before x) xs ys
 
@@ -136,7 +136,7 @@ module _ (w : BlockTable) (s : StatementTerms) (xs : List Entity) where
 
   pub block_walked : (local : LocalTerms) → local ≡ locals_of_block (length w.functions) (length w.modules) s
       → count_blocks xs ≡ count_blocks (entities_in s)
-      → ended (with_entities (with_block_begun w s) xs) (length w.entries) local ≡ with_entities w (a_block s ∷ xs)
+      → with_block_ended (with_entities (with_block_begun w s) xs) (length w.entries) local ≡ with_entities w (a_block s ∷ xs)
   unfolding begun text_only
   block_walked local o n =
       let e = entry_at (length w.entries) (length w.functions) (length w.modules) s in
@@ -203,11 +203,11 @@ whole_text xs =
 
 -- a block that ends
 pub ending : (w v u : BlockTable) (n : ℕ) (local : LocalTerms) (s : StatementTerms) (xs : List Entity)
-    → u ≡ ended v n local → v ≡ with_entities (with_block_begun w s) xs → n ≡ length w.entries
+    → u ≡ with_block_ended v n local → v ≡ with_entities (with_block_begun w s) xs → n ≡ length w.entries
     → local ≡ locals_of_block (length w.functions) (length w.modules) s → count_blocks xs ≡ count_blocks (entities_in s)
     → u ≡ with_entities w (a_block s ∷ xs)
 ending w v u n local s xs e f g o m =
-    e ∙ ap (λ (t : BlockTable). ended t n local) f ∙ ap (λ k. ended (with_entities (with_block_begun w s) xs) k local) g ∙ block_walked w s xs local o m
+    e ∙ ap (λ (t : BlockTable). with_block_ended t n local) f ∙ ap (λ k. with_block_ended (with_entities (with_block_begun w s) xs) k local) g ∙ block_walked w s xs local o m
 
 pub begun_there : (w v : BlockTable) (n : ℕ) (s : StatementTerms) (xs : List Entity) → v ≡ with_entities (with_block_begun w s) xs
     → n ≡ length w.entries → n < length v.entries

@@ -5,23 +5,23 @@ use Rattle.text_place.specs.declared.fault.Place.{Place}
 use Rattle.text_place.specs.declared.fault.Stop.{Stop}
 use Rattle.text_place.specs.declared.fault.Stop.TheVariants.{Fault, NoMemory}
 use Rattle.text_place.specs.declared.fault.FaultKind.TheVariants.{BadArgument}
-use Rattle.scad_ast.specs.Terms.{place_of, ParamTerm, PlainTerm, DefaultTerm, ArgTerm, NamedTerm, SpecialArgTerm, PositionalTerm}
-use Rattle.scad_definitions.specs.Newest.{Pairs, find_in, next}
+use Rattle.scad_ast.specs.Terms.{place_of_term, ParamTerm, PlainTerm, DefaultTerm, ArgTerm, NamedTerm, SpecialArgTerm, PositionalTerm}
+use Rattle.scad_definitions.specs.Newest.{Pairs, find_in, one_further}
 
 -- the name of a parameter
-abbrev pub name_of : ParamTerm → List ℕ
-name_of (PlainTerm at name) = name
-name_of (DefaultTerm at name value) = name
+abbrev pub parameter_name : ParamTerm → List ℕ
+parameter_name (PlainTerm at name) = name
+parameter_name (DefaultTerm at name value) = name
 
 -- the names of parameters in order
-abbrev pub names_of : List ParamTerm → List (List ℕ)
-names_of = map name_of
+abbrev pub parameter_names : List ParamTerm → List (List ℕ)
+parameter_names = map parameter_name
 
 -- the number of the first of these names
 abbrev pub first_named : List (List ℕ) → List ℕ → Option ℕ
 first_named [] name = None
 first_named (known ∷ others) name =
-    if bytes_eq known name then Some zero else next (first_named others name)
+    if bytes_eq known name then Some zero else one_further (first_named others name)
 
 -- The number of the parameter that an argument takes after so many positional ones, among parameters of these names. A special
 -- argument takes none.
@@ -40,7 +40,7 @@ positional_after positional (SpecialArgTerm at name value) = positional
 
 -- the place of an argument's first token
 abbrev pub argument_place : ArgTerm → Place
-argument_place (PositionalTerm value) = place_of value
+argument_place (PositionalTerm value) = place_of_term value
 argument_place (NamedTerm at name value) = at
 argument_place (SpecialArgTerm at name value) = at
 
@@ -65,8 +65,8 @@ unless_bound bound None = None
 unless_bound bound (Some number) =
     if is_some (slice_index_or bound number None) then None else Some (to_parameter number)
 
--- what takes an argument after so many positional ones, among parameters of these names: a surplus, an unknown and a
--- twice given one have no taker
+-- where an argument goes after so many positional ones, among parameters of these names: a surplus one, one of an unknown
+-- name and one whose destination has something already go nowhere
 abbrev pub destination_of : {A : Type 0} → List (List ℕ) → ℕ → ArgumentsOf A → ArgTerm
     → Option DestinationTerm
 destination_of names positional given (SpecialArgTerm at name value) =
@@ -113,6 +113,6 @@ MeetsMatching (Err (Fault fault)) out = (fault.kind ≡ BadArgument) × (out ≡
 MeetsMatching (Err NoMemory) out = Unit {0}
 
 -- a number after so many others
-abbrev pub later : ℕ → Option ℕ → Option ℕ
-later count (Some number) = Some (count + number)
-later count None = None
+abbrev pub number_behind : ℕ → Option ℕ → Option ℕ
+number_behind count (Some number) = Some (count + number)
+number_behind count None = None

@@ -13,7 +13,7 @@ use Rattle.scad_definitions.specs.declared.parameters.CallArguments.{CallArgumen
 use Rattle.scad_definitions.specs.declared.parameters.Destination.{Destination}
 use Rattle.scad_definitions.specs.declared.parameters.Destination.TheVariants.{Parameter, Special}
 use Rattle.scad_definitions.specs.Newest.{Pairs}
-use Rattle.scad_definitions.specs.Arguments.{ArgumentsOf, DestinationTerm, to_parameter, to_special, with_argument, names_of}
+use Rattle.scad_definitions.specs.Arguments.{ArgumentsOf, DestinationTerm, to_parameter, to_special, with_argument, parameter_names}
 
 -- that a fault of a kind stands at a place
 abbrev pub IsFaultAt : Stop → FaultKind → Place → Type 0
@@ -26,7 +26,7 @@ names_seen = map (λ name. name.now)
 
 -- the names of parameters
 abbrev pub names_in : Names → List (List ℕ)
-names_in (Params params) = names_of (map param_of params.now)
+names_in (Params params) = parameter_names (map param_of params.now)
 names_in (Listed names) = names_seen names.now
 
 -- a special argument with its name

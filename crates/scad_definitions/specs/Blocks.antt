@@ -4,7 +4,7 @@ use Rattle.std.specs.Bool.{beq}
 use Rattle.std.specs.Str.{bytes_eq}
 use Rattle.text_place.specs.declared.fault.Place.{Place}
 use Rattle.scad_ast.specs.Terms.{Term, ParamTerm, StatementTerm, EmptyStatement, BlockStatement, AssignmentTerm, SpecialAssignmentTerm, ModuleTerm, FunctionTerm, InstanceStatement, StatementTerms, no_statements, and_statement, InstanceTerm, AnInstance, CoreTerm, IfTerm, IfElseTerm, ForTerm, IntersectionForTerm, ModuleCallTerm, BodyTerm, EmptyBody, BlockBody, InstanceBody, statements_from}
-use Rattle.scad_definitions.specs.Newest.{Pairs, next}
+use Rattle.scad_definitions.specs.Newest.{Pairs, one_further}
 
 -- a function of the source: its parameters and its value
 pub record SourceFunction : Type 0 where
@@ -154,43 +154,43 @@ abbrev mutual
   local_module before (InstanceStatement instance) = []
 
 -- An assignment: its name, with whether it is a special one, its place and its expression.
-pub record Assigned : Type 0 where
+pub record SourceAssignment : Type 0 where
   pub at : Place
   pub special : Bool
   pub name : List ℕ
   pub value : Term
 
 -- whether two assignments are of one name: `$a` is another one than `a`
-abbrev pub same_name : Assigned → Assigned → Bool
-same_name one other = beq one.special other.special && bytes_eq one.name other.name
+abbrev pub same_assigned_name : SourceAssignment → SourceAssignment → Bool
+same_assigned_name one other = beq one.special other.special && bytes_eq one.name other.name
 
 -- One assignment more: a name that is there keeps its place and gets this expression (OpenSCAD User Manual,
 -- "Variables": the last assignment counts, at the place of the first).
-abbrev pub with_assigned : List Assigned → Assigned → List Assigned
+abbrev pub with_assigned : List SourceAssignment → SourceAssignment → List SourceAssignment
 with_assigned [] assigned = assigned ∷ []
 with_assigned (known ∷ others) assigned =
-    if same_name known assigned then record known { value = assigned.value } ∷ others
+    if same_assigned_name known assigned then record known { value = assigned.value } ∷ others
     else known ∷ with_assigned others assigned
 
 -- the number of the assignment that has the same name
-abbrev pub place_in : List Assigned → Assigned → Option ℕ
-place_in [] assigned = None
-place_in (known ∷ others) assigned =
-    if same_name known assigned then Some zero else next (place_in others assigned)
+abbrev pub place_of_assignment : List SourceAssignment → SourceAssignment → Option ℕ
+place_of_assignment [] assigned = None
+place_of_assignment (known ∷ others) assigned =
+    if same_assigned_name known assigned then Some zero else one_further (place_of_assignment others assigned)
 
 -- assignments one after another, behind those that are there
-abbrev pub all_assigned : List Assigned → List Assigned → List Assigned
+abbrev pub all_assigned : List SourceAssignment → List SourceAssignment → List SourceAssignment
 all_assigned before [] = before
 all_assigned before (assigned ∷ rest) = all_assigned (with_assigned before assigned) rest
 
 -- the assignments that stand in a block, in the order of the text; a bare block's count as those of the block
 abbrev mutual
-  pub assigned_in : StatementTerms → List Assigned
+  pub assigned_in : StatementTerms → List SourceAssignment
   assigned_in no_statements = []
   assigned_in (and_statement statement rest) = assigned_by statement ++ assigned_in rest
 
   -- the assignment that a statement is, or those of a bare block
-  pub assigned_by : StatementTerm → List Assigned
+  pub assigned_by : StatementTerm → List SourceAssignment
   assigned_by (EmptyStatement at) = []
   assigned_by (BlockStatement at statements) = assigned_in statements
   assigned_by (AssignmentTerm at name value) =
@@ -202,14 +202,14 @@ abbrev mutual
   assigned_by (InstanceStatement instance) = []
 
 -- a block's assignments, each name once
-abbrev pub assignments_of : StatementTerms → List Assigned
+abbrev pub assignments_of : StatementTerms → List SourceAssignment
 assignments_of statements = all_assigned [] (assigned_in statements)
 
 -- a block's local definitions with their numbers, in the order of the text, and its assignments
 pub record LocalTerms : Type 0 where
   pub functions : Pairs ℕ
   pub modules : Pairs ℕ
-  pub assignments : List Assigned
+  pub assignments : List SourceAssignment
 
 -- a block in which nothing stands has none
 abbrev pub no_locals : LocalTerms
@@ -223,7 +223,8 @@ locals_of_block functions modules statements = record {
   assignments = assignments_of statements;
 }
 
--- what a block has: its statements, its local definitions, and the number of the first block behind it and all that stands in it
+-- what a block has: its statements, its local definitions, and the number of the first block behind it and all that stands in
+-- it
 pub record SourceBlock : Type 0 where
   pub statements : StatementTerms
   pub local : LocalTerms

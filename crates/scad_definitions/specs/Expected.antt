@@ -9,6 +9,6 @@ newest_place (known ∷ older) name = if bytes_eq known name then Some (length o
     else newest_place older name
 
 -- a place, where it is before another one
-abbrev pub before : ℕ → Option ℕ → Option ℕ
-before end None = None
-before end (Some place) = if nat_lt place end then Some place else None
+abbrev pub place_if_before : ℕ → Option ℕ → Option ℕ
+place_if_before end None = None
+place_if_before end (Some place) = if nat_lt place end then Some place else None

@@ -6,5 +6,5 @@ use Rattle.std.specs.Ordering.{nat_cmp}
 use Rattle.std.specs.declared.vec.Vec.{Vec}
 
 -- the place by a name
-abbrev pub place_at : {Y : Type 0} → BTreeMap (Vec ℕ Y) ℕ → List ℕ → Option ℕ
-place_at index name = get_by (λ key. slice_cmp nat_cmp name key.items) index
+abbrev pub place_of_name : {Y : Type 0} → BTreeMap (Vec ℕ Y) ℕ → List ℕ → Option ℕ
+place_of_name index name = get_by (λ key. slice_cmp nat_cmp name key.items) index

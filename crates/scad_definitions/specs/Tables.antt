@@ -2,11 +2,11 @@
 use Rattle.std.specs.Prelude.{List}
 use Rattle.scad_definitions.specs.declared.blocks.Blocks.{Blocks}
 use Rattle.scad_definitions.specs.Blocks.{SourceFunction, SourceModule, BlockTable}
-use Rattle.scad_definitions.specs.TextView.{table_of}
+use Rattle.scad_definitions.specs.TextView.{block_table_of}
 
 -- the program by numbers, as it is held
 abbrev pub table_held : Blocks → BlockTable
-table_held blocks = table_of blocks.entries.items blocks.functions.items blocks.modules.items
+table_held blocks = block_table_of blocks.entries.items blocks.functions.items blocks.modules.items
 
 -- the functions by number
 abbrev pub functions_held : Blocks → List SourceFunction

@@ -14,7 +14,7 @@ use Rattle.scad_definitions.specs.declared.text.LocalDefinitions.{LocalDefinitio
 use Rattle.scad_definitions.specs.Newest.{Pairs}
 use Rattle.scad_definitions.specs.Names.{oldest_first}
 use Rattle.scad_definitions.specs.declared.text.Entry.{Entry}
-use Rattle.scad_definitions.specs.Blocks.{SourceFunction, SourceModule, Assigned, LocalTerms, SourceBlock, BlockTable}
+use Rattle.scad_definitions.specs.Blocks.{SourceFunction, SourceModule, SourceAssignment, LocalTerms, SourceBlock, BlockTable}
 
 -- the statements of a block: none, those in braces, or a single instance
 abbrev pub statements_held : BlockText → StatementTerms
@@ -38,7 +38,7 @@ abbrev pub block_of_module : Module → ℕ
 block_of_module defined = defined.block
 
 -- an assignment as its plain name and expression
-abbrev pub assigned_of : Assignment → Assigned
+abbrev pub assigned_of : Assignment → SourceAssignment
 assigned_of assignment = record {
   at = assignment.place;
   special = assignment.special;
@@ -82,8 +82,8 @@ entry_of entry =
     }
 
 -- a program by numbers, of its blocks, functions and modules
-abbrev pub table_of : List Entry → List Function → List Module → BlockTable
-table_of entries functions modules = record {
+abbrev pub block_table_of : List Entry → List Function → List Module → BlockTable
+block_table_of entries functions modules = record {
   entries = map entry_of entries;
   functions = map function_of functions;
   modules = map module_of modules;

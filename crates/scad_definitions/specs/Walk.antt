@@ -2,12 +2,12 @@
 use Rattle.std.specs.Prelude.{ℕ, ◌+◌, List, [], ◌∷◌, ◌++◌, length, slice_set, slice_index_or}
 use Rattle.scad_ast.specs.Terms.{StatementTerm, StatementTerms}
 use Rattle.scad_definitions.specs.declared.walk.Walk.{Walk}
-use Rattle.scad_definitions.specs.Blocks.{Entity, a_block, a_function, a_module, Assigned, with_assigned, all_assigned, assigned_in, assigned_by, local_functions, local_function, local_modules, local_module, LocalTerms, no_locals, SourceBlock, nothing_there, entry_at, BlockTable}
-use Rattle.scad_definitions.specs.TextView.{table_of}
+use Rattle.scad_definitions.specs.Blocks.{Entity, a_block, a_function, a_module, SourceAssignment, with_assigned, all_assigned, assigned_in, assigned_by, local_functions, local_function, local_modules, local_module, LocalTerms, no_locals, SourceBlock, nothing_there, entry_at, BlockTable}
+use Rattle.scad_definitions.specs.TextView.{block_table_of}
 
 -- the part of the program that was walked through, by numbers
-abbrev pub walked : Walk → BlockTable
-walked walk = table_of walk.entries.items walk.functions.items walk.modules.items
+abbrev pub table_so_far : Walk → BlockTable
+table_so_far walk = block_table_of walk.entries.items walk.functions.items walk.modules.items
 
 -- how many blocks, functions and modules have numbers
 abbrev pub count_numbered : BlockTable → ℕ
@@ -52,7 +52,7 @@ locals_by local functions modules statement = record {
 }
 
 -- with one assignment more
-abbrev pub locals_assigned : LocalTerms → Assigned → LocalTerms
+abbrev pub locals_assigned : LocalTerms → SourceAssignment → LocalTerms
 locals_assigned local assigned =
     record local { assignments = with_assigned local.assignments assigned }
 
@@ -72,8 +72,8 @@ entry_ended entry local block_end =
     record { statements = entry.statements; local = local; block_end = block_end }
 
 -- a block ends: it gets its local definitions, and all blocks so far stand in it or before it
-abbrev pub ended : BlockTable → ℕ → LocalTerms → BlockTable
-ended text number local = record text {
+abbrev pub with_block_ended : BlockTable → ℕ → LocalTerms → BlockTable
+with_block_ended text number local = record text {
   entries = slice_set text.entries number
       (entry_ended (slice_index_or text.entries number nothing_there) local (length text.entries));
 }

@@ -1,7 +1,7 @@
 ghost use Rattle.std.specs.Prelude.{◌≡◌, map};
 ghost use Rattle.scad_definitions.specs.Names.{newest_first};
 ghost use Rattle.scad_definitions.specs.Newest.{find_in};
-ghost use Rattle.scad_definitions.specs.Blocks.{Assigned, place_in};
+ghost use Rattle.scad_definitions.specs.Blocks.{SourceAssignment, place_of_assignment};
 ghost use Rattle.scad_definitions.specs.Places.{of_kind};
 ghost use Rattle.scad_definitions.specs.TextView.{assigned_of};
 
@@ -22,10 +22,10 @@ pub(crate) struct Places {
 pub(crate) struct LocalsSoFar<'a> {
     pub(crate) local: LocalsUnderWay<'a>,
     pub(crate) places: Places,
-    ghost placed: { (a : Assigned)
+    ghost placed: { (a : SourceAssignment)
         → find_in (of_kind (newest_first places.ordinary)
         (newest_first places.special) a.special) a.name
-        ≡ place_in (map assigned_of local.assignments.items) a },
+        ≡ place_of_assignment (map assigned_of local.assignments.items) a },
 }
 
 impl Places {
@@ -106,7 +106,7 @@ impl<'a> LocalsSoFar<'a> {
 
     // The number of the assignment that has the same name.
     fn place(&self, sought: &Assignment<'_>) -> Option<usize>
-        ensures value { result ≡ place_in (map assigned_of self.now.local.assignments.items)
+        ensures value { result ≡ place_of_assignment (map assigned_of self.now.local.assignments.items)
             (assigned_of sought.now) }
         ensures within { IfSome result (λ k. k < length self.now.local.assignments.items) }
     {
@@ -115,7 +115,7 @@ impl<'a> LocalsSoFar<'a> {
 
     // An assignment of a name that isn't there.
     fn add(&mut self, alloc: Global, assignment: Assignment<'a>) -> Result<(), NoMemory>
-        requires { place_in (map assigned_of self.old.local.assignments.items)
+        requires { place_of_assignment (map assigned_of self.old.local.assignments.items)
             (assigned_of assignment) ≡ None }
         ensures definitions { self.new.local.definitions ≡ self.old.local.definitions }
         ensures assignments { OnOk result (map assigned_of self.new.local.assignments.items

@@ -16,7 +16,7 @@ pub use blocks::Blocks;
 pub use list::NameList;
 pub use name_table::NameTable;
 pub use parameters::{
-    CallArguments, Destination, Matching, Names, SpecialArgument, arguments, name_of,
+    CallArguments, Destination, Matching, Names, SpecialArgument, arguments, parameter_name,
     positional_after,
 };
 pub use so_far::ArgumentsSoFar;

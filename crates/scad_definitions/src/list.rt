@@ -1,7 +1,7 @@
 ghost use Rattle.std.specs.Prelude.{◌≡◌, ◌≤◌, ℕ, List, length, take, reverse};
-ghost use Rattle.scad_definitions.specs.Newest.{place_of, hidden_by};
+ghost use Rattle.scad_definitions.specs.Newest.{place_of_newest, hidden_places};
 ghost use Rattle.scad_definitions.specs.View.{pairs_in};
-ghost use Rattle.scad_definitions.specs.Index.{place_at};
+ghost use Rattle.scad_definitions.specs.Index.{place_of_name};
 
 use crate::index::{place_in, put, put_back};
 use std::alloc::Global;
@@ -29,14 +29,14 @@ pub struct NameList<T> {
     index: BTreeMap<Vec<u8>, usize>,
     ghost covered: { length hidden.items ≤ length items.items },
     ghost hides: { reverse hidden.items
-        ≡ hidden_by (pairs_in (take (length hidden.items) items.items)) },
-    ghost indexed: { (name : List ℕ) → place_at index name
-        ≡ place_of (pairs_in (take (length hidden.items) items.items)) name },
+        ≡ hidden_places (pairs_in (take (length hidden.items) items.items)) },
+    ghost indexed: { (name : List ℕ) → place_of_name index name
+        ≡ place_of_newest (pairs_in (take (length hidden.items) items.items)) name },
 }
 
 impl<T> NameList<T> {
     ghost use Rattle.std.specs.Prelude.{◌∷◌, [], ◌<◌, ◌+◌, OnOk, OnErr, option_copied};
-    ghost use Rattle.scad_definitions.specs.Newest.{find_in, oldest};
+    ghost use Rattle.scad_definitions.specs.Newest.{find_in, oldest_pairs};
     ghost use Rattle.scad_definitions.specs.Names.{newest_first};
 
     /// No names.
@@ -106,7 +106,7 @@ impl<T> NameList<T> {
     where
         T: Drop,
         requires { to ≤ length (newest_first self.old) }
-        ensures { newest_first self.new ≡ oldest to (newest_first self.old) }
+        ensures { newest_first self.new ≡ oldest_pairs to (newest_first self.old) }
     {
         'back: while self.hidden.len() > to {
             self.uncover_one();

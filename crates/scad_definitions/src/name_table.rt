@@ -1,9 +1,9 @@
 ghost use Rattle.std.specs.Prelude.{◌≡◌, ℕ, List, take, reverse};
-ghost use Rattle.scad_definitions.specs.Expected.{newest_place, before};
-ghost use Rattle.scad_definitions.specs.Index.{place_at};
+ghost use Rattle.scad_definitions.specs.Expected.{newest_place, place_if_before};
+ghost use Rattle.scad_definitions.specs.Index.{place_of_name};
 
 use crate::index::{place_in, put};
-use crate::parameters::name_of;
+use crate::parameters::parameter_name;
 use crate::text::Assignment;
 use scad_ast::Param;
 use std::alloc::Global;
@@ -17,7 +17,7 @@ pub struct NameTable {
     pub(crate) names: Vec<Bytes>,
     index: BTreeMap<Vec<u8>, usize>,
     ghost placed: { (k : ℕ) (name : List ℕ) → newest_place (reverse (take k names.items)) name
-        ≡ before k (place_at index name) },
+        ≡ place_if_before k (place_of_name index name) },
 }
 
 impl NameTable {
@@ -49,7 +49,7 @@ impl NameTable {
     ) -> Result<NameTable, NoMemory> {
         let mut table = NameTable::new(alloc);
         for param in params {
-            table = table.with_name(alloc, name_of(param))?;
+            table = table.with_name(alloc, parameter_name(param))?;
         }
         table
             .with_name(alloc, b"$children")?
@@ -81,7 +81,7 @@ impl NameTable {
 
     // One name more, which isn't there.
     fn with_new_name(self, alloc: Global, name: &[u8]) -> Result<NameTable, NoMemory>
-        requires { place_at self.index name.now ≡ None }
+        requires { place_of_name self.index name.now ≡ None }
     {
         let NameTable { names, index } = self;
         let mut names = names;

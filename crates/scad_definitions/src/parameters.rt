@@ -2,7 +2,7 @@ ghost use Rattle.std.specs.Prelude.{◌≡◌, ℕ, ◌+◌, ◌^◌, ◌<◌, �
 ghost use Rattle.scad_ast.specs.ExprView.{arg_of};
 ghost use Rattle.scad_ast.specs.StatementView.{param_of};
 ghost use Rattle.scad_definitions.specs.Newest.{find_in};
-ghost use Rattle.scad_definitions.specs.Arguments.{name_of, names_of, first_named, argument_place, positional_after, matching_of, no_arguments_of, unless_bound, MeetsMatching};
+ghost use Rattle.scad_definitions.specs.Arguments.{parameter_name, parameter_names, first_named, argument_place, positional_after, matching_of, no_arguments_of, unless_bound, MeetsMatching};
 ghost use Rattle.scad_definitions.specs.ArgumentsView.{names_seen, names_in, special_pairs, call_arguments_of, destination_term_of, IsDestinationThere, IsOneMoreGiven};
 
 use crate::so_far::ArgumentsSoFar;
@@ -82,7 +82,7 @@ pub fn arguments(
     _place: Place,
 ) -> Result<Matching, Stop>
     ensures size { IfOk result (λ m. length m ≡ length params.now) }
-    ensures value { MeetsMatching result (matching_of (names_of (map param_of params.now))
+    ensures value { MeetsMatching result (matching_of (parameter_names (map param_of params.now))
         (map arg_of args.now)) }
 {
     let mut so_far = ArgumentsSoFar::of(alloc, Names::Params(params), args)?;
@@ -177,11 +177,11 @@ pub(crate) fn first_named(names: Names<'_>, name: &[u8]) -> Option<usize>
 
 // The first parameter of a name, of a definition of the source.
 fn first_param(params: &[Param], name: &[u8]) -> Option<usize>
-    ensures value { result ≡ first_named (names_of (map param_of params.now)) name.now }
+    ensures value { result ≡ first_named (parameter_names (map param_of params.now)) name.now }
     ensures within { IfSome result (λ k. k < length params.now) }
 {
     for (i, param) in params.iter().enumerate() {
-        if name_of(param) == name {
+        if parameter_name(param) == name {
             return Some(i);
         }
     }
@@ -242,14 +242,14 @@ pub(crate) fn name_at<'a>(names: Names<'a>, number: usize) -> &'a [u8]
     ensures { result.now ≡ slice_index_or (names_in names.entry) number [] }
 {
     match names {
-        Names::Params(params) => name_of(&params[number]),
+        Names::Params(params) => parameter_name(&params[number]),
         Names::Listed(listed) => listed[number],
     }
 }
 
 /// The name of a parameter.
-pub fn name_of(param: &Param) -> &[u8]
-    ensures { result.now ≡ name_of (param_of param.now) }
+pub fn parameter_name(param: &Param) -> &[u8]
+    ensures { result.now ≡ parameter_name (param_of param.now) }
 {
     match param {
         Param::Plain(_, name) => name.items(),

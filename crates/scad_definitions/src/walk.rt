@@ -3,7 +3,7 @@ ghost use Rattle.scad_ast.specs.Terms.{statements_from, no_statements, and_state
 ghost use Rattle.scad_ast.specs.ExprView.{term_of};
 ghost use Rattle.scad_ast.specs.StatementView.{params_of, statement_of, statements_of, instance_of, core_of, body_of};
 ghost use Rattle.scad_definitions.specs.Blocks.{entities_of, entities_in, entities_of_core, entities_of_body, entities_of_instance, a_block, a_function, a_module, entities_of_program};
-ghost use Rattle.scad_definitions.specs.Walk.{walked, count_numbered, with_entities, with_entity, nothing_walked, locals_with, locals_by, locals_assigned, with_block_begun, ended};
+ghost use Rattle.scad_definitions.specs.Walk.{table_so_far, count_numbered, with_entities, with_entity, nothing_walked, locals_with, locals_by, locals_assigned, with_block_begun, with_block_ended};
 ghost use Rattle.scad_definitions.specs.TextView.{locals_of, locals_under_way, statements_held};
 
 use crate::NameTable;
@@ -26,7 +26,7 @@ pub(crate) struct Walk<'a> {
 /// The blocks, functions and modules of a program.
 pub(crate) fn walk_program<'a>(alloc: Global, program: &'a Program) -> Result<Walk<'a>, NoMemory>
     ensures { IfOk result (λ w.
-        walked w ≡ with_entities nothing_walked
+        table_so_far w ≡ with_entities nothing_walked
         (entities_of_program (statements_of program.now.statements))) }
 {
     let mut walk = Walk::new(alloc);
@@ -37,7 +37,7 @@ pub(crate) fn walk_program<'a>(alloc: Global, program: &'a Program) -> Result<Wa
 impl<'a> Walk<'a> {
     // A walk that has begun with nothing.
     fn new(alloc: Global) -> Walk<'a>
-        ensures { walked result ≡ nothing_walked }
+        ensures { table_so_far result ≡ nothing_walked }
     {
         Walk {
             alloc,
@@ -54,14 +54,14 @@ impl<'a> Walk<'a> {
         statements: &'a Statements,
         so_far: &mut LocalsSoFar<'a>,
     ) -> Result<(), NoMemory>
-        requires { count_numbered (walked self.old) + length
+        requires { count_numbered (table_so_far self.old) + length
             (entities_in (statements_from (statements_of statements.now))) < 2 ^ 32 }
-        ensures walked { OnOk result (walked self.new
-            ≡ with_entities (walked self.old)
+        ensures walked { OnOk result (table_so_far self.new
+            ≡ with_entities (table_so_far self.old)
             (entities_in (statements_from (statements_of statements.now)))) }
         ensures local { OnOk result (locals_under_way so_far.new.local
-            ≡ locals_with (locals_under_way so_far.old.local) (length (walked self.old).functions)
-            (length (walked self.old).modules) (statements_from (statements_of statements.now))) }
+            ≡ locals_with (locals_under_way so_far.old.local) (length (table_so_far self.old).functions)
+            (length (table_so_far self.old).modules) (statements_from (statements_of statements.now))) }
     {
         'each: for statement in &statements.items {
             self.statement(statement, so_far)?;
@@ -77,13 +77,13 @@ impl<'a> Walk<'a> {
         statement: &'a Statement,
         so_far: &mut LocalsSoFar<'a>,
     ) -> Result<(), NoMemory>
-        requires { count_numbered (walked self.old) + length
+        requires { count_numbered (table_so_far self.old) + length
             (entities_of (statement_of statement.now)) < 2 ^ 32 }
-        ensures walked { OnOk result (walked self.new
-            ≡ with_entities (walked self.old) (entities_of (statement_of statement.now))) }
+        ensures walked { OnOk result (table_so_far self.new
+            ≡ with_entities (table_so_far self.old) (entities_of (statement_of statement.now))) }
         ensures local { OnOk result (locals_under_way so_far.new.local
-            ≡ locals_by (locals_under_way so_far.old.local) (length (walked self.old).functions)
-            (length (walked self.old).modules) (statement_of statement.now)) }
+            ≡ locals_by (locals_under_way so_far.old.local) (length (table_so_far self.old).functions)
+            (length (table_so_far self.old).modules) (statement_of statement.now)) }
     {
         match statement {
             Statement::Empty(_) => Ok(()),
@@ -121,9 +121,9 @@ impl<'a> Walk<'a> {
     // Goes on through the body of a module with parameters of these names.
     #[cycle(walk)]
     fn module_body(&mut self, params: &'a [Param], body: &'a Body) -> Result<(), NoMemory>
-        requires { count_numbered (walked self.old) + length
+        requires { count_numbered (table_so_far self.old) + length
             (entities_of_body (body_of body.now)) < 2 ^ 32 }
-        ensures { OnOk result (walked self.new ≡ with_entities (walked self.old)
+        ensures { OnOk result (table_so_far self.new ≡ with_entities (table_so_far self.old)
             (entities_of_body (body_of body.now))) }
     {
         let block = self.entries.len();
@@ -133,7 +133,7 @@ impl<'a> Walk<'a> {
 
     // A scope of a module's body is expected to bind the parameters first.
     fn expect(&mut self, block: usize, params: &[Param]) -> Result<(), NoMemory>
-        ensures { walked self.new ≡ walked self.old }
+        ensures { table_so_far self.new ≡ table_so_far self.old }
     {
         if block >= self.entries.len() {
             return Ok(());
@@ -148,9 +148,9 @@ impl<'a> Walk<'a> {
     // Goes on through the bodies of an instance.
     #[cycle(walk)]
     fn core(&mut self, core: &'a Core) -> Result<(), NoMemory>
-        requires { count_numbered (walked self.old) + length
+        requires { count_numbered (table_so_far self.old) + length
             (entities_of_core (core_of core.now)) < 2 ^ 32 }
-        ensures { OnOk result (walked self.new ≡ with_entities (walked self.old)
+        ensures { OnOk result (table_so_far self.new ≡ with_entities (table_so_far self.old)
             (entities_of_core (core_of core.now))) }
     {
         match core {
@@ -166,10 +166,10 @@ impl<'a> Walk<'a> {
     #[cycle(walk)]
     #[tactic(auto, using(crate::proofs::Begun::numbered_after))]
     fn two(&mut self, body: &'a Body, other: &'a Body) -> Result<(), NoMemory>
-        requires { count_numbered (walked self.old) + length
+        requires { count_numbered (table_so_far self.old) + length
             (entities_of_body (body_of body.now)) + length
             (entities_of_body (body_of other.now)) < 2 ^ 32 }
-        ensures { OnOk result (walked self.new ≡ with_entities (walked self.old)
+        ensures { OnOk result (table_so_far self.new ≡ with_entities (table_so_far self.old)
             (entities_of_body (body_of body.now) ++ entities_of_body (body_of other.now))) }
     {
         self.body(body)?;
@@ -179,9 +179,9 @@ impl<'a> Walk<'a> {
     // Goes on through a body, which is a block.
     #[cycle(walk)]
     fn body(&mut self, body: &'a Body) -> Result<(), NoMemory>
-        requires { count_numbered (walked self.old) + length
+        requires { count_numbered (table_so_far self.old) + length
             (entities_of_body (body_of body.now)) < 2 ^ 32 }
-        ensures { OnOk result (walked self.new ≡ with_entities (walked self.old)
+        ensures { OnOk result (table_so_far self.new ≡ with_entities (table_so_far self.old)
             (entities_of_body (body_of body.now))) }
     {
         match body {
@@ -195,9 +195,9 @@ impl<'a> Walk<'a> {
     #[cycle(walk)]
     #[tactic(auto, using(crate::proofs::Begun::numbered_begun, crate::proofs::Begun::numbered_after))]
     fn single(&mut self, instance: &'a Instance) -> Result<(), NoMemory>
-        requires { count_numbered (walked self.old) + length
+        requires { count_numbered (table_so_far self.old) + length
             (entities_of_instance (instance_of instance.now)) + 1 < 2 ^ 32 }
-        ensures { OnOk result (walked self.new ≡ with_entities (walked self.old)
+        ensures { OnOk result (table_so_far self.new ≡ with_entities (table_so_far self.old)
             (a_block (and_statement (InstanceStatement (instance_of instance.now)) no_statements)
             ∷ entities_of_instance (instance_of instance.now))) }
     {
@@ -211,9 +211,9 @@ impl<'a> Walk<'a> {
     #[cycle(walk)]
     #[tactic(auto, using(crate::proofs::Begun::numbered_begun, crate::proofs::Begun::numbered_after))]
     fn braces(&mut self, statements: &'a Statements) -> Result<(), NoMemory>
-        requires { count_numbered (walked self.old) + length
+        requires { count_numbered (table_so_far self.old) + length
             (entities_in (statements_from (statements_of statements.now))) + 1 < 2 ^ 32 }
-        ensures { OnOk result (walked self.new ≡ with_entities (walked self.old)
+        ensures { OnOk result (table_so_far self.new ≡ with_entities (table_so_far self.old)
             (a_block (statements_from (statements_of statements.now))
             ∷ entities_in (statements_from (statements_of statements.now)))) }
     {
@@ -229,8 +229,8 @@ impl<'a> Walk<'a> {
     // A block in which nothing stands.
     #[tactic(auto, using(crate::proofs::Begun::numbered_begun))]
     fn nothing(&mut self) -> Result<(), NoMemory>
-        requires { count_numbered (walked self.old) + 1 < 2 ^ 32 }
-        ensures { OnOk result (walked self.new ≡ with_entities (walked self.old)
+        requires { count_numbered (table_so_far self.old) + 1 < 2 ^ 32 }
+        ensures { OnOk result (table_so_far self.new ≡ with_entities (table_so_far self.old)
             (a_block no_statements ∷ [])) }
     {
         let number = self.begin(BlockText::Nothing)?;
@@ -241,10 +241,10 @@ impl<'a> Walk<'a> {
     // A block begins: its number. Its local definitions come when it ends.
     #[tactic(auto, using(crate::proofs::Held::mapped_length))]
     fn begin(&mut self, text: BlockText<'a>) -> Result<u32, NoMemory>
-        requires { count_numbered (walked self.old) < 2 ^ 32 }
-        ensures walked { OnOk result (walked self.new
-            ≡ with_block_begun (walked self.old) (statements_held text.entry)) }
-        ensures number { IfOk result (λ n. n ≡ length (walked self.old).entries) }
+        requires { count_numbered (table_so_far self.old) < 2 ^ 32 }
+        ensures walked { OnOk result (table_so_far self.new
+            ≡ with_block_begun (table_so_far self.old) (statements_held text.entry)) }
+        ensures number { IfOk result (λ n. n ≡ length (table_so_far self.old).entries) }
     {
         let number = self.entries.len() as u32;
         let local = LocalDefinitions::new(self.alloc);
@@ -259,9 +259,9 @@ impl<'a> Walk<'a> {
     // A block ends: it gets what stands in it and the number of the first block behind it.
     #[tactic(auto, using(crate::proofs::Held::mapped_length))]
     fn end(&mut self, number: u32, local: LocalDefinitions<'a>)
-        requires begun { number < length (walked self.old).entries }
-        requires few { count_numbered (walked self.old) < 2 ^ 32 }
-        ensures { walked self.new ≡ ended (walked self.old) number (locals_of local.entry) }
+        requires begun { number < length (table_so_far self.old).entries }
+        requires few { count_numbered (table_so_far self.old) < 2 ^ 32 }
+        ensures { table_so_far self.new ≡ with_block_ended (table_so_far self.old) number (locals_of local.entry) }
     {
         let block_end = self.entries.len() as u32;
         let entry = &mut self.entries[number as usize];
@@ -272,10 +272,10 @@ impl<'a> Walk<'a> {
     // A function begins: its number.
     #[tactic(auto, using(crate::proofs::Held::mapped_length))]
     fn function(&mut self, params: &'a Params, value: &'a Expr) -> Result<u32, NoMemory>
-        requires { count_numbered (walked self.old) < 2 ^ 32 }
-        ensures walked { OnOk result (walked self.new ≡ with_entity (walked self.old)
+        requires { count_numbered (table_so_far self.old) < 2 ^ 32 }
+        ensures walked { OnOk result (table_so_far self.new ≡ with_entity (table_so_far self.old)
             (a_function (record { params = params_of params.now; value = term_of value.now }))) }
-        ensures number { IfOk result (λ n. n ≡ length (walked self.old).functions) }
+        ensures number { IfOk result (λ n. n ≡ length (table_so_far self.old).functions) }
     {
         let number = self.functions.len() as u32;
         self.functions.push(Function { params, value })?;
@@ -285,10 +285,10 @@ impl<'a> Walk<'a> {
     // A module begins: its number. Its body is the next block.
     #[tactic(auto, using(crate::proofs::Held::mapped_length))]
     fn module(&mut self, params: &'a Params, body: &'a Body) -> Result<u32, NoMemory>
-        requires { count_numbered (walked self.old) < 2 ^ 32 }
-        ensures walked { OnOk result (walked self.new ≡ with_entity (walked self.old)
+        requires { count_numbered (table_so_far self.old) < 2 ^ 32 }
+        ensures walked { OnOk result (table_so_far self.new ≡ with_entity (table_so_far self.old)
             (a_module (record { params = params_of params.now; body = body_of body.now }))) }
-        ensures number { IfOk result (λ n. n ≡ length (walked self.old).modules) }
+        ensures number { IfOk result (λ n. n ≡ length (table_so_far self.old).modules) }
     {
         let number = self.modules.len() as u32;
         let block = self.entries.len() as u32;

@@ -8,24 +8,24 @@ use Rattle.csg_tree.specs.declared.op.Op.{Op}
 use Rattle.csg_tree.specs.declared.op.Op.TheVariants.{Union, Intersection, Difference}
 use Rattle.csg_tree.specs.Formulas.{Formula, nothing, leaf, joined}
 use Rattle.csg_tree.specs.Joins.{balanced_of, join_of, joined_within}
-use Rattle.scad_design.specs.Designs.{DesignTree, empty, a_leaf, joined_designs, join, designs_within, balanced, moved_by}
-use Rattle.scad_design.specs.Placing.{Placed, placed, unplaced, joined_placed, Places, PlacesRight}
+use Rattle.scad_design.specs.Designs.{DesignTree, empty, a_leaf, joined_designs, join, designs_within, balanced_join, moved_by}
+use Rattle.scad_design.specs.Placing.{PlacingOutcome, placed, unplaced, joined_placed, Places, PlacesRight}
 use Rattle.scad_design.specs.Trees.{IsTreeOf}
 
 -- ---- a placed design has its tree
-abbrev tree_in : Placed → Formula
+abbrev tree_in : PlacingOutcome → Formula
 tree_in (placed tree known) = tree
 tree_in (unplaced kind at) = nothing
 
 abbrev HasTree : DesignTree → Type 0
 HasTree design = (known now : List Coefficients) (tree : Formula) → Places design known (placed tree now) → IsTreeOf design tree
 
-right_tree : (op : Op) (left right : DesignTree) (first : Formula) (before now : List Coefficients) (tree : Formula) (next : Placed) → IsTreeOf left first → HasTree right →
+right_tree : (op : Op) (left right : DesignTree) (first : Formula) (before now : List Coefficients) (tree : Formula) (next : PlacingOutcome) → IsTreeOf left first → HasTree right →
     Places right before next → placed tree now ≡ joined_placed op first next → IsTreeOf (joined_designs op left right) tree
 right_tree op left right first before now tree (placed second after) is has h e = (first, second, is, has before after second h, ap tree_in e)
 right_tree op left right first before now tree (unplaced kind at) is has h e = absurd (cc)
 
-joined_tree_of : (op : Op) (left right : DesignTree) (known now : List Coefficients) (tree : Formula) (first : Placed) → HasTree left → HasTree right →
+joined_tree_of : (op : Op) (left right : DesignTree) (known now : List Coefficients) (tree : Formula) (first : PlacingOutcome) → HasTree left → HasTree right →
     Places left known first → PlacesRight (Places right) op first (placed tree now) → IsTreeOf (joined_designs op left right) tree
 joined_tree_of op left right known now tree (placed t before) has_left has_right hl hr = right_tree op left right t before now tree hr.0 (has_left known before t hl) has_right hr.1 hr.2
 joined_tree_of op left right known now tree (unplaced kind at) has_left has_right hl hr = absurd (cc)
@@ -101,9 +101,9 @@ within_trees (suc n) op (d ∷ e ∷ designs) (t ∷ u ∷ trees) h =
     subst (λ (k : ℕ). IsTreeOf (join op (designs_within n op (take half all)) (designs_within n op (drop half all))) (join_of op (joined_within n op (take (k / 2) whole)) (joined_within n op (drop (k / 2) whole))))
     (zip_length all whole h) both
 
-pub halves_trees : (op : Op) (designs : List DesignTree) (trees : List Formula) → AllZip IsTreeOf designs trees → IsTreeOf (balanced op designs) (balanced_of op trees)
+pub halves_trees : (op : Op) (designs : List DesignTree) (trees : List Formula) → AllZip IsTreeOf designs trees → IsTreeOf (balanced_join op designs) (balanced_of op trees)
 halves_trees op designs trees h =
-    subst (λ (k : ℕ). IsTreeOf (balanced op designs) (joined_within k op trees)) (zip_length designs trees h) (within_trees (length designs) op designs trees h)
+    subst (λ (k : ℕ). IsTreeOf (balanced_join op designs) (joined_within k op trees)) (zip_length designs trees h) (within_trees (length designs) op designs trees h)
 
 -- ---- moving
 moved_join : (steps : List Affine) (op : Op) (left right : DesignTree) → moved_by steps (join op left right) ≡ join op (moved_by steps left) (moved_by steps right)
@@ -143,6 +143,6 @@ moved_within steps (suc n) op (d ∷ e ∷ designs) =
     subst (λ (k : ℕ). moved_by steps (designs_within (suc n) op all) ≡ join op (designs_within n op (take (k / 2) (map move all))) (designs_within n op (drop (k / 2) (map move all))))
     (sym (length-map all move)) both
 
-pub moved_balanced : (steps : List Affine) (op : Op) (designs : List DesignTree) → moved_by steps (balanced op designs) ≡ balanced op (map (moved_by steps) designs)
+pub moved_balanced : (steps : List Affine) (op : Op) (designs : List DesignTree) → moved_by steps (balanced_join op designs) ≡ balanced_join op (map (moved_by steps) designs)
 moved_balanced steps op designs =
     moved_within steps (length designs) op designs ∙ ap (λ (k : ℕ). designs_within k op (map (moved_by steps) designs)) (sym (length-map designs (moved_by steps)))

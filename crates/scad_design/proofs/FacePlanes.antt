@@ -13,7 +13,7 @@ use Rattle.plane_predicate.proofs.Sizes.{size_difference, size_dot, size_minor}
 use Rattle.plane_predicate.proofs.ThroughPoints.{reduced_is_plane, reduced_is_times}
 use Rattle.int_transform.specs.declared.affine.Affine.{Affine}
 use Rattle.int_transform.specs.Maps.{coordinates, image}
-use Rattle.primitives.specs.Shapes.{Mesh, corner, value_at, IsFace, IsFacePlane}
+use Rattle.primitives.specs.Shapes.{Mesh, corner, value_at, IsFaceOfShape, IsPlaneOfFace}
 use Rattle.primitives.specs.Spanning.{SpansFace}
 use Rattle.primitives.proofs.FacePlanes.{found, spanned_as_it_is, spanned_opposite}
 use Rattle.primitives.proofs.OnePlane.{some_direction}
@@ -77,7 +77,7 @@ plane_through p q r hp hq hr not_on_line =
 abbrev pub AreInReach : List (List ℤ) → Type 0
 AreInReach points = All (λ p. IsInReach (point_at p)) points
 
-some_face_plane : (mesh : Mesh) → AreInReach mesh.points → (face : List ℕ) → IsFace mesh face → (m : Coefficients) × IsPlane m × IsFacePlane mesh face m
+some_face_plane : (mesh : Mesh) → AreInReach mesh.points → (face : List ℕ) → IsFaceOfShape mesh face → (m : Coefficients) × IsPlane m × IsPlaneOfFace mesh face m
 some_face_plane mesh reach face is =
     let t = is.triangle in
     let near_corner = λ (i : ℕ) (lt : i < length face). near (get_or mesh.points (get_or face i 0) []) (reach (get_or face i 0) [] (is.there i 0 lt)) in
@@ -101,11 +101,11 @@ some_face_plane mesh reach face is =
     (all_or_any (λ c. value_at mesh.points n.0 c ≤ℤ pos 0) (λ c. pos 0 <ℤ value_at mesh.points n.0 c)
     (λ c. by_lt_z (pos 0) (value_at mesh.points n.0 c) (λ above. inr above) (λ most. inl most))) mesh.faces)
 
-pub some_face_planes : (mesh : Mesh) → AreInReach mesh.points → (faces : List (List ℕ)) → All (IsFace mesh) faces → (all : List Coefficients) × All IsPlane all × AllZip (IsFacePlane mesh) faces all
+pub some_face_planes : (mesh : Mesh) → AreInReach mesh.points → (faces : List (List ℕ)) → All (IsFaceOfShape mesh) faces → (all : List Coefficients) × All IsPlane all × AllZip (IsPlaneOfFace mesh) faces all
 some_face_planes mesh reach [] are = ([], All-nil IsPlane, tt)
 some_face_planes mesh reach (face ∷ faces) are =
-    let m = some_face_plane mesh reach face (All-head (IsFace mesh) face faces are) in
-    let all = some_face_planes mesh reach faces (All-tail (IsFace mesh) face faces are) in
+    let m = some_face_plane mesh reach face (All-head (IsFaceOfShape mesh) face faces are) in
+    let all = some_face_planes mesh reach faces (All-tail (IsFaceOfShape mesh) face faces are) in
     (m.0 ∷ all.0, All-cons IsPlane m.0 all.0 m.1 all.1, (m.2, all.2))
 
 -- moved points are in reach where the images are

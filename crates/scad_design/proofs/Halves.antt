@@ -2,7 +2,7 @@
 use Rattle.std.proofs.Common.{◌≡◌, ℕ, zero, suc, ◌+◌, ◌-◌, ◌/◌, ◌≤◌, List, [], ◌∷◌, length, take, drop, map, refl, ap, ap₂, subst, ◌∙◌, arith}
 use Rattle.std.proofs.lemmas.List.{length-map, length-take, length-drop, take-map, drop-map, length-take-le, take-take, drop-take, drop-drop}
 use Rattle.csg_tree.specs.declared.op.Op.{Op}
-use Rattle.scad_design.specs.Designs.{DesignTree, join, designs_within, balanced}
+use Rattle.scad_design.specs.Designs.{DesignTree, join, designs_within, balanced_join}
 
 -- the first half of more than one is not all of them, and neither is the rest
 first_shorter : (designs : List DesignTree) → 2 ≤ length designs → (n : ℕ) → length designs ≤ suc n →
@@ -36,9 +36,9 @@ often_enough (suc n) (suc m) op (design ∷ next ∷ designs) hn hm =
 
 -- more than one: the join of the first half and the rest
 pub by_halves : (op : Op) (designs : List DesignTree) → 2 ≤ length designs →
-    balanced op designs
-    ≡ join op (balanced op (take (length designs / 2) designs))
-    (balanced op (drop (length designs / 2) designs))
+    balanced_join op designs
+    ≡ join op (balanced_join op (take (length designs / 2) designs))
+    (balanced_join op (drop (length designs / 2) designs))
 by_halves op [] two = absurd (omega arith)
 by_halves op (design ∷ []) two = absurd (omega arith)
 by_halves op (design ∷ next ∷ designs) two =
@@ -57,9 +57,9 @@ by_halves op (design ∷ next ∷ designs) two =
 -- what the first half and the next designs give make up what all give
 pub next_halves : {T : Type 0} (f : T → DesignTree) (op : Op) (n : ℕ) (designs : List T) → 2 ≤ n →
     n ≤ length designs →
-    balanced op (map f (take n designs))
-    ≡ join op (balanced op (map f (take (n / 2) designs)))
-    (balanced op (map f (take (n - n / 2) (drop (n / 2) designs))))
+    balanced_join op (map f (take n designs))
+    ≡ join op (balanced_join op (map f (take (n / 2) designs)))
+    (balanced_join op (map f (take (n - n / 2) (drop (n / 2) designs))))
 next_halves f op n designs two within =
     let all = map f (take n designs) in
     let half = n / 2 in
@@ -71,10 +71,10 @@ next_halves f op n designs two within =
     drop-map f half (take n designs)
     ∙ ap (map f) (ap (λ k. drop half (take k designs)) whole ∙ drop-take half (n - half) designs) in
     let many : 2 ≤ length all = omega arith in
-    subst (λ k. balanced op all
-    ≡ join op (balanced op (take (k / 2) all)) (balanced op (drop (k / 2) all))) count
+    subst (λ k. balanced_join op all
+    ≡ join op (balanced_join op (take (k / 2) all)) (balanced_join op (drop (k / 2) all))) count
     (by_halves op all many)
-    ∙ ap₂ (λ xs ys. join op (balanced op xs) (balanced op ys)) first rest
+    ∙ ap₂ (λ xs ys. join op (balanced_join op xs) (balanced_join op ys)) first rest
 
 -- the rest after the first half and the next designs is the rest after all of them
 pub drop_halves : {T : Type 0} (n : ℕ) (designs : List T) → drop (n - n / 2) (drop (n / 2) designs) ≡ drop n designs

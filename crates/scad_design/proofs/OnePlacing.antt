@@ -9,7 +9,7 @@ use Rattle.plane_predicate.proofs.IntegerRing.{sums, zero_mul, mul_comm_ℤ}
 use Rattle.plane_predicate.proofs.SamePlanes.{equal_or_opposite}
 use Rattle.plane_predicate.proofs.Vectors.{value-opposite}
 use Rattle.int_transform.specs.Maps.{map_of}
-use Rattle.primitives.specs.Shapes.{Mesh, corner, IsFace, IsFacePlane}
+use Rattle.primitives.specs.Shapes.{Mesh, corner, IsFaceOfShape, IsPlaneOfFace}
 use Rattle.primitives.specs.Placing.{moved_mesh, distinct_planes}
 use Rattle.primitives.proofs.Distinct.{all_from_distinct}
 use Rattle.primitives.proofs.FacePlanes.{behind_each, body_proportion, far}
@@ -18,11 +18,11 @@ use Rattle.primitives.proofs.OnePlane.{not_zero_below}
 use Rattle.csg_tree.specs.declared.op.Op.{Op}
 use Rattle.csg_tree.specs.Formulas.{Formula, leaf}
 use Rattle.scad_design.specs.Designs.{DesignTree, empty, a_leaf, joined_designs, MovedShape}
-use Rattle.scad_design.specs.Placing.{Placed, placed, unplaced, and_new, joined_placed, AreItsPlanes, IsPlaced, Places, PlacesLeaf, PlacesRight, most_planes}
+use Rattle.scad_design.specs.Placing.{PlacingOutcome, placed, unplaced, and_new, joined_placed, AreItsPlanes, IsPlacedLeaf, Places, PlacesLeaf, PlacesRight, most_planes}
 use Rattle.scad_design.proofs.PartFaults.{Cause, large, far_off, many, cause_of}
 
 -- ---- the plane of a face
-far_behind : (mesh : Mesh) (face : List ℕ) (is : IsFace mesh face) (m : Coefficients) → IsFacePlane mesh face m → value m (corner mesh.points (far mesh face is)) <ℤ pos 0
+far_behind : (mesh : Mesh) (face : List ℕ) (is : IsFaceOfShape mesh face) (m : Coefficients) → IsPlaneOfFace mesh face m → value m (corner mesh.points (far mesh face is)) <ℤ pos 0
 far_behind mesh face is m h = behind_each mesh face is m h (corner mesh.points (far mesh face is)) is.body.behind
 
 no_times : (x y : ℤ) → x ≡ pos 0 → x *ℤ y ≡ pos 0
@@ -32,7 +32,7 @@ times_no : (x y : ℤ) → y ≡ pos 0 → x *ℤ y ≡ pos 0
 times_no x y e = mul_comm_ℤ x y ∙ no_times y x e
 
 -- a point of one plane of a face is on each other one
-points_on : (mesh : Mesh) (face : List ℕ) (is : IsFace mesh face) (m n : Coefficients) → IsFacePlane mesh face m → IsFacePlane mesh face n → HasItsPointsOn m n
+points_on : (mesh : Mesh) (face : List ℕ) (is : IsFaceOfShape mesh face) (m n : Coefficients) → IsPlaneOfFace mesh face m → IsPlaneOfFace mesh face n → HasItsPointsOn m n
 points_on mesh face is m n hm hn = record {
   points = λ p _ e.
       let q = corner mesh.points (far mesh face is) in
@@ -46,7 +46,7 @@ points_on mesh face is m n hm hn = record {
 not_both : (x y : ℤ) → x <ℤ pos 0 → y <ℤ pos 0 → x ≡ neg_ℤ y → ⊥
 not_both x y hx hy e = omega (arith, sums, hx, hy, e)
 
-one_plane : (mesh : Mesh) (face : List ℕ) → IsFace mesh face → (m n : Coefficients) → IsPlane m → IsPlane n → IsFacePlane mesh face m → IsFacePlane mesh face n → m ≡ n
+one_plane : (mesh : Mesh) (face : List ℕ) → IsFaceOfShape mesh face → (m n : Coefficients) → IsPlane m → IsPlane n → IsPlaneOfFace mesh face m → IsPlaneOfFace mesh face n → m ≡ n
 one_plane mesh face is m n pm pn hm hn =
     let q = corner mesh.points (far mesh face is) in
     elim (equal_or_opposite m n pm pn (points_on mesh face is m n hm hn)) [
@@ -54,7 +54,7 @@ one_plane mesh face is m n pm pn hm hn =
       | inr e ↦ absurd (not_both (value m q) (value n q) (far_behind mesh face is m hm) (far_behind mesh face is n hn) (ap (λ (k : Coefficients). value k q) e ∙ value-opposite n q))
     ]
 
-one_list : (mesh : Mesh) (faces : List (List ℕ)) (ms ns : List Coefficients) → All (IsFace mesh) faces → AllZip (IsFacePlane mesh) faces ms → AllZip (IsFacePlane mesh) faces ns →
+one_list : (mesh : Mesh) (faces : List (List ℕ)) (ms ns : List Coefficients) → All (IsFaceOfShape mesh) faces → AllZip (IsPlaneOfFace mesh) faces ms → AllZip (IsPlaneOfFace mesh) faces ns →
     All IsPlane ms → All IsPlane ns → ms ≡ ns
 one_list mesh [] [] [] is hm hn pm pn = refl
 one_list mesh [] [] (n ∷ ns) is hm hn pm pn = absurd hn
@@ -63,8 +63,8 @@ one_list mesh (f ∷ faces) [] ns is hm hn pm pn = absurd hm
 one_list mesh (f ∷ faces) (m ∷ ms) [] is hm hn pm pn = absurd hn
 one_list mesh (f ∷ faces) (m ∷ ms) (n ∷ ns) is hm hn pm pn =
     ap₂ (λ (k : Coefficients) (ks : List Coefficients). k ∷ ks)
-    (one_plane mesh f (All-head (IsFace mesh) f faces is) m n (All-head IsPlane m ms pm) (All-head IsPlane n ns pn) hm.0 hn.0)
-    (one_list mesh faces ms ns (All-tail (IsFace mesh) f faces is) hm.1 hn.1 (All-tail IsPlane m ms pm) (All-tail IsPlane n ns pn))
+    (one_plane mesh f (All-head (IsFaceOfShape mesh) f faces is) m n (All-head IsPlane m ms pm) (All-head IsPlane n ns pn) hm.0 hn.0)
+    (one_list mesh faces ms ns (All-tail (IsFaceOfShape mesh) f faces is) hm.1 hn.1 (All-tail IsPlane m ms pm) (All-tail IsPlane n ns pn))
 
 -- ---- a part
 its_planes : (part : MovedShape) (ms ns : List Coefficients) → AreItsPlanes part ms → AreItsPlanes part ns → ms ≡ ns
@@ -85,7 +85,7 @@ not_many : (part : MovedShape) (known ms ns : List Coefficients) → AreItsPlane
     → length (and_new known ms) ≤ most_planes → most_planes < length (and_new known ns) → ⊥
 not_many part known ms ns hm hn few more = omega (arith, few, more, ap (λ (ps : List Coefficients). length (and_new known ps)) (its_planes part ms ns hm hn))
 
-not_placed : (part : MovedShape) (known planes : List Coefficients) (kind : FaultKind) → IsPlaced part known planes → Cause part known kind → ⊥
+not_placed : (part : MovedShape) (known planes : List Coefficients) (kind : FaultKind) → IsPlacedLeaf part known planes → Cause part known kind → ⊥
 not_placed part known planes kind h (large e not_safe) = not_safe h.safe
 not_placed part known planes kind h (far_off e safe not_near) = not_near h.reach
 not_placed part known planes kind h (many e safe near more are past) = not_many part known planes more h.planes_are are h.few past
@@ -101,7 +101,7 @@ same_cause part known j k (many e s r ps a p) (large f m) = absurd (m s)
 same_cause part known j k (many e s r ps a p) (far_off f t m) = absurd (m r)
 same_cause part known j k (many e s r ps a p) (many f t q qs b c) = e ∙ sym f
 
-one_part : (part : MovedShape) (known : List Coefficients) (out other : Placed) → PlacesLeaf part known out → PlacesLeaf part known other → out ≡ other
+one_part : (part : MovedShape) (known : List Coefficients) (out other : PlacingOutcome) → PlacesLeaf part known out → PlacesLeaf part known other → out ≡ other
 one_part part known (placed s k) (placed t l) h g =
     let same = its_planes part h.0 g.0 h.1.planes_are g.1.planes_are in
     same_placed s t k l (h.2 ∙ ap leaf same ∙ sym g.2) (h.3 ∙ ap (and_new known) same ∙ sym g.3)
@@ -111,9 +111,9 @@ one_part part known (unplaced j a) (unplaced k b) h g = same_unplaced j k a b (s
 
 -- ---- a design
 abbrev HasOne : DesignTree → Type 0
-HasOne design = (known : List Coefficients) (out other : Placed) → Places design known out → Places design known other → out ≡ other
+HasOne design = (known : List Coefficients) (out other : PlacingOutcome) → Places design known out → Places design known other → out ≡ other
 
-one_right : (op : Op) (right : DesignTree) → HasOne right → (first out other : Placed) → PlacesRight (Places right) op first out → PlacesRight (Places right) op first other → out ≡ other
+one_right : (op : Op) (right : DesignTree) → HasOne right → (first out other : PlacingOutcome) → PlacesRight (Places right) op first out → PlacesRight (Places right) op first other → out ≡ other
 one_right op right one (placed tree known) out other h g = h.2 ∙ ap (joined_placed op tree) (one known h.0 g.0 h.1 g.1) ∙ sym g.2
 one_right op right one (unplaced kind at) out other h g = h ∙ sym g
 
@@ -122,4 +122,4 @@ one_placing empty known out other h g = h ∙ sym g
 one_placing (a_leaf part) known out other h g = one_part part known out other h g
 one_placing (joined_designs op left right) known out other h g =
     let same = one_placing left known g.0 h.0 g.1 h.1 in
-    one_right op right (one_placing right) h.0 out other h.2 (subst (λ (first : Placed). PlacesRight (Places right) op first other) same g.2)
+    one_right op right (one_placing right) h.0 out other h.2 (subst (λ (first : PlacingOutcome). PlacesRight (Places right) op first other) same g.2)

@@ -4,7 +4,7 @@ use Rattle.std.proofs.Common.{ℕ, ◌+◌, ◌≤◌, ◌<◌, ◌^◌, List, [
 use Rattle.std.specs.List.{AllZip}
 use Rattle.plane_predicate.specs.Space.{Coefficients}
 use Rattle.int_transform.specs.Maps.{map_of}
-use Rattle.primitives.specs.Shapes.{Mesh, IsFacePlane, IsShape}
+use Rattle.primitives.specs.Shapes.{Mesh, IsPlaneOfFace, IsShape}
 use Rattle.primitives.specs.Placing.{moved_mesh, MeetsReach}
 use Rattle.primitives.proofs.Distinct.{some_distinct}
 use Rattle.primitives.proofs.Transforms.{planes_meet_reach}
@@ -13,18 +13,18 @@ use Rattle.csg_tree.specs.Formulas.{Formula, leaf}
 use Rattle.csg_tree.specs.Joins.{join_of}
 use Rattle.csg_tree.specs.ProperTrees.{subtrees, IsProper}
 use Rattle.scad_design.specs.Designs.{DesignTree, empty, a_leaf, joined_designs, MovedShape}
-use Rattle.scad_design.specs.Placing.{Placed, placed, unplaced, joined_placed, IsPlaced, Places, PlacesRight}
-use Rattle.scad_design.specs.Trees.{pieces_in, IsPlacedAs, IsSound}
+use Rattle.scad_design.specs.Placing.{PlacingOutcome, placed, unplaced, joined_placed, IsPlacedLeaf, Places, PlacesRight}
+use Rattle.scad_design.specs.Trees.{pieces_in, IsPlacedAs, IsSoundDesign}
 use Rattle.scad_design.proofs.FacePlanes.{images_are_in_reach}
 use Rattle.scad_design.proofs.FullTrees.{few_joined}
 
 -- ---- a leaf
-some_planes : (mesh : Mesh) (faces : List (List ℕ)) (all : List Coefficients) → AllZip (IsFacePlane mesh) faces all → 0 < length faces → 0 < length all
+some_planes : (mesh : Mesh) (faces : List (List ℕ)) (all : List Coefficients) → AllZip (IsPlaneOfFace mesh) faces all → 0 < length faces → 0 < length all
 some_planes mesh [] all h lt = absurd (omega (arith, lt))
 some_planes mesh (face ∷ faces) [] h lt = absurd h
 some_planes mesh (face ∷ faces) (m ∷ all) h lt = omega arith
 
-proper_leaf : (part : MovedShape) (known planes : List Coefficients) → IsShape part.mesh → IsPlaced part known planes → IsProper (leaf planes)
+proper_leaf : (part : MovedShape) (known planes : List Coefficients) → IsShape part.mesh → IsPlacedLeaf part known planes → IsProper (leaf planes)
 proper_leaf part known planes shape is =
     let f = map_of part.steps in
     let mesh = moved_mesh f part.mesh in
@@ -43,25 +43,25 @@ record IsSmall (pieces : ℕ) (tree : Formula) : Type 0 where
   pub proper : IsProper tree
   pub few : subtrees tree ≤ pieces
 
-abbrev IsSmallPlaced : ℕ → Placed → Type 0
+abbrev IsSmallPlaced : ℕ → PlacingOutcome → Type 0
 IsSmallPlaced pieces (placed tree known) = IsSmall pieces tree
 IsSmallPlaced pieces (unplaced kind at) = Unit {0}
 
 module _ (joins : (op : Op) (left right : Formula) → IsProper left → IsProper right → 1 + subtrees left + subtrees right < 2 ^ 32 → IsProper (join_of op left right)) where
-  small_join : (op : Op) (m n : ℕ) (first : Formula) (next : Placed) → 1 + m + n < 2 ^ 32 → IsSmall m first → IsSmallPlaced n next → IsSmallPlaced (1 + m + n) (joined_placed op first next)
+  small_join : (op : Op) (m n : ℕ) (first : Formula) (next : PlacingOutcome) → 1 + m + n < 2 ^ 32 → IsSmall m first → IsSmallPlaced n next → IsSmallPlaced (1 + m + n) (joined_placed op first next)
   small_join op m n first (placed second known) few h g = record {
     proper = joins op first second h.proper g.proper (omega (arith, few, h.few, g.few));
     few = few_joined op first second (join_of op first second) m n refl h.few g.few;
   }
   small_join op m n first (unplaced kind at) few h g = tt
 
-  small_right : (op : Op) (right : DesignTree) (m n : ℕ) (first out : Placed) → 1 + m + n < 2 ^ 32 → IsSmallPlaced m first →
-      ((known : List Coefficients) (next : Placed) → Places right known next → IsSmallPlaced n next) → PlacesRight (Places right) op first out → IsSmallPlaced (1 + m + n) out
+  small_right : (op : Op) (right : DesignTree) (m n : ℕ) (first out : PlacingOutcome) → 1 + m + n < 2 ^ 32 → IsSmallPlaced m first →
+      ((known : List Coefficients) (next : PlacingOutcome) → Places right known next → IsSmallPlaced n next) → PlacesRight (Places right) op first out → IsSmallPlaced (1 + m + n) out
   small_right op right m n (placed tree known) out few h small r =
       subst (IsSmallPlaced (1 + m + n)) (sym r.2) (small_join op m n tree r.0 few h (small known r.0 r.1))
   small_right op right m n (unplaced kind at) out few h small r = subst (IsSmallPlaced (1 + m + n)) (sym r) tt
 
-  small_placed : (design : DesignTree) (known : List Coefficients) (out : Placed) → IsSound design → pieces_in design < 2 ^ 32 → Places design known out → IsSmallPlaced (pieces_in design) out
+  small_placed : (design : DesignTree) (known : List Coefficients) (out : PlacingOutcome) → IsSoundDesign design → pieces_in design < 2 ^ 32 → Places design known out → IsSmallPlaced (pieces_in design) out
   small_placed empty known out sound few h =
       subst (IsSmallPlaced 1) (sym h) (record { proper = record { leaves = tt; joins = tt; few = omega arith }; few = omega arith })
   small_placed (a_leaf part) known (placed tree now) sound few h =
@@ -71,5 +71,5 @@ module _ (joins : (op : Op) (left right : Formula) → IsProper left → IsPrope
       small_right op right (pieces_in left) (pieces_in right) h.0 out few (small_placed left known h.0 sound.0 (omega (arith, few)) h.1)
       (λ known next there. small_placed right known next sound.1 (omega (arith, few)) there) h.2
 
-  pub proper_placed : (design : DesignTree) (tree : Formula) → IsSound design → pieces_in design < 2 ^ 32 → IsPlacedAs design tree → IsProper tree
+  pub proper_placed : (design : DesignTree) (tree : Formula) → IsSoundDesign design → pieces_in design < 2 ^ 32 → IsPlacedAs design tree → IsProper tree
   proper_placed design tree sound few h = (small_placed design [] (placed tree h.0) sound few h.1).proper

@@ -12,8 +12,8 @@ use Rattle.primitives.proofs.Transforms.{faces_after}
 use Rattle.csg_tree.specs.declared.op.Op.{Op}
 use Rattle.csg_tree.specs.Formulas.{nothing, leaf}
 use Rattle.scad_design.specs.Designs.{DesignTree, empty, a_leaf, joined_designs, MovedShape}
-use Rattle.scad_design.specs.Placing.{Placed, placed, unplaced, and_new, joined_placed, AreItsPlanes, EndsInReach, Places, PlacesLeaf, PlacesRight, StaysSafe, most_planes}
-use Rattle.scad_design.specs.Trees.{AreRegular, IsSound}
+use Rattle.scad_design.specs.Placing.{PlacingOutcome, placed, unplaced, and_new, joined_placed, AreItsPlanes, EndsInReach, Places, PlacesLeaf, PlacesRight, StaysSafe, most_planes}
+use Rattle.scad_design.specs.Trees.{AreRegular, IsSoundDesign}
 use Rattle.scad_design.proofs.Deciding.{Decided, decided_by, decided_both, decided_at_most, decided_less_ℤ, decided_all, decided_all_below, at_most_or_more}
 use Rattle.scad_design.proofs.FacePlanes.{images_are_in_reach, some_face_planes}
 
@@ -64,13 +64,13 @@ decided_near part = decided_all (λ p. IsInReach (image (map_of part.steps) (poi
 more_than : (n : ℕ) → (n ≤ most_planes → ⊥) → most_planes < n
 more_than n h = ⊎_elim (λ k. absurd (h k)) (λ k. k) (at_most_or_more n most_planes)
 
-with_planes : (part : MovedShape) (known planes : List Coefficients) → StaysSafe part → EndsInReach part → AreItsPlanes part planes → (out : Placed) × PlacesLeaf part known out
+with_planes : (part : MovedShape) (known planes : List Coefficients) → StaysSafe part → EndsInReach part → AreItsPlanes part planes → (out : PlacingOutcome) × PlacesLeaf part known out
 with_planes part known planes safe reach are =
     ⊎_elim (λ few. (placed (leaf planes) (and_new known planes), (planes, record { safe = safe; reach = reach; planes_are = are; few = few }, refl, refl)))
     (λ more. (unplaced TooManyPlanes part.at, ((safe, reach, (planes, are, more_than (length (and_new known planes)) more)), refl)))
     (decided_at_most (length (and_new known planes)) most_planes)
 
-some_part : (part : MovedShape) (known : List Coefficients) → IsShape part.mesh → AreRegular part.steps → (out : Placed) × PlacesLeaf part known out
+some_part : (part : MovedShape) (known : List Coefficients) → IsShape part.mesh → AreRegular part.steps → (out : PlacingOutcome) × PlacesLeaf part known out
 some_part part known shape regular =
     ⊎_elim (λ safe.
     ⊎_elim (λ reach. let planes = some_planes part shape regular reach in with_planes part known planes.0 safe reach planes.1)
@@ -80,11 +80,11 @@ some_part part known shape regular =
     (decided_safe part)
 
 -- ---- a design
-some_right : (op : Op) (right : List Coefficients → Placed → Type 0) → ((known : List Coefficients) → (out : Placed) × right known out) → (first : Placed) → (out : Placed) × PlacesRight right op first out
+some_right : (op : Op) (right : List Coefficients → PlacingOutcome → Type 0) → ((known : List Coefficients) → (out : PlacingOutcome) × right known out) → (first : PlacingOutcome) → (out : PlacingOutcome) × PlacesRight right op first out
 some_right op right some (unplaced kind at) = (unplaced kind at, refl)
 some_right op right some (placed tree known) = let next = some known in (joined_placed op tree next.0, (next.0, next.1, refl))
 
-pub some_placing : (design : DesignTree) (known : List Coefficients) → IsSound design → (out : Placed) × Places design known out
+pub some_placing : (design : DesignTree) (known : List Coefficients) → IsSoundDesign design → (out : PlacingOutcome) × Places design known out
 some_placing empty known h = (placed nothing known, refl)
 some_placing (a_leaf part) known h = some_part part known h.0 h.1
 some_placing (joined_designs op left right) known h =

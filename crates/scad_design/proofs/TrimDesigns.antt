@@ -7,7 +7,7 @@ use Rattle.std.proofs.lemmas.List.Elements.{All-cons, All-head, All-nil, All-tai
 use Rattle.int_transform.specs.declared.affine.Affine.{Affine}
 use Rattle.csg_tree.specs.declared.op.Op.{Op}
 use Rattle.csg_tree.specs.declared.op.Op.TheVariants.{Union, Intersection, Difference}
-use Rattle.scad_design.specs.Designs.{DesignTree, empty, a_leaf, joined_designs, join, designs_within, balanced, join_children, moved_by}
+use Rattle.scad_design.specs.Designs.{DesignTree, empty, a_leaf, joined_designs, join, designs_within, balanced_join, join_children, moved_by}
 use Rattle.scad_design.specs.Trees.{leaf_count, pieces_in, IsPresent, IsTrim}
 
 trim_join : (op : Op) (left right : DesignTree) → IsTrim left → IsTrim right → IsTrim (join op left right)
@@ -95,15 +95,15 @@ trim_grouped Union designs h = trim_within (length designs) Union designs h
 trim_grouped Intersection designs h = trim_within (length designs) Intersection designs h
 trim_grouped Difference [] h = tt
 trim_grouped Difference (d ∷ designs) h =
-    trim_join Difference d (balanced Union designs) (All-head IsTrim d designs h) (trim_within (length designs) Union designs (All-tail IsTrim d designs h))
+    trim_join Difference d (balanced_join Union designs) (All-head IsTrim d designs h) (trim_within (length designs) Union designs (All-tail IsTrim d designs h))
 
 pub parts_grouped : (op : Op) (designs : List DesignTree) → leaf_count (join_children op designs) ≤ sum_by leaf_count designs
 parts_grouped Union designs = parts_within (length designs) Union designs
 parts_grouped Intersection designs = parts_within (length designs) Intersection designs
 parts_grouped Difference [] = omega arith
 parts_grouped Difference (d ∷ designs) =
-    let both : leaf_count (join Difference d (balanced Union designs)) ≤ sum_by leaf_count (d ∷ designs) =
-    omega (arith, parts_join Difference d (balanced Union designs), parts_within (length designs) Union designs, sum_by-cons leaf_count d designs) in
+    let both : leaf_count (join Difference d (balanced_join Union designs)) ≤ sum_by leaf_count (d ∷ designs) =
+    omega (arith, parts_join Difference d (balanced_join Union designs), parts_within (length designs) Union designs, sum_by-cons leaf_count d designs) in
     both
 
 present_moved : (steps : List Affine) (design : DesignTree) → IsPresent design → IsPresent (moved_by steps design)

@@ -41,14 +41,14 @@ designs_within (suc depth) op (design ∷ next ∷ designs) =
 
 -- designs joined by halves: none is empty, one itself, and more the join of the first half of them, rounded down, and the
 -- rest
-abbrev pub balanced : Op → List DesignTree → DesignTree
-balanced op designs = designs_within (length designs) op designs
+abbrev pub balanced_join : Op → List DesignTree → DesignTree
+balanced_join op designs = designs_within (length designs) op designs
 
 -- children joined by an operation; a difference is the first without the others
 abbrev pub join_children : Op → List DesignTree → DesignTree
 join_children Difference [] = empty
-join_children Difference (first ∷ others) = join Difference first (balanced Union others)
-join_children op designs = balanced op designs
+join_children Difference (first ∷ others) = join Difference first (balanced_join Union others)
+join_children op designs = balanced_join op designs
 
 -- steps at the end of those of each leaf
 abbrev pub moved_by : List Affine → DesignTree → DesignTree

@@ -6,7 +6,7 @@ use Rattle.text_place.specs.declared.fault.FaultKind.{FaultKind}
 use Rattle.text_place.specs.declared.fault.FaultKind.TheVariants.{TooLarge, OutOfRange, TooManyPlanes}
 use Rattle.plane_predicate.specs.Space.{Coefficients, point_at, opposite_of, is_same, IsInReach, IsPlane}
 use Rattle.int_transform.specs.Maps.{map_of, image, StaysInRange}
-use Rattle.primitives.specs.Shapes.{IsFace}
+use Rattle.primitives.specs.Shapes.{IsFaceOfShape}
 use Rattle.primitives.specs.Placing.{moved_mesh, ArePlanesOf}
 use Rattle.csg_tree.specs.declared.op.Op.{Op}
 use Rattle.csg_tree.specs.Formulas.{Formula, nothing, leaf}
@@ -39,20 +39,20 @@ EndsInReach part = All (λ point. IsInReach (image (map_of part.steps) (point_at
 -- body behind it
 pub record AreItsPlanes (part : MovedShape) (planes : List Coefficients) : Type 0 where
   pub reduced : All IsPlane planes
-  pub solid : All (IsFace (moved_mesh (map_of part.steps) part.mesh)) part.mesh.faces
+  pub solid : All (IsFaceOfShape (moved_mesh (map_of part.steps) part.mesh)) part.mesh.faces
   pub faces : ArePlanesOf (moved_mesh (map_of part.steps) part.mesh) part.mesh.faces planes
 
 -- what placing gives: the tree with the distinct planes so far, or the first fault
-pub data Placed : Type 0 where
-  placed : (tree : Formula) → (known : List Coefficients) → Placed
-  unplaced : (kind : FaultKind) → (at : Place) → Placed
+pub data PlacingOutcome : Type 0 where
+  placed : (tree : Formula) → (known : List Coefficients) → PlacingOutcome
+  unplaced : (kind : FaultKind) → (at : Place) → PlacingOutcome
 
 -- the most distinct planes of a tree, up to orientation
 abbrev pub most_planes : ℕ
 most_planes = 1024
 
 -- a leaf, behind the distinct planes of those before it
-pub record IsPlaced (part : MovedShape) (known : List Coefficients) (planes : List Coefficients) : Type 0 where
+pub record IsPlacedLeaf (part : MovedShape) (known : List Coefficients) (planes : List Coefficients) : Type 0 where
   pub safe : StaysSafe part
   pub reach : EndsInReach part
   pub planes_are : AreItsPlanes part planes
@@ -69,23 +69,23 @@ IsPlacingFault part known TooManyPlanes =
 IsPlacingFault part known kind = ⊥
 
 -- a leaf by itself
-abbrev pub PlacesLeaf : MovedShape → List Coefficients → Placed → Type 0
+abbrev pub PlacesLeaf : MovedShape → List Coefficients → PlacingOutcome → Type 0
 PlacesLeaf part known (placed tree now) =
-    (planes : List Coefficients) × IsPlaced part known planes × (tree ≡ leaf planes) × (now ≡ and_new known planes)
+    (planes : List Coefficients) × IsPlacedLeaf part known planes × (tree ≡ leaf planes) × (now ≡ and_new known planes)
 PlacesLeaf part known (unplaced kind at) = IsPlacingFault part known kind × (at ≡ part.at)
 
 -- the right side of a join, behind the left one
-abbrev pub joined_placed : Op → Formula → Placed → Placed
+abbrev pub joined_placed : Op → Formula → PlacingOutcome → PlacingOutcome
 joined_placed op left (placed right known) = placed (join_of op left right) known
 joined_placed op left (unplaced kind at) = unplaced kind at
 
 -- the right side of a join, behind what placing the left one gave
-abbrev pub PlacesRight : (List Coefficients → Placed → Type 0) → Op → Placed → Placed → Type 0
+abbrev pub PlacesRight : (List Coefficients → PlacingOutcome → Type 0) → Op → PlacingOutcome → PlacingOutcome → Type 0
 PlacesRight right op (unplaced kind at) out = out ≡ unplaced kind at
-PlacesRight right op (placed tree known) out = (next : Placed) × right known next × (out ≡ joined_placed op tree next)
+PlacesRight right op (placed tree known) out = (next : PlacingOutcome) × right known next × (out ≡ joined_placed op tree next)
 
 -- the leaves of a design from left to right, behind the distinct planes of those before them
-abbrev pub Places : DesignTree → List Coefficients → Placed → Type 0
+abbrev pub Places : DesignTree → List Coefficients → PlacingOutcome → Type 0
 Places empty known out = out ≡ placed nothing known
 Places (a_leaf part) known out = PlacesLeaf part known out
-Places (joined_designs op left right) known out = (first : Placed) × Places left known first × PlacesRight (Places right) op first out
+Places (joined_designs op left right) known out = (first : PlacingOutcome) × Places left known first × PlacesRight (Places right) op first out

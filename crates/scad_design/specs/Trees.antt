@@ -42,6 +42,7 @@ IsPresent empty = ⊥
 IsPresent (a_leaf part) = Unit {0}
 IsPresent (joined_designs op left right) = Unit {0}
 
+-- a design in which no join has an empty side
 abbrev pub IsTrim : DesignTree → Type 0
 IsTrim empty = Unit {0}
 IsTrim (a_leaf part) = Unit {0}
@@ -52,10 +53,10 @@ abbrev pub AreRegular : List Affine → Type 0
 AreRegular steps = All (λ step. determinant_of step ≡ pos 0 → ⊥) steps
 
 -- a design of shapes, moved by steps that are not singular
-abbrev pub IsSound : DesignTree → Type 0
-IsSound empty = Unit {0}
-IsSound (a_leaf part) = IsShape part.mesh × AreRegular part.steps
-IsSound (joined_designs op left right) = IsSound left × IsSound right
+abbrev pub IsSoundDesign : DesignTree → Type 0
+IsSoundDesign empty = Unit {0}
+IsSoundDesign (a_leaf part) = IsShape part.mesh × AreRegular part.steps
+IsSoundDesign (joined_designs op left right) = IsSoundDesign left × IsSoundDesign right
 
 -- a stop of a leaf by itself: its first fault, whatever planes were there before it, or want of memory
 abbrev pub IsRangeStop : MovedShape → Stop → Type 0
@@ -67,6 +68,6 @@ abbrev pub IsPlacedAs : DesignTree → Formula → Type 0
 IsPlacedAs design tree = (now : List Coefficients) × Places design [] (placed tree now)
 
 -- a tree whose leaves and joins are full
-pub record IsFull (tree : Formula) : Type 0 where
+pub record IsFullTree (tree : Formula) : Type 0 where
   pub leaves : HasFullLeaves tree
   pub joins : HasFullJoins tree

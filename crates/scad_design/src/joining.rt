@@ -4,7 +4,7 @@ ghost use Rattle.std.specs.Prelude.{◌≡◌, ◌≤◌, ◌<◌, IfOk, OnOk, m
 ghost use Rattle.std.specs.Vec.Iter.{into_iter_items};
 ghost use Rattle.csg_tree.specs.declared.op.Op.{Op};
 ghost use Rattle.csg_tree.specs.declared.op.Op.TheVariants.{Difference};
-ghost use Rattle.scad_design.specs.Designs.{join, balanced, join_children};
+ghost use Rattle.scad_design.specs.Designs.{join, balanced_join, join_children};
 ghost use Rattle.scad_design.specs.View.{plain_of};
 
 use crate::design::Design;
@@ -34,8 +34,8 @@ pub(crate) fn join(alloc: Global, op: Op, left: Design, right: Design) -> Result
 
 /// Designs joined by halves: none gives the empty one, one gives itself, and more give the join of the
 /// first half of them, rounded down, and the rest. At `NoMemory` all designs are dropped.
-pub fn balanced(alloc: Global, op: Op, list: Vec<Design>) -> Result<Design, NoMemory>
-    ensures { IfOk result (λ design. plain_of design ≡ balanced op (map plain_of list.items)) }
+pub fn balanced_join(alloc: Global, op: Op, list: Vec<Design>) -> Result<Design, NoMemory>
+    ensures { IfOk result (λ design. plain_of design ≡ balanced_join op (map plain_of list.items)) }
 {
     let count = list.len();
     let mut designs = list.into_iter();
@@ -48,8 +48,8 @@ pub fn join_children(alloc: Global, op: Op, list: Vec<Design>) -> Result<Design,
     ensures { IfOk result (λ design. plain_of design ≡ join_children op (map plain_of list.items)) }
 {
     match op {
-        Op::Union => balanced(alloc, Op::Union, list),
-        Op::Intersection => balanced(alloc, Op::Intersection, list),
+        Op::Union => balanced_join(alloc, Op::Union, list),
+        Op::Intersection => balanced_join(alloc, Op::Intersection, list),
         Op::Difference => without_others(alloc, list),
     }
 }
@@ -80,7 +80,7 @@ fn join_next(
     requires { count ≤ length (into_iter_items designs.old) }
     ensures rest { OnOk result (into_iter_items designs.new
         ≡ drop count (into_iter_items designs.old)) }
-    ensures joined { IfOk result (λ design. plain_of design ≡ balanced op
+    ensures joined { IfOk result (λ design. plain_of design ≡ balanced_join op
         (map plain_of (take count (into_iter_items designs.old)))) }
 {
     if count < 2 {
@@ -98,7 +98,7 @@ fn next_or_empty(designs: &mut IntoIter<Design>, count: usize) -> Design
     requires within { count ≤ length (into_iter_items designs.old) }
     ensures rest { into_iter_items designs.new ≡ drop count (into_iter_items designs.old) }
     ensures next { (by : Op) →
-        plain_of result ≡ balanced by (map plain_of (take count (into_iter_items designs.old))) }
+        plain_of result ≡ balanced_join by (map plain_of (take count (into_iter_items designs.old))) }
 {
     if count == 0 {
         return Design::Empty;

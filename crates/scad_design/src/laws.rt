@@ -8,9 +8,9 @@ ghost use Rattle.csg_tree.specs.declared.op.Op.{Op};
 ghost use Rattle.csg_tree.specs.Formulas.{Formula};
 ghost use Rattle.csg_tree.specs.Joins.{balanced_of, join_of};
 ghost use Rattle.csg_tree.specs.ProperTrees.{IsProper};
-ghost use Rattle.scad_design.specs.Designs.{DesignTree, balanced, join_children, join, moved_by};
-ghost use Rattle.scad_design.specs.Placing.{Placed, placed, Places};
-ghost use Rattle.scad_design.specs.Trees.{leaf_count, pieces_in, IsPlacedAs, IsSound, IsTreeOf, IsTrim};
+ghost use Rattle.scad_design.specs.Designs.{DesignTree, balanced_join, join_children, join, moved_by};
+ghost use Rattle.scad_design.specs.Placing.{PlacingOutcome, placed, Places};
+ghost use Rattle.scad_design.specs.Trees.{leaf_count, pieces_in, IsPlacedAs, IsSoundDesign, IsTreeOf, IsTrim};
 
 use csg_tree::joins_are_proper;
 
@@ -23,27 +23,27 @@ pub fn joins_of_designs_are_joins_of_trees()
         IsTreeOf left first → IsTreeOf right second →
         IsTreeOf (join op left right) (join_of op first second) }
     ensures halves { (op : Op) (designs : List DesignTree) (trees : List Formula) →
-        AllZip IsTreeOf designs trees → IsTreeOf (balanced op designs) (balanced_of op trees) }
+        AllZip IsTreeOf designs trees → IsTreeOf (balanced_join op designs) (balanced_of op trees) }
     ensures moves { (steps : List Affine) (op : Op) (designs : List DesignTree) →
-        moved_by steps (balanced op designs) ≡ balanced op (map (moved_by steps) designs) }
+        moved_by steps (balanced_join op designs) ≡ balanced_join op (map (moved_by steps) designs) }
 {}
 
 /// A design has at most one placing.
 pub fn one_placing()
-    ensures { (design : DesignTree) (known : List Coefficients) (out other : Placed) →
+    ensures { (design : DesignTree) (known : List Coefficients) (out other : PlacingOutcome) →
         Places design known out → Places design known other → out ≡ other }
 {}
 
 /// A design of shapes, moved by steps that are not singular, has a placing: a tree, or a first fault.
 pub fn some_placing()
-    ensures { (design : DesignTree) (known : List Coefficients) → IsSound design → (out : Placed)
+    ensures { (design : DesignTree) (known : List Coefficients) → IsSoundDesign design → (out : PlacingOutcome)
         × Places design known out }
 {}
 
 /// A placed design of shapes has a proper tree, where it has fewer than 2^32 pieces: each leaf has planes, which have the
 /// numbers of a plane and come in reach, and no join has an empty side.
 pub fn placed_trees_are_proper()
-    ensures { (design : DesignTree) (tree : Formula) → IsSound design → pieces_in design < 2 ^ 32 →
+    ensures { (design : DesignTree) (tree : Formula) → IsSoundDesign design → pieces_in design < 2 ^ 32 →
         IsPlacedAs design tree → IsProper tree }
 {
     // Brings a law alone: joins of proper trees are proper.

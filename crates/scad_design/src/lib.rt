@@ -9,7 +9,7 @@ mod leaf_shape;
 mod placing;
 
 pub use design::Design;
-pub use joining::{balanced, join_children};
+pub use joining::{balanced_join, join_children};
 pub use laws::{
     designs_stay_trim, joins_of_designs_are_joins_of_trees, one_placing, placed_trees_are_proper,
     some_placing,

@@ -1,14 +1,14 @@
 //! The trees of designs in world position.
 
 ghost use Rattle.std.specs.Prelude.{◌<◌, ◌≤◌, ◌^◌, All, IfOk, IfErr, OnOk, length, []};
-ghost use Rattle.primitives.specs.Shapes.{IsFace};
+ghost use Rattle.primitives.specs.Shapes.{IsFaceOfShape};
 ghost use Rattle.primitives.specs.Placing.{moved_mesh, ArePlanesOf, MeetsReach};
 ghost use Rattle.int_transform.specs.Maps.{map_of};
 ghost use Rattle.csg_tree.specs.ProperTrees.{IsProper, subtrees};
 ghost use Rattle.csg_tree.specs.Trees.{formula_of};
 ghost use Rattle.scad_design.specs.Designs.{a_leaf};
 ghost use Rattle.scad_design.specs.Placing.{placed, EndsInReach, Places, StaysSafe};
-ghost use Rattle.scad_design.specs.Trees.{pieces_in, IsFull, IsPlacedAs, IsRangeStop, IsStopOf};
+ghost use Rattle.scad_design.specs.Trees.{pieces_in, IsFullTree, IsPlacedAs, IsRangeStop, IsStopOf};
 ghost use Rattle.scad_design.specs.View.{plain_of};
 
 use crate::design::Design;
@@ -49,7 +49,7 @@ fn place_after(
     ensures tree { IfOk result (λ tree. Places (plain_of design.now) known.old.keys
         (placed (formula_of tree) known.new.keys)) }
     ensures stop { IfErr result (IsStopOf (plain_of design.now) known.old.keys) }
-    ensures full { IfOk result (λ tree. IsFull (formula_of tree)) }
+    ensures full { IfOk result (λ tree. IsFullTree (formula_of tree)) }
     ensures few { IfOk result (λ tree. subtrees (formula_of tree)
         ≤ pieces_in (plain_of design.now)) }
 {
@@ -73,7 +73,7 @@ fn place_leaf(
     ensures tree { IfOk result (λ tree. Places (a_leaf part.now) known.old.keys
         (placed (formula_of tree) known.new.keys)) }
     ensures stop { IfErr result (IsStopOf (a_leaf part.now) known.old.keys) }
-    ensures full { IfOk result (λ tree. IsFull (formula_of tree)) }
+    ensures full { IfOk result (λ tree. IsFullTree (formula_of tree)) }
     ensures few { IfOk result (λ tree. subtrees (formula_of tree) ≤ 1) }
 {
     let planes = planes_of(alloc, part)?;
@@ -88,7 +88,7 @@ fn place_leaf(
 fn planes_of(alloc: Global, part: &LeafShape) -> Result<Vec<Plane>, Stop>
     ensures faces { IfOk result (λ v. ArePlanesOf (moved_mesh (map_of part.now.steps) part.now.mesh)
         part.now.mesh.faces v.items) }
-    ensures solid { OnOk result (All (IsFace (moved_mesh (map_of part.now.steps) part.now.mesh))
+    ensures solid { OnOk result (All (IsFaceOfShape (moved_mesh (map_of part.now.steps) part.now.mesh))
         part.now.mesh.faces) }
     ensures some { IfOk result (λ v. 0 < length v.items) }
     ensures meet { IfOk result (λ v. All MeetsReach v.items) }

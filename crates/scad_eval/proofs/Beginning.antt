@@ -4,7 +4,7 @@ use Rattle.scad_value.specs.Values.{Val}
 use Rattle.scad_scope.specs.Names.{Pairs}
 use Rattle.scad_scope.specs.Table.{bindings_of}
 use Rattle.scad_func.specs.Limits.{most_calls}
-use Rattle.scad_func.specs.Evaluations.{Keeps, OneCallDeeper, OneEvaluationDeeper, MoreBindings}
+use Rattle.scad_func.specs.Evaluations.{KeepsEvaluation, OneCallDeeper, OneEvaluationDeeper, MoreBindings}
 use Rattle.scad_func.specs.declared.evaluation.Evaluation.{Evaluation}
 use Rattle.scad_instances.specs.declared.position.Position.{Position}
 use Rattle.scad_eval.specs.declared.evaluator.InstanceEvaluator.{InstanceEvaluator}
@@ -18,7 +18,7 @@ pub deeper_context : (old new : InstanceEvaluator) (position : Position) → One
 deeper_context old new position b =
     context_from old new position (most_calls - old.evaluation.calls) (bindings_of old.evaluation.scopes.now) b.source b.rows b.stands (ap (λ n. most_calls - n) b.calls) b.bindings
 
-pub evaluation_kept : {first old new : Evaluation} → OneEvaluationDeeper first old → Keeps old new → OneEvaluationDeeper first new
+pub evaluation_kept : {first old new : Evaluation} → OneEvaluationDeeper first old → KeepsEvaluation old new → OneEvaluationDeeper first new
 evaluation_kept b k = record {
   source = k.source ∙ b.source;
   lent = k.lent ∙ b.lent;
@@ -36,7 +36,7 @@ pub call_context : (old new : InstanceEvaluator) (position : Position) → OneCa
 call_context old new position b =
     context_from old new position (most_calls - (old.evaluation.calls + 1)) (bindings_of old.evaluation.scopes.now) b.source b.rows b.stands (ap (λ n. most_calls - n) b.calls) b.bindings
 
-pub call_kept : {first old new : Evaluation} → OneCallDeeper first old → Keeps old new → OneCallDeeper first new
+pub call_kept : {first old new : Evaluation} → OneCallDeeper first old → KeepsEvaluation old new → OneCallDeeper first new
 call_kept b k = record {
   source = k.source ∙ b.source;
   lent = k.lent ∙ b.lent;
@@ -56,7 +56,7 @@ specials_context old new position count dynamic b bindings =
     context_from old new position (most_calls - old.evaluation.calls) (dynamic ++ bindings_of old.evaluation.scopes.now) b.source b.rows b.stands (ap (λ n. most_calls - n) b.calls) bindings
 
 -- they are there to be taken from it
-pub specials_there : (count : ℕ) (dynamic : Pairs Val) {first old new : Evaluation} → Keeps old new → MoreBindings first old count
+pub specials_there : (count : ℕ) (dynamic : Pairs Val) {first old new : Evaluation} → KeepsEvaluation old new → MoreBindings first old count
     → bindings_of old.scopes.now ≡ dynamic ++ bindings_of first.scopes.now → count ≤ length (bindings_of new.scopes.now)
 specials_there count dynamic {first = first} k b bindings =
     omega (arith, b.number, ap length (k.bindings ∙ bindings), length-append dynamic (bindings_of first.scopes.now))

@@ -3,7 +3,7 @@ use Rattle.std.proofs.Common.{◌≡◌, ℕ, ◌+◌, ◌<◌, List, ◌∷◌,
 use Rattle.std.proofs.lemmas.List.{at_drop_more}
 use Rattle.text_place.specs.declared.fault.Stop.{Stop}
 use Rattle.scad_value.specs.Values.{Val}
-use Rattle.scad_definitions.specs.Blocks.{Assigned}
+use Rattle.scad_definitions.specs.Blocks.{SourceAssignment}
 use Rattle.scad_definitions.specs.declared.text.Assignment.{Assignment}
 use Rattle.scad_definitions.specs.TextView.{assigned_of}
 use Rattle.scad_func.specs.Meaning.{Outcome, Gives, Faults, then_with}
@@ -12,7 +12,7 @@ use Rattle.scad_instances.specs.Seen.{HasOutcome}
 use Rattle.scad_eval.proofs.Outcomes.{along, stop_outcome}
 
 -- one assignment behind another
-assigned_then : (evaluations : ℕ) (here : Context) (a : Assigned) (as_ : List Assigned) (out : Outcome Val)
+assigned_then : (evaluations : ℕ) (here : Context) (a : SourceAssignment) (as_ : List SourceAssignment) (out : Outcome Val)
     → then_with out (λ turns v. each_assigned evaluations (with_assignment a v here) as_ turns)
     ≡ then_with (then_with out (λ turns v. Gives turns (with_assignment a v here))) (λ turns there. each_assigned evaluations there as_ turns)
 assigned_then evaluations here a as_ (Gives turns v) = refl

@@ -8,14 +8,14 @@ use Rattle.scad_scope.specs.Table.{rows_of, bindings_of}
 use Rattle.scad_func.specs.Limits.{most_calls, most_evaluations}
 use Rattle.scad_func.specs.Meaning.{Env, Setting}
 use Rattle.scad_func.specs.View.{env_seen}
-use Rattle.scad_func.specs.Evaluations.{Keeps, SameSetting, env_here}
+use Rattle.scad_func.specs.Evaluations.{KeepsEvaluation, SameSetting, env_here}
 use Rattle.scad_func.specs.declared.source.Source.{Source}
 use Rattle.scad_meaning.specs.declared.extrusion.Extrusion.{Extrusion}
 use Rattle.scad_instances.specs.declared.position.Position.{Position}
 use Rattle.scad_eval.specs.declared.evaluator.InstanceEvaluator.{InstanceEvaluator}
 use Rattle.scad_meaning.specs.Verdicts.{Judge}
 use Rattle.scad_meaning.specs.Meaning.{Context, evaluator_with, inside_scope}
-use Rattle.scad_eval.specs.Keeping.{evaluations_left, evaluator_at, context_at, IsChecked, Stays, Enters, KeepsOlder, Assigns, Equation, meant_at}
+use Rattle.scad_eval.specs.Keeping.{evaluations_left, evaluator_at, context_at, IsCheckedInside, Stays, Enters, KeepsOlder, Assigns, Equation, meant_at}
 use Rattle.scad_func.proofs.Kept.{keeps_same, keeps_trans, scope_setting}
 
 -- where an instance stands, by where an expression there stands
@@ -54,7 +54,7 @@ same_evaluations old new k = ap (λ n. most_evaluations - n) k.evaluation.depth
 pub stays_same : (m : InstanceEvaluator) → Stays m m
 stays_same m = record { unit = refl; evaluation = keeps_same m.evaluation }
 
-pub stays_kept : (old new : InstanceEvaluator) → new.unit ≡ old.unit → Keeps old.evaluation new.evaluation → Stays old new
+pub stays_kept : (old new : InstanceEvaluator) → new.unit ≡ old.unit → KeepsEvaluation old.evaluation new.evaluation → Stays old new
 stays_kept old new unit kept = record { unit = unit; evaluation = kept }
 
 pub stays_then : {a b c : InstanceEvaluator} → Stays a b → Stays b c → Stays a c
@@ -73,8 +73,8 @@ pub some_position : Position
 some_position = record { inside = None; under_root = false }
 
 -- an extrusion with nothing wrong still has nothing wrong
-pub checked_still : (a b : LengthUnit) (through : Option Extrusion) → b ≡ a → IsChecked a through → IsChecked b through
-checked_still a b through e h = subst (λ (u : LengthUnit). IsChecked u through) (sym e) h
+pub checked_still : (a b : LengthUnit) (through : Option Extrusion) → b ≡ a → IsCheckedInside a through → IsCheckedInside b through
+checked_still a b through e h = subst (λ (u : LengthUnit). IsCheckedInside u through) (sym e) h
 
 -- what is meant by the same evaluator in the same context
 pub meant_by : {B : Type 0} (meaning : Equation B) (judge : Judge) (mid : InstanceEvaluator) (position : Position) (unit : LengthUnit) (evaluations : ℕ)

@@ -16,10 +16,10 @@ use Rattle.scad_func.specs.Limits.{most_calls, most_evaluations}
 use Rattle.scad_func.specs.Meaning.{Outcome, Gives, Faults, Arguments, BoundArguments, Env, Activation, no_activation, activation_in, entered_scope, then_with, value_within}
 use Rattle.scad_definitions.specs.ArgumentsView.{IsFaultAt}
 use Rattle.scad_func.specs.View.{MeetsOutcome, env_seen, table_in}
-use Rattle.scad_func.specs.Definitions.{IsWhole, statements_at, block_scope}
+use Rattle.scad_func.specs.Definitions.{IsWholeTable, statements_at, block_scope}
 use Rattle.scad_func.specs.Evaluations.{OneCallDeeper, OneEvaluationDeeper, MoreBindings, env_here, setting_in}
 use Rattle.scad_func.specs.declared.source.Source.{Source}
-use Rattle.scad_value.specs.Operators.{Answer}
+use Rattle.scad_value.specs.Operators.{AnswerOrFault}
 use Rattle.scad_modules.specs.Effects.{ChosenCall, EffectCall}
 use Rattle.scad_modules.specs.Calls.{effect_of}
 use Rattle.scad_modules.specs.declared.table.BuiltinModule.{BuiltinModule}
@@ -72,7 +72,7 @@ block_meant judge old mid position before block chosen _ env is e inside turns =
     ∙ entered_meant (λ (x : Source) evaluator. block_members evaluator chosen (statements_at (table_in x) block)) judge old mid position before env e inside turns
 
 -- where the block says what is in its scope
-pub entered_block : (table : BlockTable) (block : ℕ) (call : Activation) (outer : Env) (statements : StatementTerms) {env : Env} → IsWhole table
+pub entered_block : (table : BlockTable) (block : ℕ) (call : Activation) (outer : Env) (statements : StatementTerms) {env : Env} → IsWholeTable table
     → statements_at table block ≡ statements → env ≡ block_scope table block call outer → env ≡ entered_scope statements call outer
 entered_block table block call outer _ whole is inside =
     inside ∙ whole.scopes block call outer ∙ ap (λ (st : StatementTerms). entered_scope st call outer) is
@@ -154,15 +154,15 @@ children_meant judge old mid position at chosen unit leaves turns b =
     ∙ call_meant (λ (x : Source) (rows : List Row) evaluator here. children_design evaluator here (activation_in here.env) chosen) judge old mid position unit leaves b
 
 -- a built-in module, by what its call does
-effect_refused : {B : Type 0} (stop : Stop) (at : Place) (answer : Answer EffectCall) (go : EffectCall → Outcome B) (m l : ℕ) {A : Type 0} {see : ℕ → A → B}
+effect_refused : {B : Type 0} (stop : Stop) (at : Place) (answer : AnswerOrFault EffectCall) (go : EffectCall → Outcome B) (m l : ℕ) {A : Type 0} {see : ℕ → A → B}
     → MeetsEffectAt (Err stop) at answer → HasOutcome see (Err stop) m l (answered_with answer at go)
 effect_refused (Fault fault) at answer go m l h =
-    record { is = ap (λ (a : Answer EffectCall). answered_with a at go) h.0 ∙ ap (λ (p : Place). Faults fault.kind p) (sym h.1) }
+    record { is = ap (λ (a : AnswerOrFault EffectCall). answered_with a at go) h.0 ∙ ap (λ (p : Place). Faults fault.kind p) (sym h.1) }
 effect_refused NoMemory at answer go m l h = record { is = tt }
 
 module _ (old begun : InstanceEvaluator) (position : Position) (at : Place) (builtin : BuiltinModule) (given : Arguments) (body : BodyTerm) (bound : BoundArguments)
     (bindings : bindings_of begun.evaluation.scopes.now ≡ given.dynamic ++ bindings_of old.evaluation.scopes.now) (same : given.bound ≡ bound) where
-  abbrev answer_of : Pairs Val → BoundArguments → Answer EffectCall
+  abbrev answer_of : Pairs Val → BoundArguments → AnswerOrFault EffectCall
   answer_of dynamic bound = effect_of old.unit (is_some position.inside) (find_in dynamic (codes "fn")) builtin bound
 
   abbrev with_effect : Judge → ℕ → EffectCall → Outcome InstanceDesign
@@ -189,7 +189,7 @@ module _ (old begun : InstanceEvaluator) (position : Position) (at : Place) (bui
       → meant_at old position judge (λ evaluator. built_in_given evaluator at builtin given body)
       ≡ meant_at mid position judge (λ evaluator here. effect_design evaluator here at effect body)
   built_in_meant judge mid count effect unit leaves turns b k same_leaves is =
-      answer_at judge ∙ ap (λ (a : Answer EffectCall). answered_with a at (with_effect judge old.evaluation.turns)) is
+      answer_at judge ∙ ap (λ (a : AnswerOrFault EffectCall). answered_with a at (with_effect judge old.evaluation.turns)) is
       ∙ ap (λ n. with_effect judge n effect) (sym turns)
       ∙ specials_meant (λ (x : Source) (rows : List Row) evaluator here. effect_design evaluator here at effect body)
       judge old begun mid position count given.dynamic unit leaves b bindings k same_leaves

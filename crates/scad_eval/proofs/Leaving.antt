@@ -15,7 +15,7 @@ use Rattle.scad_func.specs.Meaning.{Outcome, Gives, then_with}
 use Rattle.scad_meaning.specs.Hulls.{is_nothing, hull_mesh}
 use Rattle.scad_meaning.specs.Meaning.{InstanceDesign, unless_refused, leaf_design, with_leaf_of, hull_design}
 use Rattle.scad_instances.specs.Seen.{IsStopAt}
-use Rattle.scad_eval.specs.Keeping.{IsThrough}
+use Rattle.scad_eval.specs.Keeping.{IsCheckedExtrusion}
 use Rattle.scad_meaning.proofs.Verdicts.{one_height_verdict}
 
 pub shape_checked : (v : Verdict) (at : Place) (mesh shape : Mesh) (turns leaves : ℕ) → v ≡ None → shape ≡ mesh
@@ -25,7 +25,7 @@ shape_checked v at mesh shape turns leaves none same =
     ∙ ap (λ (m : Mesh). leaf_design at m turns leaves) (sym same)
 
 -- nothing is wrong with a height that was checked, so only memory can run out
-pub height_stops : (unit : LengthUnit) (through : Extrusion) (at : Place) (stop : ShapeStop) (result : Stop) → IsThrough unit through
+pub height_stops : (unit : LengthUnit) (through : Extrusion) (at : Place) (stop : ShapeStop) (result : Stop) → IsCheckedExtrusion unit through
     → IsSizeStop unit through.center (through.height ∷ []) stop → IsStopAt stop at result → result ≡ NoMemory
 height_stops unit through at (shapes.Kind kind) result known fault is =
     let same = one_height_verdict unit through.center through.height None (Some kind) known.sizes fault in absurd (differ kind same)

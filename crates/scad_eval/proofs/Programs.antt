@@ -16,7 +16,7 @@ use Rattle.scad_definitions.specs.Blocks.{BlockTable, block_table}
 use Rattle.scad_func.specs.Limits.{most_calls, most_evaluations}
 use Rattle.scad_func.specs.Meaning.{Outcome, Gives, then_with, Env, Within, Outermost, no_activation, entered_scope}
 use Rattle.scad_func.specs.View.{env_seen, table_in}
-use Rattle.scad_func.specs.Definitions.{statements_at, block_scope, IsWhole}
+use Rattle.scad_func.specs.Definitions.{statements_at, block_scope, IsWholeTable}
 use Rattle.scad_func.specs.Evaluations.{OneScopeMore, env_here}
 use Rattle.scad_func.specs.declared.source.Source.{Source}
 use Rattle.scad_func.specs.declared.evaluation.Evaluation.{Evaluation}
@@ -27,7 +27,7 @@ use Rattle.scad_design.specs.declared.design.Design.{Design}
 use Rattle.scad_instances.specs.declared.position.Position.{Position}
 use Rattle.scad_instances.specs.declared.position.MemberResults.{MemberResults}
 use Rattle.scad_eval.specs.declared.evaluator.InstanceEvaluator.{InstanceEvaluator}
-use Rattle.scad_meaning.specs.Verdicts.{Judge, IsRight}
+use Rattle.scad_meaning.specs.Verdicts.{Judge, IsRightJudge}
 use Rattle.scad_meaning.specs.Meaning.{Context, evaluator_with, each_in_scope, program_context, or_all, design_of, block_members}
 use Rattle.scad_instances.specs.Seen.{HasOutcome, member_designs_of}
 use Rattle.scad_eval.specs.Keeping.{context_at, EvaluatesKeeping}
@@ -43,7 +43,7 @@ unfolding env_of
 first_env source rows e = ap (λ l. env_seen source l 0) e
 
 -- the scope of a program's block
-program_scope : (source : Source) (rows : List Row) (program : List StatementTerm) (env : Env) → IsWhole (table_in source)
+program_scope : (source : Source) (rows : List Row) (program : List StatementTerm) (env : Env) → IsWholeTable (table_in source)
     → table_in source ≡ block_table program → rows ≡ first_row ∷ []
     → env ≡ block_scope (table_in source) 0 no_activation (env_seen source rows 0)
     → env ≡ entered_scope (statements_from program) no_activation (Within [] [] [] no_activation Outermost)
@@ -56,7 +56,7 @@ abbrev pub context_of : ℕ → Env → Pairs Val → Context
 context_of calls env bindings = record { calls_left = most_calls - calls; env = env; bindings = bindings; inside = None; under_root = false }
 
 pub program_begins : {old new : Evaluation} {before : ℕ} → OneScopeMore old new before → (program : List StatementTerm)
-    → IsWhole (table_in old.source.now) → table_in old.source.now ≡ block_table program → rows_of old.scopes.now ≡ first_row ∷ []
+    → IsWholeTable (table_in old.source.now) → table_in old.source.now ≡ block_table program → rows_of old.scopes.now ≡ first_row ∷ []
     → bindings_of old.scopes.now ≡ first_bindings → old.calls ≡ 0
     → env_here new ≡ block_scope (table_in old.source.now) 0 no_activation (env_seen old.source.now (rows_of old.scopes.now) 0)
     → context_of new.calls (env_here new) (bindings_of new.scopes.now) ≡ program_context first_bindings (statements_from program)
@@ -71,7 +71,7 @@ pub program_members : {old new : InstanceEvaluator} {position : Position} {r : R
     → EvaluatesKeeping member_designs_of old new position r Kept (λ evaluator. block_members evaluator None statements)
     → (program : List StatementTerm) → context_at old position ≡ program_context first_bindings (statements_from program)
     → statements ≡ statements_from program → old.evaluation.depth ≡ 0 → old.evaluation.turns ≡ 0 → old.leaves ≡ 0
-    → (judge : Judge) → IsRight judge → HasOutcome member_designs_of r new.evaluation.turns new.leaves
+    → (judge : Judge) → IsRightJudge judge → HasOutcome member_designs_of r new.evaluation.turns new.leaves
     (each_in_scope (evaluator_with old.unit judge most_evaluations) (program_context first_bindings (statements_from program)) (statements_from program) 0 0)
 program_members {old = old} {position = position} statements h program here same depth turns leaves judge right =
     along (sym (

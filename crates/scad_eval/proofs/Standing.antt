@@ -1,11 +1,11 @@
 -- Bodies and calls that are still there after a step, and blocks in which names were assigned.
 use Rattle.std.proofs.Common.{◌≡◌, ℕ, ◌+◌, ◌<◌, List, All, length, take, refl, sym, ap, subst, ◌∙◌}
 use Rattle.scad_ast.specs.StatementView.{body_of}
-use Rattle.scad_scope.specs.Names.{oldest}
+use Rattle.scad_scope.specs.Names.{oldest_pairs}
 use Rattle.scad_scope.specs.Table.{rows_of, bindings_of}
 use Rattle.scad_definitions.specs.declared.text.Module.{Module}
 use Rattle.scad_func.specs.View.{table_in}
-use Rattle.scad_func.specs.Definitions.{IsBlockOf, IsWhole}
+use Rattle.scad_func.specs.Definitions.{IsBlockOf, IsWholeTable}
 use Rattle.scad_func.specs.Evaluations.{SameSetting, OneScopeMore}
 use Rattle.scad_func.specs.declared.source.Source.{Source}
 use Rattle.scad_instances.specs.declared.numbered.NumberedInstance.{NumberedInstance}
@@ -22,7 +22,7 @@ use Rattle.scad_eval.proofs.Contexts.{checked_still}
 module _ (old new : InstanceEvaluator) (unit : new.unit ≡ old.unit) (source : new.evaluation.source.now ≡ old.evaluation.source.now) where
   pub position_still : {position : Position} → IsPosition old position → IsPosition new position
   position_still {position = position} h = record {
-    whole = subst (λ (x : Source). IsWhole (table_in x)) (sym source) h.whole;
+    whole = subst (λ (x : Source). IsWholeTable (table_in x)) (sym source) h.whole;
     inside = checked_still old.unit new.unit position.inside unit h.inside;
   }
 
@@ -44,7 +44,7 @@ module _ (old new : InstanceEvaluator) (unit : new.unit ≡ old.unit) (source : 
   call_still rows {position = position} {defined = defined} {defining_scope = defining_scope} {body = body} h = record {
     inside = checked_still old.unit new.unit position.inside unit h.inside;
     called = record {
-      whole = subst (λ (x : Source). IsWhole (table_in x)) (sym source) h.called.whole;
+      whole = subst (λ (x : Source). IsWholeTable (table_in x)) (sym source) h.called.whole;
       block = subst (λ (x : Source). IsInBlock (table_in x) body) (sym source) h.called.block;
       its_block = subst (λ (x : Source). IsBlockOf (table_in x) defined.block (body_of defined.body.now)) (sym source) h.called.its_block;
       there = subst (λ l. defining_scope < length l) (sym rows) h.called.there;
@@ -76,7 +76,7 @@ scope_bound old {mid = mid} {new = new} b e =
 -- a block in which names were assigned, once its special names are taken from the dynamic bindings
 pub block_bound : (old mid after new : InstanceEvaluator) → Assigns old mid → Stays mid after → new.unit ≡ after.unit
     → SameSetting after.evaluation new.evaluation → rows_of new.evaluation.scopes.now ≡ rows_of after.evaluation.scopes.now
-    → bindings_of new.evaluation.scopes.now ≡ oldest (length (bindings_of old.evaluation.scopes.now)) (bindings_of after.evaluation.scopes.now)
+    → bindings_of new.evaluation.scopes.now ≡ oldest_pairs (length (bindings_of old.evaluation.scopes.now)) (bindings_of after.evaluation.scopes.now)
     → Binds old new
 block_bound old mid after new a k unit same rows bindings =
     let kept = k.evaluation in
@@ -94,6 +94,6 @@ block_bound old mid after new a k unit same rows bindings =
         front = ap (take old.evaluation.scope) (rows ∙ kept.rows) ∙ a.older.front;
         there = ap length (rows ∙ kept.rows) ∙ a.older.there;
       };
-      bindings = bindings ∙ ap (oldest (length (bindings_of old.evaluation.scopes.now))) (kept.bindings ∙ a.bindings)
+      bindings = bindings ∙ ap (oldest_pairs (length (bindings_of old.evaluation.scopes.now))) (kept.bindings ∙ a.bindings)
           ∙ oldest_part (length (bindings_of old.evaluation.scopes.now)) a.newer (bindings_of old.evaluation.scopes.now) refl;
     }

@@ -9,12 +9,12 @@ use Rattle.scad_scope.specs.Table.{rows_of, bindings_of}
 use Rattle.scad_func.specs.Limits.{most_calls, most_evaluations}
 use Rattle.scad_func.specs.Meaning.{Outcome, Env}
 use Rattle.scad_func.specs.View.{env_seen, table_in}
-use Rattle.scad_func.specs.Definitions.{IsWhole}
-use Rattle.scad_func.specs.Evaluations.{Keeps, SameSetting, scopes_there, env_here, OneScopeMore}
+use Rattle.scad_func.specs.Definitions.{IsWholeTable}
+use Rattle.scad_func.specs.Evaluations.{KeepsEvaluation, SameSetting, scopes_there, env_here, OneScopeMore}
 use Rattle.scad_meaning.specs.declared.extrusion.Extrusion.{Extrusion}
 use Rattle.scad_instances.specs.declared.position.Position.{Position}
 use Rattle.scad_eval.specs.declared.evaluator.InstanceEvaluator.{InstanceEvaluator}
-use Rattle.scad_meaning.specs.Verdicts.{Judge, IsRight}
+use Rattle.scad_meaning.specs.Verdicts.{Judge, IsRightJudge}
 use Rattle.scad_meaning.specs.Meaning.{Context, Evaluator, evaluator_with}
 use Rattle.scad_instances.specs.Seen.{HasOutcome}
 
@@ -41,24 +41,24 @@ context_at evaluator position = record {
 }
 
 -- the height of an extrusion has nothing wrong with it
-pub record IsThrough (unit : LengthUnit) (through : Extrusion) : Type 0 where
+pub record IsCheckedExtrusion (unit : LengthUnit) (through : Extrusion) : Type 0 where
   pub safe : IsSafe through.height
   pub sizes : AreSizes unit through.center (through.height ∷ [])
 
 -- an extrusion with nothing wrong, or none
-abbrev pub IsChecked : LengthUnit → Option Extrusion → Type 0
-IsChecked unit None = Unit {0}
-IsChecked unit (Some through) = IsThrough unit through
+abbrev pub IsCheckedInside : LengthUnit → Option Extrusion → Type 0
+IsCheckedInside unit None = Unit {0}
+IsCheckedInside unit (Some through) = IsCheckedExtrusion unit through
 
 -- a position in a whole source, inside an extrusion with nothing wrong or inside none
 pub record IsPosition (evaluator : InstanceEvaluator) (position : Position) : Type 0 where
-  pub whole : IsWhole (table_in evaluator.evaluation.source.now)
-  pub inside : IsChecked evaluator.unit position.inside
+  pub whole : IsWholeTable (table_in evaluator.evaluation.source.now)
+  pub inside : IsCheckedInside evaluator.unit position.inside
 
 -- all but the turns and the leaves is as before
 pub record Stays (old new : InstanceEvaluator) : Type 0 where
   pub unit : new.unit ≡ old.unit
-  pub evaluation : Keeps old.evaluation new.evaluation
+  pub evaluation : KeepsEvaluation old.evaluation new.evaluation
 
 -- one scope more, which is the newest and the one in which is evaluated, where it was another one: all else but the turns
 -- is as before
@@ -74,7 +74,8 @@ pub record EntersModule {E : Type 0} (old new : InstanceEvaluator) (result : Res
   pub inside : OnOk result (env_here new.evaluation ≡ scope)
   pub turns : new.evaluation.turns ≡ old.evaluation.turns
 
--- the newest scope may have more variables, and the dynamic bindings be others: all else but the turns and the leaves is as before
+-- the newest scope may have more variables, and the dynamic bindings be others: all else but the turns and the leaves is as
+-- before
 pub record KeepsOlder (old new : InstanceEvaluator) : Type 0 where
   pub unit : new.unit ≡ old.unit
   pub same : SameSetting old.evaluation new.evaluation
@@ -102,11 +103,11 @@ abbrev pub meant_at : {B : Type 0} → InstanceEvaluator → Position → Judge 
 meant_at evaluator position judge meaning =
     meaning (evaluator_at evaluator judge) (context_at evaluator position) evaluator.evaluation.turns evaluator.leaves
 
--- What a function of the evaluator does: what it gives, as it is seen, is what its meaning gives where an instance stands, by
--- whatever judge is right about shapes, or its stop is the meaning's fault, unless memory ran out; and so much is kept.
+-- What a function of the evaluator does: it answers the value of its meaning at a position, by any judge that is right, or its
+-- fault, unless memory ran out; and so much is kept.
 pub record EvaluatesKeeping {A B : Type 0} (see : ℕ → A → B) (old new : InstanceEvaluator) (position : Position)
     (result : Result A Stop) (Kept : Type 0) (meaning : Equation B) : Type 0 where
-  pub equation : (judge : Judge) → IsRight judge → HasOutcome see result new.evaluation.turns new.leaves (meant_at old position judge meaning)
+  pub equation : (judge : Judge) → IsRightJudge judge → HasOutcome see result new.evaluation.turns new.leaves (meant_at old position judge meaning)
   pub kept : Kept
 
 -- the same, where all but the turns and the leaves is as before, unless there was a stop

@@ -8,13 +8,13 @@ use Rattle.scad_scope.specs.Table.{rows_of, bindings_of}
 use Rattle.scad_scope.specs.Names.{first_bindings, first_row}
 use Rattle.scad_design.specs.declared.design.Design.{Design}
 use Rattle.scad_design.specs.View.{plain_of}
-use Rattle.scad_meaning.specs.Verdicts.{Judge, IsRight}
+use Rattle.scad_meaning.specs.Verdicts.{Judge, IsRightJudge}
 use Rattle.scad_meaning.specs.Meaning.{design_of}
 use Rattle.scad_instances.specs.Seen.{HasOutcome}
 
 -- the design of a program, or its fault, unless memory ran out
 abbrev pub MeetsDesign : LengthUnit → List StatementTerm → Result Design Stop → Type 0
-MeetsDesign unit program result = (judge : Judge) → IsRight judge →
+MeetsDesign unit program result = (judge : Judge) → IsRightJudge judge →
     (turns : ℕ) × HasOutcome (λ leaves. plain_of) result turns 0 (design_of unit judge first_bindings (statements_from program))
 
 -- the table of scopes that evaluation begins with

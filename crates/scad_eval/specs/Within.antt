@@ -4,7 +4,7 @@ use Rattle.scad_ast.specs.StatementView.{body_of}
 use Rattle.scad_ast.specs.Terms.{BodyTerm}
 use Rattle.scad_definitions.specs.Blocks.{BlockTable}
 use Rattle.scad_definitions.specs.declared.text.Module.{Module}
-use Rattle.scad_func.specs.Definitions.{IsBlockOf, IsWhole}
+use Rattle.scad_func.specs.Definitions.{IsBlockOf, IsWholeTable}
 use Rattle.scad_func.specs.Evaluations.{scopes_there}
 use Rattle.scad_func.specs.View.{table_in}
 use Rattle.scad_instances.specs.declared.numbered.NumberedInstance.{NumberedInstance}
@@ -12,7 +12,7 @@ use Rattle.scad_instances.specs.declared.position.NumberedBody.{NumberedBody}
 use Rattle.scad_instances.specs.declared.position.Position.{Position}
 use Rattle.scad_instances.specs.Positions.{HasBlocks}
 use Rattle.scad_eval.specs.declared.evaluator.InstanceEvaluator.{InstanceEvaluator}
-use Rattle.scad_eval.specs.Keeping.{IsChecked, IsPosition}
+use Rattle.scad_eval.specs.Keeping.{IsCheckedInside, IsPosition}
 
 -- a body without the number of its block
 abbrev pub body_seen : NumberedBody → BodyTerm
@@ -32,14 +32,15 @@ pub record IsBodyAt (evaluator : InstanceEvaluator) (stand : Position) (body : N
   pub position : IsPosition evaluator stand
   pub block : IsInBlock (table_in evaluator.evaluation.source.now) body
 
--- a call of a module in a whole source: its body stands in its block, and the module's in its own, and the scope of the module is there
+-- a call of a module in a whole source: its body stands in its block, and the module's in its own, and the scope of the
+-- module is there
 pub record IsModuleCall (evaluator : InstanceEvaluator) (defined : Module) (defining_scope : ℕ) (body : NumberedBody) : Type 0 where
-  pub whole : IsWhole (table_in evaluator.evaluation.source.now)
+  pub whole : IsWholeTable (table_in evaluator.evaluation.source.now)
   pub block : IsInBlock (table_in evaluator.evaluation.source.now) body
   pub its_block : IsBlockOf (table_in evaluator.evaluation.source.now) defined.block (body_of defined.body.now)
   pub there : defining_scope < scopes_there evaluator.evaluation
 
 -- a position, and a call of a module there
 pub record IsCallAt (evaluator : InstanceEvaluator) (stand : Position) (defined : Module) (defining_scope : ℕ) (body : NumberedBody) : Type 0 where
-  pub inside : IsChecked evaluator.unit stand.inside
+  pub inside : IsCheckedInside evaluator.unit stand.inside
   pub called : IsModuleCall evaluator defined defining_scope body

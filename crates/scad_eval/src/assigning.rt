@@ -4,7 +4,7 @@ ghost use Rattle.scad_definitions.specs.Blocks.{assignments_of};
 ghost use Rattle.scad_definitions.specs.TextView.{assigned_of};
 ghost use Rattle.scad_func.specs.Meaning.{Gives, then_with};
 ghost use Rattle.scad_func.specs.View.{table_in};
-ghost use Rattle.scad_func.specs.Definitions.{statements_at, IsWhole};
+ghost use Rattle.scad_func.specs.Definitions.{statements_at, IsWholeTable};
 ghost use Rattle.scad_meaning.specs.Meaning.{assigned_value, with_assignment, each_assigned};
 ghost use Rattle.scad_eval.specs.Keeping.{AssignsAnywhere};
 
@@ -16,7 +16,7 @@ use text_place::Stop;
 impl InstanceEvaluator<'_, '_> {
     /// Gives the names of a block's assignments their values, from the first on.
     pub(crate) fn assign_all(&mut self, block: u32) -> Result<(), Stop>
-        requires { IsWhole (table_in self.old.evaluation.source.now) }
+        requires { IsWholeTable (table_in self.old.evaluation.source.now) }
         ensures { let statements = statements_at (table_in self.old.evaluation.source.now) block in
             AssignsAnywhere self.old self.new result (λ evaluator here turns leaves.
             each_assigned evaluator.evaluations here (assignments_of statements) turns) }

@@ -3,10 +3,10 @@
 ghost use Rattle.scad_modules.specs.Bounds.{IsSafeSolid, IsSafeFlat};
 ghost use Rattle.scad_modules.specs.View.{solid_call_of, flat_call_of};
 ghost use Rattle.scad_design.specs.View.{plain_of};
-ghost use Rattle.scad_meaning.specs.Verdicts.{solid_of, extrusion_mesh};
+ghost use Rattle.scad_meaning.specs.Verdicts.{solid_mesh, extrusion_mesh};
 ghost use Rattle.scad_meaning.specs.Meaning.{unless_refused, leaf_design, flat_design, hull_design};
 ghost use Rattle.scad_instances.specs.Seen.{instance_design_of, IsStopAt};
-ghost use Rattle.scad_eval.specs.Keeping.{IsThrough, IsPosition, Stays, EvaluatesKeeping, EvaluatesAnywhere};
+ghost use Rattle.scad_eval.specs.Keeping.{IsCheckedExtrusion, IsPosition, Stays, EvaluatesKeeping, EvaluatesAnywhere};
 
 use crate::evaluator::InstanceEvaluator;
 use primitives::{Shape, ShapeStop, extrude};
@@ -26,7 +26,7 @@ impl InstanceEvaluator<'_, '_> {
         ensures { EvaluatesAnywhere instance_design_of self.old self.new result
             (λ evaluator here turns leaves.
             unless_refused (evaluator.judge.solid evaluator.unit (solid_call_of shape.now)) place
-            (leaf_design place (solid_of evaluator.unit (solid_call_of shape.now)) turns leaves)) }
+            (leaf_design place (solid_mesh evaluator.unit (solid_call_of shape.now)) turns leaves)) }
     {
         match solid_shape(self.evaluation.alloc, self.unit, shape) {
             Ok(shape) => self.leaf(place, shape),
@@ -60,7 +60,7 @@ impl InstanceEvaluator<'_, '_> {
         through: Extrusion,
         shape: &FlatShape,
     ) -> Result<InstanceResult, Stop>
-        requires through { IsThrough self.old.unit through }
+        requires through { IsCheckedExtrusion self.old.unit through }
         requires safe { IsSafeFlat (flat_call_of shape.now) }
         ensures { EvaluatesAnywhere instance_design_of self.old self.new result
             (λ evaluator here turns leaves.

@@ -6,7 +6,7 @@ ghost use Rattle.csg_tree.specs.Trees.{formula_of};
 ghost use Rattle.scad_ast.specs.Terms.{StatementTerm};
 ghost use Rattle.scad_ast.specs.ProgramView.{program_of};
 ghost use Rattle.scad_func.specs.View.{IsTableOf, table_in};
-ghost use Rattle.scad_func.specs.Definitions.{IsWhole};
+ghost use Rattle.scad_func.specs.Definitions.{IsWholeTable};
 ghost use Rattle.scad_design.specs.View.{plain_of};
 ghost use Rattle.scad_meaning.specs.Meaning.{or_all};
 ghost use Rattle.scad_meaning.specs.Sources.{IsMeaning, a_tree, IsMeaningStop, HoldsFault};
@@ -16,7 +16,7 @@ use crate::evaluator::InstanceEvaluator;
 use csg_tree::{CsgTree, Op};
 use plane_predicate::Unit;
 use scad_ast::Program;
-use scad_design::{Design, balanced, place};
+use scad_design::{Design, balanced_join, place};
 use scad_func::{Evaluation, Source};
 use scad_instances::{MemberResults, Position};
 use scad_meaning::programs_mean_proper_trees;
@@ -48,7 +48,7 @@ fn design_of(
     unit: Unit,
 ) -> Result<Design, Stop>
     requires table { IsFirstTable scopes.old }
-    requires whole { IsWhole (table_in source.now) }
+    requires whole { IsWholeTable (table_in source.now) }
     ensures { (program : List StatementTerm) → IsTableOf source.now program →
         MeetsDesign unit program result }
 {
@@ -82,6 +82,6 @@ fn first_or_all(alloc: Global, members: MemberResults) -> Result<Design, NoMemor
     let MemberResults { designs, root } = members;
     match root {
         Some(design) => Ok(design),
-        None => balanced(alloc, Op::Union, designs),
+        None => balanced_join(alloc, Op::Union, designs),
     }
 }

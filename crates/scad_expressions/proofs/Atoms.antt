@@ -4,10 +4,10 @@ use Rattle.std.proofs.lemmas.Bool.{eqb-true}
 use Rattle.scad_lexer.specs.declared.token.Token.{Token}
 use Rattle.scad_ast.specs.Terms.{Term, NameTerm, ArgTerm}
 use Rattle.scad_grammar.specs.declared.SyntaxFault.{SyntaxFault}
-use Rattle.scad_grammar.specs.Classes.{numeral, text, true_word, false_word, undef_word, child_count, special, name, question_sign, open_parenthesis_sign, class_of, is_listed, among, is, other_than, bytes_of}
+use Rattle.scad_grammar.specs.Classes.{numeral_class, text_class, true_word, false_word, undef_word, child_count_class, special_class, name_class, question_sign, open_parenthesis_sign, token_class, is_listed, has_class_in, has_class, has_class_outside, bytes_of}
 use Rattle.scad_grammar.specs.Faults.{TokenReader, one, fault_of, left_out_classes}
 use Rattle.scad_grammar.specs.Grammar.{levels}
-use Rattle.scad_grammar.specs.Reading.{Read, after, starts, choice}
+use Rattle.scad_grammar.specs.Reading.{Read, then_read, next_is, choice}
 use Rattle.scad_grammar.specs.Reads.{suffix_read, unary_read, chain_read, paren_read, bracket_read, name_read, primary_read, choice_read}
 use Rattle.scad_expressions.specs.declared.class.Level.{Level}
 use Rattle.scad_expressions.specs.Climbing.{climb_read}
@@ -16,23 +16,23 @@ use Rattle.scad_expressions.specs.Views.{has_lone_atom, atom_of}
 use Rattle.scad_expressions.proofs.Given.{both_hold}
 use Rattle.scad_expressions.proofs.Climbs.{chain_climbs, climbs_none, many_none, starts_apart, none_at, none_below}
 
-module _ (us : List Token) (e : starts (among continuations) us ≡ false) where
-  no_choice : starts (is question_sign) us ≡ false
+module _ (us : List Token) (e : next_is (has_class_in continuations) us ≡ false) where
+  no_choice : next_is (has_class question_sign) us ≡ false
   no_choice = (starts_apart (question_sign ∷ []) ((open_parenthesis_sign ∷ []) ++ (suffix_signs ++ binary_signs)) us e).0
 
-  not_chosen : starts (among ((open_parenthesis_sign ∷ []) ++ (suffix_signs ++ binary_signs))) us ≡ false
+  not_chosen : next_is (has_class_in ((open_parenthesis_sign ∷ []) ++ (suffix_signs ++ binary_signs))) us ≡ false
   not_chosen = (starts_apart (question_sign ∷ []) ((open_parenthesis_sign ∷ []) ++ (suffix_signs ++ binary_signs)) us e).1
 
-  no_arguments : starts (is open_parenthesis_sign) us ≡ false
+  no_arguments : next_is (has_class open_parenthesis_sign) us ≡ false
   no_arguments = (starts_apart (open_parenthesis_sign ∷ []) (suffix_signs ++ binary_signs) us not_chosen).0
 
-  not_called : starts (among (suffix_signs ++ binary_signs)) us ≡ false
+  not_called : next_is (has_class_in (suffix_signs ++ binary_signs)) us ≡ false
   not_called = (starts_apart (open_parenthesis_sign ∷ []) (suffix_signs ++ binary_signs) us not_chosen).1
 
-  no_suffix : starts (among suffix_signs) us ≡ false
+  no_suffix : next_is (has_class_in suffix_signs) us ≡ false
   no_suffix = (starts_apart suffix_signs binary_signs us not_called).0
 
-  no_operator : starts (among binary_signs) us ≡ false
+  no_operator : next_is (has_class_in binary_signs) us ≡ false
   no_operator = (starts_apart suffix_signs binary_signs us not_called).1
 
 -- a class that is not the first of a list
@@ -43,36 +43,36 @@ not_first c cs k e = go (nat_eq k c) e
     go true e = absurd (cc)
     go false e = refl
 
-not_literal : (k : ℕ) → is_listed (numeral ∷ []) k ≡ false → is_listed (text ∷ []) k ≡ false → is_listed (true_word ∷ []) k ≡ false → is_listed (false_word ∷ []) k ≡ false
-    → is_listed (undef_word ∷ []) k ≡ false → is_listed (child_count ∷ []) k ≡ false → is_listed (special ∷ []) k ≡ false → is_listed literals k ≡ false
+not_literal : (k : ℕ) → is_listed (numeral_class ∷ []) k ≡ false → is_listed (text_class ∷ []) k ≡ false → is_listed (true_word ∷ []) k ≡ false → is_listed (false_word ∷ []) k ≡ false
+    → is_listed (undef_word ∷ []) k ≡ false → is_listed (child_count_class ∷ []) k ≡ false → is_listed (special_class ∷ []) k ≡ false → is_listed literals k ≡ false
 not_literal k n x y z v w s =
-    not_first numeral (text ∷ true_word ∷ false_word ∷ undef_word ∷ child_count ∷ special ∷ []) k n
-    ∙ not_first text (true_word ∷ false_word ∷ undef_word ∷ child_count ∷ special ∷ []) k x
-    ∙ not_first true_word (false_word ∷ undef_word ∷ child_count ∷ special ∷ []) k y
-    ∙ not_first false_word (undef_word ∷ child_count ∷ special ∷ []) k z
-    ∙ not_first undef_word (child_count ∷ special ∷ []) k v
-    ∙ not_first child_count (special ∷ []) k w
-    ∙ not_first special [] k s
+    not_first numeral_class (text_class ∷ true_word ∷ false_word ∷ undef_word ∷ child_count_class ∷ special_class ∷ []) k n
+    ∙ not_first text_class (true_word ∷ false_word ∷ undef_word ∷ child_count_class ∷ special_class ∷ []) k x
+    ∙ not_first true_word (false_word ∷ undef_word ∷ child_count_class ∷ special_class ∷ []) k y
+    ∙ not_first false_word (undef_word ∷ child_count_class ∷ special_class ∷ []) k z
+    ∙ not_first undef_word (child_count_class ∷ special_class ∷ []) k v
+    ∙ not_first child_count_class (special_class ∷ []) k w
+    ∙ not_first special_class [] k s
 
-not_atom : (k : ℕ) → is_listed (numeral ∷ []) k ≡ false → is_listed (text ∷ []) k ≡ false → is_listed (true_word ∷ []) k ≡ false → is_listed (false_word ∷ []) k ≡ false
-    → is_listed (undef_word ∷ []) k ≡ false → is_listed (child_count ∷ []) k ≡ false → is_listed (special ∷ []) k ≡ false → is_listed (name ∷ []) k ≡ false → is_listed atoms k ≡ false
-not_atom k n x y z v w s g = not_first name literals k g ∙ not_literal k n x y z v w s
+not_atom : (k : ℕ) → is_listed (numeral_class ∷ []) k ≡ false → is_listed (text_class ∷ []) k ≡ false → is_listed (true_word ∷ []) k ≡ false → is_listed (false_word ∷ []) k ≡ false
+    → is_listed (undef_word ∷ []) k ≡ false → is_listed (child_count_class ∷ []) k ≡ false → is_listed (special_class ∷ []) k ≡ false → is_listed (name_class ∷ []) k ≡ false → is_listed atoms k ≡ false
+not_atom k n x y z v w s g = not_first name_class literals k g ∙ not_literal k n x y z v w s
 
 -- a literal is an atom
-pub literal_is_atom : (t : Token) → among literals t ≡ true → among atoms t ≡ true
-literal_is_atom t e = go (nat_eq (class_of t.kind) name)
+pub literal_is_atom : (t : Token) → has_class_in literals t ≡ true → has_class_in atoms t ≡ true
+literal_is_atom t e = go (nat_eq (token_class t.kind) name_class)
   where
-    go : (b : Bool) → cond b true (is_listed literals (class_of t.kind)) ≡ true
+    go : (b : Bool) → cond b true (is_listed literals (token_class t.kind)) ≡ true
     go true = refl
     go false = e
 
 -- a literal that is taken from where one stands
-pub literal_taken : (ts : List Token) (t : Token) (us : List Token) → starts (among literals) ts ≡ true → one (among literals) ts ≡ Ok (t, us) → (ts ≡ t ∷ us) × (among literals t ≡ true)
+pub literal_taken : (ts : List Token) (t : Token) (us : List Token) → next_is (has_class_in literals) ts ≡ true → one (has_class_in literals) ts ≡ Ok (t, us) → (ts ≡ t ∷ us) × (has_class_in literals t ≡ true)
 literal_taken [] t us s e = absurd (cc)
 literal_taken (y ∷ l) t us s e =
     let f : ◌≡◌ {A = Read Token SyntaxFault Token} (Ok (y, l)) (Ok (t, us)) = ap (λ b. cond b (Ok (y, l)) (Err (fault_of left_out_classes (Some y), y ∷ l))) (sym s) ∙ e in
     let g : ◌≡◌ {A = Token × List Token} (y, l) (t, us) = cc in
-    (ap (λ (p : Token × List Token). p.0 ∷ p.1) g, ap (λ (p : Token × List Token). among literals p.0) (sym g) ∙ s)
+    (ap (λ (p : Token × List Token). p.0 ∷ p.1) g, ap (λ (p : Token × List Token). has_class_in literals p.0) (sym g) ∙ s)
 
 -- a test that none of a list meets
 abbrev Spares : (ℕ → Bool) → List ℕ → Type 0
@@ -90,68 +90,68 @@ spared f (c ∷ cs) k h e = go (nat_eq k c) refl e (spared f cs k h.1)
 module _ (e : TokenReader Term) (a : TokenReader ArgTerm) (t : Token) (us : List Token) where
   -- one literal, or something else
   literal_or : (f : Token → Term) (b : Bool) (y : SyntaxFault × List Token) (other : Read Token SyntaxFault Term) (z : Term)
-      → (b ≡ false → other ≡ Ok (z, us)) → cond b (after (cond {A = Read Token SyntaxFault Token} b (Ok (t, us)) (Err y)) (λ x ts. Ok (f x, ts))) other ≡ Ok (cond b (f t) z, us)
+      → (b ≡ false → other ≡ Ok (z, us)) → cond b (then_read (cond {A = Read Token SyntaxFault Token} b (Ok (t, us)) (Err y)) (λ x ts. Ok (f x, ts))) other ≡ Ok (cond b (f t) z, us)
   literal_or f true y other z h = refl
   literal_or f false y other z h = h refl
 
-  name_alone : is name t ≡ true → starts (is open_parenthesis_sign) us ≡ false → name_read a (t ∷ us) ≡ Ok (NameTerm t.place (bytes_of t.kind), us)
+  name_alone : has_class name_class t ≡ true → next_is (has_class open_parenthesis_sign) us ≡ false → name_read a (t ∷ us) ≡ Ok (NameTerm t.place (bytes_of t.kind), us)
   name_alone g h = rw (g, h) refl
 
   -- an atom is read as what it writes, where no arguments follow
-  atom_read : among atoms t ≡ true → starts (is open_parenthesis_sign) us ≡ false → primary_read e a (t ∷ us) ≡ Ok (atom_of t, us)
+  atom_read : has_class_in atoms t ≡ true → next_is (has_class open_parenthesis_sign) us ≡ false → primary_read e a (t ∷ us) ≡ Ok (atom_of t, us)
   atom_read atom alone =
-      literal_or _ (is numeral t) _ _ _ (λ n. literal_or _ (is text t) _ _ _ (λ x. literal_or _ (is true_word t) _ _ _ (λ y.
-      literal_or _ (is false_word t) _ _ _ (λ z. literal_or _ (is undef_word t) _ _ _ (λ v. literal_or _ (is child_count t) _ _ _ (λ w.
-      literal_or _ (is special t) _ _ _ (λ s. last n x y z v w s (is name t) refl)))))))
+      literal_or _ (has_class numeral_class t) _ _ _ (λ n. literal_or _ (has_class text_class t) _ _ _ (λ x. literal_or _ (has_class true_word t) _ _ _ (λ y.
+      literal_or _ (has_class false_word t) _ _ _ (λ z. literal_or _ (has_class undef_word t) _ _ _ (λ v. literal_or _ (has_class child_count_class t) _ _ _ (λ w.
+      literal_or _ (has_class special_class t) _ _ _ (λ s. last n x y z v w s (has_class name_class t) refl)))))))
     where
-      last : is numeral t ≡ false → is text t ≡ false → is true_word t ≡ false → is false_word t ≡ false → is undef_word t ≡ false → is child_count t ≡ false → is special t ≡ false
-          → (b : Bool) → is name t ≡ b → cond b (name_read a (t ∷ us)) (choice (is open_parenthesis_sign) (paren_read e) (bracket_read e) (t ∷ us)) ≡ Ok (NameTerm t.place (bytes_of t.kind), us)
+      last : has_class numeral_class t ≡ false → has_class text_class t ≡ false → has_class true_word t ≡ false → has_class false_word t ≡ false → has_class undef_word t ≡ false → has_class child_count_class t ≡ false → has_class special_class t ≡ false
+          → (b : Bool) → has_class name_class t ≡ b → cond b (name_read a (t ∷ us)) (choice (has_class open_parenthesis_sign) (paren_read e) (bracket_read e) (t ∷ us)) ≡ Ok (NameTerm t.place (bytes_of t.kind), us)
       last n x y z v w s true g = name_alone g alone
       last n x y z v w s false g =
-          let none : true ≡ false = sym atom ∙ not_atom (class_of t.kind) n x y z v w s g in
+          let none : true ≡ false = sym atom ∙ not_atom (token_class t.kind) n x y z v w s g in
           absurd (cc)
 
   -- a literal is read as what it writes
-  pub literal_read : among literals t ≡ true → primary_read e a (t ∷ us) ≡ Ok (atom_of t, us)
+  pub literal_read : has_class_in literals t ≡ true → primary_read e a (t ∷ us) ≡ Ok (atom_of t, us)
   literal_read literal =
-      literal_or _ (is numeral t) _ _ _ (λ n. literal_or _ (is text t) _ _ _ (λ x. literal_or _ (is true_word t) _ _ _ (λ y.
-      literal_or _ (is false_word t) _ _ _ (λ z. literal_or _ (is undef_word t) _ _ _ (λ v. literal_or _ (is child_count t) _ _ _ (λ w.
-      literal_or _ (is special t) _ _ _ (λ s. none n x y z v w s)))))))
+      literal_or _ (has_class numeral_class t) _ _ _ (λ n. literal_or _ (has_class text_class t) _ _ _ (λ x. literal_or _ (has_class true_word t) _ _ _ (λ y.
+      literal_or _ (has_class false_word t) _ _ _ (λ z. literal_or _ (has_class undef_word t) _ _ _ (λ v. literal_or _ (has_class child_count_class t) _ _ _ (λ w.
+      literal_or _ (has_class special_class t) _ _ _ (λ s. none n x y z v w s)))))))
     where
-      none : is numeral t ≡ false → is text t ≡ false → is true_word t ≡ false → is false_word t ≡ false → is undef_word t ≡ false → is child_count t ≡ false → is special t ≡ false
-          → choice (is name) (name_read a) (choice (is open_parenthesis_sign) (paren_read e) (bracket_read e)) (t ∷ us) ≡ Ok (NameTerm t.place (bytes_of t.kind), us)
+      none : has_class numeral_class t ≡ false → has_class text_class t ≡ false → has_class true_word t ≡ false → has_class false_word t ≡ false → has_class undef_word t ≡ false → has_class child_count_class t ≡ false → has_class special_class t ≡ false
+          → choice (has_class name_class) (name_read a) (choice (has_class open_parenthesis_sign) (paren_read e) (bracket_read e)) (t ∷ us) ≡ Ok (NameTerm t.place (bytes_of t.kind), us)
       none n x y z v w s =
-          let other : true ≡ false = sym literal ∙ not_literal (class_of t.kind) n x y z v w s in
+          let other : true ≡ false = sym literal ∙ not_literal (token_class t.kind) n x y z v w s in
           absurd (cc)
 
-unsigned : (t : Token) → among atoms t ≡ true → among unary_signs t ≡ false
-unsigned t = spared (is_listed unary_signs) atoms (class_of t.kind) (refl, (refl, (refl, (refl, (refl, (refl, (refl, (refl, tt))))))))
+unsigned : (t : Token) → has_class_in atoms t ≡ true → has_class_in unary_signs t ≡ false
+unsigned t = spared (is_listed unary_signs) atoms (token_class t.kind) (refl, (refl, (refl, (refl, (refl, (refl, (refl, (refl, tt))))))))
 
 -- what stands behind an atom alone does not go on with it
-apart : (us : List Token) → starts (other_than continuations) us ≡ true → starts (among continuations) us ≡ false
+apart : (us : List Token) → next_is (has_class_outside continuations) us ≡ true → next_is (has_class_in continuations) us ≡ false
 apart [] h = refl
-apart (u ∷ us) h = go (among continuations u) h
+apart (u ∷ us) h = go (has_class_in continuations u) h
   where
     go : (b : Bool) → not b ≡ true → b ≡ false
     go true h = absurd (cc)
     go false h = refl
 
 module _ (e w : TokenReader Term) (a : TokenReader ArgTerm) (t : Token) (us : List Token) (h : has_lone_atom (t ∷ us) ≡ true) where
-  atom : among atoms t ≡ true
-  atom = (both_hold (among atoms t) (starts (other_than continuations) us) h).0
+  atom : has_class_in atoms t ≡ true
+  atom = (both_hold (has_class_in atoms t) (next_is (has_class_outside continuations) us) h).0
 
-  ends : starts (among continuations) us ≡ false
-  ends = apart us (both_hold (among atoms t) (starts (other_than continuations) us) h).1
+  ends : next_is (has_class_in continuations) us ≡ false
+  ends = apart us (both_hold (has_class_in atoms t) (next_is (has_class_outside continuations) us) h).1
 
   pub atom_is_operand : unary_read e w (primary_read e a) (t ∷ us) ≡ Ok (atom_of t, us)
   atom_is_operand =
-      rw (unsigned t atom, atom_read e a t us atom (no_arguments us ends), many_none (among suffix_signs) (suffix_read e) us (no_suffix us ends)) refl
+      rw (unsigned t atom, atom_read e a t us atom (no_arguments us ends), many_none (has_class_in suffix_signs) (suffix_read e) us (no_suffix us ends)) refl
 
-  atom_is_chain : (ls : List (List ℕ)) → ((vs : List Token) → starts (among binary_signs) vs ≡ false → starts (among (classes_of_levels ls)) vs ≡ false)
+  atom_is_chain : (ls : List (List ℕ)) → ((vs : List Token) → next_is (has_class_in binary_signs) vs ≡ false → next_is (has_class_in (classes_of_levels ls)) vs ≡ false)
       → chain_read ls (unary_read e w (primary_read e a)) (t ∷ us) ≡ Ok (atom_of t, us)
   atom_is_chain ls none =
       chain_climbs ls (unary_read e w (primary_read e a)) (t ∷ us)
-      ∙ ap (λ q. after q (climb_read ls (unary_read e w (primary_read e a)))) atom_is_operand
+      ∙ ap (λ q. then_read q (climb_read ls (unary_read e w (primary_read e a)))) atom_is_operand
       ∙ climbs_none ls (unary_read e w (primary_read e a)) (atom_of t) us (none us (no_operator us ends))
 
   pub atom_is_side : (level : Level) → chain_read (levels_below level) (unary_read e w (primary_read e a)) (t ∷ us) ≡ Ok (atom_of t, us)

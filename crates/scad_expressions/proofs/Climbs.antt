@@ -3,10 +3,10 @@ use Rattle.std.proofs.Common.{◌≡◌, ℕ, zero, suc, ◌+◌, ◌-◌, ◌<�
 use Rattle.scad_lexer.specs.declared.token.Token.{Token}
 use Rattle.scad_ast.specs.Terms.{Term, LinkTerm}
 use Rattle.scad_grammar.specs.declared.SyntaxFault.{SyntaxFault}
-use Rattle.scad_grammar.specs.Classes.{among, is_listed, class_of}
+use Rattle.scad_grammar.specs.Classes.{has_class_in, is_listed, token_class}
 use Rattle.scad_grammar.specs.Faults.{TokenReader, one}
 use Rattle.scad_grammar.specs.Grammar.{levels, chain_term, link}
-use Rattle.scad_grammar.specs.Reading.{Read, after, starts, mapped, both, many_times, many}
+use Rattle.scad_grammar.specs.Reading.{Read, then_read, next_is, image_read, both, many_times, many}
 use Rattle.scad_grammar.specs.Reads.{chain_read}
 use Rattle.scad_expressions.specs.declared.class.Level.{Level}
 use Rattle.scad_expressions.specs.declared.class.Level.TheVariants.{Or, And, Equal, Order, Sum, Product}
@@ -15,28 +15,28 @@ use Rattle.scad_expressions.specs.TokenClasses.{classes_of_levels, binary_signs,
 use Rattle.scad_expressions.proofs.Levels.{same_level, looser_step}
 
 one_by_one : {A B C : Type 0} (q : Read Token SyntaxFault A) (f : A → TokenReader B) (g : B → TokenReader C)
-    → after (after q f) g ≡ after q (λ x us. after (f x us) g)
+    → then_read (then_read q f) g ≡ then_read q (λ x us. then_read (f x us) g)
 one_by_one (Ok p) f g = refl
 one_by_one (Err e) f g = refl
 
-as_it_is : {A : Type 0} (q : Read Token SyntaxFault A) → q ≡ after q (λ x us. Ok (x, us))
+as_it_is : {A : Type 0} (q : Read Token SyntaxFault A) → q ≡ then_read q (λ x us. Ok (x, us))
 as_it_is (Ok p) = refl
 as_it_is (Err e) = refl
 
 -- an operand, and what is climbed behind it
 pub chain_climbs : (levels : List (List ℕ)) (u : TokenReader Term) (ts : List Token)
-    → chain_read levels u ts ≡ after (u ts) (climb_read levels u)
+    → chain_read levels u ts ≡ then_read (u ts) (climb_read levels u)
 chain_climbs [] u ts = as_it_is (u ts)
 chain_climbs (ops ∷ levels) u ts =
-    ap (λ q. after q (λ a us. after (many (among ops) (both link (one (among ops)) (chain_read levels u)) us) (λ b vs. Ok (chain_term a b, vs)))) (chain_climbs levels u ts)
-    ∙ one_by_one (u ts) (climb_read levels u) (λ a us. after (many (among ops) (both link (one (among ops)) (chain_read levels u)) us) (λ b vs. Ok (chain_term a b, vs)))
+    ap (λ q. then_read q (λ a us. then_read (many (has_class_in ops) (both link (one (has_class_in ops)) (chain_read levels u)) us) (λ b vs. Ok (chain_term a b, vs)))) (chain_climbs levels u ts)
+    ∙ one_by_one (u ts) (climb_read levels u) (λ a us. then_read (many (has_class_in ops) (both link (one (has_class_in ops)) (chain_read levels u)) us) (λ b vs. Ok (chain_term a b, vs)))
 
 pub chain_stops : (levels : List (List ℕ)) (u : TokenReader Term) (ts : List Token) (x : SyntaxFault × List Token)
     → u ts ≡ Err x → chain_read levels u ts ≡ Err x
-chain_stops levels u ts x e = chain_climbs levels u ts ∙ ap (λ q. after q (climb_read levels u)) e
+chain_stops levels u ts x e = chain_climbs levels u ts ∙ ap (λ q. then_read q (climb_read levels u)) e
 
 -- no item stands here
-pub many_none : {A : Type 0} (test : Token → Bool) (r : TokenReader A) (ts : List Token) → starts test ts ≡ false
+pub many_none : {A : Type 0} (test : Token → Bool) (r : TokenReader A) (ts : List Token) → next_is test ts ≡ false
     → many test r ts ≡ Ok ([], ts)
 unfolding many many_times
 many_none test r [] e = refl
@@ -54,26 +54,26 @@ listed_apart : (xs ys : List ℕ) (k : ℕ) → is_listed (xs ++ ys) k ≡ false
 listed_apart [] ys k e = (refl, e)
 listed_apart (c ∷ xs) ys k e = not_either (nat_eq k c) xs ys k (listed_apart xs ys k) e
 
-pub starts_apart : (xs ys : List ℕ) (ts : List Token) → starts (among (xs ++ ys)) ts ≡ false
-    → (starts (among xs) ts ≡ false) × (starts (among ys) ts ≡ false)
+pub starts_apart : (xs ys : List ℕ) (ts : List Token) → next_is (has_class_in (xs ++ ys)) ts ≡ false
+    → (next_is (has_class_in xs) ts ≡ false) × (next_is (has_class_in ys) ts ≡ false)
 starts_apart xs ys [] e = (refl, refl)
-starts_apart xs ys (t ∷ ts) e = listed_apart xs ys (class_of t.kind) e
+starts_apart xs ys (t ∷ ts) e = listed_apart xs ys (token_class t.kind) e
 
 -- no operator of these levels stands here
 pub climbs_none : (ls : List (List ℕ)) (u : TokenReader Term) (x : Term) (ts : List Token)
-    → starts (among (classes_of_levels ls)) ts ≡ false → climb_read ls u x ts ≡ Ok (x, ts)
+    → next_is (has_class_in (classes_of_levels ls)) ts ≡ false → climb_read ls u x ts ≡ Ok (x, ts)
 climbs_none [] u x ts e = refl
 climbs_none (ops ∷ ls) u x ts e =
     let p = starts_apart ops (classes_of_levels ls) ts e in
-    rw (climbs_none ls u x ts p.1, many_none (among ops) (both link (one (among ops)) (chain_read ls u)) ts p.0) refl
+    rw (climbs_none ls u x ts p.1, many_none (has_class_in ops) (both link (one (has_class_in ops)) (chain_read ls u)) ts p.0) refl
 
 -- no operator of a level and of those that bind more tightly, where there is none at all
 pub none_below : (ops : List ℕ) (ls : List (List ℕ)) (ts : List Token)
-    → starts (among (classes_of_levels (ops ∷ ls))) ts ≡ false → starts (among (classes_of_levels ls)) ts ≡ false
+    → next_is (has_class_in (classes_of_levels (ops ∷ ls))) ts ≡ false → next_is (has_class_in (classes_of_levels ls)) ts ≡ false
 none_below ops ls ts e = (starts_apart ops (classes_of_levels ls) ts e).1
 
-pub none_at : (level : Level) (ts : List Token) → starts (among binary_signs) ts ≡ false
-    → starts (among (classes_of_levels (levels_at level))) ts ≡ false
+pub none_at : (level : Level) (ts : List Token) → next_is (has_class_in binary_signs) ts ≡ false
+    → next_is (has_class_in (classes_of_levels (levels_at level))) ts ≡ false
 none_at Or ts e = e
 none_at And ts e = none_below (operators_at Or) (levels_at And) ts e
 none_at Equal ts e = none_below (operators_at And) (levels_at Equal) ts (none_below (operators_at Or) (levels_at And) ts e)
@@ -88,20 +88,20 @@ none_at Product ts e =
     (none_below (operators_at Or) (levels_at And) ts e))))
 
 -- no operator stands here
-pub climb_none : (u : TokenReader Term) (x : Term) (ts : List Token) → starts (among binary_signs) ts ≡ false → climb_read levels u x ts ≡ Ok (x, ts)
+pub climb_none : (u : TokenReader Term) (x : Term) (ts : List Token) → next_is (has_class_in binary_signs) ts ≡ false → climb_read levels u x ts ≡ Ok (x, ts)
 climb_none u x ts e = climbs_none levels u x ts e
 
 -- the operators of a level behind those that bind more tightly
 pub climb_step : (at : Level) (u : TokenReader Term) (x first : Term) (ts rest : List Token) → climb_read (levels_below at) u x ts ≡ Ok (first, rest)
-    → climb_read (levels_at at) u x ts ≡ mapped (chain_term first) (many (among (operators_at at)) (both link (one (among (operators_at at))) (chain_read (levels_below at) u))) rest
+    → climb_read (levels_at at) u x ts ≡ image_read (chain_term first) (many (has_class_in (operators_at at)) (both link (one (has_class_in (operators_at at))) (chain_read (levels_below at) u))) rest
 climb_step at u x first ts rest e =
-    ap (λ q. after q (λ a us. after (many (among (operators_at at)) (both link (one (among (operators_at at))) (chain_read (levels_below at) u)) us) (λ b vs. Ok (chain_term a b, vs)))) e
+    ap (λ q. then_read q (λ a us. then_read (many (has_class_in (operators_at at)) (both link (one (has_class_in (operators_at at))) (chain_read (levels_below at) u)) us) (λ b vs. Ok (chain_term a b, vs)))) e
 
 pub climb_step_none : (at : Level) (u : TokenReader Term) (x first : Term) (ts rest : List Token) → climb_read (levels_below at) u x ts ≡ Ok (first, rest)
-    → starts (among (operators_at at)) rest ≡ false → climb_read (levels_at at) u x ts ≡ Ok (first, rest)
+    → next_is (has_class_in (operators_at at)) rest ≡ false → climb_read (levels_at at) u x ts ≡ Ok (first, rest)
 climb_step_none at u x first ts rest e none =
     climb_step at u x first ts rest e
-    ∙ ap (λ (q : Read Token SyntaxFault (List LinkTerm)). after q (λ b vs. Ok (chain_term first b, vs))) (many_none (among (operators_at at)) _ rest none)
+    ∙ ap (λ (q : Read Token SyntaxFault (List LinkTerm)). then_read q (λ b vs. Ok (chain_term first b, vs))) (many_none (has_class_in (operators_at at)) _ rest none)
 
 -- a fault among the operators of a level is one of all levels that bind less tightly
 climb_stops_over : (n : ℕ) (at level : Level) (u : TokenReader Term) (x : Term) (ts : List Token) (y : SyntaxFault × List Token)
@@ -113,7 +113,7 @@ climb_stops_over zero at level u x ts y g e =
 climb_stops_over (suc n) at level u x ts y g e =
     let next = looser_step at level (omega (arith, g)) in
     climb_stops_over n (looser_than at) level u x ts y (omega (arith, g, next.1))
-    (ap (λ q. after q (λ a us. after (many (among (operators_at (looser_than at))) (both link (one (among (operators_at (looser_than at)))) (chain_read (levels_below (looser_than at)) u)) us) (λ b vs. Ok (chain_term a b, vs))))
+    (ap (λ q. then_read q (λ a us. then_read (many (has_class_in (operators_at (looser_than at))) (both link (one (has_class_in (operators_at (looser_than at)))) (chain_read (levels_below (looser_than at)) u)) us) (λ b vs. Ok (chain_term a b, vs))))
     (ap (λ (ls : List (List ℕ)). climb_read ls u x ts) next.0 ∙ e))
 
 pub climb_stops : (at level : Level) (u : TokenReader Term) (x : Term) (ts : List Token) (y : SyntaxFault × List Token)

@@ -10,13 +10,13 @@ use Rattle.scad_ast.specs.Terms.{Term, LinkTerm, SuffixTerm}
 use Rattle.scad_ast.specs.ExprView.{term_of, terms_of, link_of, suffix_of, arg_of, args_of}
 use Rattle.scad_ast.specs.StatementView.{param_of, params_of, binder_of, binders_of, statement_of, statements_of}
 use Rattle.scad_grammar.specs.declared.SyntaxFault.{SyntaxFault}
-use Rattle.scad_grammar.specs.Classes.{open_parenthesis_sign, close_parenthesis_sign, is}
+use Rattle.scad_grammar.specs.Classes.{open_parenthesis_sign, close_parenthesis_sign, has_class}
 use Rattle.scad_grammar.specs.Faults.{TokenReader, one}
-use Rattle.scad_grammar.specs.Reading.{Read, after}
+use Rattle.scad_grammar.specs.Reading.{Read, then_read}
 use Rattle.scad_grammar.specs.Reads.{in_parentheses}
 use Rattle.scad_expressions.specs.declared.next.Stopped.{Stopped}
 use Rattle.scad_expressions.specs.declared.next.Stopped.TheVariants.{Fault, NoMemory}
-use Rattle.scad_expressions.specs.Views.{GivesRead, plain, closed_by, IsClosed, IsBoxed}
+use Rattle.scad_expressions.specs.Views.{GivesRead, plain_read, closed_by, IsClosedRead, IsBoxed}
 
 -- a fault of a part is one of the whole
 abbrev GoesOn : {A X : Type 0} → (A → X) → {B Y : Type 0} → (B → Y) → Type 0
@@ -43,8 +43,8 @@ same_read item given q r e g = rw e g
 -- the same where the whole is made of that part alone
 pub made_stops : {A X B Y : Type 0} (item : A → X) (whole : B → Y) (make : X → Y) (given : Result (B × Bor (List Token)) Stopped) (s : Stopped) (q : Read Token SyntaxFault X)
     → GivesRead (λ (p : A × Bor (List Token)). (item p.0, p.1.now)) (Err s) q → IsErrAnd given (λ y. y ≡ s)
-    → GivesRead (λ (p : B × Bor (List Token)). (whole p.0, p.1.now)) given (after q (λ x us. Ok (make x, us)))
-made_stops {A} {X} item whole make given s q g e = stops item whole given s q (after q (λ x us. Ok (make x, us))) (λ x h. ap (λ (p : Read Token SyntaxFault X). after p (λ y us. Ok (make y, us))) h) g e
+    → GivesRead (λ (p : B × Bor (List Token)). (whole p.0, p.1.now)) given (then_read q (λ x us. Ok (make x, us)))
+made_stops {A} {X} item whole make given s q g e = stops item whole given s q (then_read q (λ x us. Ok (make x, us))) (λ x h. ap (λ (p : Read Token SyntaxFault X). then_read p (λ y us. Ok (make y, us))) h) g e
 
 -- what is read with something that was read before it
 pub with_gives : {A B X Y : Type 0} (item : B → X) (whole : A → B → Y) (before : A) (read : Result (B × Bor (List Token)) Stopped) (given : Result ((A × B) × Bor (List Token)) Stopped)
@@ -70,15 +70,15 @@ boxed_gives item read (Err NoMemory) q g h = tt
 
 -- what is read with a sign behind it
 kept : {A X : Type 0} (item : A → X) (x : A) (q : Read Token SyntaxFault Token) (given : Result (A × Bor (List Token)) Stopped)
-    → GivesRead plain given (after q (λ close us. Ok (x, us))) → GivesRead (λ (p : A × Bor (List Token)). (item p.0, p.1.now)) given (after q (λ close us. Ok (item x, us)))
-kept {A} {X} item x (Ok c) (Ok p) g = ap (λ (r : Read Token SyntaxFault A). after r (λ y us. Ok (item y, us))) g
-kept {A} {X} item x (Ok c) (Err (Fault fault at)) g = ap (λ (r : Read Token SyntaxFault A). after r (λ y us. Ok (item y, us))) g
-kept {A} {X} item x (Err e) (Ok p) g = ap (λ (r : Read Token SyntaxFault A). after r (λ y us. Ok (item y, us))) g
-kept {A} {X} item x (Err e) (Err (Fault fault at)) g = ap (λ (r : Read Token SyntaxFault A). after r (λ y us. Ok (item y, us))) g
+    → GivesRead plain_read given (then_read q (λ close us. Ok (x, us))) → GivesRead (λ (p : A × Bor (List Token)). (item p.0, p.1.now)) given (then_read q (λ close us. Ok (item x, us)))
+kept {A} {X} item x (Ok c) (Ok p) g = ap (λ (r : Read Token SyntaxFault A). then_read r (λ y us. Ok (item y, us))) g
+kept {A} {X} item x (Ok c) (Err (Fault fault at)) g = ap (λ (r : Read Token SyntaxFault A). then_read r (λ y us. Ok (item y, us))) g
+kept {A} {X} item x (Err e) (Ok p) g = ap (λ (r : Read Token SyntaxFault A). then_read r (λ y us. Ok (item y, us))) g
+kept {A} {X} item x (Err e) (Err (Fault fault at)) g = ap (λ (r : Read Token SyntaxFault A). then_read r (λ y us. Ok (item y, us))) g
 kept item x q (Err NoMemory) g = tt
 
 pub closed_gives : {A X : Type 0} (item : A → X) (test : Token → Bool) (read given : Result (A × Bor (List Token)) Stopped) (q : Read Token SyntaxFault X)
-    → GivesRead (λ (p : A × Bor (List Token)). (item p.0, p.1.now)) read q → IsClosed test read given
+    → GivesRead (λ (p : A × Bor (List Token)). (item p.0, p.1.now)) read q → IsClosedRead test read given
     → GivesRead (λ (p : A × Bor (List Token)). (item p.0, p.1.now)) given (closed_by test q)
 closed_gives item test (Ok p) given q g h = rw g (kept item p.0 (one test p.1.now) given h)
 closed_gives item test (Err (Fault fault at)) given q g h = rw (h, g) refl
@@ -86,24 +86,24 @@ closed_gives item test (Err NoMemory) given q g h = rw h tt
 
 -- the sign stands behind a part and behind what is made of it alike
 pub closed_made : {X Y : Type 0} (test : Token → Bool) (make : X → Y) (q : Read Token SyntaxFault X)
-    → closed_by test (after q (λ x us. Ok (make x, us))) ≡ after (closed_by test q) (λ x us. Ok (make x, us))
+    → closed_by test (then_read q (λ x us. Ok (make x, us))) ≡ then_read (closed_by test q) (λ x us. Ok (make x, us))
 closed_made {X} {Y} test make (Ok p) = go (one test p.1)
   where
-    go : (q : Read Token SyntaxFault Token) → after {B = Y} q (λ close us. Ok (make p.0, us)) ≡ after (after {B = X} q (λ close us. Ok (p.0, us))) (λ x us. Ok (make x, us))
+    go : (q : Read Token SyntaxFault Token) → then_read {B = Y} q (λ close us. Ok (make p.0, us)) ≡ then_read (then_read {B = X} q (λ close us. Ok (p.0, us))) (λ x us. Ok (make x, us))
     go (Ok c) = refl
     go (Err e) = refl
 closed_made test make (Err e) = refl
 
-as_it_is : {X : Type 0} (q : Read Token SyntaxFault X) → after q (λ x us. Ok (x, us)) ≡ q
+as_it_is : {X : Type 0} (q : Read Token SyntaxFault X) → then_read q (λ x us. Ok (x, us)) ≡ q
 as_it_is (Ok p) = refl
 as_it_is (Err e) = refl
 
 -- what stands behind an opening parenthesis
-pub parenthesized : {X : Type 0} (r : TokenReader X) (ts : List Token) (t : Token) (us : List Token) → one (is open_parenthesis_sign) ts ≡ Ok (t, us)
-    → in_parentheses r ts ≡ closed_by (is close_parenthesis_sign) (r us)
+pub parenthesized : {X : Type 0} (r : TokenReader X) (ts : List Token) (t : Token) (us : List Token) → one (has_class open_parenthesis_sign) ts ≡ Ok (t, us)
+    → in_parentheses r ts ≡ closed_by (has_class close_parenthesis_sign) (r us)
 parenthesized {X} r ts t us e =
-    ap (λ (q : Read Token SyntaxFault Token). after {B = X} q (λ mark vs. after (closed_by (is close_parenthesis_sign) (r vs)) (λ x ws. Ok (x, ws)))) e
-    ∙ as_it_is (closed_by (is close_parenthesis_sign) (r us))
+    ap (λ (q : Read Token SyntaxFault Token). then_read {B = X} q (λ mark vs. then_read (closed_by (has_class close_parenthesis_sign) (r vs)) (λ x ws. Ok (x, ws)))) e
+    ∙ as_it_is (closed_by (has_class close_parenthesis_sign) (r us))
 
 -- where memory ran out, nothing is said of what was to be read
 pub memory_ran_out : {A X : Type 0} (item : A → X) (given : Result (A × Bor (List Token)) Stopped) (q : Read Token SyntaxFault X) → IsErrAnd given (λ s. s ≡ NoMemory)

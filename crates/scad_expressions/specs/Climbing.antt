@@ -1,7 +1,7 @@
 -- Reading what is less deep than so much, and a chain behind an operand that was read.
 use Rattle.std.specs.Prelude.{ℕ, List, [], ◌∷◌, Ok}
 use Rattle.scad_ast.specs.Terms.{Term, LinkTerm}
-use Rattle.scad_grammar.specs.Classes.{among}
+use Rattle.scad_grammar.specs.Classes.{has_class_in}
 use Rattle.scad_grammar.specs.Faults.{TokenReader, one}
 use Rattle.scad_grammar.specs.Grammar.{chain_term, link}
 use Rattle.scad_grammar.specs.Reading.{both, many}
@@ -18,9 +18,9 @@ abbrev pub unary_in : ℕ → TokenReader Term
 unary_in depth = unary_read (expr_read depth) (operand_read depth) (primary_in depth)
 
 abbrev pub link_in : Level → ℕ → TokenReader LinkTerm
-link_in level depth = both link (one (among (operators_at level))) (chain_read (levels_below level) (unary_in depth))
+link_in level depth = both link (one (has_class_in (operators_at level))) (chain_read (levels_below level) (unary_in depth))
 
 -- an operand with the operators behind it of these levels, the loosest first
 abbrev pub climb_read : List (List ℕ) → TokenReader Term → Term → TokenReader Term
 climb_read [] operand x tokens = Ok (x, tokens)
-climb_read (ops ∷ levels) operand x tokens = both chain_term (climb_read levels operand x) (many (among ops) (both link (one (among ops)) (chain_read levels operand))) tokens
+climb_read (ops ∷ levels) operand x tokens = both chain_term (climb_read levels operand x) (many (has_class_in ops) (both link (one (has_class_in ops)) (chain_read levels operand))) tokens

@@ -1,9 +1,9 @@
 -- The classes of tokens that the parser tells apart.
 use Rattle.std.specs.Prelude.{ℕ, List, [], ◌∷◌, ◌++◌, drop, length}
-use Rattle.scad_grammar.specs.Classes.{numeral, name, child_count, special, argument_names, text, end, true_word, false_word, undef_word, open_parenthesis_sign, open_bracket_sign, question_sign, dot_sign, plus_sign, minus_sign, times_sign, divide_sign, remainder_sign, less_sign, greater_sign, less_equal_sign, greater_equal_sign, equal_sign, not_equal_sign, and_sign, or_sign, not_sign, reserved_class, symbol_class}
+use Rattle.scad_grammar.specs.Classes.{numeral_class, name_class, child_count_class, special_class, argument_names, text_class, end_class, true_word, false_word, undef_word, open_parenthesis_sign, open_bracket_sign, question_sign, dot_sign, plus_sign, minus_sign, times_sign, divide_sign, remainder_sign, less_sign, greater_sign, less_equal_sign, greater_equal_sign, equal_sign, not_equal_sign, and_sign, or_sign, not_sign, reserved_class, symbol_class}
 use Rattle.scad_grammar.specs.Grammar.{levels}
 use Rattle.scad_grammar.specs.Reads.{firsts_of_expression}
-use Rattle.scad_grammar.specs.StatementReads.{mark_signs, loop_words, firsts_of_statement, firsts_of_body}
+use Rattle.scad_grammar.specs.StatementReads.{modifier_signs, loop_words, firsts_of_statement, firsts_of_body}
 use Rattle.scad_grammar.specs.Faults.{left_out_classes, left_out_of_expressions}
 use Rattle.scad_expressions.specs.declared.class.Level.{Level}
 use Rattle.scad_expressions.specs.declared.class.Level.TheVariants.{Or, And, Equal, Order, Sum, Product}
@@ -29,11 +29,11 @@ suffix_signs = open_bracket_sign ∷ dot_sign ∷ []
 
 -- an operand of one token that is no name
 abbrev pub literals : List ℕ
-literals = numeral ∷ text ∷ true_word ∷ false_word ∷ undef_word ∷ child_count ∷ special ∷ []
+literals = numeral_class ∷ text_class ∷ true_word ∷ false_word ∷ undef_word ∷ child_count_class ∷ special_class ∷ []
 
 -- an operand of one token
 abbrev pub atoms : List ℕ
-atoms = name ∷ literals
+atoms = name_class ∷ literals
 
 -- what may go on with an expression behind an atom: `?`, `(`, a suffix or an operator of two sides
 abbrev pub continuations : List ℕ
@@ -76,10 +76,10 @@ tighter_levels level = length (levels_below level)
 
 -- the classes of the tokens of a class
 abbrev pub classes_of : TokenClass → List ℕ
-classes_of Name = name ∷ []
-classes_of Special = special ∷ []
+classes_of Name = name_class ∷ []
+classes_of Special = special_class ∷ []
 classes_of ArgumentName = argument_names
-classes_of End = end ∷ []
+classes_of End = end_class ∷ []
 classes_of (Word word) = reserved_class word ∷ []
 classes_of (Sign symbol) = symbol_class symbol ∷ []
 classes_of Literal = literals
@@ -89,7 +89,7 @@ classes_of (Operator level) = operators_at level
 classes_of BinaryOperator = binary_signs
 classes_of UnaryOperator = unary_signs
 classes_of Suffix = suffix_signs
-classes_of Modifier = mark_signs
+classes_of Modifier = modifier_signs
 classes_of LoopWord = loop_words
 classes_of Expression = firsts_of_expression
 classes_of Statement = firsts_of_statement

@@ -6,9 +6,9 @@ use Rattle.scad_lexer.specs.declared.token.Token.{Token}
 use Rattle.scad_ast.specs.Terms.{Term, NumberTerm, TextTerm, TruthTerm, UndefTerm, ChildCountTerm, SpecialTerm, NameTerm}
 use Rattle.scad_grammar.specs.declared.SyntaxFault.{SyntaxFault}
 use Rattle.scad_grammar.specs.declared.SyntaxFault.TheVariants.{Nested}
-use Rattle.scad_grammar.specs.Classes.{numeral, text, true_word, false_word, undef_word, child_count, special, comma_sign, assign_sign, among, is, other_than, number_of, bytes_of}
+use Rattle.scad_grammar.specs.Classes.{numeral_class, text_class, true_word, false_word, undef_word, child_count_class, special_class, comma_sign, assign_sign, has_class_in, has_class, has_class_outside, numeral_value, bytes_of}
 use Rattle.scad_grammar.specs.Faults.{fault_of, one}
-use Rattle.scad_grammar.specs.Reading.{Read, after, starts}
+use Rattle.scad_grammar.specs.Reading.{Read, then_read, next_is}
 use Rattle.scad_grammar.specs.Reads.{head_of}
 use Rattle.scad_expressions.specs.TokenClasses.{atoms, continuations}
 use Rattle.scad_expressions.specs.declared.next.Stopped.{Stopped}
@@ -26,17 +26,17 @@ IsStop (Fault fault at) wanted tokens = (fault ≡ wanted) × (at.now ≡ tokens
 IsStop NoMemory wanted tokens = ⊥
 
 -- what was read, and the tokens behind it
-abbrev pub plain : {A : Type 0} → A × Bor (List Token) → A × List Token
-plain read = (read.0, read.1.now)
+abbrev pub plain_read : {A : Type 0} → A × Bor (List Token) → A × List Token
+plain_read read = (read.0, read.1.now)
 
 -- what was read, where such a token stands behind it
 abbrev pub closed_by : {A : Type 0} → (Token → Bool) → Read Token SyntaxFault A → Read Token SyntaxFault A
-closed_by test read = after read (λ value tokens. after (one test tokens) (λ close rest. Ok (value, rest)))
+closed_by test read = then_read read (λ value tokens. then_read (one test tokens) (λ close rest. Ok (value, rest)))
 
 -- the same of what a function of the parser gave
-abbrev pub IsClosed : {A : Type 0} → (Token → Bool) → Result (A × Bor (List Token)) Stopped → Result (A × Bor (List Token)) Stopped → Type 0
-IsClosed test (Ok read) given = GivesRead plain given (closed_by test (Ok (plain read)))
-IsClosed test (Err stopped) given = given ≡ Err stopped
+abbrev pub IsClosedRead : {A : Type 0} → (Token → Bool) → Result (A × Bor (List Token)) Stopped → Result (A × Bor (List Token)) Stopped → Type 0
+IsClosedRead test (Ok read) given = GivesRead plain_read given (closed_by test (Ok (plain_read read)))
+IsClosedRead test (Err stopped) given = given ≡ Err stopped
 
 -- what was read, in a box, unless memory ran out
 abbrev pub IsBoxed : {A : Type 0} → Result (A × Bor (List Token)) Stopped → Result (Box A × Bor (List Token)) Stopped → Type 0
@@ -50,36 +50,36 @@ fault_at classes tokens = fault_of classes (head_of tokens)
 
 -- the same where nothing may stand that is deeper
 abbrev pub nested_fault : List ℕ → List ℕ → List Token → SyntaxFault
-nested_fault begins classes tokens = cond (starts (among begins) tokens) Nested (fault_at classes tokens)
+nested_fault begins classes tokens = cond (next_is (has_class_in begins) tokens) Nested (fault_at classes tokens)
 
 -- a comma, and behind it a token of these
 abbrev pub item_stands : (Token → Bool) → List Token → Bool
 item_stands go [] = false
-item_stands go (token ∷ tokens) = is comma_sign token && starts go tokens
+item_stands go (token ∷ tokens) = has_class comma_sign token && next_is go tokens
 
 -- the tokens behind a comma, where one stands
 abbrev pub past_comma : List Token → List Token
 past_comma [] = []
-past_comma (token ∷ tokens) = cond (is comma_sign token) tokens (token ∷ tokens)
+past_comma (token ∷ tokens) = cond (has_class comma_sign token) tokens (token ∷ tokens)
 
 -- a token of these classes and what stands behind the `=` that follows it, where both stand
 abbrev pub value_assigned : List ℕ → List Token → Option (Token × List Token)
 value_assigned classes [] = None
 value_assigned classes (token ∷ []) = None
-value_assigned classes (token ∷ next ∷ tokens) = cond (among classes token && is assign_sign next) (Some (token, tokens)) None
+value_assigned classes (token ∷ next ∷ tokens) = cond (has_class_in classes token && has_class assign_sign next) (Some (token, tokens)) None
 
 -- an atom, and behind it a token that does not go on with it
 abbrev pub has_lone_atom : List Token → Bool
 has_lone_atom [] = false
-has_lone_atom (token ∷ tokens) = among atoms token && starts (other_than continuations) tokens
+has_lone_atom (token ∷ tokens) = has_class_in atoms token && next_is (has_class_outside continuations) tokens
 
 -- what an atom writes
 abbrev pub atom_of : Token → Term
 atom_of token =
-    cond (is numeral token) (NumberTerm token.place (number_of token.kind))
-    (cond (is text token) (TextTerm token.place (bytes_of token.kind))
-    (cond (is true_word token) (TruthTerm token.place true)
-    (cond (is false_word token) (TruthTerm token.place false)
-    (cond (is undef_word token) (UndefTerm token.place)
-    (cond (is child_count token) (ChildCountTerm token.place)
-    (cond (is special token) (SpecialTerm token.place (bytes_of token.kind)) (NameTerm token.place (bytes_of token.kind))))))))
+    cond (has_class numeral_class token) (NumberTerm token.place (numeral_value token.kind))
+    (cond (has_class text_class token) (TextTerm token.place (bytes_of token.kind))
+    (cond (has_class true_word token) (TruthTerm token.place true)
+    (cond (has_class false_word token) (TruthTerm token.place false)
+    (cond (has_class undef_word token) (UndefTerm token.place)
+    (cond (has_class child_count_class token) (ChildCountTerm token.place)
+    (cond (has_class special_class token) (SpecialTerm token.place (bytes_of token.kind)) (NameTerm token.place (bytes_of token.kind))))))))

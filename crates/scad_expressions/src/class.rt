@@ -1,7 +1,7 @@
 ghost use Rattle.std.specs.Prelude.{◌≡◌, cond};
-ghost use Rattle.scad_grammar.specs.Classes.{class_of, is_listed, symbol_class, reserved_class, numeral, name, text, child_count, special};
+ghost use Rattle.scad_grammar.specs.Classes.{token_class, is_listed, symbol_class, reserved_class, numeral_class, name_class, text_class, child_count_class, special_class};
 ghost use Rattle.scad_grammar.specs.Faults.{left_out_classes};
-ghost use Rattle.scad_grammar.specs.StatementReads.{mark_signs, firsts_of_core};
+ghost use Rattle.scad_grammar.specs.StatementReads.{modifier_signs, firsts_of_core};
 ghost use Rattle.scad_expressions.specs.TokenClasses.{classes_of, operators_at, tighter_levels, looser_than, binary_signs, unary_signs, continuations};
 
 use scad_lexer::{Reserved, Symbol, TokenKind};
@@ -106,7 +106,7 @@ impl TokenClass {
     /// Whether a token is of this class.
     #[inline(always)]
     pub fn has(self, kind: &TokenKind) -> bool
-        ensures { result ≡ is_listed (classes_of self) (class_of kind.now) }
+        ensures { result ≡ is_listed (classes_of self) (token_class kind.now) }
     {
         match kind {
             TokenKind::Symbol(symbol) => self.has_symbol(*symbol),
@@ -120,7 +120,7 @@ impl TokenClass {
     }
 
     fn has_name(self) -> bool
-        ensures { result ≡ is_listed (classes_of self) name }
+        ensures { result ≡ is_listed (classes_of self) name_class }
     {
         matches!(
             self,
@@ -134,7 +134,7 @@ impl TokenClass {
     }
 
     fn has_numeral(self) -> bool
-        ensures { result ≡ is_listed (classes_of self) numeral }
+        ensures { result ≡ is_listed (classes_of self) numeral_class }
     {
         matches!(
             self,
@@ -143,7 +143,7 @@ impl TokenClass {
     }
 
     fn has_text(self) -> bool
-        ensures { result ≡ is_listed (classes_of self) text }
+        ensures { result ≡ is_listed (classes_of self) text_class }
     {
         matches!(
             self,
@@ -199,7 +199,7 @@ impl TokenClass {
     }
 
     fn has_special(self, is_child_count: bool) -> bool
-        ensures { result ≡ is_listed (classes_of self) (cond is_child_count child_count special) }
+        ensures { result ≡ is_listed (classes_of self) (cond is_child_count child_count_class special_class) }
     {
         match self {
             TokenClass::Literal | TokenClass::Atom | TokenClass::Expression => true,
@@ -251,7 +251,7 @@ fn is_unary(symbol: Symbol) -> bool
 }
 
 fn is_mark(symbol: Symbol) -> bool
-    ensures { result ≡ is_listed mark_signs (symbol_class symbol) }
+    ensures { result ≡ is_listed modifier_signs (symbol_class symbol) }
 {
     matches!(
         symbol,

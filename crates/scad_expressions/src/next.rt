@@ -1,12 +1,12 @@
 ghost use Rattle.std.specs.Prelude.{◌≡◌, ◌<◌, ◌≤◌, ◌∷◌, [], true, false, Ok, Err, Some, None, IfOk, IfErr, IfSome, IfNone, length};
-ghost use Rattle.scad_grammar.specs.Classes.{class_of, bytes_of, symbol_class, among, is, other_than};
-ghost use Rattle.scad_grammar.specs.Classes.{name};
+ghost use Rattle.scad_grammar.specs.Classes.{token_class, bytes_of, symbol_class, has_class_in, has_class, has_class_outside};
+ghost use Rattle.scad_grammar.specs.Classes.{name_class};
 ghost use Rattle.scad_grammar.specs.Grammar.{binary_at, unary_at, modifier_at};
 ghost use Rattle.scad_grammar.specs.Faults.{one, first};
-ghost use Rattle.scad_grammar.specs.Reading.{starts};
+ghost use Rattle.scad_grammar.specs.Reading.{next_is};
 ghost use Rattle.scad_expressions.specs.TokenClasses.{classes_of, continuations};
 ghost use Rattle.scad_expressions.specs.declared.class.TokenClass.TheVariants.{LeftOut};
-ghost use Rattle.scad_expressions.specs.Views.{GivesRead, IsStop, IsClosed, IsBoxed, nested_fault, fault_at, item_stands, past_comma, value_assigned, has_lone_atom};
+ghost use Rattle.scad_expressions.specs.Views.{GivesRead, IsStop, IsClosedRead, IsBoxed, nested_fault, fault_at, item_stands, past_comma, value_assigned, has_lone_atom};
 
 use crate::class::TokenClass;
 use scad_ast::{BinaryOp, Modifier, UnaryOp};
@@ -63,7 +63,7 @@ pub fn with<'a, A: Drop, B>(before: A, read: Parsed<'a, B>) -> Parsed<'a, (A, B)
 /// What was read, where this sign stands behind it.
 #[inline(always)]
 pub fn closed<'a, T: Drop>(read: Parsed<'a, T>, close: Symbol) -> Parsed<'a, T>
-    ensures { IsClosed (is (symbol_class close)) read.entry result }
+    ensures { IsClosedRead (has_class (symbol_class close)) read.entry result }
 {
     match read {
         Ok((value, rest)) => match take(TokenClass::Sign(close), rest) {
@@ -97,7 +97,7 @@ impl TokenClass {
     /// Whether the next token is of this class.
     #[inline(always)]
     pub fn begins(self, tokens: &[Token]) -> bool
-        ensures { result ≡ starts (among (classes_of self)) tokens.now }
+        ensures { result ≡ next_is (has_class_in (classes_of self)) tokens.now }
     {
         match tokens {
             [] => false,
@@ -108,9 +108,9 @@ impl TokenClass {
     /// The next token and those behind it, where it is of this class.
     #[inline(always)]
     pub fn split_first<'a>(self, tokens: &'a [Token]) -> Option<(&'a Token, &'a [Token])>
-        ensures some { IfSome result (λ p. (starts (among (classes_of self)) tokens.now ≡ true) ×
-            (one (among (classes_of self)) tokens.now ≡ Ok (p.0.now, p.1.now))) }
-        ensures none { IfNone result (starts (among (classes_of self)) tokens.now ≡ false) }
+        ensures some { IfSome result (λ p. (next_is (has_class_in (classes_of self)) tokens.now ≡ true) ×
+            (one (has_class_in (classes_of self)) tokens.now ≡ Ok (p.0.now, p.1.now))) }
+        ensures none { IfNone result (next_is (has_class_in (classes_of self)) tokens.now ≡ false) }
     {
         match tokens {
             [token, rest @ ..] if self.has(&token.kind) => Some((token, rest)),
@@ -122,7 +122,7 @@ impl TokenClass {
 /// Whether a token stands here, and another one than this symbol.
 #[inline(always)]
 pub(crate) fn is_before(close: Symbol, tokens: &[Token]) -> bool
-    ensures { result ≡ starts (other_than (symbol_class close ∷ [])) tokens.now }
+    ensures { result ≡ next_is (has_class_outside (symbol_class close ∷ [])) tokens.now }
 {
     match tokens {
         [] => false,
@@ -133,7 +133,7 @@ pub(crate) fn is_before(close: Symbol, tokens: &[Token]) -> bool
 /// Whether a comma stands here, and behind it another token than this symbol.
 #[inline(always)]
 pub(crate) fn is_comma_before(close: Symbol, tokens: &[Token]) -> bool
-    ensures { result ≡ item_stands (other_than (symbol_class close ∷ [])) tokens.now }
+    ensures { result ≡ item_stands (has_class_outside (symbol_class close ∷ [])) tokens.now }
 {
     match tokens {
         [] => false,
@@ -144,7 +144,7 @@ pub(crate) fn is_comma_before(close: Symbol, tokens: &[Token]) -> bool
 
 /// Whether a comma stands here, and a name behind it.
 pub fn is_comma_and_name(tokens: &[Token]) -> bool
-    ensures { result ≡ item_stands (is name) tokens.now }
+    ensures { result ≡ item_stands (has_class name_class) tokens.now }
 {
     match tokens {
         [] => false,
@@ -183,7 +183,7 @@ pub(crate) fn lone_atom<'a>(tokens: &'a [Token]) -> Option<(&'a Token, &'a [Toke
 // Whether a token stands here that does not go on with an atom before it.
 #[inline(always)]
 fn ends_atom(tokens: &[Token]) -> bool
-    ensures { result ≡ starts (other_than continuations) tokens.now }
+    ensures { result ≡ next_is (has_class_outside continuations) tokens.now }
 {
     match tokens {
         [] => false,
@@ -210,7 +210,7 @@ pub fn assigned<'a>(class: TokenClass, tokens: &'a [Token]) -> Option<(&'a Token
 #[inline(always)]
 pub fn take<'a>(class: TokenClass, tokens: &'a [Token]) -> Parsed<'a, &'a Token>
     ensures value { GivesRead (λ p. (p.0.now, p.1.now)) result
-        (one (among (classes_of class)) tokens.now) }
+        (one (has_class_in (classes_of class)) tokens.now) }
     ensures shorter { IfOk result (λ p. length p.1.now < length tokens.now) }
 {
     match tokens {
@@ -223,7 +223,7 @@ pub fn take<'a>(class: TokenClass, tokens: &'a [Token]) -> Parsed<'a, &'a Token>
 #[inline(always)]
 pub(crate) fn take_first<'a>(class: TokenClass, tokens: &'a [Token]) -> Parsed<'a, &'a Token>
     ensures value { GivesRead (λ p. (p.0.now, p.1.now)) result
-        (first (among (classes_of class)) tokens.now) }
+        (first (has_class_in (classes_of class)) tokens.now) }
     ensures shorter { IfOk result (λ p. length p.1.now < length tokens.now) }
 {
     match tokens {
@@ -278,7 +278,7 @@ pub fn bytes(alloc: Global, kind: &TokenKind) -> Result<CompactBytes, AllocError
 
 /// The operator of two sides that a token is.
 pub(crate) fn binary_operator(kind: &TokenKind) -> BinaryOp
-    ensures { result ≡ binary_at (class_of kind.now) }
+    ensures { result ≡ binary_at (token_class kind.now) }
 {
     match kind {
         TokenKind::Symbol(Symbol::Or) => BinaryOp::Or,
@@ -299,7 +299,7 @@ pub(crate) fn binary_operator(kind: &TokenKind) -> BinaryOp
 
 /// The operator before an operand that a token is.
 pub(crate) fn unary_operator(kind: &TokenKind) -> UnaryOp
-    ensures { result ≡ unary_at (class_of kind.now) }
+    ensures { result ≡ unary_at (token_class kind.now) }
 {
     match kind {
         TokenKind::Symbol(Symbol::Minus) => UnaryOp::Negate,
@@ -310,7 +310,7 @@ pub(crate) fn unary_operator(kind: &TokenKind) -> UnaryOp
 
 /// The modifier that a token is.
 pub fn modifier(kind: &TokenKind) -> Modifier
-    ensures { result ≡ modifier_at (class_of kind.now) }
+    ensures { result ≡ modifier_at (token_class kind.now) }
 {
     match kind {
         TokenKind::Symbol(Symbol::Times) => Modifier::Disable,

@@ -9,7 +9,7 @@ use Rattle.scad_definitions.specs.TextView.{module_of, block_of_module}
 use Rattle.scad_definitions.specs.Tables.{table_held}
 use Rattle.scad_definitions.specs.declared.blocks.Blocks.{Blocks}
 use Rattle.scad_definitions.specs.declared.text.Module.{Module}
-use Rattle.scad_func.specs.Definitions.{IsBlockOf, IsWhole}
+use Rattle.scad_func.specs.Definitions.{IsBlockOf, IsWholeTable}
 
 body_there : (table : BlockTable) (n : ℕ) (b : BodyTerm) → StandAt table n (entities_of_body b) → IsBlockOf table n b
 body_there table n (EmptyBody at) h = h.1
@@ -22,7 +22,7 @@ mapped f (y ∷ ys) zero x d h = refl
 mapped f (y ∷ ys) (suc k) x d h = mapped f ys k x d (omega (arith, h))
 
 -- a module's body begins at its number
-pub module_block : (blocks : Blocks) (m : Module) → IsWhole (table_held blocks) → Contains blocks.modules.items m
+pub module_block : (blocks : Blocks) (m : Module) → IsWholeTable (table_held blocks) → Contains blocks.modules.items m
     → IsBlockOf (table_held blocks) m.block (body_of m.body.now)
 module_block blocks m whole h =
     let t = table_held blocks in

@@ -11,7 +11,7 @@ use Rattle.scad_value.specs.declared.bounded_value.BoundedValue.{BoundedValue}
 use Rattle.scad_value.specs.BoundedView.{bounded_val}
 use Rattle.scad_ast.specs.Terms.{ArgTerms, ArgTerm}
 use Rattle.scad_definitions.specs.Arguments.{positional_after, DestinationTerm, to_parameter, to_special, destination_of, with_argument}
-use Rattle.scad_func.specs.Meaning.{Outcome, Gives, Setting, value_at, then_with, Arguments, each_argument}
+use Rattle.scad_func.specs.Meaning.{Outcome, Gives, Setting, deeper_value, then_with, Arguments, each_argument}
 use Rattle.scad_func.specs.Steps.{argument_of}
 use Rattle.scad_func.specs.declared.values.BoundedValues.{BoundedValues}
 use Rattle.scad_func.specs.View.{MeetsOutcome, IsNoMemory, IsOneMore, values_seen, arguments_of}
@@ -20,7 +20,7 @@ use Rattle.scad_func.proofs.GivenSeen.{IsHeld}
 use Rattle.scad_definitions.specs.declared.parameters.CallArguments.{CallArguments}
 use Rattle.scad_func.proofs.Calls.{in_front}
 use Rattle.scad_func.specs.declared.evaluation.Evaluation.{Evaluation}
-use Rattle.scad_func.specs.Evaluations.{Keeps, EvaluatesTo, setting_here}
+use Rattle.scad_func.specs.Evaluations.{KeepsEvaluation, EvaluatesTo, setting_here}
 use Rattle.scad_func.proofs.Kept.{moved}
 use Rattle.scad_func.proofs.Outcomes.{meets_along, front_more, and_arg}
 use Rattle.scad_func.proofs.Steps.{argument_more, argument_fault}
@@ -51,7 +51,7 @@ module _ (start : Outcome Vals) (before : BoundedValues) (now : Outcome Vals) (s
       subst (λ (x : Stop). MeetsOutcome values_seen (Err x) n start) (sym l) (fault_told f m n t)
 
 -- one item more behind values so far, or its stop: the item gives what `step` says, and those behind it go on by `go`
-module _ (first now : Evaluation) (kept : Keeps first now) (before : BoundedValues) (start out : Outcome Vals)
+module _ (first now : Evaluation) (kept : KeepsEvaluation first now) (before : BoundedValues) (start out : Outcome Vals)
     (step : Setting → ℕ → Outcome Val) (go : ℕ → Outcome Vals) (s : start ≡ in_front (vals_in before.items.items) out)
     (h : out ≡ and_then (step (setting_here first) now.turns) go) where
   told_here : (new : Evaluation) (r : Result BoundedValue Stop) → EvaluatesTo bounded_val now new r step
@@ -116,7 +116,7 @@ pub argument_held : (here : Setting) (names : List (List ℕ)) (positional : ℕ
     → start ≡ each_argument here names positional args before turns
     → (a : ArgTerm) (rest : ArgTerms) (target : DestinationTerm) (then p : ℕ) (r : Result BoundedValue Stop) (after : CallArguments BoundedValue)
     → args ≡ and_arg a rest → destination_of names positional before a ≡ Some target
-    → MeetsOutcome bounded_val r then (value_at here true (argument_of a) turns) → IsHeld before target r (Ok after)
+    → MeetsOutcome bounded_val r then (deeper_value here true (argument_of a) turns) → IsHeld before target r (Ok after)
     → p ≡ positional_after positional a → start ≡ each_argument here names p rest (arguments_of after) then
 argument_held here names positional start args before turns b a rest target then p (Ok v) after e f t g q =
     argument_more here names positional start args before turns b a rest target then (bounded_val v) p
@@ -128,7 +128,7 @@ pub argument_stops : (here : Setting) (names : List (List ℕ)) (positional : �
     → start ≡ each_argument here names positional args before turns
     → (a : ArgTerm) (rest : ArgTerms) (target : DestinationTerm) (m n : ℕ) (r : Result BoundedValue Stop) (stop : Stop)
     → args ≡ and_arg a rest → destination_of names positional before a ≡ Some target
-    → MeetsOutcome bounded_val r m (value_at here true (argument_of a) turns) → IsHeld before target r (Err stop)
+    → MeetsOutcome bounded_val r m (deeper_value here true (argument_of a) turns) → IsHeld before target r (Err stop)
     → MeetsOutcome arguments_of (Err stop) n start
 argument_stops here names positional start args before turns b a rest target m n (Ok v) stop e f t g =
     subst (λ (x : Stop). MeetsOutcome arguments_of (Err x) n start) (sym g) tt

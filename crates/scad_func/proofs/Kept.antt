@@ -6,18 +6,18 @@ use Rattle.scad_ast.specs.Terms.{ArgTerms}
 use Rattle.scad_value.specs.Values.{Val}
 use Rattle.scad_value.specs.declared.bounded_value.BoundedValue.{BoundedValue}
 use Rattle.scad_value.specs.BoundedView.{bounded_val}
-use Rattle.scad_value.specs.Operators.{Answer}
-use Rattle.scad_scope.specs.Names.{Pairs, Row, oldest}
+use Rattle.scad_value.specs.Operators.{AnswerOrFault}
+use Rattle.scad_scope.specs.Names.{Pairs, Row, oldest_pairs}
 use Rattle.scad_scope.specs.Table.{rows_of, bindings_of}
-use Rattle.scad_definitions.specs.Arguments.{names_of, no_arguments_of}
+use Rattle.scad_definitions.specs.Arguments.{parameter_names, no_arguments_of}
 use Rattle.scad_definitions.specs.Blocks.{SourceFunction}
 use Rattle.scad_func.specs.Limits.{most_calls, most_evaluations}
 use Rattle.scad_func.specs.Meaning.{Outcome, Env, Setting, in_scope, setting_with_calls, with_more_bindings, answer_at, value_within, each_argument, function_called, call_value, visible_function, then_with}
 use Rattle.scad_func.specs.declared.source.Source.{Source}
 use Rattle.scad_func.specs.declared.evaluation.Evaluation.{Evaluation}
-use Rattle.scad_func.specs.View.{MeetsOutcome, deepest, env_seen}
+use Rattle.scad_func.specs.View.{MeetsOutcome, greatest_depth, env_seen}
 use Rattle.scad_value.specs.AnswerView.{MeetsAnswerAt}
-use Rattle.scad_func.specs.Evaluations.{Keeps, EvaluatesTo, OneCallDeeper, MoreBindings, OneScopeMore, setting_in, setting_here, env_here, work_left}
+use Rattle.scad_func.specs.Evaluations.{KeepsEvaluation, EvaluatesTo, OneCallDeeper, MoreBindings, OneScopeMore, setting_in, setting_here, env_here, work_left}
 use Rattle.scad_func.proofs.Outcomes.{fault_goes, value_goes, meets_answer}
 
 -- where an expression stands, by what it depends on
@@ -46,7 +46,7 @@ pub keeps_from : (old new : Evaluation) → new.source.now ≡ old.source.now
     → new.scopes.ghost_name ≡ old.scopes.ghost_name → new.scope ≡ old.scope
     → rows_of new.scopes.now ≡ rows_of old.scopes.now → bindings_of new.scopes.now ≡ bindings_of old.scopes.now
     → new.calls ≡ old.calls → new.depth ≡ old.depth
-    → Keeps old new
+    → KeepsEvaluation old new
 unfolding setting_by
 keeps_from old new s l w r c k d =
     let same : (scope : ℕ) → setting_in new scope ≡ setting_in old scope =
@@ -65,19 +65,19 @@ keeps_from old new s l w r c k d =
       here = ap (λ (n : ℕ). setting_in new n) w ∙ same old.scope;
     }
 
-pub keeps_same : (e : Evaluation) → Keeps e e
+pub keeps_same : (e : Evaluation) → KeepsEvaluation e e
 keeps_same e = keeps_from e e refl refl refl refl refl refl refl
 
-pub keeps_trans : {a b c : Evaluation} → Keeps a b → Keeps b c → Keeps a c
+pub keeps_trans : {a b c : Evaluation} → KeepsEvaluation a b → KeepsEvaluation b c → KeepsEvaluation a c
 keeps_trans f g = keeps_from _ _ (g.source ∙ f.source) (g.lent ∙ f.lent) (g.stands ∙ f.stands) (g.rows ∙ f.rows) (g.bindings ∙ f.bindings)
     (g.calls ∙ f.calls) (g.depth ∙ f.depth)
 
 -- what is said of a setting stays
-pub moved : {A : Type 0} (F : Setting → A) {old new : Evaluation} → Keeps old new → F (setting_here old) ≡ F (setting_here new)
+pub moved : {A : Type 0} (F : Setting → A) {old new : Evaluation} → KeepsEvaluation old new → F (setting_here old) ≡ F (setting_here new)
 moved F k = ap F (sym k.here)
 
 -- where a call was begun, special names were put among the dynamic bindings, or a scope was entered, behind evaluations that keep all
-pub call_kept : (old : Evaluation) {mid new : Evaluation} → OneCallDeeper old mid → Keeps mid new → OneCallDeeper old new
+pub call_kept : (old : Evaluation) {mid new : Evaluation} → OneCallDeeper old mid → KeepsEvaluation mid new → OneCallDeeper old new
 call_kept old b k = record {
   source = k.source ∙ b.source;
   lent = k.lent ∙ b.lent;
@@ -89,19 +89,19 @@ call_kept old b k = record {
   within = b.within;
 }
 
-pub specials_kept : (old : Evaluation) (count : ℕ) {mid new : Evaluation} → MoreBindings old mid count → Keeps mid new → MoreBindings old new count
+pub specials_kept : (old : Evaluation) (count : ℕ) {mid new : Evaluation} → MoreBindings old mid count → KeepsEvaluation mid new → MoreBindings old new count
 specials_kept old count b k = record {
   source = k.source ∙ b.source;
   lent = k.lent ∙ b.lent;
   stands = k.stands ∙ b.stands;
   rows = k.rows ∙ b.rows;
-  older = ap (oldest count) k.bindings ∙ b.older;
+  older = ap (oldest_pairs count) k.bindings ∙ b.older;
   number = b.number;
   calls = k.calls ∙ b.calls;
   depth = k.depth ∙ b.depth;
 }
 
-pub scope_kept : (old : Evaluation) (before : ℕ) {mid new : Evaluation} → OneScopeMore old mid before → Keeps mid new → OneScopeMore old new before
+pub scope_kept : (old : Evaluation) (before : ℕ) {mid new : Evaluation} → OneScopeMore old mid before → KeepsEvaluation mid new → OneScopeMore old new before
 scope_kept old before {mid = mid} {new = new} e k = record {
   source = k.source ∙ e.source;
   lent = k.lent ∙ e.lent;
@@ -143,7 +143,7 @@ scope_setting old new before env e h =
 
 -- one call deeper
 pub work_falls : (source : Source) (calls : ℕ) → calls < most_calls
-    → work_left source (calls + 1) + (4 * deepest source.blocks.functions.items + 8) ≤ work_left source calls
+    → work_left source (calls + 1) + (4 * greatest_depth source.blocks.functions.items + 8) ≤ work_left source calls
 unfolding work_left
 work_falls source calls h =
     let k : most_calls - calls ≡ (most_calls - (calls + 1)) + 1 = omega arith in
@@ -153,7 +153,7 @@ work_falls source calls h =
 pub call_found : (e : Evaluation) (defining_scope : ℕ) (f : SourceFunction) (at : Place) (name : List ℕ) (args : ArgTerms) (turns : ℕ)
     → visible_function (setting_here e).env name ≡ Some (f, env_seen e.source.now (rows_of e.scopes.now) defining_scope)
     → call_value (setting_here e) at name args turns (visible_function (setting_here e).env name)
-    ≡ then_with (each_argument (setting_here e) (names_of f.params) 0 args (no_arguments_of (length (names_of f.params))) turns)
+    ≡ then_with (each_argument (setting_here e) (parameter_names f.params) 0 args (no_arguments_of (length (parameter_names f.params))) turns)
     (λ turns given. function_called (setting_in e defining_scope) at f given turns)
 call_found e defining_scope f at name args turns h =
     ap (λ o. call_value (setting_here e) at name args turns o) h
@@ -180,6 +180,6 @@ module _ {A B C D : Type 0} (see : A → B) (all : C → D) (first : Setting →
   }
 
 -- an operator's answer behind a step
-pub answers : (e : Evaluation) (r : Result BoundedValue Stop) (answer : Answer Val) (at : Place) → MeetsAnswerAt r answer at
+pub answers : (e : Evaluation) (r : Result BoundedValue Stop) (answer : AnswerOrFault Val) (at : Place) → MeetsAnswerAt r answer at
     → EvaluatesTo bounded_val e e r (λ here turns. answer_at answer at turns)
 answers e r answer at h = record { value = meets_answer r e.turns answer at h; kept = keeps_same e }

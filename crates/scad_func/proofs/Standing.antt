@@ -5,7 +5,7 @@ use Rattle.scad_ast.specs.Terms.{StatementTerm, EmptyStatement, BlockStatement, 
 use Rattle.scad_scope.specs.Names.{Pairs}
 use Rattle.scad_definitions.specs.Blocks.{SourceFunction, SourceModule, Entity, a_block, a_function, a_module, entities_of, entities_in, entities_of_instance, entities_of_core, entities_of_body, entities_of_program, functions_among, modules_among, count_functions, count_modules, local_functions, local_function, local_modules, local_module, SourceBlock, nothing_there, entries_from, block_table, BlockTable, assignments_of, count_blocks, StandsInOrder}
 use Rattle.scad_func.specs.Meaning.{Env, Within, Activation, functions_standing_in, function_standing, modules_standing_in, module_standing, entered_scope}
-use Rattle.scad_func.specs.Definitions.{definition_numbered, with_definition, definitions_of_numbers, statements_at, block_scope, IsWhole}
+use Rattle.scad_func.specs.Definitions.{definition_numbered, with_definition, definitions_of_numbers, statements_at, block_scope, IsWholeTable}
 
 -- lists
 right_nil : {A : Type 0} (xs : List A) → xs ++ [] ≡ xs
@@ -260,8 +260,8 @@ ends_there n f m (a_function g ∷ xs) k h = ends_there n (f + 1) m xs k h
 ends_there n f m (a_module d ∷ xs) k h = ends_there n f (m + 1) xs k h
 
 -- what is known of the text of a program
-pub whole_text : (table : BlockTable) (program : List StatementTerm) → table ≡ block_table program → StandsInOrder table → IsWhole table
-whole_text table program e order = subst IsWhole (sym e) (record {
+pub whole_text : (table : BlockTable) (program : List StatementTerm) → table ≡ block_table program → StandsInOrder table → IsWholeTable table
+whole_text table program e order = subst IsWholeTable (sym e) (record {
   scopes = standing program;
   assignments = assigned_there 0 0 0 (entities_of_program program);
   block_end = λ number h. ends_there 0 0 0 (entities_of_program program) number h ∙ omega arith;

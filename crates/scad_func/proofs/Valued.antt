@@ -2,12 +2,12 @@
 use Rattle.std.proofs.Common.{◌≡◌, ℕ, zero, suc, ◌+◌, List, [], ◌∷◌, map, set, replicate, true, false, Option, Some, None, is_some, option_map, refl, sym, ap, ◌∙◌, arith}
 use Rattle.text_place.specs.declared.fault.Place.{Place}
 use Rattle.text_place.specs.declared.fault.FaultKind.TheVariants.{BadArgument}
-use Rattle.scad_ast.specs.Terms.{Term, ArgTerm, NamedTerm, SpecialArgTerm, PositionalTerm, args_from, place_of}
+use Rattle.scad_ast.specs.Terms.{Term, ArgTerm, NamedTerm, SpecialArgTerm, PositionalTerm, args_from, place_of_term}
 use Rattle.scad_value.specs.Values.{Val, Vals, no_vals, and_val}
 use Rattle.scad_scope.specs.Names.{Pairs}
 use Rattle.scad_definitions.specs.Arguments.{ArgumentsOf, DestinationTerm, no_arguments_of, to_parameter, to_special, destination_of, with_argument, or_place, argument_place, match_arguments}
 use Rattle.scad_definitions.specs.Lookup.{names_of_pairs}
-use Rattle.scad_func.specs.Meaning.{Outcome, Gives, Faults, then_with, or_fault, Setting, value_at, each_value, Arguments, each_argument}
+use Rattle.scad_func.specs.Meaning.{Outcome, Gives, Faults, then_with, or_fault, Setting, deeper_value, each_value, Arguments, each_argument}
 use Rattle.scad_func.specs.Steps.{all_values}
 use Rattle.scad_func.specs.View.{value_numbered, pair_numbered, with_values_by_number, matched_with}
 use Rattle.scad_func.proofs.FilledAlike.{Alike, taker_alike}
@@ -96,13 +96,13 @@ module _ (here : Setting) (names : List (List ℕ)) (all : Vals) where
         no i = cc
 
     pub one_matched : (turns : ℕ) (found : Option DestinationTerm) → destination_of names positional m a ≡ found → at ≡ argument_place a
-        → then_with (value_at here true value turns) (λ turns v. then_with (each_value here (all_values (args_from args)) turns) (λ turns vs. Gives turns (and_val v vs))) ≡ Gives then values
-        → or_fault found BadArgument at (λ target. then_with (value_at here true value turns) (λ turns v.
+        → then_with (deeper_value here true value turns) (λ turns v. then_with (each_value here (all_values (args_from args)) turns) (λ turns vs. Gives turns (and_val v vs))) ≡ Gives then values
+        → or_fault found BadArgument at (λ target. then_with (deeper_value here true value turns) (λ turns v.
         each_argument here names next (args_from args) (with_argument (with_values_by_number all m) target v) turns))
         ≡ matched_with all then (or_place (destination_of names positional m a) (argument_place a) (λ target.
         match_arguments names (number + 1) next args (with_argument m target number)))
     one_matched turns (Some target) e place h =
-        with_value (value_at here true value turns) h target
+        with_value (deeper_value here true value turns) h target
         ∙ ap (λ o. matched_with all then (or_place o (argument_place a) (λ target. match_arguments names (number + 1) next args (with_argument m target number)))) (sym e)
     one_matched turns None e place h =
         ap (λ p. Faults BadArgument p) place
@@ -122,7 +122,7 @@ module _ (here : Setting) (names : List (List ℕ)) (all : Vals) where
       turns (destination_of names positional (with_values_by_number all m) (SpecialArgTerm at name value))
       (sym (taker_alike (with_values_by_number all m) m (valued_alike all m) names positional (SpecialArgTerm at name value))) refl h
   all_matched (PositionalTerm value ∷ args) number positional turns then values m from h =
-      one_matched number positional (positional + 1) (PositionalTerm value) args (place_of value) value (all_matched args (number + 1) (positional + 1)) then values m from
+      one_matched number positional (positional + 1) (PositionalTerm value) args (place_of_term value) value (all_matched args (number + 1) (positional + 1)) then values m from
       turns (destination_of names positional (with_values_by_number all m) (PositionalTerm value))
       (sym (taker_alike (with_values_by_number all m) m (valued_alike all m) names positional (PositionalTerm value))) refl h
 
@@ -145,10 +145,10 @@ module _ (here : Setting) (names : List (List ℕ)) where
         no i = cc
 
     pub one_gave : (turns : ℕ) (found : Option DestinationTerm)
-        → or_fault found BadArgument at (λ target. then_with (value_at here true value turns) (λ turns v.
+        → or_fault found BadArgument at (λ target. then_with (deeper_value here true value turns) (λ turns v.
         each_argument here names next (args_from args) (with_argument g target v) turns)) ≡ Gives then given
-        → (values : Vals) × (then_with (value_at here true value turns) (λ turns v. then_with (each_value here (all_values (args_from args)) turns) (λ turns vs. Gives turns (and_val v vs))) ≡ Gives then values)
-    one_gave turns (Some target) h = value_gave target (value_at here true value turns) h
+        → (values : Vals) × (then_with (deeper_value here true value turns) (λ turns v. then_with (each_value here (all_values (args_from args)) turns) (λ turns vs. Gives turns (and_val v vs))) ≡ Gives then values)
+    one_gave turns (Some target) h = value_gave target (deeper_value here true value turns) h
     one_gave turns None h = absurd (no h)
       where
         no : ◌≡◌ {A = Outcome Arguments} (Faults BadArgument at) (Gives then given) → ⊥
@@ -164,4 +164,4 @@ module _ (here : Setting) (names : List (List ℕ)) where
   all_gave (SpecialArgTerm at name value ∷ args) positional turns then g given h =
       one_gave positional args at value (all_gave args positional) then g given turns (destination_of names positional g (SpecialArgTerm at name value)) h
   all_gave (PositionalTerm value ∷ args) positional turns then g given h =
-      one_gave (positional + 1) args (place_of value) value (all_gave args (positional + 1)) then g given turns (destination_of names positional g (PositionalTerm value)) h
+      one_gave (positional + 1) args (place_of_term value) value (all_gave args (positional + 1)) then g given turns (destination_of names positional g (PositionalTerm value)) h

@@ -1,11 +1,11 @@
 -- Where an evaluation stands, and what it keeps.
 use Rattle.std.specs.Prelude.{◌≡◌, ℕ, ◌+◌, ◌-◌, ◌*◌, ◌<◌, length, take, Result}
-use Rattle.scad_scope.specs.Names.{NumberedEnv, env_of, oldest}
+use Rattle.scad_scope.specs.Names.{NumberedEnv, env_of, oldest_pairs}
 use Rattle.scad_scope.specs.Table.{rows_of, bindings_of}
 use Rattle.text_place.specs.declared.fault.Stop.{Stop}
 use Rattle.scad_func.specs.Limits.{most_calls, most_evaluations}
 use Rattle.scad_func.specs.Meaning.{Outcome, Env, Setting, value_within}
-use Rattle.scad_func.specs.View.{MeetsOutcome, env_seen, deepest}
+use Rattle.scad_func.specs.View.{MeetsOutcome, env_seen, greatest_depth}
 use Rattle.scad_func.specs.declared.source.Source.{Source}
 use Rattle.scad_func.specs.declared.evaluation.Evaluation.{Evaluation}
 
@@ -37,10 +37,10 @@ setting_here evaluation = setting_in evaluation evaluation.scope
 
 -- the calls that are left, times more than any function is deep
 unfoldable pub work_left : Source → ℕ → ℕ
-work_left source calls = (most_calls - calls) * (4 * deepest source.blocks.functions.items + 8)
+work_left source calls = (most_calls - calls) * (4 * greatest_depth source.blocks.functions.items + 8)
 
 -- what stays, after a fault too: all but the turns
-pub record Keeps (old new : Evaluation) : Type 0 where
+pub record KeepsEvaluation (old new : Evaluation) : Type 0 where
   pub source : new.source.now ≡ old.source.now
   pub lent : new.scopes.ghost_name ≡ old.scopes.ghost_name
   pub stands : new.scope ≡ old.scope
@@ -53,13 +53,12 @@ pub record Keeps (old new : Evaluation) : Type 0 where
   pub same : (scope : ℕ) → setting_in new scope ≡ setting_in old scope
   pub here : setting_here new ≡ setting_here old
 
--- What a function of the evaluator does: what it gives, as it is seen, is what its meaning gives in the evaluation's
--- scope behind the turns so far, or its stop is the meaning's fault, unless memory ran out; and all but the turns is as
--- before, after a stop too.
+-- What a function of the evaluator does: it answers the value of its meaning, or its fault, unless memory ran out; and
+-- all but the turns is as before, after a stop too.
 pub record EvaluatesTo {A B : Type 0} (see : A → B) (old new : Evaluation) (result : Result A Stop)
     (meaning : Setting → ℕ → Outcome B) : Type 0 where
   pub value : MeetsOutcome see result new.turns (meaning (setting_here old) old.turns)
-  pub kept : Keeps old new
+  pub kept : KeepsEvaluation old new
 
 -- all but the scopes, the dynamic bindings and the turns is as before
 pub record SameSetting (old new : Evaluation) : Type 0 where
@@ -110,7 +109,7 @@ pub record MoreBindings (old new : Evaluation) (count : ℕ) : Type 0 where
   pub lent : new.scopes.ghost_name ≡ old.scopes.ghost_name
   pub stands : new.scope ≡ old.scope
   pub rows : rows_of new.scopes.now ≡ rows_of old.scopes.now
-  pub older : oldest count (bindings_of new.scopes.now) ≡ bindings_of old.scopes.now
+  pub older : oldest_pairs count (bindings_of new.scopes.now) ≡ bindings_of old.scopes.now
   pub number : count ≡ length (bindings_of old.scopes.now)
   pub calls : new.calls ≡ old.calls
   pub depth : new.depth ≡ old.depth

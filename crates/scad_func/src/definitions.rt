@@ -4,7 +4,7 @@ ghost use Rattle.scad_ast.specs.StatementView.{body_of};
 ghost use Rattle.scad_scope.specs.Table.{rows_of};
 ghost use Rattle.scad_func.specs.Meaning.{visible_function, visible_module};
 ghost use Rattle.scad_func.specs.View.{IsFunctionFound, IsModuleFound, table_in};
-ghost use Rattle.scad_func.specs.Definitions.{IsBlockOf, IsWhole};
+ghost use Rattle.scad_func.specs.Definitions.{IsBlockOf, IsWholeTable};
 ghost use Rattle.scad_func.specs.Evaluations.{env_here, scopes_there, setting_here};
 
 use crate::evaluation::Evaluation;
@@ -36,7 +36,7 @@ impl<'a> Evaluation<'a, '_> {
         ensures found { IsModuleFound self.now.source.now (rows_of self.now.scopes.now)
             (visible_module (env_here self.now) name.now) result }
         ensures there { IfSome result (λ found. found.1 < scopes_there self.now) }
-        ensures body { IsWhole (table_in self.now.source.now) →
+        ensures body { IsWholeTable (table_in self.now.source.now) →
             IfSome result (λ found. IsBlockOf (table_in self.now.source.now) found.0.block
             (body_of found.0.body.now)) }
     {

@@ -2,7 +2,7 @@ ghost use Rattle.std.specs.Prelude.{◌<◌, ◌≤◌, length, IsTrue};
 ghost use Rattle.scad_scope.specs.Numbered.{modules_below};
 ghost use Rattle.scad_scope.specs.Table.{rows_of};
 ghost use Rattle.scad_func.specs.Limits.{most_calls, most_evaluations, most_turns};
-ghost use Rattle.scad_func.specs.View.{IsNumbered, table_in};
+ghost use Rattle.scad_func.specs.View.{AreFunctionsThere, table_in};
 
 use crate::source::Source;
 use scad_scope::Scopes;
@@ -24,7 +24,7 @@ pub struct Evaluation<'a, 's> {
     pub depth: u32,
     /// Turns so far.
     pub turns: u64,
-    ghost numbered: { IsNumbered source.now (rows_of scopes.now) },
+    ghost numbered: { AreFunctionsThere source.now (rows_of scopes.now) },
     ghost modules: { IsTrue (modules_below (length (table_in source.now).modules)
         (rows_of scopes.now)) },
     ghost there: { scope < length (rows_of scopes.now) },

@@ -7,12 +7,12 @@ ghost use Rattle.scad_value.specs.Operators.{value_or_long_list, unary_of};
 ghost use Rattle.scad_value.specs.BoundedView.{bounded_val};
 ghost use Rattle.scad_definitions.specs.Arguments.{no_arguments_of};
 ghost use Rattle.scad_definitions.specs.ArgumentsView.{names_in};
-ghost use Rattle.scad_func.specs.Meaning.{Gives, then_with, answer_at, value_at, operand, each_value, each_argument, each_parameter, parameter_value, function_value, function_called, each_suffix, each_link, call_value, visible_function, count_elements};
+ghost use Rattle.scad_func.specs.Meaning.{Gives, then_with, answer_at, deeper_value, value_here, each_value, each_argument, each_parameter, parameter_value, function_value, function_called, each_suffix, each_link, call_value, visible_function, count_elements};
 ghost use Rattle.scad_value.specs.Answers.{range_of, stepped_range_of};
 ghost use Rattle.scad_func.specs.Steps.{all_values, suffix_value, link_value, with_parameters};
 ghost use Rattle.scad_definitions.specs.TextView.{function_of};
-ghost use Rattle.scad_func.specs.View.{MeetsOutcome, values_seen, indexed_val, IsThere, bound_argument_of, bound_arguments_in, arguments_of, function_size, deepest};
-ghost use Rattle.scad_func.specs.Evaluations.{Keeps, EvaluatesTo, numbered_env_here, setting_here};
+ghost use Rattle.scad_func.specs.View.{MeetsOutcome, values_seen, indexed_val, HasIndexedValue, bound_argument_of, bound_arguments_in, arguments_of, function_size, greatest_depth};
+ghost use Rattle.scad_func.specs.Evaluations.{KeepsEvaluation, EvaluatesTo, numbered_env_here, setting_here};
 ghost use Rattle.scad_func.specs.Transitions.{EvaluatesParameters};
 
 use crate::{
@@ -36,7 +36,7 @@ use text_place::{FaultKind, Place, Stop};
 #[tactic(auto, using(crate::proofs::Kept::keeps_trans))]
 pub fn evaluate(evaluation: &mut Evaluation<'_, '_>, expr: &Expr) -> Result<BoundedValue, Stop>
     ensures { EvaluatesTo bounded_val evaluation.old evaluation.new result (λ here.
-        value_at here true (term_of expr.now)) }
+        deeper_value here true (term_of expr.now)) }
 {
     let value = at_next_depth(evaluation, expr)?;
     count_elements(evaluation, value, expr.place())
@@ -46,7 +46,7 @@ pub fn evaluate(evaluation: &mut Evaluation<'_, '_>, expr: &Expr) -> Result<Boun
 #[cycle(value)]
 fn at_next_depth(evaluation: &mut Evaluation<'_, '_>, expr: &Expr) -> Result<BoundedValue, Stop>
     ensures { EvaluatesTo bounded_val evaluation.old evaluation.new result (λ here.
-        value_at here false (term_of expr.now)) }
+        deeper_value here false (term_of expr.now)) }
 {
     if evaluation.depth == EVALUATIONS {
         return Err(FaultKind::TooDeep.at(expr.place()));
@@ -62,7 +62,7 @@ fn at_next_depth(evaluation: &mut Evaluation<'_, '_>, expr: &Expr) -> Result<Bou
 #[cycle(value)]
 fn operand(evaluation: &mut Evaluation<'_, '_>, expr: &Expr) -> Result<BoundedValue, Stop>
     ensures { EvaluatesTo bounded_val evaluation.old evaluation.new result (λ here.
-        operand here (term_of expr.now)) }
+        value_here here (term_of expr.now)) }
 {
     match expr {
         Expr::Number(_, n) => Ok(BoundedValue {
@@ -120,7 +120,7 @@ fn unary(
     place: Place,
 ) -> Result<BoundedValue, Stop>
     ensures { EvaluatesTo bounded_val evaluation.old evaluation.new result (λ here turns.
-        then_with (value_at here false (term_of of.now) turns) (λ turns v.
+        then_with (deeper_value here false (term_of of.now) turns) (λ turns v.
         answer_at (unary_of op v) place turns)) }
 {
     let value = at_next_depth(evaluation, of)?;
@@ -154,8 +154,8 @@ fn range(
     place: Place,
 ) -> Result<BoundedValue, Stop>
     ensures { EvaluatesTo bounded_val evaluation.old evaluation.new result (λ here turns.
-        then_with (value_at here true (term_of from.now) turns) (λ turns a.
-        then_with (value_at here true (term_of upto.now) turns) (λ turns b.
+        then_with (deeper_value here true (term_of from.now) turns) (λ turns a.
+        then_with (deeper_value here true (term_of upto.now) turns) (λ turns b.
         answer_at (range_of a b) place turns))) }
 {
     let first = evaluate(evaluation, from)?;
@@ -176,9 +176,9 @@ fn stepped_range(
     place: Place,
 ) -> Result<BoundedValue, Stop>
     ensures { EvaluatesTo bounded_val evaluation.old evaluation.new result (λ here turns.
-        then_with (value_at here true (term_of from.now) turns) (λ turns a.
-        then_with (value_at here true (term_of by.now) turns) (λ turns s.
-        then_with (value_at here true (term_of upto.now) turns) (λ turns b.
+        then_with (deeper_value here true (term_of from.now) turns) (λ turns a.
+        then_with (deeper_value here true (term_of by.now) turns) (λ turns s.
+        then_with (deeper_value here true (term_of upto.now) turns) (λ turns b.
         answer_at (stepped_range_of a s b) place turns)))) }
 {
     let a = evaluate(evaluation, from)?;
@@ -199,7 +199,7 @@ fn postfix(
     rest: &Suffixes,
 ) -> Result<BoundedValue, Stop>
     ensures { EvaluatesTo bounded_val evaluation.old evaluation.new result (λ here turns.
-        then_with (operand here (term_of of.now) turns) (λ turns v.
+        then_with (value_here here (term_of of.now) turns) (λ turns v.
         each_suffix here v (suffixes_from (suffixes_of rest.now)) turns)) }
 {
     if let Expr::Name(place, name) = of {
@@ -218,7 +218,7 @@ fn suffixes(
     of: Indexed<'_>,
     rest: &Suffixes,
 ) -> Result<BoundedValue, Stop>
-    requires there { IsThere (numbered_env_here evaluation.old) of }
+    requires there { HasIndexedValue (numbered_env_here evaluation.old) of }
     ensures { EvaluatesTo bounded_val evaluation.old evaluation.new result (λ here.
         each_suffix here (indexed_val (numbered_env_here evaluation.old) of.entry)
         (suffixes_from (suffixes_of rest.now))) }
@@ -237,7 +237,7 @@ fn suffix(
     of: Indexed<'_>,
     part: &Suffix,
 ) -> Result<BoundedValue, Stop>
-    requires there { IsThere (numbered_env_here evaluation.old) of }
+    requires there { HasIndexedValue (numbered_env_here evaluation.old) of }
     ensures { EvaluatesTo bounded_val evaluation.old evaluation.new result (λ here.
         suffix_value here (indexed_val (numbered_env_here evaluation.old) of.entry)
         (suffix_of part.now)) }
@@ -264,7 +264,7 @@ fn operators(
     rest: &Links,
 ) -> Result<BoundedValue, Stop>
     ensures { EvaluatesTo bounded_val evaluation.old evaluation.new result (λ here turns.
-        then_with (operand here (term_of first.now) turns) (λ turns v.
+        then_with (value_here here (term_of first.now) turns) (λ turns v.
         each_link here v (links_from (links_of rest.now)) turns)) }
 {
     let left = operand(evaluation, first)?;
@@ -323,8 +323,8 @@ fn choice(
     no: &Expr,
 ) -> Result<BoundedValue, Stop>
     ensures { EvaluatesTo bounded_val evaluation.old evaluation.new result (λ here turns.
-        then_with (operand here (term_of test.now) turns) (λ turns v.
-        value_at here true (if truth_of v then term_of yes.now else term_of no.now) turns)) }
+        then_with (value_here here (term_of test.now) turns) (λ turns v.
+        deeper_value here true (if truth_of v then term_of yes.now else term_of no.now) turns)) }
 {
     let value = operand(evaluation, test)?;
     if is_true(value) {
@@ -403,7 +403,7 @@ fn function_call(
     given: CallArguments<'_, BoundedValue>,
     place: Place,
 ) -> Result<BoundedValue, Stop>
-    requires within { function_size function ≤ deepest
+    requires within { function_size function ≤ greatest_depth
         evaluation.old.source.now.blocks.functions.items }
     requires count { length given.bound.items ≡ length function.params.now.items.items }
     ensures { EvaluatesTo bounded_val evaluation.old evaluation.new result (λ here.
@@ -548,7 +548,7 @@ fn count_elements(
 ) -> Result<BoundedValue, Stop>
     ensures value { MeetsOutcome bounded_val result evaluation.new.turns
         (count_elements place (Gives evaluation.old.turns (bounded_val value))) }
-    ensures kept { Keeps evaluation.old evaluation.new }
+    ensures kept { KeepsEvaluation evaluation.old evaluation.new }
 {
     if let Value::List(_) = &value.value {
         let turns = evaluation.turns + value.value.parts();

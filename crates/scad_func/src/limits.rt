@@ -2,7 +2,7 @@ ghost use Rattle.std.specs.Prelude.{◌≡◌, ◌+◌, ◌<◌, IfErr, OnOk};
 ghost use Rattle.text_place.specs.declared.fault.FaultKind.TheVariants.{TooDeep, TooManyTurns};
 ghost use Rattle.scad_definitions.specs.ArgumentsView.{IsFaultAt};
 ghost use Rattle.scad_func.specs.Limits.{most_calls, most_turns};
-ghost use Rattle.scad_func.specs.Evaluations.{Keeps, OneCallDeeper, OneEvaluationDeeper};
+ghost use Rattle.scad_func.specs.Evaluations.{KeepsEvaluation, OneCallDeeper, OneEvaluationDeeper};
 ghost use Rattle.scad_func.specs.Transitions.{BeginsCall, BeginsCountedCall, BeginsEvaluation, GoesBack};
 
 use crate::evaluation::Evaluation;
@@ -24,7 +24,7 @@ impl Evaluation<'_, '_> {
             × (self.new.turns ≡ self.old.turns + 1)) }
         ensures refused { IfErr result (λ stop. (self.old.turns ≡ most_turns)
             × IsFaultAt stop TooManyTurns place) }
-        ensures kept { Keeps self.old self.new }
+        ensures kept { KeepsEvaluation self.old self.new }
     {
         if self.turns == TURNS {
             return Err(FaultKind::TooManyTurns.at(place));

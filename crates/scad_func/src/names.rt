@@ -9,7 +9,7 @@ ghost use Rattle.scad_value.specs.AnswerView.{MeetsAnswerAt};
 ghost use Rattle.text_place.specs.declared.fault.FaultKind.TheVariants.{UnknownName, NotInProfile};
 ghost use Rattle.scad_definitions.specs.ArgumentsView.{IsFaultAt};
 ghost use Rattle.scad_func.specs.Meaning.{or_zero, or_fault, answer_at, Gives};
-ghost use Rattle.scad_func.specs.View.{MeetsOutcome, indexed_val, IsThere};
+ghost use Rattle.scad_func.specs.View.{MeetsOutcome, indexed_val, HasIndexedValue};
 ghost use Rattle.scad_func.specs.Evaluations.{numbered_env_here};
 
 // A value is lent where something can still fail, as in the operators of `scad_answer`.
@@ -122,7 +122,7 @@ impl Evaluation<'_, '_> {
     ) -> Result<Indexed<'a>, Stop>
         ensures found { IfOk result (λ of. variable_in (numbered_env_here self.now) name.now
             ≡ Some (indexed_val (numbered_env_here self.now) of)) }
-        ensures there { IfOk result (λ of. IsThere (numbered_env_here self.now) of) }
+        ensures there { IfOk result (λ of. HasIndexedValue (numbered_env_here self.now) of) }
         ensures missing { IfErr result (λ stop.
             (variable_in (numbered_env_here self.now) name.now ≡ None)
             × IsFaultAt stop UnknownName place) }
@@ -141,7 +141,7 @@ impl Evaluation<'_, '_> {
         at: BoundedValue,
         place: Place,
     ) -> Result<BoundedValue, Stop>
-        requires there { IsThere (numbered_env_here self.now) of }
+        requires there { HasIndexedValue (numbered_env_here self.now) of }
         ensures { MeetsAnswerAt result (index_of (indexed_val (numbered_env_here self.now) of.entry)
             (bounded_val at)) place }
     {
@@ -154,7 +154,7 @@ impl Evaluation<'_, '_> {
         at: &BoundedValue,
         place: Place,
     ) -> Result<BoundedValue, Stop>
-        requires there { IsThere (numbered_env_here self.now) of.now }
+        requires there { HasIndexedValue (numbered_env_here self.now) of.now }
         ensures { MeetsAnswerAt result (index_of (indexed_val (numbered_env_here self.now) of.now)
             (bounded_val at.now)) place }
     {
@@ -179,7 +179,7 @@ impl Evaluation<'_, '_> {
         name_place: Place,
         place: Place,
     ) -> Result<BoundedValue, Stop>
-        requires there { IsThere (numbered_env_here self.now) of }
+        requires there { HasIndexedValue (numbered_env_here self.now) of }
         ensures { (turns : ℕ)
             → MeetsOutcome bounded_val result turns
             (or_fault (member_of name.now) NotInProfile name_place

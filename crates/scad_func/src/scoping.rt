@@ -1,14 +1,14 @@
 ghost use Rattle.std.specs.Prelude.{◌≡◌, ◌<◌, ◌≤◌, ◌+◌, [], ◌∷◌, length, map, IfOk, IfErr, IfSome, OnErr};
 ghost use Rattle.scad_ast.specs.StatementView.{params_of};
 ghost use Rattle.scad_value.specs.BoundedView.{bounded_val};
-ghost use Rattle.scad_definitions.specs.Arguments.{names_of};
+ghost use Rattle.scad_definitions.specs.Arguments.{parameter_names};
 ghost use Rattle.scad_scope.specs.Table.{rows_of, bindings_of};
 ghost use Rattle.scad_definitions.specs.Blocks.{assignments_of};
 ghost use Rattle.scad_definitions.specs.TextView.{assigned_of};
 ghost use Rattle.scad_func.specs.Meaning.{Within, activation_in, no_activation, activation, with_value, with_values};
 ghost use Rattle.scad_func.specs.View.{IsActivationFound, IsNoMemory, bindings_in, values_seen, env_seen, table_in};
-ghost use Rattle.scad_func.specs.Definitions.{statements_at, block_scope, IsWhole};
-ghost use Rattle.scad_func.specs.Evaluations.{Keeps, scopes_there, env_here};
+ghost use Rattle.scad_func.specs.Definitions.{statements_at, block_scope, IsWholeTable};
+ghost use Rattle.scad_func.specs.Evaluations.{KeepsEvaluation, scopes_there, env_here};
 ghost use Rattle.scad_func.specs.Transitions.{PushesBindings, BindsVariables, PopsBindings, EntersScope, LeavesScope};
 
 use crate::bind::bind_all;
@@ -25,7 +25,7 @@ impl<'a> Evaluation<'a, '_> {
     /// once has the place of its first assignment and the expression of its last. A block that isn't there has
     /// none.
     pub fn assignments(&self, block: u32) -> &'a [Assignment<'a>]
-        ensures { IsWhole (table_in self.now.source.now) →
+        ensures { IsWholeTable (table_in self.now.source.now) →
             map assigned_of result.now
             ≡ assignments_of (statements_at (table_in self.now.source.now) block) }
     {
@@ -102,7 +102,7 @@ impl<'a> Evaluation<'a, '_> {
         requires { self.old.scope + 1 ≡ scopes_there self.old }
         ensures binds { BindsVariables self.old self.new result
             (with_value name.now (bounded_val value) (env_here self.old)) }
-        ensures kept { OnErr result (Keeps self.old self.new) }
+        ensures kept { OnErr result (KeepsEvaluation self.old self.new) }
     {
         self.scopes.bind(self.alloc, self.scope, name, value.value)
     }
@@ -117,7 +117,7 @@ impl<'a> Evaluation<'a, '_> {
         requires newest { self.old.scope + 1 ≡ scopes_there self.old }
         requires count { length values.items.items ≡ length params.now.items.items }
         ensures binds { BindsVariables self.old self.new result
-            (with_values (names_of (params_of params.now)) (values_seen values)
+            (with_values (parameter_names (params_of params.now)) (values_seen values)
             (env_here self.old)) }
     {
         bind_all(self.alloc, self.scopes, self.scope, params, values)

@@ -1,11 +1,11 @@
 -- A program has no more blocks, functions and modules than tokens.
 use Rattle.std.proofs.Common.{◌≡◌, ℕ, zero, suc, ◌+◌, ◌≤◌, List, [], ◌∷◌, length, Bool, true, false, Option, Some, None, inl, inr, refl, sym, ap, subst, arith, length-append}
 use Rattle.scad_lexer.specs.declared.token.Token.{Token}
-use Rattle.scad_ast.specs.Terms.{Term, ArgTerm, BinderTerm, ParamTerm, MarkTerm, StatementTerm, InstanceStatement, InstanceTerm, CoreTerm, BodyTerm, EmptyBody, InstanceBody, EmptyStatement, statements_from}
+use Rattle.scad_ast.specs.Terms.{Term, ArgTerm, BinderTerm, ParamTerm, ModifierTerm, StatementTerm, InstanceStatement, InstanceTerm, CoreTerm, BodyTerm, EmptyBody, InstanceBody, EmptyStatement, statements_from}
 use Rattle.scad_ast.specs.Counts.{begun_by, begun_in, begun_by_instance, begun_by_core, begun_by_body, begun_by_program}
-use Rattle.scad_grammar.specs.Classes.{open_brace_sign, close_brace_sign, semicolon_sign, name, end, if_word, else_word, for_word, intersection_for_word, module_word, function_word, is, among}
-use Rattle.scad_grammar.specs.Languages.{Language, One, Mapped, Both, BothIf, EitherOf, Nothing, Many, Maybe, Never, Before, first_of, second_of, pair_of}
-use Rattle.scad_grammar.specs.Grammar.{InParentheses, whole, Expr, ArgsIn, ParamsIn, BindersIn, StatementsIn, InstanceIn, Core, Instance, BodyOf, StatementOf, Statement, Body, WholeProgram, if_term, IsNearest, loop_term, call_term, instance_term, block_term, bare_block_term, module_term, function_term}
+use Rattle.scad_grammar.specs.Classes.{open_brace_sign, close_brace_sign, semicolon_sign, name_class, end_class, if_word, else_word, for_word, intersection_for_word, module_word, function_word, has_class, has_class_in}
+use Rattle.scad_grammar.specs.Languages.{Language, One, ImageOf, Both, BothIf, EitherOf, Nothing, Many, Maybe, Never, BeforeToken, first_of, second_of, pair_of}
+use Rattle.scad_grammar.specs.Grammar.{InParentheses, whole, Expr, ArgsIn, ParamsIn, BindersIn, StatementsIn, InstanceIn, CoreOf, Instance, BodyOf, StatementOf, Statement, Body, WholeProgram, if_term, IsNearest, loop_term, call_term, instance_term, block_term, bare_block_term, module_term, function_term}
 
 -- what is written has at most as many as tokens write it
 record Counts {A : Type 0} (count : A → ℕ) (L : Language A) : Type 0 where
@@ -35,7 +35,7 @@ both_if_count f Fit ca cb count less h k = record {
       (omega (arith, less x.0 x.1, h.at x.0 x.2 x.4, k.at x.1 x.3 x.5, ap length x.8, length-append x.2 x.3));
 }
 
-mapped_count : {A B : Type 0} (f : A → B) (ca : A → ℕ) (cb : B → ℕ) {L : Language A} → ((a : A) → cb (f a) ≤ ca a) → Counts ca L → Counts cb (Mapped f L)
+mapped_count : {A B : Type 0} (f : A → B) (ca : A → ℕ) (cb : B → ℕ) {L : Language A} → ((a : A) → cb (f a) ≤ ca a) → Counts ca L → Counts cb (ImageOf f L)
 mapped_count f ca cb less h = record { at = λ b s x. subst (λ b. cb b ≤ length s) (sym x.2) (omega (arith, less x.0, h.at x.0 s x.1)) }
 
 either_count : {A : Type 0} {count : A → ℕ} {L M : Language A} → Counts count L → Counts count M → Counts count (EitherOf L M)
@@ -76,8 +76,8 @@ statements_count : (d : ℕ) (S : Language StatementTerm) → Counts begun_by S 
 statements_count zero S h = record { at = no_statements_at }
 statements_count (suc d) S h = many_count h
 
-braces_count : {Ss : Language (List StatementTerm)} → Counts of_list Ss → Counts of_list (Before Ss (is close_brace_sign))
-braces_count h = both_count first_of of_list none of_list (λ a b. omega arith) h (no_count (One (is close_brace_sign)))
+braces_count : {Ss : Language (List StatementTerm)} → Counts of_list Ss → Counts of_list (BeforeToken Ss (has_class close_brace_sign))
+braces_count h = both_count first_of of_list none of_list (λ a b. omega arith) h (no_count (One (has_class close_brace_sign)))
 
 -- something in parentheses and a body
 with_body : {A : Type 0} (P : Language A) (B : Language BodyTerm) → Counts begun_by_body B → Counts (of_second begun_by_body) (Both pair_of P B)
@@ -95,26 +95,26 @@ if_less p None = omega arith
 if_less p (Some other) = omega arith
 
 loop_less : (t : Token) (p : List BinderTerm × BodyTerm) → more_than_core (loop_term t p) ≤ 1 + of_second begun_by_body p
-loop_less t p = go (is for_word t) refl
+loop_less t p = go (has_class for_word t) refl
   where
-    go : (b : Bool) → is for_word t ≡ b → more_than_core (loop_term t p) ≤ 1 + of_second begun_by_body p
+    go : (b : Bool) → has_class for_word t ≡ b → more_than_core (loop_term t p) ≤ 1 + of_second begun_by_body p
     go true e = rw e (omega arith)
     go false e = rw e (omega arith)
 
-instance_less : (ms : List MarkTerm) (core : CoreTerm) → more_than_instance (instance_term ms core) ≤ 0 + more_than_core core
+instance_less : (ms : List ModifierTerm) (core : CoreTerm) → more_than_instance (instance_term ms core) ≤ 0 + more_than_core core
 instance_less [] core = omega arith
 instance_less (m ∷ ms) core = omega arith
 
 module _ (E : Language Term) (As : Language (List ArgTerm)) (Ns : Language (List BinderTerm)) (B : Language BodyTerm) (b : Counts begun_by_body B) where
-  core_count : Counts more_than_core (Core E As Ns B)
+  core_count : Counts more_than_core (CoreOf E As Ns B)
   core_count =
       either_count
       (both_if_count if_term IsNearest (λ p. suc (begun_by_body p.1.1)) (of_maybe begun_by_body) more_than_core if_less
-      (both_count pair_of (λ t. 1) (of_second begun_by_body) (λ p. suc (begun_by_body p.1.1)) (λ t p. omega arith) (one_count (is if_word)) (with_body (InParentheses E) B b))
-      (maybe_count (both_count second_of none begun_by_body begun_by_body (λ t y. omega arith) (no_count (One (is else_word))) b)))
+      (both_count pair_of (λ t. 1) (of_second begun_by_body) (λ p. suc (begun_by_body p.1.1)) (λ t p. omega arith) (one_count (has_class if_word)) (with_body (InParentheses E) B b))
+      (maybe_count (both_count second_of none begun_by_body begun_by_body (λ t y. omega arith) (no_count (One (has_class else_word))) b)))
       (either_count
-      (both_count loop_term (λ t. 1) (of_second begun_by_body) more_than_core loop_less (one_count (among (for_word ∷ intersection_for_word ∷ []))) (with_body (InParentheses Ns) B b))
-      (both_count call_term (λ t. 1) (of_second begun_by_body) more_than_core (λ t p. omega arith) (one_count (is name)) (with_body (InParentheses As) B b)))
+      (both_count loop_term (λ t. 1) (of_second begun_by_body) more_than_core loop_less (one_count (has_class_in (for_word ∷ intersection_for_word ∷ []))) (with_body (InParentheses Ns) B b))
+      (both_count call_term (λ t. 1) (of_second begun_by_body) more_than_core (λ t p. omega arith) (one_count (has_class name_class)) (with_body (InParentheses As) B b)))
 
   instance_count : Counts more_than_instance (Instance E As Ns B)
   instance_count = both_count instance_term none more_than_core more_than_instance instance_less (no_count _) core_count
@@ -122,22 +122,22 @@ module _ (E : Language Term) (As : Language (List ArgTerm)) (Ns : Language (List
 module _ (I : Language InstanceTerm) (Ss : Language (List StatementTerm)) (i : Counts more_than_instance I) (ss : Counts of_list Ss) where
   body_count : Counts begun_by_body (BodyOf I Ss)
   body_count =
-      either_count (mapped_count (λ t. EmptyBody t.place) (λ t. 1) begun_by_body (λ t. omega arith) (one_count (is semicolon_sign)))
-      (either_count (both_count block_term (λ t. 1) of_list begun_by_body (λ t x. omega arith) (one_count (is open_brace_sign)) (braces_count ss))
+      either_count (mapped_count (λ t. EmptyBody t.place) (λ t. 1) begun_by_body (λ t. omega arith) (one_count (has_class semicolon_sign)))
+      (either_count (both_count block_term (λ t. 1) of_list begun_by_body (λ t x. omega arith) (one_count (has_class open_brace_sign)) (braces_count ss))
       (mapped_count InstanceBody more_than_instance begun_by_body (λ x. omega arith) i))
 
   statement_count : (X : Language Term) (Ps : Language (List ParamTerm)) (B : Language BodyTerm) → Counts begun_by_body B → Counts begun_by (StatementOf X Ps I Ss B)
   statement_count X Ps B b =
-      either_count (mapped_count (λ t. EmptyStatement t.place) none begun_by (λ t. omega arith) (no_count (One (is semicolon_sign))))
-      (either_count (both_count bare_block_term none of_list begun_by (λ t x. omega arith) (no_count (One (is open_brace_sign))) (braces_count ss))
+      either_count (mapped_count (λ t. EmptyStatement t.place) none begun_by (λ t. omega arith) (no_count (One (has_class semicolon_sign))))
+      (either_count (both_count bare_block_term none of_list begun_by (λ t x. omega arith) (no_count (One (has_class open_brace_sign))) (braces_count ss))
       (either_count (both_count _ none none begun_by (λ t x. omega arith) (no_count _) (no_count _))
       (either_count (both_count _ none none begun_by (λ t x. omega arith) (no_count _) (no_count _))
       (either_count
-      (both_count module_term (λ t. 1) (λ p. begun_by_body p.1.1) begun_by (λ t p. omega arith) (one_count (is module_word))
-      (both_count pair_of none (of_second begun_by_body) (λ p. begun_by_body p.1.1) (λ t p. omega arith) (no_count (One (is name))) (with_body (InParentheses Ps) B b)))
+      (both_count module_term (λ t. 1) (λ p. begun_by_body p.1.1) begun_by (λ t p. omega arith) (one_count (has_class module_word))
+      (both_count pair_of none (of_second begun_by_body) (λ p. begun_by_body p.1.1) (λ t p. omega arith) (no_count (One (has_class name_class))) (with_body (InParentheses Ps) B b)))
       (either_count
-      (both_count function_term (λ t. 1) (λ p. 1) begun_by (λ t p. omega arith) (one_count (is function_word))
-      (both_count pair_of (λ t. 1) none (λ p. 1) (λ t p. omega arith) (one_count (is name)) (no_count _)))
+      (both_count function_term (λ t. 1) (λ p. 1) begun_by (λ t p. omega arith) (one_count (has_class function_word))
+      (both_count pair_of (λ t. 1) none (λ p. 1) (λ t p. omega arith) (one_count (has_class name_class)) (no_count _)))
       (mapped_count InstanceStatement more_than_instance begun_by (λ x. omega arith) i))))))
 
 counts_at : (d : ℕ) → Counts begun_by (Statement whole d) × Counts begun_by_body (Body whole d)
@@ -153,4 +153,4 @@ counts_at (suc d) =
 
 pub few_begun : (d : ℕ) (x : List StatementTerm) (s : List Token) → WholeProgram d x s → begun_by_program x ≤ length s
 few_begun d x s h =
-    (both_count first_of of_list (λ t. 1) begun_by_program (λ a t. omega arith) (many_count (counts_at d).0) (one_count (is end))).at x s h
+    (both_count first_of of_list (λ t. 1) begun_by_program (λ a t. omega arith) (many_count (counts_at d).0) (one_count (has_class end_class))).at x s h

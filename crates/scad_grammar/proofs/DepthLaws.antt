@@ -2,7 +2,7 @@
 use Rattle.std.proofs.Common.{◌≡◌, ℕ, suc, List, ◌++◌, take, length, refl, subst}
 use Rattle.scad_lexer.specs.declared.token.Token.{Token}
 use Rattle.scad_ast.specs.Terms.{StatementTerm}
-use Rattle.scad_grammar.specs.Grammar.{WholeProgram, Outline}
+use Rattle.scad_grammar.specs.Grammar.{WholeProgram, ProgramOutline}
 use Rattle.scad_grammar.specs.Depths.{HasDepths, AllBelow, BeginsShallow, program_depths}
 use Rattle.scad_grammar.specs.FirstFault.{BeginsWithin}
 use Rattle.scad_grammar.proofs.Fronts.{no_gap_front, front_shown, filled_shown, filled_all}
@@ -36,4 +36,4 @@ shallow_is_within d s b =
     let h = b.3 in
     let y = (program_shows h.0 d).shown b.0 (s ++ b.1) h.1 in
     let v = front_shown (suc d) s b.1 _ y.1 y.3 (subst (λ depths. AllBelow (suc d) (take (length s) depths)) h.2 b.4) in
-    ((h.0, b.0, b.1, h.1), y.0, v.0, subst (Outline (suc d) y.0) v.1 y.2)
+    ((h.0, b.0, b.1, h.1), y.0, v.0, subst (ProgramOutline (suc d) y.0) v.1 y.2)

@@ -5,10 +5,10 @@ use Rattle.scad_lexer.specs.declared.token.Token.{Token}
 use Rattle.scad_lexer.specs.declared.token.TokenKind.TheVariants.{Symbol}
 use Rattle.scad_lexer.specs.declared.token.Symbol.TheVariants.{Semicolon}
 use Rattle.scad_ast.specs.Terms.{Term, ArgTerm, PositionalTerm, ParamTerm, BinderTerm, StatementTerm, InstanceStatement, InstanceTerm, CoreTerm, BodyTerm, InstanceBody, EmptyBody, UndefTerm}
-use Rattle.scad_grammar.specs.Classes.{numeral, text, true_word, false_word, undef_word, child_count, special, argument_names, open_parenthesis_sign, close_parenthesis_sign, open_bracket_sign, close_bracket_sign, open_brace_sign, close_brace_sign, comma_sign, semicolon_sign, assign_sign, colon_sign, question_sign, dot_sign, minus_sign, plus_sign, not_sign, times_sign, remainder_sign, hash_sign, caret_sign, name, end, if_word, else_word, for_word, intersection_for_word, module_word, function_word, is, among}
-use Rattle.scad_grammar.specs.Languages.{Language, One, Mapped, Both, BothIf, EitherOf, Nothing, Many, Maybe, Behind, Before, Separated, first_of, second_of, pair_of, cons}
-use Rattle.scad_grammar.specs.Grammar.{InParentheses, Rest, range_rest, Arg, Args, Param, Params, Binders, Bracket, Primary, Suffix, Unary, Chain, Choice, whole, outline, ArgsIn, ParamsIn, BindersIn, StatementsIn, InstanceIn, Expr, Operand, Core, Instance, BodyOf, StatementOf, Statement, Body, WholeProgram, Outline, levels, chain_term, link, items, if_term, IsNearest, ends_open, instance_open, core_open, instance_term, loop_term, call_term, block_term}
-use Rattle.scad_grammar.specs.Depths.{Depths, deeper, one_depth, mapped_depths, both_depths, both_if_depths, either_depths, nothing_depths, of_many, many_depths, maybe_depths, behind_depths, before_depths, separated_depths, parentheses_depths, arg_depths, args_depths, param_depths, params_depths, binders_depths, bracket_depths, primary_depths, suffix_depths, unary_depths, chain_depths, choice_depths, args_in_depths, params_in_depths, binders_in_depths, expr_depths, operand_depths, core_depths, instance_depths, body_of_depths, statement_of_depths, statements_in_depths, instance_in_depths, statement_depths, body_depths, program_depths}
+use Rattle.scad_grammar.specs.Classes.{numeral_class, text_class, true_word, false_word, undef_word, child_count_class, special_class, argument_names, open_parenthesis_sign, close_parenthesis_sign, open_bracket_sign, close_bracket_sign, open_brace_sign, close_brace_sign, comma_sign, semicolon_sign, assign_sign, colon_sign, question_sign, dot_sign, minus_sign, plus_sign, not_sign, times_sign, remainder_sign, hash_sign, caret_sign, name_class, end_class, if_word, else_word, for_word, intersection_for_word, module_word, function_word, has_class, has_class_in}
+use Rattle.scad_grammar.specs.Languages.{Language, One, ImageOf, Both, BothIf, EitherOf, Nothing, Many, Maybe, AfterToken, BeforeToken, SeparatedList, first_of, second_of, pair_of, cons}
+use Rattle.scad_grammar.specs.Grammar.{InParentheses, Rest, range_rest, Arg, Args, Param, Params, Binders, Bracket, Primary, Suffix, Unary, Chain, Choice, whole, outline, ArgsIn, ParamsIn, BindersIn, StatementsIn, InstanceIn, Expr, Operand, CoreOf, Instance, BodyOf, StatementOf, Statement, Body, WholeProgram, ProgramOutline, levels, chain_term, link, items, if_term, IsNearest, ends_open, instance_open, core_open, instance_term, loop_term, call_term, block_term}
+use Rattle.scad_grammar.specs.Depths.{Depths, deeper, one_depth, image_depths, both_depths, both_if_depths, either_depths, nothing_depths, of_many, many_depths, maybe_depths, after_token_depths, before_token_depths, separated_list_depths, parentheses_depths, arg_depths, args_depths, param_depths, params_depths, binders_depths, bracket_depths, primary_depths, suffix_depths, unary_depths, chain_depths, choice_depths, args_in_depths, params_in_depths, binders_in_depths, expr_depths, operand_depths, core_depths, instance_depths, body_of_depths, statement_of_depths, statements_in_depths, instance_in_depths, statement_depths, body_depths, program_depths}
 use Rattle.scad_grammar.proofs.Fronts.{Filled, filled_joined, filled_deeper}
 use Rattle.scad_grammar.proofs.Operands.{token}
 use Rattle.scad_grammar.proofs.Primary.{Some_of}
@@ -28,12 +28,12 @@ one_fills {d} test = record {
   at = λ t os h. (t, t ∷ [], (h.0, refl), subst (λ os. Filled (suc d) os (t ∷ []) (0 ∷ [])) (sym h.1) (λ c. ([], [], 0, refl, refl, omega arith, (refl, refl))), λ e. refl);
 }
 
-is_fills : {d : ℕ} (c : ℕ) → Fills (suc d) closed (One (is c)) (One (is c)) (one_depth (is c))
-is_fills c = one_fills (is c)
+is_fills : {d : ℕ} (c : ℕ) → Fills (suc d) closed (One (has_class c)) (One (has_class c)) (one_depth (has_class c))
+is_fills c = one_fills (has_class c)
 
 mapped_fills : {A B : Type 0} {d : ℕ} (f : A → B) {oa : A → Bool} (ob : B → Bool) {O W : Language A} {D : Depths W} → ((a y : A) → (oa a ≡ false → oa y ≡ false) → ob (f a) ≡ false → ob (f y) ≡ false)
-    → Fills d oa O W D → Fills d ob (Mapped f O) (Mapped f W) (mapped_depths f D)
-unfolding mapped_depths
+    → Fills d oa O W D → Fills d ob (ImageOf f O) (ImageOf f W) (image_depths f D)
+unfolding image_depths
 mapped_fills f ob tame h = record { at = λ b os z. let x = h.at z.0 os z.1 in (f x.0, x.1, (x.0, x.2, refl), x.3, λ e. tame z.0 x.0 x.4 (ap ob (sym z.2) ∙ e)) }
 
 both_fills : {A B C : Type 0} {d : ℕ} (f : A → B → C) {oa : A → Bool} {ob : B → Bool} (oc : C → Bool) {Oa Wa : Language A} {Ob Wb : Language B} {D : Depths Wa} {E : Depths Wb}
@@ -60,7 +60,7 @@ second_fills : {A B C : Type 0} {d : ℕ} (f : A → B → C) {oa : A → Bool} 
     → ((a : A) (b : B) → oc (f a b) ≡ ob b) → Fills d oa Oa Wa D → Fills d ob Ob Wb E → Fills d oc (Both f Oa Ob) (Both f Wa Wb) (both_depths f D E)
 second_fills f oc same h k = both_fills f oc (λ a y b z p q e. same y z ∙ q (sym (same a b) ∙ e)) h k
 
-plain_mapped : {A B : Type 0} {d : ℕ} (f : A → B) {oa : A → Bool} {O W : Language A} {D : Depths W} → Fills d oa O W D → Fills d closed (Mapped f O) (Mapped f W) (mapped_depths f D)
+plain_mapped : {A B : Type 0} {d : ℕ} (f : A → B) {oa : A → Bool} {O W : Language A} {D : Depths W} → Fills d oa O W D → Fills d closed (ImageOf f O) (ImageOf f W) (image_depths f D)
 plain_mapped f h = mapped_fills f closed (λ a y p e. refl) h
 
 module _ {A : Type 0} (d : ℕ) (o : A → Bool) (Oa Wa Ob Wb : Language A) (D : Depths Wa) (E : Depths Wb) (h : Fills d o Oa Wa D) (k : Fills d o Ob Wb E) where
@@ -76,11 +76,11 @@ either_fills {A} {d} {o} {Oa} {Wa} {Ob} {Wb} {D} {E} h k = record { at = either_
 nothing_fills : {A : Type 0} {d : ℕ} (a : A) (W : Language A) (D : Depths W) (h : W a []) → D.of a [] h ≡ [] → Fills d closed (Nothing a) W D
 nothing_fills {A} {d} a W D h e = record { at = λ y os z. (a, [], h, subst (λ os. Filled d os [] (D.of a [] h)) (sym z.1) (refl, e), λ e. refl) }
 
-after_gap : (d : ℕ) (os us s : List Token) (ns : List ℕ) (t : Token) → is caret_sign t ≡ true → os ≡ t ∷ us → Filled d os s ns
+after_gap : (d : ℕ) (os us s : List Token) (ns : List ℕ) (t : Token) → has_class caret_sign t ≡ true → os ≡ t ∷ us → Filled d os s ns
 after_gap d os us s ns t g e = subst (λ os. Filled d os s ns) (sym e) (λ c. absurd (let f : true ≡ false = sym g ∙ c in cc))
 
 -- a thing for a gap
-gap_fills : {A : Type 0} {d : ℕ} (o : A → Bool) (f : Token → A) (W : Language A) (D : Depths W) (x : A) (s : List Token) (h : W x s) → o x ≡ false → Fills d o (Mapped f (One (is caret_sign))) W D
+gap_fills : {A : Type 0} {d : ℕ} (o : A → Bool) (f : Token → A) (W : Language A) (D : Depths W) (x : A) (s : List Token) (h : W x s) → o x ≡ false → Fills d o (ImageOf f (One (has_class caret_sign))) W D
 gap_fills {A} {d} o f W D x s h e = record {
   at = λ y os z. (x, s, h, after_gap d os [] s (D.of x s h) z.0 z.1.0 z.1.1, λ k. e);
 }
@@ -118,37 +118,37 @@ module _ (d : ℕ) (Oa Wa : Language (Token × (Term × BodyTerm))) (D : Depths 
   if_fill : (p : Token × (Term × BodyTerm)) (o : Option BodyTerm) (u v : List Token) → Oa p u → Maybe Ob o v → IsNearest p o → (c : CoreTerm) (os : List Token) → c ≡ if_term p o → os ≡ u ++ v
       → Fill d core_open (BothIf if_term IsNearest Wa (Maybe Wb)) (both_if_depths if_term IsNearest D (maybe_depths E)) c os
   unfolding both_if_depths maybe_depths
-  if_fill p None u v hp ho fit c os is e =
+  if_fill p None u v hp ho fit c os has_class e =
       let x = h.at p u hp in (
         if_term x.0 None,
         x.1 ++ [],
         (x.0, None, x.1, [], x.2, refl, tt, refl, refl),
         subst (λ os. Filled d os (x.1 ++ []) (D.of x.0 x.1 x.2 ++ [])) (sym e) (filled_joined d u x.1 (D.of x.0 x.1 x.2) v [] [] x.3 (subst (λ v. Filled d v [] []) (sym ho) (refl, refl))),
-        λ o. absurd (let f : true ≡ false = ap core_open (sym is) ∙ o in cc),
+        λ o. absurd (let f : true ≡ false = ap core_open (sym has_class) ∙ o in cc),
       )
-  if_fill p (Some other) u v hp ho fit c os is e =
+  if_fill p (Some other) u v hp ho fit c os has_class e =
       let x = h.at p u hp in
       let y = k.at other v ho in (
         if_term x.0 (Some y.0),
         x.1 ++ y.1,
         (x.0, Some y.0, x.1, y.1, x.2, y.2, x.4 fit, refl, refl),
         subst (λ os. Filled d os (x.1 ++ y.1) (D.of x.0 x.1 x.2 ++ E.of y.0 y.1 y.2)) (sym e) (filled_joined d u x.1 (D.of x.0 x.1 x.2) v y.1 (E.of y.0 y.1 y.2) x.3 y.3),
-        λ o. y.4 (ap core_open (sym is) ∙ o),
+        λ o. y.4 (ap core_open (sym has_class) ∙ o),
       )
 
   if_fills : Fills d core_open (BothIf if_term IsNearest Oa (Maybe Ob)) (BothIf if_term IsNearest Wa (Maybe Wb)) (both_if_depths if_term IsNearest D (maybe_depths E))
   if_fills = record { at = λ c os z. if_fill z.0 z.1 z.2 z.3 z.4 z.5 z.6 c os z.7 z.8 }
 
-behind_fills : {A : Type 0} {d : ℕ} (c : ℕ) {o : A → Bool} {O W : Language A} {D : Depths W} → Fills (suc d) o O W D → Fills (suc d) o (Behind (is c) O) (Behind (is c) W) (behind_depths (is c) D)
+behind_fills : {A : Type 0} {d : ℕ} (c : ℕ) {o : A → Bool} {O W : Language A} {D : Depths W} → Fills (suc d) o O W D → Fills (suc d) o (AfterToken (has_class c) O) (AfterToken (has_class c) W) (after_token_depths (has_class c) D)
 behind_fills c {o} h = both_fills second_of o (λ a y b z p q e. q e) (is_fills c) h
 
-before_fills : {A : Type 0} {d : ℕ} (c : ℕ) {o : A → Bool} {O W : Language A} {D : Depths W} → Fills (suc d) o O W D → Fills (suc d) o (Before O (is c)) (Before W (is c)) (before_depths (is c) D)
+before_fills : {A : Type 0} {d : ℕ} (c : ℕ) {o : A → Bool} {O W : Language A} {D : Depths W} → Fills (suc d) o O W D → Fills (suc d) o (BeforeToken O (has_class c)) (BeforeToken W (has_class c)) (before_token_depths (has_class c) D)
 before_fills c {o} h = both_fills first_of o (λ a y b z p q e. p e) h (is_fills c)
 
 parentheses_fills : {A : Type 0} {d : ℕ} {o : A → Bool} {O W : Language A} {D : Depths W} → Fills d o O W D → Fills (suc d) o (InParentheses O) (InParentheses W) (parentheses_depths D)
 parentheses_fills h = behind_fills open_parenthesis_sign (before_fills close_parenthesis_sign (deeper_fills h))
 
-separated_fills : {A : Type 0} {d : ℕ} {o : A → Bool} {O W : Language A} {D : Depths W} → Fills (suc d) o O W D → Fills (suc d) closed (Separated (is comma_sign) O) (Separated (is comma_sign) W) (separated_depths (is comma_sign) D)
+separated_fills : {A : Type 0} {d : ℕ} {o : A → Bool} {O W : Language A} {D : Depths W} → Fills (suc d) o O W D → Fills (suc d) closed (SeparatedList (has_class comma_sign) O) (SeparatedList (has_class comma_sign) W) (separated_list_depths (has_class comma_sign) D)
 separated_fills h = plain_fills first_of (plain_fills cons h (many_fills (behind_fills comma_sign h))) (maybe_fills (is_fills comma_sign))
 
 nothing_same : {A : Type 0} {d : ℕ} (a : A) → Fills d closed (Nothing a) (Nothing a) (nothing_depths a)
@@ -159,30 +159,30 @@ nothing_same a = nothing_fills a (Nothing a) (nothing_depths a) (refl, refl) ref
 abbrev Inner : Language Term → Language (Option (Term × Rest))
 Inner E =
     Maybe (Both pair_of E
-    (EitherOf (Behind (is colon_sign) (Both range_rest E (Maybe (Behind (is colon_sign) E))))
-    (Mapped items (Both first_of (Many (Behind (is comma_sign) E)) (Maybe (One (is comma_sign)))))))
+    (EitherOf (AfterToken (has_class colon_sign) (Both range_rest E (Maybe (AfterToken (has_class colon_sign) E))))
+    (ImageOf items (Both first_of (Many (AfterToken (has_class comma_sign) E)) (Maybe (One (has_class comma_sign)))))))
 
 abbrev inner_depths : {E : Language Term} → Depths E → Depths (Inner E)
 inner_depths e =
     maybe_depths (both_depths pair_of e
-    (either_depths (behind_depths (is colon_sign) (both_depths range_rest e (maybe_depths (behind_depths (is colon_sign) e))))
-    (mapped_depths items (both_depths first_of (many_depths (behind_depths (is comma_sign) e)) (maybe_depths (one_depth (is comma_sign)))))))
+    (either_depths (after_token_depths (has_class colon_sign) (both_depths range_rest e (maybe_depths (after_token_depths (has_class colon_sign) e))))
+    (image_depths items (both_depths first_of (many_depths (after_token_depths (has_class comma_sign) e)) (maybe_depths (one_depth (has_class comma_sign)))))))
 
 module _ (d : ℕ) (O W : Language Term) (D : Depths W) (e : Fills (suc d) closed O W D) where
   arg_fills : Fills (suc d) closed (Arg O) (Arg W) (arg_depths D)
-  arg_fills = either_fills (plain_fills _ (one_fills (among argument_names)) (behind_fills assign_sign e)) (plain_mapped PositionalTerm e)
+  arg_fills = either_fills (plain_fills _ (one_fills (has_class_in argument_names)) (behind_fills assign_sign e)) (plain_mapped PositionalTerm e)
 
   args_fills : Fills (suc d) closed (Args O) (Args W) (args_depths D)
   args_fills = either_fills (separated_fills arg_fills) (nothing_same [])
 
   param_fills : Fills (suc d) closed (Param O) (Param W) (param_depths D)
-  param_fills = plain_fills _ (is_fills name) (maybe_fills (behind_fills assign_sign e))
+  param_fills = plain_fills _ (is_fills name_class) (maybe_fills (behind_fills assign_sign e))
 
   params_fills : Fills (suc d) closed (Params (Param O)) (Params (Param W)) (params_depths (param_depths D))
   params_fills = either_fills (separated_fills param_fills) (nothing_same [])
 
   binders_fills : Fills (suc d) closed (Binders O) (Binders W) (binders_depths D)
-  binders_fills = separated_fills (plain_fills _ (is_fills name) (behind_fills assign_sign e))
+  binders_fills = separated_fills (plain_fills _ (is_fills name_class) (behind_fills assign_sign e))
 
   inner_fills : Fills (suc d) closed (Inner O) (Inner W) (inner_depths D)
   inner_fills =
@@ -192,7 +192,7 @@ module _ (d : ℕ) (O W : Language Term) (D : Depths W) (e : Fills (suc d) close
 
 -- a bracket that holds a gap
 module _ (f : Token → Term) (W : Language Term) (D : Depths W) (some : Some_of W) where
-  zero_inner : (y : Option (Term × Rest)) (os : List Token) → Inner (Mapped f (One (is caret_sign))) y os → Fill 0 closed (Inner W) (inner_depths D) y os
+  zero_inner : (y : Option (Term × Rest)) (os : List Token) → Inner (ImageOf f (One (has_class caret_sign))) y os → Fill 0 closed (Inner W) (inner_depths D) y os
   unfolding maybe_depths
   zero_inner None os z = (None, [], refl, subst (λ os. Filled 0 os [] []) (sym z) (refl, refl), λ e. refl)
   zero_inner (Some p) os z = (
@@ -210,22 +210,22 @@ module _ (d : ℕ) (O W : Language Term) (D : Depths W) (e : Fills d closed O W 
   suffix_fills : Fills (suc d) closed (Suffix O) (Suffix W) (suffix_depths D)
   suffix_fills =
       either_fills (plain_fills _ (is_fills open_bracket_sign) (before_fills close_bracket_sign (deeper_fills e)))
-      (plain_fills _ (is_fills dot_sign) (is_fills name))
+      (plain_fills _ (is_fills dot_sign) (is_fills name_class))
 
 chain_fills : {d : ℕ} (below : List (List ℕ)) {O W : Language Term} {D : Depths W} → Fills (suc d) closed O W D → Fills (suc d) closed (Chain below O) (Chain below W) (chain_depths below D)
 chain_fills [] h = h
-chain_fills (ops ∷ below) h = plain_fills chain_term (chain_fills below h) (many_fills (plain_fills link (one_fills (among ops)) (chain_fills below h)))
+chain_fills (ops ∷ below) h = plain_fills chain_term (chain_fills below h) (many_fills (plain_fills link (one_fills (has_class_in ops)) (chain_fills below h)))
 
 module _ (d : ℕ) (O W : Language Term) (D : Depths W) (e : Fills d closed O W D) (inner : Fills d closed (Inner O) (Inner W) (inner_depths D)) (As Bs : Language (List ArgTerm)) (DA : Depths Bs) (a : Fills d closed As Bs DA) (U V : Language Term) (DU : Depths V) (u : Fills d closed U V DU) where
   primary_fills : Fills (suc d) closed (Primary O As) (Primary W Bs) (primary_depths D DA)
   primary_fills =
-      either_fills (plain_mapped _ (is_fills numeral)) (either_fills (plain_mapped _ (is_fills text)) (either_fills (plain_mapped _ (is_fills true_word)) (either_fills (plain_mapped _ (is_fills false_word))
-      (either_fills (plain_mapped _ (is_fills undef_word)) (either_fills (plain_mapped _ (is_fills child_count)) (either_fills (plain_mapped _ (is_fills special))
-      (either_fills (plain_fills _ (is_fills name) (maybe_fills (parentheses_fills a)))
+      either_fills (plain_mapped _ (is_fills numeral_class)) (either_fills (plain_mapped _ (is_fills text_class)) (either_fills (plain_mapped _ (is_fills true_word)) (either_fills (plain_mapped _ (is_fills false_word))
+      (either_fills (plain_mapped _ (is_fills undef_word)) (either_fills (plain_mapped _ (is_fills child_count_class)) (either_fills (plain_mapped _ (is_fills special_class))
+      (either_fills (plain_fills _ (is_fills name_class) (maybe_fills (parentheses_fills a)))
       (either_fills (plain_fills _ (is_fills open_parenthesis_sign) (before_fills close_parenthesis_sign (deeper_fills e))) (bracket_fills d O W D e inner)))))))))
 
   unary_fills : Fills (suc d) closed (Unary O As U) (Unary W Bs V) (unary_depths D DA DU)
-  unary_fills = either_fills (plain_fills _ (one_fills (among (minus_sign ∷ plus_sign ∷ not_sign ∷ []))) (deeper_fills u)) (plain_fills _ primary_fills (many_fills (suffix_fills d O W D e inner)))
+  unary_fills = either_fills (plain_fills _ (one_fills (has_class_in (minus_sign ∷ plus_sign ∷ not_sign ∷ []))) (deeper_fills u)) (plain_fills _ primary_fills (many_fills (suffix_fills d O W D e inner)))
 
   choice_fills : Fills (suc d) closed (Choice O As U) (Choice W Bs V) (choice_depths D DA DU)
   choice_fills =
@@ -289,18 +289,18 @@ expr_fills zero = zero_expr
 expr_fills (suc d) = next_expr d (expr_fills d)
 
 module _ (d : ℕ) (E E1 : Language Term) (DE : Depths E1) (e : Fills d closed E E1 DE) (As A1 : Language (List ArgTerm)) (DA : Depths A1) (a : Fills d closed As A1 DA) (Ns N1 : Language (List BinderTerm)) (DN : Depths N1) (n : Fills d closed Ns N1 DN) (B B1 : Language BodyTerm) (DB : Depths B1) (b : Fills d ends_open B B1 DB) where
-  core_fills : Fills (suc d) core_open (Core E As Ns B) (Core E1 A1 N1 B1) (core_depths DE DA DN DB)
+  core_fills : Fills (suc d) core_open (CoreOf E As Ns B) (CoreOf E1 A1 N1 B1) (core_depths DE DA DN DB)
   core_fills =
       either_fills
       (if_fills (suc d) _ _ _
       (second_fills pair_of (λ p. ends_open p.1.1) (λ t p. refl) (is_fills if_word) (second_fills pair_of (λ p. ends_open p.1) (λ x y. refl) (parentheses_fills e) (deeper_fills b)))
       _ _ _ (behind_fills else_word (deeper_fills b)))
       (either_fills
-      (second_fills loop_term core_open loop_open (one_fills (among (for_word ∷ intersection_for_word ∷ []))) (second_fills pair_of (λ p. ends_open p.1) (λ x y. refl) (parentheses_fills n) (deeper_fills b)))
-      (second_fills call_term core_open (λ t p. refl) (is_fills name) (second_fills pair_of (λ p. ends_open p.1) (λ x y. refl) (parentheses_fills a) (deeper_fills b))))
+      (second_fills loop_term core_open loop_open (one_fills (has_class_in (for_word ∷ intersection_for_word ∷ []))) (second_fills pair_of (λ p. ends_open p.1) (λ x y. refl) (parentheses_fills n) (deeper_fills b)))
+      (second_fills call_term core_open (λ t p. refl) (is_fills name_class) (second_fills pair_of (λ p. ends_open p.1) (λ x y. refl) (parentheses_fills a) (deeper_fills b))))
 
   instance_fills : Fills (suc d) instance_open (Instance E As Ns B) (Instance E1 A1 N1 B1) (instance_depths DE DA DN DB)
-  instance_fills = second_fills instance_term instance_open same_open (many_fills (plain_mapped _ (one_fills (among (times_sign ∷ remainder_sign ∷ hash_sign ∷ not_sign ∷ []))))) core_fills
+  instance_fills = second_fills instance_term instance_open same_open (many_fills (plain_mapped _ (one_fills (has_class_in (times_sign ∷ remainder_sign ∷ hash_sign ∷ not_sign ∷ []))))) core_fills
 
 module _ (d : ℕ) (I I1 : Language InstanceTerm) (DI : Depths I1) (i : Fills (suc d) instance_open I I1 DI) (Ss S1 : Language (List StatementTerm)) (DS : Depths S1) (s : Fills d closed Ss S1 DS) where
   body_of_fills : Fills (suc d) ends_open (BodyOf I Ss) (BodyOf I1 S1) (body_of_depths DI DS)
@@ -314,10 +314,10 @@ module _ (d : ℕ) (I I1 : Language InstanceTerm) (DI : Depths I1) (i : Fills (s
   statement_of_fills X X1 DX x Ps P1 DP p B B1 DB b =
       either_fills (plain_mapped _ (is_fills semicolon_sign))
       (either_fills (plain_fills _ (is_fills open_brace_sign) (before_fills close_brace_sign (deeper_fills s)))
-      (either_fills (plain_fills _ (is_fills special) (behind_fills assign_sign (before_fills semicolon_sign x)))
-      (either_fills (plain_fills _ (is_fills name) (behind_fills assign_sign (before_fills semicolon_sign x)))
-      (either_fills (plain_fills _ (is_fills module_word) (plain_fills pair_of (is_fills name) (plain_fills pair_of (parentheses_fills p) (deeper_fills b))))
-      (either_fills (plain_fills _ (is_fills function_word) (plain_fills pair_of (is_fills name) (plain_fills pair_of (parentheses_fills p) (behind_fills assign_sign (before_fills semicolon_sign x)))))
+      (either_fills (plain_fills _ (is_fills special_class) (behind_fills assign_sign (before_fills semicolon_sign x)))
+      (either_fills (plain_fills _ (is_fills name_class) (behind_fills assign_sign (before_fills semicolon_sign x)))
+      (either_fills (plain_fills _ (is_fills module_word) (plain_fills pair_of (is_fills name_class) (plain_fills pair_of (parentheses_fills p) (deeper_fills b))))
+      (either_fills (plain_fills _ (is_fills function_word) (plain_fills pair_of (is_fills name_class) (plain_fills pair_of (parentheses_fills p) (behind_fills assign_sign (before_fills semicolon_sign x)))))
       (plain_mapped InstanceStatement i))))))
 
 -- the statements in braces, and a body
@@ -366,5 +366,5 @@ body_fills : (d : ℕ) → FillsBody d
 body_fills zero = (no_statements, zero_body)
 body_fills (suc d) = (many_fills (next_statement d (body_fills d)), next_body d (body_fills d))
 
-pub program_fills : (d : ℕ) → Fills (suc d) closed (Outline (suc d)) (WholeProgram (suc (suc d))) (program_depths (suc (suc d)))
-program_fills d = before_fills end (many_fills (next_statement d (body_fills d)))
+pub program_fills : (d : ℕ) → Fills (suc d) closed (ProgramOutline (suc d)) (WholeProgram (suc (suc d))) (program_depths (suc (suc d)))
+program_fills d = before_fills end_class (many_fills (next_statement d (body_fills d)))

@@ -6,11 +6,11 @@ use Rattle.scad_lexer.specs.Tokens.{ends_once}
 use Rattle.scad_ast.specs.Terms.{StatementTerm}
 use Rattle.scad_grammar.specs.declared.SyntaxFault.{SyntaxFault}
 use Rattle.scad_grammar.specs.declared.SyntaxFault.TheVariants.{Expected, Nested, NotInProfile}
-use Rattle.scad_grammar.specs.Classes.{numeral, end, among, is, class_of}
+use Rattle.scad_grammar.specs.Classes.{numeral_class, end_class, has_class_in, has_class, token_class}
 use Rattle.scad_grammar.specs.Languages.{Language, first_of}
-use Rattle.scad_grammar.specs.Reading.{Read, after, many}
+use Rattle.scad_grammar.specs.Reading.{Read, then_read, many}
 use Rattle.scad_grammar.specs.Faults.{TokenReader, one, fault_of, left_out_classes, left_out_of_expressions}
-use Rattle.scad_grammar.specs.Grammar.{WholeProgram, Outline}
+use Rattle.scad_grammar.specs.Grammar.{WholeProgram, ProgramOutline}
 use Rattle.scad_grammar.specs.StatementReads.{firsts_of_statement, statement_read, program_read}
 use Rattle.scad_grammar.specs.FirstFault.{BeginsSome, BeginsWithin, IsFault, IsFirstFault}
 use Rattle.scad_grammar.proofs.Readers.{Begins, Told, IsReader, SameHead, seen}
@@ -66,13 +66,13 @@ module _ (r : TokenReader (List StatementTerm)) (L W : Language (List StatementT
 
   -- with the token of a fault nothing goes on
   dead : (ts : List Token) (fault : SyntaxFault) (t : Token) (more s : List Token) → r ts ≡ Err (fault, t ∷ more) → ts ≡ s ++ t ∷ more → (x : List StatementTerm) (w : List Token) → L x ((s ++ t ∷ []) ++ w) → ⊥
-  dead ts fault t more s e is x w h = go (r ts) e (i.told ts)
+  dead ts fault t more s e has_class x w h = go (r ts) e (i.told ts)
     where
       go : (q : ReadProgram) → q ≡ Err (fault, t ∷ more) → Told r L W ts q → ⊥
       go (Ok p) f told = no_both p.0 p.1 fault (t ∷ more) (Ok p) refl f
       go (Err y) f told =
           let tail : y.1 ≡ t ∷ more = same_place y.0 fault y.1 (t ∷ more) (Err y) refl f in
-          let same : told.0 ≡ s = append_cancel_right told.0 s (t ∷ more) (ap (λ l. told.0 ++ l) (sym tail) ∙ sym told.1 ∙ is) in
+          let same : told.0 ≡ s = append_cancel_right told.0 s (t ∷ more) (ap (λ l. told.0 ++ l) (sym tail) ∙ sym told.1 ∙ has_class) in
           let here : SameHead y.1 (t ∷ w) = subst (λ l. SameHead l (t ∷ w)) (sym tail) refl in
           let fine : r (s ++ t ∷ w) ≡ Ok (x, []) = ap r (sym (append_assoc s (t ∷ []) w)) ∙ ap r (sym (append-nil ((s ++ t ∷ []) ++ w))) ∙ i.complete x ((s ++ t ∷ []) ++ w) [] h refl in
           no_both x [] y.0 (t ∷ w) (r (s ++ t ∷ w)) fine (ap (λ l. r (l ++ t ∷ w)) (sym same) ∙ told.3 (t ∷ w) here)
@@ -87,9 +87,9 @@ fault_deeper (suc k) d ts fault at n e = let z : suc k + d ≡ suc (k + d) = ome
 
 -- so no program at all goes on with its token
 dead_some : (d : ℕ) (ts : List Token) (fault : SyntaxFault) (t : Token) (more s : List Token) → fault ≢ Nested → program_read d ts ≡ Err (fault, t ∷ more) → ts ≡ s ++ t ∷ more → BeginsSome (s ++ t ∷ []) → ⊥
-dead_some d ts fault t more s n e is b =
+dead_some d ts fault t more s n e has_class b =
     let swap : d + b.0 ≡ b.0 + d = omega arith in
-    dead (program_read (b.0 + d)) (WholeProgram (b.0 + d)) (WholeProgram (suc (suc (b.0 + d)))) (program_reads (b.0 + d)) ts fault t more s (fault_deeper b.0 d ts fault (t ∷ more) n e) is b.1 b.2
+    dead (program_read (b.0 + d)) (WholeProgram (b.0 + d)) (WholeProgram (suc (suc (b.0 + d)))) (program_reads (b.0 + d)) ts fault t more s (fault_deeper b.0 d ts fault (t ∷ more) n e) has_class b.1 b.2
     (subst (λ n. WholeProgram n b.1 ((s ++ t ∷ []) ++ b.2)) swap (lift d b.0 b.1 ((s ++ t ∷ []) ++ b.2) b.3))
 
 -- what the reading of tokens with one end gives
@@ -97,26 +97,26 @@ abbrev Ends : ReadProgram → Type 0
 Ends (Ok p) = p.1 ≡ []
 Ends (Err e) = OfKind e × EndsOnce e.1
 
-last_read : (xs : List StatementTerm) (us : List Token) → EndsOnce us → Ends (after (one (is end) us) (λ b vs. Ok (first_of xs b, vs)))
+last_read : (xs : List StatementTerm) (us : List Token) → EndsOnce us → Ends (then_read (one (has_class end_class) us) (λ b vs. Ok (first_of xs b, vs)))
 last_read xs [] n = elim n [ ]
-last_read xs (t ∷ us) n = go (is end t) refl us n
+last_read xs (t ∷ us) n = go (has_class end_class t) refl us n
   where
-    go : (b : Bool) → is end t ≡ b → (us : List Token) → EndsOnce (t ∷ us) → Ends (after (cond b (Ok (t, us)) (Err (fault_of left_out_classes (Some t), t ∷ us))) (λ b vs. Ok (first_of xs b, vs)))
+    go : (b : Bool) → has_class end_class t ≡ b → (us : List Token) → EndsOnce (t ∷ us) → Ends (then_read (cond b (Ok (t, us)) (Err (fault_of left_out_classes (Some t), t ∷ us))) (λ b vs. Ok (first_of xs b, vs)))
     go true e [] n = refl
     go true e (u ∷ us) n = absurd (let f : true ≡ false = sym e ∙ n.0 in cc)
     go false e us n = (inr (inl refl), n)
 
 reading_ends : (d : ℕ) (ts : List Token) → EndsOnce ts → Ends (program_read d ts)
-reading_ends d ts n = go (many (among firsts_of_statement) (statement_read d) ts) ((many_fair (among firsts_of_statement) (statement_read d) (regular_statements d).0).at ts)
+reading_ends d ts n = go (many (has_class_in firsts_of_statement) (statement_read d) ts) ((many_fair (has_class_in firsts_of_statement) (statement_read d) (regular_statements d).0).at ts)
   where
-    go : (q : ReadProgram) → Fair ts q → Ends (after q (λ xs us. after (one (is end) us) (λ b vs. Ok (first_of xs b, vs))))
+    go : (q : ReadProgram) → Fair ts q → Ends (then_read q (λ xs us. then_read (one (has_class end_class) us) (λ b vs. Ok (first_of xs b, vs))))
     go (Ok p) f = last_read p.0 p.1 (f n)
     go (Err e) f = (f.0, f.1 n)
 
 -- all before a fault begins a program that is not too deep
-outline_begins : (d : ℕ) (ts s at : List Token) (fault : SyntaxFault) → program_read d ts ≡ Err (fault, at) → ts ≡ s ++ at → (x : List StatementTerm) × (w : List Token) × Outline d x (s ++ w)
-outline_begins d ts s at fault e is =
-    let b = reaches (outline_read d) (Outline d) (Outline d) (outline_reads d) ts s at is (go (program_read d ts) (outline_read d ts) e ((program_cut d).at ts)) in
+outline_begins : (d : ℕ) (ts s at : List Token) (fault : SyntaxFault) → program_read d ts ≡ Err (fault, at) → ts ≡ s ++ at → (x : List StatementTerm) × (w : List Token) × ProgramOutline d x (s ++ w)
+outline_begins d ts s at fault e has_class =
+    let b = reaches (outline_read d) (ProgramOutline d) (ProgramOutline d) (outline_reads d) ts s at has_class (go (program_read d ts) (outline_read d ts) e ((program_cut d).at ts)) in
     (b.1, b.0, b.2)
   where
     go : (q p : ReadProgram) → q ≡ Err (fault, at) → Cut q p → left p ≤ length at
@@ -126,10 +126,10 @@ outline_begins d ts s at fault e is =
 
 -- with a token that is too deep only deeper programs go on
 too_deep : (d : ℕ) (ts s : List Token) (t : Token) (more : List Token) → program_read d ts ≡ Err (Nested, t ∷ more) → ts ≡ s ++ t ∷ more → BeginsWithin d (s ++ t ∷ []) → ⊥
-too_deep d ts s t more e is b = go (program_read d ts) (outline_read d ts) refl e ((program_cut d).at ts)
+too_deep d ts s t more e has_class b = go (program_read d ts) (outline_read d ts) refl e ((program_cut d).at ts)
   where
     open_dead : (l : SyntaxFault) (p : ReadProgram) → outline_read d ts ≡ p → p ≡ Err (l, t ∷ more) → ⊥
-    open_dead l p f g = dead (outline_read d) (Outline d) (Outline d) (outline_reads d) ts l t more s (f ∙ g) is b.1 b.2 b.3
+    open_dead l p f g = dead (outline_read d) (ProgramOutline d) (ProgramOutline d) (outline_reads d) ts l t more s (f ∙ g) has_class b.1 b.2 b.3
 
     go : (q p : ReadProgram) → outline_read d ts ≡ p → q ≡ Err (Nested, t ∷ more) → Cut q p → ⊥
     go q p h f (equal g) = open_dead Nested p h (sym g ∙ f)
@@ -153,7 +153,7 @@ numeral_goes_on d s n more (inr e) = go (program_read d (s ++ n ∷ more)) e ((p
         (suc (suc d), begun.1, begun.0, begun.2)
 
 -- a word of a statement that is refused
-module _ (d : ℕ) (s : List Token) (t : Token) (more : List Token) (fault : SyntaxFault) (e : program_read d (s ++ t ∷ more) ≡ Err (fault, t ∷ more)) (not_deep : fault ≢ Nested) (w : among words t ≡ true) where
+module _ (d : ℕ) (s : List Token) (t : Token) (more : List Token) (fault : SyntaxFault) (e : program_read d (s ++ t ∷ more) ≡ Err (fault, t ∷ more)) (not_deep : fault ≢ Nested) (w : has_class_in words t ≡ true) where
   abbrev Either : Token → Type 0
   Either n = ((fault ≡ Expected) × (BeginsSome (s ++ n ∷ []) → ⊥)) ⊎ ((fault ≡ NotInProfile) × BeginsSome (s ++ n ∷ []))
 
@@ -161,12 +161,12 @@ module _ (d : ℕ) (s : List Token) (t : Token) (more : List Token) (fault : Syn
   longer h u e = absurd (omega (arith, ap length e, length-append u (t ∷ more)))
 
   word_fault : fault_of left_out_classes (Some t) ≡ Expected
-  word_fault = ap (λ b. cond b NotInProfile Expected) (classes_apart words left_out_classes refl (class_of t.kind) w)
+  word_fault = ap (λ b. cond b NotInProfile Expected) (classes_apart words left_out_classes refl (token_class t.kind) w)
 
   word_left_out : fault_of left_out_of_expressions (Some t) ≡ NotInProfile
-  word_left_out = ap (λ b. cond b NotInProfile Expected) (classes_within words left_out_of_expressions refl (class_of t.kind) w)
+  word_left_out = ap (λ b. cond b NotInProfile Expected) (classes_within words left_out_of_expressions refl (token_class t.kind) w)
 
-  by_numeral : (n : Token) → is numeral n ≡ true → Either n
+  by_numeral : (n : Token) → has_class numeral_class n ≡ true → Either n
   by_numeral n g = go (program_read d (s ++ t ∷ more)) e ((lock_program t n more w g d).at s)
     where
       go : (q : ReadProgram) → q ≡ Err (fault, t ∷ more) → Locked t n more q (program_read d (s ++ n ∷ more)) → Either n
@@ -179,7 +179,7 @@ module _ (d : ℕ) (s : List Token) (t : Token) (more : List Token) (fault : Syn
 
 -- of what kind it is
 module _ (d : ℕ) (ts s : List Token) (t : Token) (more : List Token) (is_at : ts ≡ s ++ t ∷ more) where
-  listed_out : (b : Bool) → among left_out_of_expressions t ≡ b → among left_out_classes t ≡ false → (k : SyntaxFault) → (k ≡ fault_of left_out_classes (Some t)) ⊎ (k ≡ fault_of left_out_of_expressions (Some t)) → program_read d ts ≡ Err (k, t ∷ more) → k ≢ Nested → IsFault d k s t
+  listed_out : (b : Bool) → has_class_in left_out_of_expressions t ≡ b → has_class_in left_out_classes t ≡ false → (k : SyntaxFault) → (k ≡ fault_of left_out_classes (Some t)) ⊎ (k ≡ fault_of left_out_of_expressions (Some t)) → program_read d ts ≡ Err (k, t ∷ more) → k ≢ Nested → IsFault d k s t
   listed_out false b a k h e n = plain k h e
     where
       expected : (k : SyntaxFault) → (k ≡ fault_of left_out_classes (Some t)) ⊎ (k ≡ fault_of left_out_of_expressions (Some t)) → k ≡ Expected
@@ -191,43 +191,43 @@ module _ (d : ℕ) (ts s : List Token) (t : Token) (more : List Token) (is_at : 
           let is_expected = expected k h in
           subst (λ k. IsFault d k s t) (sym is_expected)
           (dead_some d ts Expected t more s (λ h. cc) (e ∙ ap (λ k. Err (k, t ∷ more)) is_expected) is_at, λ l. elim l [ inl x ↦ absurd (let f : true ≡ false = sym x ∙ a in cc) | inr x ↦ absurd (let f : true ≡ false = sym x.0 ∙ b in cc) ])
-  listed_out true b a k h e n = go (either_listed words left_out_classes (class_of t.kind) b)
+  listed_out true b a k h e n = go (either_listed words left_out_classes (token_class t.kind) b)
     where
-      go : (among words t ≡ true) ⊎ (among left_out_classes t ≡ true) → IsFault d k s t
+      go : (has_class_in words t ≡ true) ⊎ (has_class_in left_out_classes t ≡ true) → IsFault d k s t
       go (inr x) = absurd (let f : true ≡ false = sym x ∙ a in cc)
       go (inl w) = kinds k h e n (by_numeral d s t more k (ap (program_read d) (sym is_at) ∙ e) n w)
         where
-          kinds : (k : SyntaxFault) → (k ≡ fault_of left_out_classes (Some t)) ⊎ (k ≡ fault_of left_out_of_expressions (Some t)) → program_read d ts ≡ Err (k, t ∷ more) → k ≢ Nested → ((m : Token) → is numeral m ≡ true → ((k ≡ Expected) × (BeginsSome (s ++ m ∷ []) → ⊥)) ⊎ ((k ≡ NotInProfile) × BeginsSome (s ++ m ∷ []))) → IsFault d k s t
+          kinds : (k : SyntaxFault) → (k ≡ fault_of left_out_classes (Some t)) ⊎ (k ≡ fault_of left_out_of_expressions (Some t)) → program_read d ts ≡ Err (k, t ∷ more) → k ≢ Nested → ((m : Token) → has_class numeral_class m ≡ true → ((k ≡ Expected) × (BeginsSome (s ++ m ∷ []) → ⊥)) ⊎ ((k ≡ NotInProfile) × BeginsSome (s ++ m ∷ []))) → IsFault d k s t
           kinds Nested h e n f = absurd (n refl)
           kinds Expected h e n f =
               (dead_some d ts Expected t more s n e is_at, λ l. elim l [ inl x ↦ absurd (let f : true ≡ false = sym x ∙ a in cc) | inr x ↦ elim (f x.1.0 x.1.1) [ inl y ↦ y.1 x.1.2 | inr y ↦ absurd (let z = y.0 in cc) ] ])
           kinds NotInProfile h e n f =
               (dead_some d ts NotInProfile t more s n e is_at, elim (f zero_token refl) [ inl y ↦ absurd (let z = y.0 in cc) | inr y ↦ inr (b, (zero_token, refl, y.1)) ])
 
-  always_out : among left_out_classes t ≡ true → (k : SyntaxFault) → (k ≡ fault_of left_out_classes (Some t)) ⊎ (k ≡ fault_of left_out_of_expressions (Some t)) → program_read d ts ≡ Err (k, t ∷ more) → IsFault d k s t
+  always_out : has_class_in left_out_classes t ≡ true → (k : SyntaxFault) → (k ≡ fault_of left_out_classes (Some t)) ⊎ (k ≡ fault_of left_out_of_expressions (Some t)) → program_read d ts ≡ Err (k, t ∷ more) → IsFault d k s t
   always_out a k h e =
       let is_out = out h in
       subst (λ k. IsFault d k s t) (sym is_out) (dead_some d ts NotInProfile t more s (λ h. cc) (e ∙ ap (λ k. Err (k, t ∷ more)) is_out) is_at, inl a)
     where
       out : (k ≡ fault_of left_out_classes (Some t)) ⊎ (k ≡ fault_of left_out_of_expressions (Some t)) → k ≡ NotInProfile
       out (inl h) = h ∙ ap (λ b. cond b NotInProfile Expected) a
-      out (inr h) = h ∙ ap (λ b. cond b NotInProfile Expected) (classes_within left_out_classes left_out_of_expressions refl (class_of t.kind) a)
+      out (inr h) = h ∙ ap (λ b. cond b NotInProfile Expected) (classes_within left_out_classes left_out_of_expressions refl (token_class t.kind) a)
 
   -- where the rest of the tokens begins something deeper, as readers tell
   is_fault : (k : SyntaxFault) → program_read d ts ≡ Err (k, t ∷ more) → OfKind (k, t ∷ more) → Begins (WholeProgram (suc (suc d))) (s ++ seen k (t ∷ more)) → IsFault d k s t
   is_fault Nested e h b = ((suc (suc d), b.1, b.0, b.2), too_deep d ts s t more e is_at)
   is_fault Expected e (inl h) b = absurd (cc)
-  is_fault Expected e (inr h) b = by_list (among left_out_classes t) refl
+  is_fault Expected e (inr h) b = by_list (has_class_in left_out_classes t) refl
     where
-      by_list : (a : Bool) → among left_out_classes t ≡ a → IsFault d Expected s t
+      by_list : (a : Bool) → has_class_in left_out_classes t ≡ a → IsFault d Expected s t
       by_list true a = always_out a Expected h e
-      by_list false a = listed_out (among left_out_of_expressions t) refl a Expected h e (λ x. cc)
+      by_list false a = listed_out (has_class_in left_out_of_expressions t) refl a Expected h e (λ x. cc)
   is_fault NotInProfile e (inl h) b = absurd (cc)
-  is_fault NotInProfile e (inr h) b = by_list (among left_out_classes t) refl
+  is_fault NotInProfile e (inr h) b = by_list (has_class_in left_out_classes t) refl
     where
-      by_list : (a : Bool) → among left_out_classes t ≡ a → IsFault d NotInProfile s t
+      by_list : (a : Bool) → has_class_in left_out_classes t ≡ a → IsFault d NotInProfile s t
       by_list true a = always_out a NotInProfile h e
-      by_list false a = listed_out (among left_out_of_expressions t) refl a NotInProfile h e (λ x. cc)
+      by_list false a = listed_out (has_class_in left_out_of_expressions t) refl a NotInProfile h e (λ x. cc)
 
 -- what the reading of tokens with one end gives: their first fault,
 pub first_fault : (d : ℕ) (ts : List Token) (fault : SyntaxFault) (at : List Token) → ends_once ts ≡ true → program_read d ts ≡ Err (fault, at) → IsFirstFault d ts fault at
@@ -296,7 +296,7 @@ not_behind d k s t v r f e b =
       (b.0.0, b.0.1, v ++ b.0.2, subst (WholeProgram b.0.0 b.0.1) (ap (λ l. l ++ b.0.2) (e ∙ apart) ∙ append_assoc (s ++ t ∷ []) v b.0.2) b.0.3),
       b.1,
       v ++ b.2,
-      subst (Outline d b.1) (ap (λ l. l ++ b.2) (e ∙ apart) ∙ append_assoc (s ++ t ∷ []) v b.2) b.3,
+      subst (ProgramOutline d b.1) (ap (λ l. l ++ b.2) (e ∙ apart) ∙ append_assoc (s ++ t ∷ []) v b.2) b.3,
     )
 
 one_kind : (d : ℕ) (k l : SyntaxFault) (s : List Token) (t : Token) → IsFault d k s t → IsFault d l s t → k ≡ l
@@ -332,8 +332,8 @@ no_fault d ts x k at h f =
     let s = f.0 in
     let t = f.1 in
     let whole : ts ≡ (s ++ t ∷ []) ++ f.2 = f.3 ∙ ap (λ l. s ++ l) f.4 ∙ sym (append_assoc s (t ∷ []) f.2) in
-    let is : WholeProgram d x ((s ++ t ∷ []) ++ f.2) = subst (WholeProgram d x) whole h in
-    not_alive d k s t f.6 ((d, x, f.2, is), x, f.2, is_outline d x ((s ++ t ∷ []) ++ f.2) is)
+    let has_class : WholeProgram d x ((s ++ t ∷ []) ++ f.2) = subst (WholeProgram d x) whole h in
+    not_alive d k s t f.6 ((d, x, f.2, has_class), x, f.2, is_outline d x ((s ++ t ∷ []) ++ f.2) has_class)
 
 -- and a first fault is what the reading gives
 pub only_fault : (d : ℕ) (ts : List Token) (fault : SyntaxFault) (at : List Token) → ends_once ts ≡ true → IsFirstFault d ts fault at → program_read d ts ≡ Err (fault, at)

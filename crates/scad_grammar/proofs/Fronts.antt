@@ -1,7 +1,7 @@
 -- Tokens with their depths beside those of an outline.
 use Rattle.std.proofs.Common.{◌≡◌, ℕ, suc, ◌<◌, List, [], ◌∷◌, ◌++◌, length, map, take, Bool, true, false, not, ◌&&◌, refl, sym, ap, ◌∙◌, subst, arith, length-append}
 use Rattle.scad_lexer.specs.declared.token.Token.{Token}
-use Rattle.scad_grammar.specs.Classes.{caret_sign, is}
+use Rattle.scad_grammar.specs.Classes.{caret_sign, has_class}
 use Rattle.scad_grammar.specs.Depths.{AllBelow}
 
 and_both : (a b : Bool) → (a && b) ≡ true → (a ≡ true) × (b ≡ true)
@@ -15,7 +15,7 @@ both_true false b e f = absurd (cc)
 -- no gap is among them
 abbrev pub no_gap : List Token → Bool
 no_gap [] = true
-no_gap (t ∷ s) = not (is caret_sign t) && no_gap s
+no_gap (t ∷ s) = not (has_class caret_sign t) && no_gap s
 
 not_false : (b : Bool) → not b ≡ true → b ≡ false
 not_false true e = absurd (cc)
@@ -23,11 +23,11 @@ not_false false e = refl
 
 pub no_gap_joined : (p q : List Token) → no_gap p ≡ true → no_gap q ≡ true → no_gap (p ++ q) ≡ true
 no_gap_joined [] q h k = k
-no_gap_joined (t ∷ p) q h k = let b = and_both (not (is caret_sign t)) (no_gap p) h in both_true (not (is caret_sign t)) (no_gap (p ++ q)) b.0 (no_gap_joined p q b.1 k)
+no_gap_joined (t ∷ p) q h k = let b = and_both (not (has_class caret_sign t)) (no_gap p) h in both_true (not (has_class caret_sign t)) (no_gap (p ++ q)) b.0 (no_gap_joined p q b.1 k)
 
 pub no_gap_front : (p q : List Token) → no_gap (p ++ q) ≡ true → no_gap p ≡ true
 no_gap_front [] q h = refl
-no_gap_front (t ∷ p) q h = let b = and_both (not (is caret_sign t)) (no_gap (p ++ q)) h in both_true (not (is caret_sign t)) (no_gap p) b.0 (no_gap_front p q b.1)
+no_gap_front (t ∷ p) q h = let b = and_both (not (has_class caret_sign t)) (no_gap (p ++ q)) h in both_true (not (has_class caret_sign t)) (no_gap p) b.0 (no_gap_front p q b.1)
 
 pub below_parts : (d : ℕ) (ms ns : List ℕ) → AllBelow d (ms ++ ns) → AllBelow d ms × AllBelow d ns
 below_parts d [] ns h = (tt, h)
@@ -85,7 +85,7 @@ none_below_zero (t ∷ s) (n ∷ ns) e h = absurd (omega (arith, h.0))
 abbrev pub Filled : ℕ → List Token → List Token → List ℕ → Type 0
 Filled d [] s ns = (s ≡ []) × (ns ≡ [])
 Filled d (o ∷ os) s ns =
-    is caret_sign o ≡ false → (us : List Token) × (ms : List ℕ) × (m : ℕ) × (s ≡ o ∷ us) × (ns ≡ m ∷ ms) × (m < d) × Filled d os us ms
+    has_class caret_sign o ≡ false → (us : List Token) × (ms : List ℕ) × (m : ℕ) × (s ≡ o ∷ us) × (ns ≡ m ∷ ms) × (m < d) × Filled d os us ms
 
 pub filled_joined : (d : ℕ) (os p : List Token) (ms : List ℕ) (us q : List Token) (ns : List ℕ) → Filled d os p ms → Filled d us q ns → Filled d (os ++ us) (p ++ q) (ms ++ ns)
 filled_joined d [] p ms us q ns h k = subst (λ p. Filled d us (p ++ q) (ms ++ ns)) (sym h.0) (subst (λ ms. Filled d us q (ms ++ ns)) (sym h.1) k)
@@ -100,15 +100,15 @@ filled_deeper d (o ∷ os) s ns h = λ c. let r = h c in (r.0, map suc r.1, suc 
 pub filled_shown : (d : ℕ) (s w us : List Token) (ns : List ℕ) → no_gap s ≡ true → Filled d (s ++ w) us ns → (v : List Token) × (us ≡ s ++ v) × AllBelow d (take (length s) ns)
 filled_shown d [] w us ns g h = (us, refl, tt)
 filled_shown d (t ∷ s) w us ns g h =
-    let c = and_both (not (is caret_sign t)) (no_gap s) g in
-    let r = h (not_false (is caret_sign t) c.0) in
+    let c = and_both (not (has_class caret_sign t)) (no_gap s) g in
+    let r = h (not_false (has_class caret_sign t) c.0) in
     let v = filled_shown d s w r.0 r.1 c.1 r.6 in
     (v.0, r.3 ∙ ap (λ l. t ∷ l) v.1, subst (λ ns. AllBelow d (take (suc (length s)) ns)) (sym r.4) (r.5, v.2))
 
 pub filled_all : (d : ℕ) (s us : List Token) (ns : List ℕ) → no_gap s ≡ true → Filled d s us ns → (us ≡ s) × AllBelow d ns
 filled_all d [] us ns g h = (h.0, subst (AllBelow d) (sym h.1) tt)
 filled_all d (t ∷ s) us ns g h =
-    let c = and_both (not (is caret_sign t)) (no_gap s) g in
-    let r = h (not_false (is caret_sign t) c.0) in
+    let c = and_both (not (has_class caret_sign t)) (no_gap s) g in
+    let r = h (not_false (has_class caret_sign t) c.0) in
     let v = filled_all d s r.0 r.1 c.1 r.6 in
     (r.3 ∙ ap (λ l. t ∷ l) v.0, subst (AllBelow d) (sym r.4) (r.5, v.1))

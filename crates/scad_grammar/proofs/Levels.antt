@@ -2,8 +2,8 @@
 use Rattle.std.proofs.Common.{◌≡◌, ℕ, List, [], ◌∷◌, ◌++◌, Bool, true, false, cond, refl, sym, nat_eq, append-nil}
 use Rattle.scad_lexer.specs.declared.token.Token.{Token}
 use Rattle.scad_ast.specs.Terms.{Term}
-use Rattle.scad_grammar.specs.Classes.{among, is_listed}
-use Rattle.scad_grammar.specs.Reading.{starts, both, many}
+use Rattle.scad_grammar.specs.Classes.{has_class_in, is_listed}
+use Rattle.scad_grammar.specs.Reading.{next_is, both, many}
 use Rattle.scad_grammar.specs.Languages.{Language, Both, Many, One}
 use Rattle.scad_grammar.specs.Grammar.{Chain, chain_term, link}
 use Rattle.scad_grammar.specs.Faults.{TokenReader, one}
@@ -33,11 +33,11 @@ not_listed (x ∷ xs) ys k e = go (nat_eq k x) (is_listed (xs ++ ys) k) (is_list
     go true c d e h = absurd (cc)
     go false c d e h = h e
 
-less_left : (xs ys : List ℕ) (l : List Token) → starts (among (xs ++ ys)) l ≡ false → starts (among xs) l ≡ false
+less_left : (xs ys : List ℕ) (l : List Token) → next_is (has_class_in (xs ++ ys)) l ≡ false → next_is (has_class_in xs) l ≡ false
 less_left xs ys [] e = refl
 less_left xs ys (t ∷ l) e = (not_listed xs ys _ e).0
 
-less_right : (xs ys : List ℕ) (l : List Token) → starts (among (xs ++ ys)) l ≡ false → starts (among ys) l ≡ false
+less_right : (xs ys : List ℕ) (l : List Token) → next_is (has_class_in (xs ++ ys)) l ≡ false → next_is (has_class_in ys) l ≡ false
 less_right xs ys [] e = refl
 less_right xs ys (t ∷ l) e = (not_listed xs ys _ e).1
 
@@ -48,22 +48,22 @@ some_chain (ops ∷ levels) V some = let below = some_chain levels V some in (be
 -- one token of each level is read
 abbrev pub AllOne : List (List ℕ) → Type 0
 AllOne [] = Unit {0}
-AllOne (ops ∷ levels) = OneReads (among ops) × AllOne levels
+AllOne (ops ∷ levels) = OneReads (has_class_in ops) × AllOne levels
 
-pub chain_reads : (levels : List (List ℕ)) (more : List ℕ) (u : TokenReader Term) (U V : Language Term) → good levels more ≡ true → AllOne levels → IsReader u U V (λ x. among more) → (w : List Token) × (y : Term) × V y w
-    → IsReader (chain_read levels u) (Chain levels U) (Chain levels V) (λ x. among (goes_on levels more))
+pub chain_reads : (levels : List (List ℕ)) (more : List ℕ) (u : TokenReader Term) (U V : Language Term) → good levels more ≡ true → AllOne levels → IsReader u U V (λ x. has_class_in more) → (w : List Token) × (y : Term) × V y w
+    → IsReader (chain_read levels u) (Chain levels U) (Chain levels V) (λ x. has_class_in (goes_on levels more))
 chain_reads [] more u U V g o iu some = iu
 chain_reads (ops ∷ levels) more u U V g o iu some =
     let here = good_here (apart ops (goes_on levels more)) (good levels more) g in
     let below = chain_reads levels more u U V here.1 o.1 iu some in
-    let item = then (chain_read levels u) (Chain levels U) (Chain levels V) (among ops) (λ x. among (goes_on levels more)) (λ x. among (goes_on levels more)) link o.0 below (some_chain levels V some) (λ t y rest e. e) in
-    both_reads chain_term (chain_read levels u) (many (among ops) (both link (one (among ops)) (chain_read levels u))) (Chain levels U) (Chain levels V) (Many (Both link (One (among ops)) (Chain levels U))) (Many (Both link (One (among ops)) (Chain levels V)))
-    (λ x. among (goes_on levels more)) (λ x. among (ops ++ goes_on levels more)) (λ x. among (ops ++ goes_on levels more))
+    let item = then (chain_read levels u) (Chain levels U) (Chain levels V) (has_class_in ops) (λ x. has_class_in (goes_on levels more)) (λ x. has_class_in (goes_on levels more)) link o.0 below (some_chain levels V some) (λ t y rest e. e) in
+    both_reads chain_term (chain_read levels u) (many (has_class_in ops) (both link (one (has_class_in ops)) (chain_read levels u))) (Chain levels U) (Chain levels V) (Many (Both link (One (has_class_in ops)) (Chain levels U))) (Many (Both link (One (has_class_in ops)) (Chain levels V)))
+    (λ x. has_class_in (goes_on levels more)) (λ x. has_class_in (ops ++ goes_on levels more)) (λ x. has_class_in (ops ++ goes_on levels more))
     below
-    (many_reads (among ops) (both link (one (among ops)) (chain_read levels u)) (Both link (One (among ops)) (Chain levels U)) (Both link (One (among ops)) (Chain levels V)) (λ x. among (goes_on levels more)) (among (ops ++ goes_on levels more))
-    item (both_opens link (One (among ops)) (Chain levels U) (among ops) (one_opens (among ops)))
+    (many_reads (has_class_in ops) (both link (one (has_class_in ops)) (chain_read levels u)) (Both link (One (has_class_in ops)) (Chain levels U)) (Both link (One (has_class_in ops)) (Chain levels V)) (λ x. has_class_in (goes_on levels more)) (has_class_in (ops ++ goes_on levels more))
+    item (both_opens link (One (has_class_in ops)) (Chain levels U) (has_class_in ops) (one_opens (has_class_in ops)))
     (λ x. next_apart ops (goes_on levels more) here.0) (λ x. less_right ops (goes_on levels more)) (less_left ops (goes_on levels more)))
     ([], [], refl)
-    (λ x. many_follows (Both link (One (among ops)) (Chain levels U)) (among ops) (among (goes_on levels more)) (among (ops ++ goes_on levels more)) (both_opens link (One (among ops)) (Chain levels U) (among ops) (one_opens (among ops)))
+    (λ x. many_follows (Both link (One (has_class_in ops)) (Chain levels U)) (has_class_in ops) (has_class_in (goes_on levels more)) (has_class_in (ops ++ goes_on levels more)) (both_opens link (One (has_class_in ops)) (Chain levels U) (has_class_in ops) (one_opens (has_class_in ops)))
     (next_apart ops (goes_on levels more) here.0) (less_right ops (goes_on levels more)))
     (λ x y rest e. e)

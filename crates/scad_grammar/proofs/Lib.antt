@@ -20,7 +20,7 @@ pub mod Primary
 pub mod Programs
 pub mod Readers
 pub mod Regular
-pub mod Separated
+pub mod SeparatedList
 pub mod Shown
 pub mod Shrinks
 pub mod Statements

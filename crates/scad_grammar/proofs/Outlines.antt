@@ -4,10 +4,10 @@ use Rattle.scad_lexer.specs.declared.token.Token.{Token}
 use Rattle.scad_lexer.specs.declared.token.TokenKind.TheVariants.{Symbol, End}
 use Rattle.scad_lexer.specs.declared.token.Symbol.TheVariants.{Caret}
 use Rattle.scad_ast.specs.Terms.{Term, ArgTerm, ParamTerm, BinderTerm, StatementTerm, InstanceTerm, BodyTerm, EmptyBody, UndefTerm}
-use Rattle.scad_grammar.specs.Classes.{caret_sign, name, end, close_parenthesis_sign, among, is, other_than}
+use Rattle.scad_grammar.specs.Classes.{caret_sign, name_class, end_class, close_parenthesis_sign, has_class_in, has_class, has_class_outside}
 use Rattle.scad_grammar.specs.Languages.{One, Nothing, Many, first_of}
-use Rattle.scad_grammar.specs.Grammar.{outline, TooDeep, Expr, Operand, Statement, Body, Outline, Param}
-use Rattle.scad_grammar.specs.Reading.{starts, one_of, mapped, both, many, many_times}
+use Rattle.scad_grammar.specs.Grammar.{outline, Gap, Expr, Operand, Statement, Body, ProgramOutline, Param}
+use Rattle.scad_grammar.specs.Reading.{next_is, one_of, image_read, both, many, many_times}
 use Rattle.scad_grammar.specs.Faults.{TokenReader, one, fault_of, left_out_classes, left_out_of_expressions}
 use Rattle.scad_grammar.specs.Reads.{head_of, arg_read, args_read, primary_read, unary_read, choice_read}
 use Rattle.scad_grammar.specs.StatementReads.{firsts_of_statement, param_read, binder_read, params_read, binders_read, statement_over, body_over}
@@ -27,7 +27,7 @@ refusal classes ts = Err (fault_of classes (head_of ts), ts)
 
 -- a gap
 abbrev pub gap : {A : Type 0} → (Token → A) → List ℕ → TokenReader A
-gap f classes = mapped f (one_of (is caret_sign) (fault_of classes))
+gap f classes = image_read f (one_of (has_class caret_sign) (fault_of classes))
 
 -- what outlines are read by; each as deep as the program's reader of its name
 abbrev pub open_arg : ℕ → TokenReader Term → TokenReader ArgTerm
@@ -64,14 +64,14 @@ unfoldable mutual
   open_body (suc d) = body_over (open_statement d) (open_instance d (open_body d))
 
 abbrev pub outline_read : ℕ → TokenReader (List StatementTerm)
-outline_read d = both first_of (many (among firsts_of_statement) (open_statement d)) (one (is end))
+outline_read d = both first_of (many (has_class_in firsts_of_statement) (open_statement d)) (one (has_class end_class))
 
 -- a gap is read
 abbrev gap_token : Token
 gap_token = token (Symbol Caret)
 
-gap_reads : {A : Type 0} (f : Token → A) (classes : List ℕ) (more : A → Token → Bool) → IsReader (gap f classes) (TooDeep outline f) (TooDeep outline f) more
-gap_reads f classes more = mapped_reads f (one_of (is caret_sign) (fault_of classes)) (One (is caret_sign)) (One (is caret_sign)) (λ x t. false) more (one_reads (is caret_sign) (fault_of classes) (fault_plain classes) (token (Symbol Caret), refl)) (λ x rest h. never_starts rest)
+gap_reads : {A : Type 0} (f : Token → A) (classes : List ℕ) (more : A → Token → Bool) → IsReader (gap f classes) (Gap outline f) (Gap outline f) more
+gap_reads f classes more = mapped_reads f (one_of (has_class caret_sign) (fault_of classes)) (One (has_class caret_sign)) (One (has_class caret_sign)) (λ x t. false) more (one_reads (has_class caret_sign) (fault_of classes) (fault_plain classes) (token (Symbol Caret), refl)) (λ x rest h. never_starts rest)
 
 same_first : (a b : List Token) → SameHead a b → head_of a ≡ head_of b
 same_first [] [] h = refl
@@ -80,15 +80,15 @@ same_first (t ∷ ts) [] h = elim h [ ]
 same_first (t ∷ ts) (u ∷ us) h = ap Some h
 
 -- a list that may have nothing, and whose items are refused
-module _ {A : Type 0} (classes : List ℕ) (test : Token → Bool) (stop : Token → Bool) (r : TokenReader (List A)) (is_r : (ts : List Token) → r ts ≡ cond (starts test ts) (refusal classes ts) (Ok ([], ts)))
-    (stops : (rest : List Token) → starts stop rest ≡ false → starts test rest ≡ false) where
-  refused : (ts : List Token) → starts test ts ≡ true → r ts ≡ refusal classes ts
+module _ {A : Type 0} (classes : List ℕ) (test : Token → Bool) (stop : Token → Bool) (r : TokenReader (List A)) (is_r : (ts : List Token) → r ts ≡ cond (next_is test ts) (refusal classes ts) (Ok ([], ts)))
+    (stops : (rest : List Token) → next_is stop rest ≡ false → next_is test rest ≡ false) where
+  refused : (ts : List Token) → next_is test ts ≡ true → r ts ≡ refusal classes ts
   refused ts e = is_r ts ∙ ap (λ b. cond b (refusal classes ts) (Ok ([], ts))) e
 
-  passed : (ts : List Token) → starts test ts ≡ false → r ts ≡ Ok ([], ts)
+  passed : (ts : List Token) → next_is test ts ≡ false → r ts ≡ Ok ([], ts)
   passed ts e = is_r ts ∙ ap (λ b. cond b (refusal classes ts) (Ok ([], ts))) e
 
-  told_at : (ts : List Token) (b : Bool) → starts test ts ≡ b → Told r (Nothing []) (Nothing []) ts (r ts)
+  told_at : (ts : List Token) (b : Bool) → next_is test ts ≡ b → Told r (Nothing []) (Nothing []) ts (r ts)
   told_at ts true e =
       let none : seen (fault_of classes (head_of ts)) ts ≡ [] = plain_seen (fault_of classes (head_of ts)) ts (fault_plain classes (head_of ts)) in
       subst (Told r (Nothing []) (Nothing []) ts) (sym (refused ts e))
@@ -97,12 +97,12 @@ module _ {A : Type 0} (classes : List ℕ) (test : Token → Bool) (stop : Token
 
   nothing_fits : IsReader r (Nothing []) (Nothing []) (λ x. stop)
   nothing_fits = record {
-    told = λ ts. told_at ts (starts test ts) refl;
+    told = λ ts. told_at ts (next_is test ts) refl;
     wide = λ x s h. h;
     complete = λ x s rest h e. ap (λ l. r (l ++ rest)) h.1 ∙ passed rest (stops rest e) ∙ ap (λ x. Ok (x, rest)) (sym h.0);
   }
 
-many_refused : (classes : List ℕ) (test : Token → Bool) (ts : List Token) → many test (refusal {A = StatementTerm} classes) ts ≡ cond (starts test ts) (refusal classes ts) (Ok ([], ts))
+many_refused : (classes : List ℕ) (test : Token → Bool) (ts : List Token) → many test (refusal {A = StatementTerm} classes) ts ≡ cond (next_is test ts) (refusal classes ts) (Ok ([], ts))
 unfolding many many_times
 many_refused classes test [] = refl
 many_refused classes test (t ∷ ts) = refl
@@ -130,12 +130,12 @@ some_outline_body zero = (gap_token ∷ [], EmptyBody gap_token.place, (gap_toke
 some_outline_body (suc d) = some_body outline d
 
 -- What is read of an outline is in the grammar, and what is taken before a fault begins an outline.
-open_reads : (d : ℕ) → IsReader (open_expr d) (Expr outline d) (Expr outline d) (λ x. among expression_more) × IsReader (open_operand d) (Operand outline d) (Operand outline d) (λ x. among operand_more) × IsReader (args_read (open_arg d (open_expr d))) (ArgsAt outline d) (ArgsAt outline d) (λ x. other_than closes)
+open_reads : (d : ℕ) → IsReader (open_expr d) (Expr outline d) (Expr outline d) (λ x. has_class_in expression_more) × IsReader (open_operand d) (Operand outline d) (Operand outline d) (λ x. has_class_in operand_more) × IsReader (args_read (open_arg d (open_expr d))) (ArgsAt outline d) (ArgsAt outline d) (λ x. has_class_outside closes)
 unfolding Expr Operand open_expr open_operand
 open_reads zero = (
-  gap_reads (λ t. UndefTerm t.place) left_out_of_expressions (λ x. among expression_more),
-  gap_reads (λ t. UndefTerm t.place) left_out_of_expressions (λ x. among operand_more),
-  nothing_fits left_out_of_expressions (other_than closes) (other_than closes) (args_read (refusal left_out_of_expressions)) (λ ts. refl) (λ rest h. h),
+  gap_reads (λ t. UndefTerm t.place) left_out_of_expressions (λ x. has_class_in expression_more),
+  gap_reads (λ t. UndefTerm t.place) left_out_of_expressions (λ x. has_class_in operand_more),
+  nothing_fits left_out_of_expressions (has_class_outside closes) (has_class_outside closes) (args_read (refusal left_out_of_expressions)) (λ ts. refl) (λ rest h. h),
 )
 open_reads (suc d) =
     let below = open_reads d in
@@ -146,13 +146,13 @@ open_reads (suc d) =
           (arg_reads (open_expr (suc d)) (Expr outline (suc d)) (Expr outline (suc d)) one (alone_name (Expr outline d) (ArgsAt outline d) (Operand outline d)) (choice_unlike (Expr outline d) (ArgsAt outline d) (Operand outline d))) (expr_opens outline (suc d)),
     )
 
-open_params_reads : (d : ℕ) → IsReader (params_read (open_param d (open_expr d))) (ParamsAt outline d) (ParamsAt outline d) (λ x. other_than closes)
-open_params_reads zero = nothing_fits left_out_classes (is name) (other_than closes) (params_read (refusal left_out_classes)) (λ ts. refl) (no_close closes (name ∷ []) refl)
+open_params_reads : (d : ℕ) → IsReader (params_read (open_param d (open_expr d))) (ParamsAt outline d) (ParamsAt outline d) (λ x. has_class_outside closes)
+open_params_reads zero = nothing_fits left_out_classes (has_class name_class) (has_class_outside closes) (params_read (refusal left_out_classes)) (λ ts. refl) (no_close closes (name_class ∷ []) refl)
 open_params_reads (suc d) =
     params_reads (param_read (open_expr (suc d))) (Param (Expr outline (suc d))) (Param (Expr outline (suc d))) (param_reads (open_expr (suc d)) (Expr outline (suc d)) (Expr outline (suc d)) (open_reads (suc d)).0 (some_outline (suc d))) (param_opens (Expr outline (suc d)))
 
-open_binders_reads : (d : ℕ) → IsReader (open_binders d (open_expr d)) (BindersAt outline d) (BindersAt outline d) (λ x. other_than closes)
-open_binders_reads zero = gap_reads (λ t. []) left_out_classes (λ x. other_than closes)
+open_binders_reads : (d : ℕ) → IsReader (open_binders d (open_expr d)) (BindersAt outline d) (BindersAt outline d) (λ x. has_class_outside closes)
+open_binders_reads zero = gap_reads (λ t. []) left_out_classes (λ x. has_class_outside closes)
 open_binders_reads (suc d) =
     binders_reads (binder_read (open_expr (suc d))) (Expr outline (suc d)) (Expr outline (suc d)) (binder_reads (open_expr (suc d)) (Expr outline (suc d)) (Expr outline (suc d)) (open_reads (suc d)).0 (some_outline (suc d)))
 
@@ -167,12 +167,12 @@ open_instance_stops d ib sb =
     (open_reads d).0 (open_reads d).2 (open_binders_reads d) (some_outline d) (some_args outline d) (some_outline_binders d)
 
 -- a statement that doesn't fit any more is in a list that has none; else it is read
-open_statement_reads : (d : ℕ) → IsReader (many (among firsts_of_statement) (open_statement d)) (StatementsAt outline d) (StatementsAt outline d) (λ xs. among statements_more) × IsReader (open_body d) (Body outline d) (Body outline d) body_more × Stops (open_body d) body_more
+open_statement_reads : (d : ℕ) → IsReader (many (has_class_in firsts_of_statement) (open_statement d)) (StatementsAt outline d) (StatementsAt outline d) (λ xs. has_class_in statements_more) × IsReader (open_body d) (Body outline d) (Body outline d) body_more × Stops (open_body d) body_more
 unfolding Statement Body open_statement open_body
 open_statement_reads zero = (
-  nothing_fits left_out_classes (among firsts_of_statement) (among statements_more) (many (among firsts_of_statement) (refusal left_out_classes)) (many_refused left_out_classes (among firsts_of_statement)) (next_less firsts_of_statement statements_more refl),
+  nothing_fits left_out_classes (has_class_in firsts_of_statement) (has_class_in statements_more) (many (has_class_in firsts_of_statement) (refusal left_out_classes)) (many_refused left_out_classes (has_class_in firsts_of_statement)) (next_less firsts_of_statement statements_more refl),
   gap_reads (λ t. EmptyBody t.place) left_out_classes body_more,
-  mapped_stops (λ t. EmptyBody t.place) (one_of (is caret_sign) (fault_of left_out_classes)) (λ x t. false) body_more (λ ts x rest h. never_starts rest) (λ x rest h. never_starts rest),
+  mapped_stops (λ t. EmptyBody t.place) (one_of (has_class caret_sign) (fault_of left_out_classes)) (λ x t. false) body_more (λ ts x rest h. never_starts rest) (λ x rest h. never_starts rest),
 )
 open_statement_reads (suc d) =
     let below = open_statement_reads d in
@@ -187,10 +187,10 @@ open_statement_reads (suc d) =
       body_stops (open_statement d) (StatementsAt outline d) (StatementsAt outline d) below.0 (some_statements outline d) (open_instance d (open_body d)) (InstanceAt outline d) (InstanceAt outline d) ii si (instance_depth_opens outline d),
     )
 
-statements_at : (d : ℕ) → IsReader (many (among firsts_of_statement) (open_statement d)) (Many (Statement outline d)) (Many (Statement outline d)) (λ xs. among statements_more)
+statements_at : (d : ℕ) → IsReader (many (has_class_in firsts_of_statement) (open_statement d)) (Many (Statement outline d)) (Many (Statement outline d)) (λ xs. has_class_in statements_more)
 unfolding Statement Body
 statements_at zero =
-    same_reads (many (among firsts_of_statement) (open_statement zero)) (Nothing []) (Nothing []) (Many (Statement outline zero)) (Many (Statement outline zero)) (λ xs. among statements_more) (open_statement_reads zero).0
+    same_reads (many (has_class_in firsts_of_statement) (open_statement zero)) (Nothing []) (Nothing []) (Many (Statement outline zero)) (Many (Statement outline zero)) (λ xs. has_class_in statements_more) (open_statement_reads zero).0
     (none_many (Statement outline zero)) nothing (none_many (Statement outline zero))
   where
     nothing : (x : List StatementTerm) (s : List Token) → Many (Statement outline zero) x s → Nothing [] x s
@@ -199,7 +199,7 @@ statements_at zero =
 statements_at (suc d) = (open_statement_reads (suc d)).0
 
 -- an outline is read
-pub outline_reads : (d : ℕ) → IsReader (outline_read d) (Outline d) (Outline d) (λ x t. false)
+pub outline_reads : (d : ℕ) → IsReader (outline_read d) (ProgramOutline d) (ProgramOutline d) (λ x t. false)
 outline_reads d =
-    before_reads (many (among firsts_of_statement) (open_statement d)) (Many (Statement outline d)) (Many (Statement outline d)) end (λ x. among statements_more) end_one (token End) refl
-    (statements_at d) (λ x. next_apart (end ∷ []) statements_more refl)
+    before_reads (many (has_class_in firsts_of_statement) (open_statement d)) (Many (Statement outline d)) (Many (Statement outline d)) end_class (λ x. has_class_in statements_more) end_one (token End) refl
+    (statements_at d) (λ x. next_apart (end_class ∷ []) statements_more refl)

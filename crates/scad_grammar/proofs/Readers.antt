@@ -2,7 +2,7 @@
 use Rattle.std.proofs.Common.{◌≡◌, ℕ, zero, suc, ◌<◌, ◌≤◌, List, [], ◌∷◌, ◌++◌, length, Bool, true, false, cond, Ok, Err, Option, Some, None, ◌⊎◌, inl, inr, refl, sym, ap, ◌∙◌, subst, arith, append_assoc, length-append, append-nil}
 use Rattle.scad_grammar.specs.declared.SyntaxFault.{SyntaxFault}
 use Rattle.scad_grammar.specs.declared.SyntaxFault.TheVariants.{Expected, Nested, NotInProfile}
-use Rattle.scad_grammar.specs.Reading.{Read, Reader, after, starts, one_of, mapped, nothing, both, choice, with_front, in_front, many_times, many}
+use Rattle.scad_grammar.specs.Reading.{Read, Reader, then_read, next_is, one_of, image_read, nothing, both, choice, with_front, in_front, many_times, many}
 
 abbrev pub SameHead : {T : Type 0} → List T → List T → Type 0
 SameHead [] [] = Unit {0}
@@ -40,13 +40,13 @@ Told {T} r L W ts (Err e) = (s : List T) × (ts ≡ s ++ e.1) × Begins W (s ++ 
 pub record IsReader {T A : Type 0} (r : Reader T SyntaxFault A) (L W : A → List T → Type 0) (more : A → T → Bool) : Type 0 where
   pub told : (ts : List T) → Told r L W ts (r ts)
   pub wide : (x : A) (s : List T) → L x s → W x s
-  pub complete : (x : A) (s rest : List T) → L x s → starts (more x) rest ≡ false → r (s ++ rest) ≡ Ok (x, rest)
+  pub complete : (x : A) (s rest : List T) → L x s → next_is (more x) rest ≡ false → r (s ++ rest) ≡ Ok (x, rest)
 
 pub same_behind : {T : Type 0} (s a b : List T) → SameHead a b → SameHead (s ++ a) (s ++ b)
 same_behind [] a b h = h
 same_behind (t ∷ s) a b h = refl
 
-pub same_start : {T : Type 0} (test : T → Bool) (a b : List T) → SameHead a b → starts test b ≡ starts test a
+pub same_start : {T : Type 0} (test : T → Bool) (a b : List T) → SameHead a b → next_is test b ≡ next_is test a
 same_start test [] [] h = refl
 same_start test [] (u ∷ us) h = elim h [ ]
 same_start test (t ∷ ts) [] h = elim h [ ]
@@ -80,18 +80,18 @@ Both {T} {A} {B} {C} f La Lb c s = (a : A) × (b : B) × (p : List T) × (q : Li
 
 module _ {T A B C : Type 0} (f : A → B → C) (ra : Reader T SyntaxFault A) (rb : Reader T SyntaxFault B) (La Wa : A → List T → Type 0) (Lb Wb : B → List T → Type 0) (ma : A → T → Bool) (mb : B → T → Bool) (mc : C → T → Bool)
     (ia : IsReader ra La Wa ma) (ib : IsReader rb Lb Wb mb) (some : (w : List T) × (y : B) × Wb y w)
-    (follows : (x : A) (y : B) (s rest : List T) → Lb y s → starts (mc (f x y)) rest ≡ false → starts (ma x) (s ++ rest) ≡ false)
-    (down : (x : A) (y : B) (rest : List T) → starts (mc (f x y)) rest ≡ false → starts (mb y) rest ≡ false) where
+    (follows : (x : A) (y : B) (s rest : List T) → Lb y s → next_is (mc (f x y)) rest ≡ false → next_is (ma x) (s ++ rest) ≡ false)
+    (down : (x : A) (y : B) (rest : List T) → next_is (mc (f x y)) rest ≡ false → next_is (mb y) rest ≡ false) where
   both_second : (ts : List T) (a : A) (ts' : List T) → Told ra La Wa ts (Ok (a, ts')) → (r : Read T SyntaxFault B) → rb ts' ≡ r → Told rb Lb Wb ts' r
-      → Told (both f ra rb) (Both f La Lb) (Both f Wa Wb) ts (after r (λ b ts. Ok (f a b, ts)))
+      → Told (both f ra rb) (Both f La Lb) (Both f Wa Wb) ts (then_read r (λ b ts. Ok (f a b, ts)))
   both_second ts a ts' t (Ok q) e u = (
     t.0 ++ u.0,
     t.1 ∙ ap (λ l. t.0 ++ l) u.1 ∙ sym (append_assoc t.0 u.0 q.1),
     (a, q.0, t.0, u.0, t.2, u.2, refl, refl),
     λ rest h.
         ap (both f ra rb) (append_assoc t.0 u.0 rest)
-        ∙ ap (λ r. after r (λ a ts. after (rb ts) (λ b ts. Ok (f a b, ts)))) (t.3 (u.0 ++ rest) (subst (λ l. SameHead l (u.0 ++ rest)) (sym u.1) (same_behind u.0 q.1 rest h)))
-        ∙ ap (λ r. after r (λ b ts. Ok (f a b, ts))) (u.3 rest h),
+        ∙ ap (λ r. then_read r (λ a ts. then_read (rb ts) (λ b ts. Ok (f a b, ts)))) (t.3 (u.0 ++ rest) (subst (λ l. SameHead l (u.0 ++ rest)) (sym u.1) (same_behind u.0 q.1 rest h)))
+        ∙ ap (λ r. then_read r (λ b ts. Ok (f a b, ts))) (u.3 rest h),
   )
   both_second ts a ts' t (Err x) e u = (
     t.0 ++ u.0,
@@ -99,25 +99,25 @@ module _ {T A B C : Type 0} (f : A → B → C) (ra : Reader T SyntaxFault A) (r
     (u.2.0, f a u.2.1, (a, u.2.1, t.0, (u.0 ++ seen x.0 x.1) ++ u.2.0, ia.wide a t.0 t.2, u.2.2, refl, ap (λ l. l ++ u.2.0) (append_assoc t.0 u.0 (seen x.0 x.1)) ∙ append_assoc t.0 (u.0 ++ seen x.0 x.1) u.2.0)),
     λ rest h.
         ap (both f ra rb) (append_assoc t.0 u.0 rest)
-        ∙ ap (λ r. after r (λ a ts. after (rb ts) (λ b ts. Ok (f a b, ts)))) (t.3 (u.0 ++ rest) (subst (λ l. SameHead l (u.0 ++ rest)) (sym u.1) (same_behind u.0 x.1 rest h)))
-        ∙ ap (λ r. after r (λ b ts. Ok (f a b, ts))) (u.3 rest h),
+        ∙ ap (λ r. then_read r (λ a ts. then_read (rb ts) (λ b ts. Ok (f a b, ts)))) (t.3 (u.0 ++ rest) (subst (λ l. SameHead l (u.0 ++ rest)) (sym u.1) (same_behind u.0 x.1 rest h)))
+        ∙ ap (λ r. then_read r (λ b ts. Ok (f a b, ts))) (u.3 rest h),
   )
 
-  both_first : (ts : List T) (r : Read T SyntaxFault A) → Told ra La Wa ts r → Told (both f ra rb) (Both f La Lb) (Both f Wa Wb) ts (after r (λ a ts. after (rb ts) (λ b ts. Ok (f a b, ts))))
+  both_first : (ts : List T) (r : Read T SyntaxFault A) → Told ra La Wa ts r → Told (both f ra rb) (Both f La Lb) (Both f Wa Wb) ts (then_read r (λ a ts. then_read (rb ts) (λ b ts. Ok (f a b, ts))))
   both_first ts (Ok p) t = both_second ts p.0 p.1 t (rb p.1) refl (ib.told p.1)
   both_first ts (Err x) t = (
     t.0,
     t.1,
     (t.2.0 ++ some.0, f t.2.1 some.1, (t.2.1, some.1, (t.0 ++ seen x.0 x.1) ++ t.2.0, some.0, t.2.2, some.2, refl, sym (append_assoc (t.0 ++ seen x.0 x.1) t.2.0 some.0))),
-    λ rest h. ap (λ r. after r (λ a ts. after (rb ts) (λ b ts. Ok (f a b, ts)))) (t.3 rest h),
+    λ rest h. ap (λ r. then_read r (λ a ts. then_read (rb ts) (λ b ts. Ok (f a b, ts)))) (t.3 rest h),
   )
 
-  both_complete : (c : C) (s rest : List T) → Both f La Lb c s → starts (mc c) rest ≡ false → both f ra rb (s ++ rest) ≡ Ok (c, rest)
+  both_complete : (c : C) (s rest : List T) → Both f La Lb c s → next_is (mc c) rest ≡ false → both f ra rb (s ++ rest) ≡ Ok (c, rest)
   both_complete c s rest h e =
-      let end : starts (mc (f h.0 h.1)) rest ≡ false = ap (λ c. starts (mc c) rest) (sym h.6) ∙ e in
+      let end : next_is (mc (f h.0 h.1)) rest ≡ false = ap (λ c. next_is (mc c) rest) (sym h.6) ∙ e in
       ap (λ l. both f ra rb (l ++ rest)) h.7 ∙ ap (both f ra rb) (append_assoc h.2 h.3 rest)
-      ∙ ap (λ r. after r (λ a ts. after (rb ts) (λ b ts. Ok (f a b, ts)))) (ia.complete h.0 h.2 (h.3 ++ rest) h.4 (follows h.0 h.1 h.3 rest h.5 end))
-      ∙ ap (λ r. after r (λ b ts. Ok (f h.0 b, ts))) (ib.complete h.1 h.3 rest h.5 (down h.0 h.1 rest end))
+      ∙ ap (λ r. then_read r (λ a ts. then_read (rb ts) (λ b ts. Ok (f a b, ts)))) (ia.complete h.0 h.2 (h.3 ++ rest) h.4 (follows h.0 h.1 h.3 rest h.5 end))
+      ∙ ap (λ r. then_read r (λ b ts. Ok (f h.0 b, ts))) (ib.complete h.1 h.3 rest h.5 (down h.0 h.1 rest end))
       ∙ ap (λ c. Ok (c, rest)) (sym h.6)
 
   pub both_reads : IsReader (both f ra rb) (Both f La Lb) (Both f Wa Wb) mc
@@ -129,44 +129,44 @@ EitherOf La Lb x s = La x s ⊎ Lb x s
 
 module _ {T A : Type 0} (test : T → Bool) (ra rb : Reader T SyntaxFault A) (La Wa Lb Wb : A → List T → Type 0) (more : A → T → Bool)
     (ia : IsReader ra La Wa more) (ib : IsReader rb Lb Wb more)
-    (first : (x : A) (s rest : List T) → La x s → starts test (s ++ rest) ≡ true)
-    (other : (x : A) (s rest : List T) → Lb x s → starts (more x) rest ≡ false → starts test (s ++ rest) ≡ false) where
-  choice_of : (ts : List T) (b : Bool) → starts test ts ≡ b → (r q : Read T SyntaxFault A) → Told ra La Wa ts r → Told rb Lb Wb ts q → Told (choice test ra rb) (EitherOf La Lb) (EitherOf Wa Wb) ts (cond b r q)
+    (first : (x : A) (s rest : List T) → La x s → next_is test (s ++ rest) ≡ true)
+    (other : (x : A) (s rest : List T) → Lb x s → next_is (more x) rest ≡ false → next_is test (s ++ rest) ≡ false) where
+  choice_of : (ts : List T) (b : Bool) → next_is test ts ≡ b → (r q : Read T SyntaxFault A) → Told ra La Wa ts r → Told rb Lb Wb ts q → Told (choice test ra rb) (EitherOf La Lb) (EitherOf Wa Wb) ts (cond b r q)
   choice_of ts true e (Ok p) q t u = (
     t.0,
     t.1,
     inl t.2,
     λ rest h.
-        ap (λ b. cond b (ra (t.0 ++ rest)) (rb (t.0 ++ rest))) (same_start test (t.0 ++ p.1) (t.0 ++ rest) (same_behind t.0 p.1 rest h) ∙ ap (starts test) (sym t.1) ∙ e) ∙ t.3 rest h,
+        ap (λ b. cond b (ra (t.0 ++ rest)) (rb (t.0 ++ rest))) (same_start test (t.0 ++ p.1) (t.0 ++ rest) (same_behind t.0 p.1 rest h) ∙ ap (next_is test) (sym t.1) ∙ e) ∙ t.3 rest h,
   )
   choice_of ts true e (Err p) q t u = (
     t.0,
     t.1,
     (t.2.0, t.2.1, inl t.2.2),
     λ rest h.
-        ap (λ b. cond b (ra (t.0 ++ rest)) (rb (t.0 ++ rest))) (same_start test (t.0 ++ p.1) (t.0 ++ rest) (same_behind t.0 p.1 rest h) ∙ ap (starts test) (sym t.1) ∙ e) ∙ t.3 rest h,
+        ap (λ b. cond b (ra (t.0 ++ rest)) (rb (t.0 ++ rest))) (same_start test (t.0 ++ p.1) (t.0 ++ rest) (same_behind t.0 p.1 rest h) ∙ ap (next_is test) (sym t.1) ∙ e) ∙ t.3 rest h,
   )
   choice_of ts false e r (Ok p) t u = (
     u.0,
     u.1,
     inr u.2,
     λ rest h.
-        ap (λ b. cond b (ra (u.0 ++ rest)) (rb (u.0 ++ rest))) (same_start test (u.0 ++ p.1) (u.0 ++ rest) (same_behind u.0 p.1 rest h) ∙ ap (starts test) (sym u.1) ∙ e) ∙ u.3 rest h,
+        ap (λ b. cond b (ra (u.0 ++ rest)) (rb (u.0 ++ rest))) (same_start test (u.0 ++ p.1) (u.0 ++ rest) (same_behind u.0 p.1 rest h) ∙ ap (next_is test) (sym u.1) ∙ e) ∙ u.3 rest h,
   )
   choice_of ts false e r (Err p) t u = (
     u.0,
     u.1,
     (u.2.0, u.2.1, inr u.2.2),
     λ rest h.
-        ap (λ b. cond b (ra (u.0 ++ rest)) (rb (u.0 ++ rest))) (same_start test (u.0 ++ p.1) (u.0 ++ rest) (same_behind u.0 p.1 rest h) ∙ ap (starts test) (sym u.1) ∙ e) ∙ u.3 rest h,
+        ap (λ b. cond b (ra (u.0 ++ rest)) (rb (u.0 ++ rest))) (same_start test (u.0 ++ p.1) (u.0 ++ rest) (same_behind u.0 p.1 rest h) ∙ ap (next_is test) (sym u.1) ∙ e) ∙ u.3 rest h,
   )
 
-  choice_complete : (x : A) (s rest : List T) → EitherOf La Lb x s → starts (more x) rest ≡ false → choice test ra rb (s ++ rest) ≡ Ok (x, rest)
+  choice_complete : (x : A) (s rest : List T) → EitherOf La Lb x s → next_is (more x) rest ≡ false → choice test ra rb (s ++ rest) ≡ Ok (x, rest)
   choice_complete x s rest (inl h) e = ap (λ b. cond b (ra (s ++ rest)) (rb (s ++ rest))) (first x s rest h) ∙ ia.complete x s rest h e
   choice_complete x s rest (inr h) e = ap (λ b. cond b (ra (s ++ rest)) (rb (s ++ rest))) (other x s rest h e) ∙ ib.complete x s rest h e
 
   pub choice_reads : IsReader (choice test ra rb) (EitherOf La Lb) (EitherOf Wa Wb) more
-  choice_reads = record { told = λ ts. choice_of ts (starts test ts) refl (ra ts) (rb ts) (ia.told ts) (ib.told ts); wide = wider; complete = choice_complete }
+  choice_reads = record { told = λ ts. choice_of ts (next_is test ts) refl (ra ts) (rb ts) (ia.told ts) (ib.told ts); wide = wider; complete = choice_complete }
     where
       wider : (x : A) (s : List T) → EitherOf La Lb x s → EitherOf Wa Wb x s
       wider x s (inl h) = inl (ia.wide x s h)
@@ -194,7 +194,7 @@ same_reads {T} {A} r L W M V more ir to from wide = record { told = λ ts. told 
 
 -- with more tokens that may go on
 pub more_reads : {T A : Type 0} (r : Reader T SyntaxFault A) (L W : A → List T → Type 0) (more much : A → T → Bool) → IsReader r L W more
-    → ((x : A) (rest : List T) → starts (much x) rest ≡ false → starts (more x) rest ≡ false) → IsReader r L W much
+    → ((x : A) (rest : List T) → next_is (much x) rest ≡ false → next_is (more x) rest ≡ false) → IsReader r L W much
 more_reads r L W more much ir h = record { told = ir.told; wide = ir.wide; complete = λ x s rest l e. ir.complete x s rest l (h x rest e) }
 
 abbrev pub Many : {T A : Type 0} → (A → List T → Type 0) → List A → List T → Type 0
@@ -202,10 +202,10 @@ Many L [] s = s ≡ []
 Many {T} L (x ∷ xs) s = (p : List T) × (q : List T) × L x p × Many L xs q × (s ≡ p ++ q)
 
 module _ {T A : Type 0} (test : T → Bool) (r : Reader T SyntaxFault A) (L W : A → List T → Type 0) (more : A → T → Bool) (wide : T → Bool) (ir : IsReader r L W more)
-    (first : (x : A) (s rest : List T) → L x s → starts test (s ++ rest) ≡ true)
-    (apart : (x : A) (rest : List T) → starts test rest ≡ true → starts (more x) rest ≡ false)
-    (no_more : (x : A) (rest : List T) → starts wide rest ≡ false → starts (more x) rest ≡ false)
-    (no_test : (rest : List T) → starts wide rest ≡ false → starts test rest ≡ false) where
+    (first : (x : A) (s rest : List T) → L x s → next_is test (s ++ rest) ≡ true)
+    (apart : (x : A) (rest : List T) → next_is test rest ≡ true → next_is (more x) rest ≡ false)
+    (no_more : (x : A) (rest : List T) → next_is wide rest ≡ false → next_is (more x) rest ≡ false)
+    (no_test : (rest : List T) → next_is wide rest ≡ false → next_is test rest ≡ false) where
   some_read : (x : A) (s : List T) → L x s → 0 < length s
   some_read x [] h = absurd (let e = first x [] [] h in cc)
   some_read x (t ∷ s) h = omega arith
@@ -217,7 +217,7 @@ module _ {T A : Type 0} (test : T → Bool) (r : Reader T SyntaxFault A) (L W : 
   shrinks ts (Err x) t p e = absurd (cc)
 
   enough_after : (n m : ℕ) → ((k : ℕ) (us : List T) → length us ≤ n → length us ≤ k → many_times n test r us ≡ many_times k test r us)
-      → (ts : List T) → length ts ≤ suc n → length ts ≤ suc m → (q : Read T SyntaxFault A) → r ts ≡ q → after q (λ x us. with_front x (many_times n test r us)) ≡ after q (λ x us. with_front x (many_times m test r us))
+      → (ts : List T) → length ts ≤ suc n → length ts ≤ suc m → (q : Read T SyntaxFault A) → r ts ≡ q → then_read q (λ x us. with_front x (many_times n test r us)) ≡ then_read q (λ x us. with_front x (many_times m test r us))
   enough_after n m same ts a b (Ok p) e =
       let less : length p.1 < length ts = shrinks ts (r ts) (ir.told ts) p e in
       ap (with_front p.0) (same m p.1 (omega arith) (omega arith))
@@ -230,9 +230,9 @@ module _ {T A : Type 0} (test : T → Bool) (r : Reader T SyntaxFault A) (L W : 
   enough zero (suc m) (t ∷ ts) a b = absurd (omega arith)
   enough (suc n) zero [] a b = refl
   enough (suc n) zero (t ∷ ts) a b = absurd (omega arith)
-  enough (suc n) (suc m) ts a b = ap (λ q. cond (starts test ts) q (Ok ([], ts))) (enough_after n m (enough n) ts a b (r ts) refl)
+  enough (suc n) (suc m) ts a b = ap (λ q. cond (next_is test ts) q (Ok ([], ts))) (enough_after n m (enough n) ts a b (r ts) refl)
 
-  step_after : (n : ℕ) (ts : List T) → length ts ≤ suc n → (q : Read T SyntaxFault A) → r ts ≡ q → after q (λ x us. with_front x (many_times n test r us)) ≡ after q (λ x us. with_front x (many test r us))
+  step_after : (n : ℕ) (ts : List T) → length ts ≤ suc n → (q : Read T SyntaxFault A) → r ts ≡ q → then_read q (λ x us. with_front x (many_times n test r us)) ≡ then_read q (λ x us. with_front x (many test r us))
   unfolding many
   step_after n ts a (Ok p) e =
       let less : length p.1 < length ts = shrinks ts (r ts) (ir.told ts) p e in
@@ -240,24 +240,24 @@ module _ {T A : Type 0} (test : T → Bool) (r : Reader T SyntaxFault A) (L W : 
   step_after n ts a (Err x) e = refl
 
   -- one more, or none
-  pub many_step : (ts : List T) → many test r ts ≡ cond (starts test ts) (after (r ts) (λ x us. with_front x (many test r us))) (Ok ([], ts))
+  pub many_step : (ts : List T) → many test r ts ≡ cond (next_is test ts) (then_read (r ts) (λ x us. with_front x (many test r us))) (Ok ([], ts))
   unfolding many many_times
   many_step [] = refl
   many_step (t ∷ ts) = ap (λ q. cond (test t) q (Ok ([], t ∷ ts))) (step_after (length ts) (t ∷ ts) (omega arith) (r (t ∷ ts)) refl)
 
-  pub many_front : (ts : List T) (x : A) (us : List T) → starts test ts ≡ true → r ts ≡ Ok (x, us) → many test r ts ≡ with_front x (many test r us)
-  many_front ts x us a b = many_step ts ∙ ap (λ c. cond c (after (r ts) (λ x us. with_front x (many test r us))) (Ok ([], ts))) a ∙ ap (λ q. after q (λ x us. with_front x (many test r us))) b
+  pub many_front : (ts : List T) (x : A) (us : List T) → next_is test ts ≡ true → r ts ≡ Ok (x, us) → many test r ts ≡ with_front x (many test r us)
+  many_front ts x us a b = many_step ts ∙ ap (λ c. cond c (then_read (r ts) (λ x us. with_front x (many test r us))) (Ok ([], ts))) a ∙ ap (λ q. then_read q (λ x us. with_front x (many test r us))) b
 
-  pub many_none : (ts : List T) → starts test ts ≡ false → many test r ts ≡ Ok ([], ts)
-  many_none ts a = many_step ts ∙ ap (λ c. cond c (after (r ts) (λ x us. with_front x (many test r us))) (Ok ([], ts))) a
+  pub many_none : (ts : List T) → next_is test ts ≡ false → many test r ts ≡ Ok ([], ts)
+  many_none ts a = many_step ts ∙ ap (λ c. cond c (then_read (r ts) (λ x us. with_front x (many test r us))) (Ok ([], ts))) a
 
-  pub many_fault : (ts : List T) (e : SyntaxFault × List T) → starts test ts ≡ true → r ts ≡ Err e → many test r ts ≡ Err e
-  many_fault ts e a b = many_step ts ∙ ap (λ c. cond c (after (r ts) (λ x us. with_front x (many test r us))) (Ok ([], ts))) a ∙ ap (λ q. after q (λ x us. with_front x (many test r us))) b
+  pub many_fault : (ts : List T) (e : SyntaxFault × List T) → next_is test ts ≡ true → r ts ≡ Err e → many test r ts ≡ Err e
+  many_fault ts e a b = many_step ts ∙ ap (λ c. cond c (then_read (r ts) (λ x us. with_front x (many test r us))) (Ok ([], ts))) a ∙ ap (λ q. then_read q (λ x us. with_front x (many test r us))) b
 
-  start_of : (s a b : List T) → SameHead a b → starts test (s ++ a) ≡ true → starts test (s ++ b) ≡ true
+  start_of : (s a b : List T) → SameHead a b → next_is test (s ++ a) ≡ true → next_is test (s ++ b) ≡ true
   start_of s a b h e = same_start test (s ++ a) (s ++ b) (same_behind s a b h) ∙ e
 
-  told_rest : (ts : List T) (x : A) (us : List T) → starts test ts ≡ true → Told r L W ts (Ok (x, us)) → (q : Read T SyntaxFault (List A)) → Told (many test r) (Many L) (Many W) us q → Told (many test r) (Many L) (Many W) ts (with_front x q)
+  told_rest : (ts : List T) (x : A) (us : List T) → next_is test ts ≡ true → Told r L W ts (Ok (x, us)) → (q : Read T SyntaxFault (List A)) → Told (many test r) (Many L) (Many W) us q → Told (many test r) (Many L) (Many W) ts (with_front x q)
   told_rest ts x us e t (Ok p) u = (
     t.0 ++ u.0,
     t.1 ∙ ap (λ l. t.0 ++ l) u.1 ∙ sym (append_assoc t.0 u.0 p.1),
@@ -265,7 +265,7 @@ module _ {T A : Type 0} (test : T → Bool) (r : Reader T SyntaxFault A) (L W : 
     λ rest h.
         let behind = subst (λ l. SameHead l (u.0 ++ rest)) (sym u.1) (same_behind u.0 p.1 rest h) in
         ap (many test r) (append_assoc t.0 u.0 rest)
-        ∙ many_front (t.0 ++ (u.0 ++ rest)) x (u.0 ++ rest) (start_of t.0 us (u.0 ++ rest) behind (ap (starts test) (sym t.1) ∙ e)) (t.3 (u.0 ++ rest) behind)
+        ∙ many_front (t.0 ++ (u.0 ++ rest)) x (u.0 ++ rest) (start_of t.0 us (u.0 ++ rest) behind (ap (next_is test) (sym t.1) ∙ e)) (t.3 (u.0 ++ rest) behind)
         ∙ ap (with_front x) (u.3 rest h),
   )
   told_rest ts x us e t (Err p) u = (
@@ -275,12 +275,12 @@ module _ {T A : Type 0} (test : T → Bool) (r : Reader T SyntaxFault A) (L W : 
     λ rest h.
         let behind = subst (λ l. SameHead l (u.0 ++ rest)) (sym u.1) (same_behind u.0 p.1 rest h) in
         ap (many test r) (append_assoc t.0 u.0 rest)
-        ∙ many_front (t.0 ++ (u.0 ++ rest)) x (u.0 ++ rest) (start_of t.0 us (u.0 ++ rest) behind (ap (starts test) (sym t.1) ∙ e)) (t.3 (u.0 ++ rest) behind)
+        ∙ many_front (t.0 ++ (u.0 ++ rest)) x (u.0 ++ rest) (start_of t.0 us (u.0 ++ rest) behind (ap (next_is test) (sym t.1) ∙ e)) (t.3 (u.0 ++ rest) behind)
         ∙ ap (with_front x) (u.3 rest h),
   )
 
-  told_step : (n : ℕ) → ((us : List T) → length us ≤ n → Told (many test r) (Many L) (Many W) us (many test r us)) → (ts : List T) → length ts ≤ suc n → (b : Bool) → starts test ts ≡ b
-      → (q : Read T SyntaxFault A) → r ts ≡ q → Told r L W ts q → Told (many test r) (Many L) (Many W) ts (cond b (after q (λ x us. with_front x (many test r us))) (Ok ([], ts)))
+  told_step : (n : ℕ) → ((us : List T) → length us ≤ n → Told (many test r) (Many L) (Many W) us (many test r us)) → (ts : List T) → length ts ≤ suc n → (b : Bool) → next_is test ts ≡ b
+      → (q : Read T SyntaxFault A) → r ts ≡ q → Told r L W ts q → Told (many test r) (Many L) (Many W) ts (cond b (then_read q (λ x us. with_front x (many test r us))) (Ok ([], ts)))
   told_step n ih ts a true e (Ok p) f t =
       let less : length p.1 < length ts = shrinks ts (r ts) (ir.told ts) p f in
       told_rest ts p.0 p.1 e t (many test r p.1) (ih p.1 (omega arith))
@@ -289,21 +289,21 @@ module _ {T A : Type 0} (test : T → Bool) (r : Reader T SyntaxFault A) (L W : 
     t.1,
     (t.2.0, t.2.1 ∷ [], ((t.0 ++ seen p.0 p.1) ++ t.2.0, [], t.2.2, refl, sym (append-nil ((t.0 ++ seen p.0 p.1) ++ t.2.0)))),
     λ rest h.
-        many_fault (t.0 ++ rest) (p.0, rest) (start_of t.0 p.1 rest h (ap (starts test) (sym t.1) ∙ e)) (t.3 rest h),
+        many_fault (t.0 ++ rest) (p.0, rest) (start_of t.0 p.1 rest h (ap (next_is test) (sym t.1) ∙ e)) (t.3 rest h),
   )
   told_step n ih ts a false e q f t = ([], refl, refl, λ rest h. many_none rest (same_start test ts rest h ∙ e))
 
   told_many : (n : ℕ) (ts : List T) → length ts ≤ n → Told (many test r) (Many L) (Many W) ts (many test r ts)
   told_many zero [] a = subst (Told (many test r) (Many L) (Many W) []) (sym (many_none [] refl)) ([], refl, refl, λ rest h. many_none rest (same_start test [] rest h))
   told_many zero (t ∷ ts) a = absurd (omega arith)
-  told_many (suc n) ts a = subst (Told (many test r) (Many L) (Many W) ts) (sym (many_step ts)) (told_step n (told_many n) ts a (starts test ts) refl (r ts) refl (ir.told ts))
+  told_many (suc n) ts a = subst (Told (many test r) (Many L) (Many W) ts) (sym (many_step ts)) (told_step n (told_many n) ts a (next_is test ts) refl (r ts) refl (ir.told ts))
 
   -- what follows an item doesn't go on with it
-  item_ends : (y : A) (xs : List A) (s rest : List T) → Many L xs s → starts wide rest ≡ false → starts (more y) (s ++ rest) ≡ false
-  item_ends y [] s rest h e = ap (λ l. starts (more y) (l ++ rest)) h ∙ no_more y rest e
-  item_ends y (x ∷ xs) s rest h e = ap (λ l. starts (more y) (l ++ rest)) h.4 ∙ ap (starts (more y)) (append_assoc h.0 h.1 rest) ∙ apart y (h.0 ++ (h.1 ++ rest)) (first x h.0 (h.1 ++ rest) h.2)
+  item_ends : (y : A) (xs : List A) (s rest : List T) → Many L xs s → next_is wide rest ≡ false → next_is (more y) (s ++ rest) ≡ false
+  item_ends y [] s rest h e = ap (λ l. next_is (more y) (l ++ rest)) h ∙ no_more y rest e
+  item_ends y (x ∷ xs) s rest h e = ap (λ l. next_is (more y) (l ++ rest)) h.4 ∙ ap (next_is (more y)) (append_assoc h.0 h.1 rest) ∙ apart y (h.0 ++ (h.1 ++ rest)) (first x h.0 (h.1 ++ rest) h.2)
 
-  complete_many : (xs : List A) (s rest : List T) → Many L xs s → starts wide rest ≡ false → many test r (s ++ rest) ≡ Ok (xs, rest)
+  complete_many : (xs : List A) (s rest : List T) → Many L xs s → next_is wide rest ≡ false → many test r (s ++ rest) ≡ Ok (xs, rest)
   complete_many [] s rest h e = ap (λ l. many test r (l ++ rest)) h ∙ many_none rest (no_test rest e)
   complete_many (x ∷ xs) s rest h e =
       ap (λ l. many test r (l ++ rest)) h.4 ∙ ap (many test r) (append_assoc h.0 h.1 rest)
@@ -317,31 +317,31 @@ module _ {T A : Type 0} (test : T → Bool) (r : Reader T SyntaxFault A) (L W : 
   pub many_reads : IsReader (many test r) (Many L) (Many W) (λ xs. wide)
   many_reads = record { told = λ ts. told_many (length ts) ts (omega arith); wide = wide_many; complete = complete_many }
 
-abbrev pub Mapped : {T A B : Type 0} → (A → B) → (A → List T → Type 0) → B → List T → Type 0
-Mapped {T} {A} f L b s = (a : A) × L a s × (b ≡ f a)
+abbrev pub ImageOf : {T A B : Type 0} → (A → B) → (A → List T → Type 0) → B → List T → Type 0
+ImageOf {T} {A} f L b s = (a : A) × L a s × (b ≡ f a)
 
-pub mapped_reads : {T A B : Type 0} (f : A → B) (r : Reader T SyntaxFault A) (L W : A → List T → Type 0) (more : A → T → Bool) (next : B → T → Bool) → IsReader r L W more → ((x : A) (rest : List T) → starts (next (f x)) rest ≡ false → starts (more x) rest ≡ false) → IsReader (mapped f r) (Mapped f L) (Mapped f W) next
+pub mapped_reads : {T A B : Type 0} (f : A → B) (r : Reader T SyntaxFault A) (L W : A → List T → Type 0) (more : A → T → Bool) (next : B → T → Bool) → IsReader r L W more → ((x : A) (rest : List T) → next_is (next (f x)) rest ≡ false → next_is (more x) rest ≡ false) → IsReader (image_read f r) (ImageOf f L) (ImageOf f W) next
 mapped_reads {T} {A} {B} f r L W more next ir down = record {
   told = λ ts. told ts (r ts) (ir.told ts);
   wide = λ b s h. (h.0, ir.wide h.0 s h.1, h.2);
-  complete = λ b s rest h e. ap (λ q. after q (λ a ts. Ok (f a, ts))) (ir.complete h.0 s rest h.1 (down h.0 rest (ap (λ b. starts (next b) rest) (sym h.2) ∙ e))) ∙ ap (λ b. Ok (b, rest)) (sym h.2);
+  complete = λ b s rest h e. ap (λ q. then_read q (λ a ts. Ok (f a, ts))) (ir.complete h.0 s rest h.1 (down h.0 rest (ap (λ b. next_is (next b) rest) (sym h.2) ∙ e))) ∙ ap (λ b. Ok (b, rest)) (sym h.2);
 }
   where
-    told : (ts : List T) (q : Read T SyntaxFault A) → Told r L W ts q → Told (mapped f r) (Mapped f L) (Mapped f W) ts (after q (λ a ts. Ok (f a, ts)))
-    told ts (Ok p) t = (t.0, t.1, (p.0, t.2, refl), λ rest h. ap (λ q. after q (λ a ts. Ok (f a, ts))) (t.3 rest h))
-    told ts (Err e) t = (t.0, t.1, (t.2.0, f t.2.1, (t.2.1, t.2.2, refl)), λ rest h. ap (λ q. after q (λ a ts. Ok (f a, ts))) (t.3 rest h))
+    told : (ts : List T) (q : Read T SyntaxFault A) → Told r L W ts q → Told (image_read f r) (ImageOf f L) (ImageOf f W) ts (then_read q (λ a ts. Ok (f a, ts)))
+    told ts (Ok p) t = (t.0, t.1, (p.0, t.2, refl), λ rest h. ap (λ q. then_read q (λ a ts. Ok (f a, ts))) (t.3 rest h))
+    told ts (Err e) t = (t.0, t.1, (t.2.0, f t.2.1, (t.2.1, t.2.2, refl)), λ rest h. ap (λ q. then_read q (λ a ts. Ok (f a, ts))) (t.3 rest h))
 
 -- each thing of the language begins with one of these
 abbrev pub Opens : {T A : Type 0} → (A → List T → Type 0) → (T → Bool) → Type 0
-Opens {T} {A} L test = (x : A) (s rest : List T) → L x s → starts test (s ++ rest) ≡ true
+Opens {T} {A} L test = (x : A) (s rest : List T) → L x s → next_is test (s ++ rest) ≡ true
 
 pub one_opens : {T : Type 0} (test : T → Bool) → Opens (One test) test
-one_opens test t s rest h = ap (λ l. starts test (l ++ rest)) h.1 ∙ h.0
+one_opens test t s rest h = ap (λ l. next_is test (l ++ rest)) h.1 ∙ h.0
 
 pub both_opens : {T A B C : Type 0} (f : A → B → C) (La : A → List T → Type 0) (Lb : B → List T → Type 0) (test : T → Bool) → Opens La test → Opens (Both f La Lb) test
-both_opens f La Lb test o c s rest h = ap (λ l. starts test (l ++ rest)) h.7 ∙ ap (starts test) (append_assoc h.2 h.3 rest) ∙ o h.0 h.2 (h.3 ++ rest) h.4
+both_opens f La Lb test o c s rest h = ap (λ l. next_is test (l ++ rest)) h.7 ∙ ap (next_is test) (append_assoc h.2 h.3 rest) ∙ o h.0 h.2 (h.3 ++ rest) h.4
 
-pub mapped_opens : {T A B : Type 0} (f : A → B) (L : A → List T → Type 0) (test : T → Bool) → Opens L test → Opens (Mapped f L) test
+pub mapped_opens : {T A B : Type 0} (f : A → B) (L : A → List T → Type 0) (test : T → Bool) → Opens L test → Opens (ImageOf f L) test
 mapped_opens f L test o b s rest h = o h.0 s rest h.1
 
 pub either_opens : {T A : Type 0} (La Lb : A → List T → Type 0) (test : T → Bool) → Opens La test → Opens Lb test → Opens (EitherOf La Lb) test
@@ -349,27 +349,27 @@ either_opens La Lb test o p x s rest (inl h) = o x s rest h
 either_opens La Lb test o p x s rest (inr h) = p x s rest h
 
 -- a test that holds of less
-pub starts_of : {T : Type 0} (a b : T → Bool) → ((t : T) → a t ≡ true → b t ≡ true) → (l : List T) → starts a l ≡ true → starts b l ≡ true
+pub starts_of : {T : Type 0} (a b : T → Bool) → ((t : T) → a t ≡ true → b t ≡ true) → (l : List T) → next_is a l ≡ true → next_is b l ≡ true
 starts_of a b h [] e = absurd (cc)
 starts_of a b h (t ∷ l) e = h t e
 
-pub starts_not : {T : Type 0} (a b : T → Bool) → ((t : T) → a t ≡ true → b t ≡ false) → (l : List T) → starts a l ≡ true → starts b l ≡ false
+pub starts_not : {T : Type 0} (a b : T → Bool) → ((t : T) → a t ≡ true → b t ≡ false) → (l : List T) → next_is a l ≡ true → next_is b l ≡ false
 starts_not a b h [] e = absurd (cc)
 starts_not a b h (t ∷ l) e = h t e
 
-pub starts_less : {T : Type 0} (a b : T → Bool) → ((t : T) → a t ≡ false → b t ≡ false) → (l : List T) → starts a l ≡ false → starts b l ≡ false
+pub starts_less : {T : Type 0} (a b : T → Bool) → ((t : T) → a t ≡ false → b t ≡ false) → (l : List T) → next_is a l ≡ false → next_is b l ≡ false
 starts_less a b h [] e = refl
 starts_less a b h (t ∷ l) e = h t e
 
-pub never_starts : {T : Type 0} (l : List T) → starts (λ t. false) l ≡ false
+pub never_starts : {T : Type 0} (l : List T) → next_is (λ t. false) l ≡ false
 never_starts [] = refl
 never_starts (t ∷ l) = refl
 
 -- what follows a repetition
-pub many_follows : {T A : Type 0} (L : A → List T → Type 0) (test more wide : T → Bool) → Opens L test → ((l : List T) → starts test l ≡ true → starts more l ≡ false) → ((l : List T) → starts wide l ≡ false → starts more l ≡ false)
-    → (xs : List A) (s rest : List T) → Many L xs s → starts wide rest ≡ false → starts more (s ++ rest) ≡ false
-many_follows L test more wide o a w [] s rest h e = ap (λ l. starts more (l ++ rest)) h ∙ w rest e
-many_follows L test more wide o a w (x ∷ xs) s rest h e = ap (λ l. starts more (l ++ rest)) h.4 ∙ ap (starts more) (append_assoc h.0 h.1 rest) ∙ a (h.0 ++ (h.1 ++ rest)) (o x h.0 (h.1 ++ rest) h.2)
+pub many_follows : {T A : Type 0} (L : A → List T → Type 0) (test more wide : T → Bool) → Opens L test → ((l : List T) → next_is test l ≡ true → next_is more l ≡ false) → ((l : List T) → next_is wide l ≡ false → next_is more l ≡ false)
+    → (xs : List A) (s rest : List T) → Many L xs s → next_is wide rest ≡ false → next_is more (s ++ rest) ≡ false
+many_follows L test more wide o a w [] s rest h e = ap (λ l. next_is more (l ++ rest)) h ∙ w rest e
+many_follows L test more wide o a w (x ∷ xs) s rest h e = ap (λ l. next_is more (l ++ rest)) h.4 ∙ ap (next_is more) (append_assoc h.0 h.1 rest) ∙ a (h.0 ++ (h.1 ++ rest)) (o x h.0 (h.1 ++ rest) h.2)
 
 -- a loop's step: what was read so far goes on
 pub in_front_more : {T A : Type 0} (xs : List A) (x : A) (q : Read T SyntaxFault (List A)) → in_front xs (with_front x q) ≡ in_front (xs ++ x ∷ []) q

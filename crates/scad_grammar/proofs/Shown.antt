@@ -5,12 +5,12 @@ use Rattle.std.proofs.lemmas.List.{length-map}
 use Rattle.scad_lexer.specs.declared.token.Token.{Token}
 use Rattle.scad_lexer.specs.declared.token.TokenKind.TheVariants.{Symbol}
 use Rattle.scad_lexer.specs.declared.token.Symbol.TheVariants.{Caret}
-use Rattle.scad_ast.specs.Terms.{Term, ArgTerm, PositionalTerm, ParamTerm, BinderTerm, MarkTerm, StatementTerm, InstanceStatement, InstanceTerm, CoreTerm, BodyTerm, InstanceBody, EmptyBody, UndefTerm}
-use Rattle.scad_grammar.specs.Classes.{numeral, text, true_word, false_word, undef_word, child_count, special, argument_names, open_parenthesis_sign, close_parenthesis_sign, open_bracket_sign, close_bracket_sign, open_brace_sign, close_brace_sign, comma_sign, semicolon_sign, assign_sign, colon_sign, question_sign, dot_sign, minus_sign, plus_sign, not_sign, times_sign, remainder_sign, hash_sign, caret_sign, name, end, if_word, else_word, for_word, intersection_for_word, module_word, function_word, class_of, is, among}
-use Rattle.scad_grammar.specs.Languages.{Language, One, Mapped, Both, BothIf, EitherOf, Nothing, Many, Maybe, Never, Behind, Before, Separated, first_of, second_of, pair_of, cons}
-use Rattle.scad_grammar.specs.Grammar.{InParentheses, Arg, Args, Param, Params, Binder, Binders, Bracket, Primary, Suffix, Unary, Chain, Choice, whole, outline, ArgsIn, ParamsIn, BindersIn, StatementsIn, InstanceIn, Expr, Operand, Core, Instance, BodyOf, StatementOf, Statement, Body, WholeProgram, Outline, levels, chain_term, link, items, if_term, IsNearest, ends_open, instance_open, core_open, instance_term, loop_term, call_term, block_term}
-use Rattle.scad_grammar.specs.Depths.{Depths, deeper, one_depth, mapped_depths, both_depths, both_if_depths, of_either, either_depths, nothing_depths, of_many, many_depths, of_maybe, maybe_depths, never_depths, behind_depths, before_depths, separated_depths, parentheses_depths, arg_depths, args_depths, param_depths, params_depths, binders_depths, bracket_depths, primary_depths, suffix_depths, unary_depths, chain_depths, choice_depths, args_in_depths, params_in_depths, binders_in_depths, expr_depths, operand_depths, core_depths, instance_depths, body_of_depths, statement_of_depths, statements_in_depths, instance_in_depths, statement_depths, body_depths, program_depths, AllBelow}
-use Rattle.scad_grammar.specs.Reading.{starts}
+use Rattle.scad_ast.specs.Terms.{Term, ArgTerm, PositionalTerm, ParamTerm, BinderTerm, ModifierTerm, StatementTerm, InstanceStatement, InstanceTerm, CoreTerm, BodyTerm, InstanceBody, EmptyBody, UndefTerm}
+use Rattle.scad_grammar.specs.Classes.{numeral_class, text_class, true_word, false_word, undef_word, child_count_class, special_class, argument_names, open_parenthesis_sign, close_parenthesis_sign, open_bracket_sign, close_bracket_sign, open_brace_sign, close_brace_sign, comma_sign, semicolon_sign, assign_sign, colon_sign, question_sign, dot_sign, minus_sign, plus_sign, not_sign, times_sign, remainder_sign, hash_sign, caret_sign, name_class, end_class, if_word, else_word, for_word, intersection_for_word, module_word, function_word, token_class, has_class, has_class_in}
+use Rattle.scad_grammar.specs.Languages.{Language, One, ImageOf, Both, BothIf, EitherOf, Nothing, Many, Maybe, Never, AfterToken, BeforeToken, SeparatedList, first_of, second_of, pair_of, cons}
+use Rattle.scad_grammar.specs.Grammar.{InParentheses, Arg, Args, Param, Params, Binder, Binders, Bracket, Primary, Suffix, Unary, Chain, Choice, whole, outline, ArgsIn, ParamsIn, BindersIn, StatementsIn, InstanceIn, Expr, Operand, CoreOf, Instance, BodyOf, StatementOf, Statement, Body, WholeProgram, ProgramOutline, levels, chain_term, link, items, if_term, IsNearest, ends_open, instance_open, core_open, instance_term, loop_term, call_term, block_term}
+use Rattle.scad_grammar.specs.Depths.{Depths, deeper, one_depth, image_depths, both_depths, both_if_depths, of_either, either_depths, nothing_depths, of_many, many_depths, of_maybe, maybe_depths, never_depths, after_token_depths, before_token_depths, separated_list_depths, parentheses_depths, arg_depths, args_depths, param_depths, params_depths, binders_depths, bracket_depths, primary_depths, suffix_depths, unary_depths, chain_depths, choice_depths, args_in_depths, params_in_depths, binders_in_depths, expr_depths, operand_depths, core_depths, instance_depths, body_of_depths, statement_of_depths, statements_in_depths, instance_in_depths, statement_depths, body_depths, program_depths, AllBelow}
+use Rattle.scad_grammar.specs.Reading.{next_is}
 use Rattle.scad_grammar.specs.StatementReads.{firsts_of_statement, firsts_of_instance}
 use Rattle.scad_grammar.specs.Reads.{firsts_of_expression}
 use Rattle.scad_grammar.proofs.Readers.{Opens, both_opens, mapped_opens, one_opens}
@@ -37,10 +37,10 @@ pub record Shows (d : ℕ) {A : Type 0} (opens : A → Bool) (L : Language A) (D
 abbrev pub closed : {A : Type 0} → A → Bool
 closed x = false
 
-no_caret : (cs : List ℕ) → apart cs (caret_sign ∷ []) ≡ true → (t : Token) → among cs t ≡ true → no_gap (t ∷ []) ≡ true
-no_caret cs a t h = let e : is caret_sign t ≡ false = classes_apart cs (caret_sign ∷ []) a (class_of t.kind) h in rw e refl
+no_caret : (cs : List ℕ) → apart cs (caret_sign ∷ []) ≡ true → (t : Token) → has_class_in cs t ≡ true → no_gap (t ∷ []) ≡ true
+no_caret cs a t h = let e : has_class caret_sign t ≡ false = classes_apart cs (caret_sign ∷ []) a (token_class t.kind) h in rw e refl
 
-one_shows : {d : ℕ} (cs : List ℕ) → apart cs (caret_sign ∷ []) ≡ true → Shows d closed (One (among cs)) (one_depth (among cs)) (One (among cs)) (One (among cs))
+one_shows : {d : ℕ} (cs : List ℕ) → apart cs (caret_sign ∷ []) ≡ true → Shows d closed (One (has_class_in cs)) (one_depth (has_class_in cs)) (One (has_class_in cs)) (One (has_class_in cs))
 unfolding one_depth
 one_shows {d} cs a = record {
   count = λ t s h. ap length (sym h.1);
@@ -49,12 +49,12 @@ one_shows {d} cs a = record {
   shown = λ t s h. (t, t ∷ [], (h.0, refl), subst (λ s. Front d s (0 ∷ []) (t ∷ [])) (sym h.1) (λ l. ([], refl, refl)), λ e. refl);
 }
 
-is_shows : {d : ℕ} (c : ℕ) → apart (c ∷ []) (caret_sign ∷ []) ≡ true → Shows d closed (One (is c)) (one_depth (is c)) (One (is c)) (One (is c))
+is_shows : {d : ℕ} (c : ℕ) → apart (c ∷ []) (caret_sign ∷ []) ≡ true → Shows d closed (One (has_class c)) (one_depth (has_class c)) (One (has_class c)) (One (has_class c))
 is_shows c a = one_shows (c ∷ []) a
 
 mapped_shows : {A B : Type 0} {d : ℕ} (f : A → B) {oa : A → Bool} (ob : B → Bool) {L W O : Language A} {D : Depths L} → ((a y : A) → (oa a ≡ false → oa y ≡ false) → ob (f a) ≡ false → ob (f y) ≡ false)
-    → Shows d oa L D W O → Shows d ob (Mapped f L) (mapped_depths f D) (Mapped f W) (Mapped f O)
-unfolding mapped_depths
+    → Shows d oa L D W O → Shows d ob (ImageOf f L) (image_depths f D) (ImageOf f W) (ImageOf f O)
+unfolding image_depths
 mapped_shows f ob tame h = record {
   count = λ b s x. h.count x.0 s x.1;
   plain = λ b s x. h.plain x.0 s x.1;
@@ -201,22 +201,22 @@ module _ (d : ℕ) (La Wa Oa : Language (Token × (Term × BodyTerm))) (D : Dept
 
   if_shown : (p : Token × (Term × BodyTerm)) (o : Option BodyTerm) (u v : List Token) (hp : La p u) (ho : Maybe Lb o v) → IsNearest p o → (c : CoreTerm) (s : List Token) → c ≡ if_term p o → s ≡ u ++ v
       → Shown d core_open Outlines c s (D.of p u hp ++ of_maybe Lb E o v ho)
-  if_shown p None u v hp ho fit c s is e =
+  if_shown p None u v hp ho fit c s has_class e =
       let y = h.shown p u hp in (
         if_term y.0 None,
         y.1 ++ [],
         (y.0, None, y.1, [], y.2, refl, tt, refl, refl),
         subst (λ s. Front d s (D.of p u hp ++ []) (y.1 ++ [])) (sym e) (front_joined d u (D.of p u hp) y.1 v [] [] y.3 (subst (λ v. Front d v [] []) (sym ho) refl)),
-        λ o. absurd (let f : true ≡ false = ap core_open (sym is) ∙ o in cc),
+        λ o. absurd (let f : true ≡ false = ap core_open (sym has_class) ∙ o in cc),
       )
-  if_shown p (Some other) u v hp ho fit c s is e =
+  if_shown p (Some other) u v hp ho fit c s has_class e =
       let y = h.shown p u hp in
       let z = k.shown other v ho in (
         if_term y.0 (Some z.0),
         y.1 ++ z.1,
         (y.0, Some z.0, y.1, z.1, y.2, z.2, y.4 fit, refl, refl),
         subst (λ s. Front d s (D.of p u hp ++ E.of other v ho) (y.1 ++ z.1)) (sym e) (front_joined d u (D.of p u hp) y.1 v (E.of other v ho) z.1 y.3 z.3),
-        λ o. z.4 (ap core_open (sym is) ∙ o),
+        λ o. z.4 (ap core_open (sym has_class) ∙ o),
       )
 
   if_shows : Shows d core_open (BothIf if_term IsNearest La (Maybe Lb)) (both_if_depths if_term IsNearest D (maybe_depths E)) (BothIf if_term IsNearest Wa (Maybe Wb)) Outlines
@@ -230,19 +230,19 @@ module _ (d : ℕ) (La Wa Oa : Language (Token × (Term × BodyTerm))) (D : Dept
     shown = λ c s x. if_shown x.0 x.1 x.2 x.3 x.4 x.5 x.6 c s x.7 x.8;
   }
 
-behind_shows : {A : Type 0} {d : ℕ} (c : ℕ) → apart (c ∷ []) (caret_sign ∷ []) ≡ true → {o : A → Bool} {L W O : Language A} {D : Depths L} → Shows d o L D W O → Shows d o (Behind (is c) L) (behind_depths (is c) D) (Behind (is c) W) (Behind (is c) O)
+behind_shows : {A : Type 0} {d : ℕ} (c : ℕ) → apart (c ∷ []) (caret_sign ∷ []) ≡ true → {o : A → Bool} {L W O : Language A} {D : Depths L} → Shows d o L D W O → Shows d o (AfterToken (has_class c) L) (after_token_depths (has_class c) D) (AfterToken (has_class c) W) (AfterToken (has_class c) O)
 behind_shows c a {o} h = both_shows second_of o (λ a y b z p q e. q e) (is_shows c a) h
 
-before_shows : {A : Type 0} {d : ℕ} (c : ℕ) → apart (c ∷ []) (caret_sign ∷ []) ≡ true → {o : A → Bool} {L W O : Language A} {D : Depths L} → Shows d o L D W O → Shows d o (Before L (is c)) (before_depths (is c) D) (Before W (is c)) (Before O (is c))
+before_shows : {A : Type 0} {d : ℕ} (c : ℕ) → apart (c ∷ []) (caret_sign ∷ []) ≡ true → {o : A → Bool} {L W O : Language A} {D : Depths L} → Shows d o L D W O → Shows d o (BeforeToken L (has_class c)) (before_token_depths (has_class c) D) (BeforeToken W (has_class c)) (BeforeToken O (has_class c))
 before_shows c a {o} h = both_shows first_of o (λ a y b z p q e. p e) h (is_shows c a)
 
 parentheses_shows : {A : Type 0} {d : ℕ} {o : A → Bool} {L W O : Language A} {D : Depths L} → Shows d o L D W O → Shows (suc d) o (InParentheses L) (parentheses_depths D) (InParentheses W) (InParentheses O)
 parentheses_shows h = behind_shows open_parenthesis_sign refl (before_shows close_parenthesis_sign refl (deeper_shows h))
 
-separated_shows : {A : Type 0} {d : ℕ} {o : A → Bool} {L W O : Language A} {D : Depths L} → Shows d o L D W O → Shows d closed (Separated (is comma_sign) L) (separated_depths (is comma_sign) D) (Separated (is comma_sign) W) (Separated (is comma_sign) O)
+separated_shows : {A : Type 0} {d : ℕ} {o : A → Bool} {L W O : Language A} {D : Depths L} → Shows d o L D W O → Shows d closed (SeparatedList (has_class comma_sign) L) (separated_list_depths (has_class comma_sign) D) (SeparatedList (has_class comma_sign) W) (SeparatedList (has_class comma_sign) O)
 separated_shows h = plain_shows first_of (plain_shows cons h (many_shows (behind_shows comma_sign refl h))) (maybe_shows (is_shows comma_sign refl))
 
-plain_mapped : {A B : Type 0} {d : ℕ} (f : A → B) {oa : A → Bool} {L W O : Language A} {D : Depths L} → Shows d oa L D W O → Shows d closed (Mapped f L) (mapped_depths f D) (Mapped f W) (Mapped f O)
+plain_mapped : {A B : Type 0} {d : ℕ} (f : A → B) {oa : A → Bool} {L W O : Language A} {D : Depths L} → Shows d oa L D W O → Shows d closed (ImageOf f L) (image_depths f D) (ImageOf f W) (ImageOf f O)
 plain_mapped f h = mapped_shows f closed (λ a y p e. refl) h
 
 module _ (d : ℕ) (L W O : Language Term) (D : Depths L) (e : Shows d closed L D W O) where
@@ -253,13 +253,13 @@ module _ (d : ℕ) (L W O : Language Term) (D : Depths L) (e : Shows d closed L 
   args_shows = either_shows (separated_shows arg_shows) (nothing_shows [])
 
   param_shows : Shows d closed (Param L) (param_depths D) (Param W) (Param O)
-  param_shows = plain_shows _ (is_shows name refl) (maybe_shows (behind_shows assign_sign refl e))
+  param_shows = plain_shows _ (is_shows name_class refl) (maybe_shows (behind_shows assign_sign refl e))
 
   params_shows : Shows d closed (Params (Param L)) (params_depths (param_depths D)) (Params (Param W)) (Params (Param O))
   params_shows = either_shows (separated_shows param_shows) (nothing_shows [])
 
   binders_shows : Shows d closed (Binders L) (binders_depths D) (Binders W) (Binders O)
-  binders_shows = separated_shows (plain_shows _ (is_shows name refl) (behind_shows assign_sign refl e))
+  binders_shows = separated_shows (plain_shows _ (is_shows name_class refl) (behind_shows assign_sign refl e))
 
   bracket_shows : Shows (suc d) closed (Bracket L) (bracket_depths D) (Bracket W) (Bracket O)
   bracket_shows =
@@ -272,7 +272,7 @@ module _ (d : ℕ) (L W O : Language Term) (D : Depths L) (e : Shows d closed L 
   suffix_shows : Shows (suc d) closed (Suffix L) (suffix_depths D) (Suffix W) (Suffix O)
   suffix_shows =
       either_shows (plain_shows _ (is_shows open_bracket_sign refl) (before_shows close_bracket_sign refl (deeper_shows e)))
-      (plain_shows _ (is_shows dot_sign refl) (is_shows name refl))
+      (plain_shows _ (is_shows dot_sign refl) (is_shows name_class refl))
 
 -- no operator is a gap
 abbrev operators : List (List ℕ) → Bool
@@ -292,9 +292,9 @@ chain_shows (ops ∷ below) a h =
 module _ (d : ℕ) (L W O : Language Term) (D : Depths L) (e : Shows d closed L D W O) (As Bs Cs : Language (List ArgTerm)) (DA : Depths As) (a : Shows d closed As DA Bs Cs) (U V X : Language Term) (DU : Depths U) (u : Shows d closed U DU V X) where
   primary_shows : Shows (suc d) closed (Primary L As) (primary_depths D DA) (Primary W Bs) (Primary O Cs)
   primary_shows =
-      either_shows (plain_mapped _ (is_shows numeral refl)) (either_shows (plain_mapped _ (is_shows text refl)) (either_shows (plain_mapped _ (is_shows true_word refl)) (either_shows (plain_mapped _ (is_shows false_word refl))
-      (either_shows (plain_mapped _ (is_shows undef_word refl)) (either_shows (plain_mapped _ (is_shows child_count refl)) (either_shows (plain_mapped _ (is_shows special refl))
-      (either_shows (plain_shows _ (is_shows name refl) (maybe_shows (parentheses_shows a)))
+      either_shows (plain_mapped _ (is_shows numeral_class refl)) (either_shows (plain_mapped _ (is_shows text_class refl)) (either_shows (plain_mapped _ (is_shows true_word refl)) (either_shows (plain_mapped _ (is_shows false_word refl))
+      (either_shows (plain_mapped _ (is_shows undef_word refl)) (either_shows (plain_mapped _ (is_shows child_count_class refl)) (either_shows (plain_mapped _ (is_shows special_class refl))
+      (either_shows (plain_shows _ (is_shows name_class refl) (maybe_shows (parentheses_shows a)))
       (either_shows (plain_shows _ (is_shows open_parenthesis_sign refl) (before_shows close_parenthesis_sign refl (deeper_shows e))) (bracket_shows d L W O D e)))))))))
 
   unary_shows : Shows (suc d) closed (Unary L As U) (unary_depths D DA DU) (Unary W Bs V) (Unary O Cs X)
@@ -309,7 +309,7 @@ abbrev gap_token : Token
 gap_token = token (Symbol Caret)
 
 -- where no token may stand an outline has a gap, or nothing
-zero_gap : {A : Type 0} {n : ℕ} (o : A → Bool) (L W O : Language A) (D : Depths L) (f : Token → A) → ((t : Token) → o (f t) ≡ false) → ((x : A) → L x [] → ⊥) → Shows n o L D W O → Shows 0 o L D Never (Mapped f (One (is caret_sign)))
+zero_gap : {A : Type 0} {n : ℕ} (o : A → Bool) (L W O : Language A) (D : Depths L) (f : Token → A) → ((t : Token) → o (f t) ≡ false) → ((x : A) → L x [] → ⊥) → Shows n o L D W O → Shows 0 o L D Never (ImageOf f (One (has_class caret_sign)))
 zero_gap o L W O D f tame some h = record {
   count = h.count;
   plain = h.plain;
@@ -345,17 +345,17 @@ nothing_in {A} {d} W O w o = record {
 not_empty : {A : Type 0} (L : Language A) (test : Token → Bool) → Opens L test → (x : A) → L x [] → ⊥
 not_empty L test opens x h = absurd (let e = opens x [] [] h in cc)
 
-separated_some : {A : Type 0} (L : Language A) (test : Token → Bool) → Opens L test → (x : List A) → EitherOf (Separated (is comma_sign) L) (Nothing []) x [] → x ≡ []
-separated_some L test opens x (inl h) = elim (not_empty (Separated (is comma_sign) L) test (both_opens first_of _ _ test (both_opens cons L _ test opens)) x h) [ ]
+separated_some : {A : Type 0} (L : Language A) (test : Token → Bool) → Opens L test → (x : List A) → EitherOf (SeparatedList (has_class comma_sign) L) (Nothing []) x [] → x ≡ []
+separated_some L test opens x (inl h) = elim (not_empty (SeparatedList (has_class comma_sign) L) test (both_opens first_of _ _ test (both_opens cons L _ test opens)) x h) [ ]
 separated_some L test opens x (inr h) = h.0
 
 many_some : {A : Type 0} (L : Language A) (test : Token → Bool) → Opens L test → (x : List A) → Many L x [] → x ≡ []
 many_some L test opens [] h = refl
 many_some L test opens (x ∷ xs) h =
-    absurd (let e = opens x h.0 h.1 h.2 in let f : starts test [] ≡ true = ap (starts test) h.4 ∙ e in cc)
+    absurd (let e = opens x h.0 h.1 h.2 in let f : next_is test [] ≡ true = ap (next_is test) h.4 ∙ e in cc)
 
 binders_some : (E : Language Term) (x : List BinderTerm) → Binders E x [] → ⊥
-binders_some E = not_empty (Binders E) (is name) (both_opens first_of _ _ (is name) (both_opens cons (Binder E) _ (is name) (binder_opens E)))
+binders_some E = not_empty (Binders E) (has_class name_class) (both_opens first_of _ _ (has_class name_class) (both_opens cons (Binder E) _ (has_class name_class) (binder_opens E)))
 
 args_in_shows : (k d : ℕ) → Shows d closed (Expr whole k) (expr_depths k) (Expr whole d) (Expr outline d)
     → Shows d closed (ArgsIn k (Expr whole k)) (args_in_depths k (expr_depths k)) (ArgsIn d (Expr whole d)) (ArgsIn d (Expr outline d))
@@ -363,7 +363,7 @@ args_in_shows zero zero e = nothing_shows []
 args_in_shows zero (suc d) e = nothing_in (Args (Expr whole (suc d))) (Args (Expr outline (suc d))) (λ s x h. inr h) (inr (refl, refl))
 args_in_shows (suc k) zero e =
     zero_nothing (Args (Expr whole (suc k))) (Args (Expr whole zero)) (Args (Expr outline zero)) (args_depths (expr_depths (suc k)))
-    (separated_some (Arg (Expr whole (suc k))) (among open_firsts_of_expression) (arg_opens (Expr whole (suc k)) (expr_opens whole (suc k))))
+    (separated_some (Arg (Expr whole (suc k))) (has_class_in open_firsts_of_expression) (arg_opens (Expr whole (suc k)) (expr_opens whole (suc k))))
     (args_shows zero (Expr whole (suc k)) (Expr whole zero) (Expr outline zero) (expr_depths (suc k)) e)
 args_in_shows (suc k) (suc d) e = args_shows (suc d) (Expr whole (suc k)) (Expr whole (suc d)) (Expr outline (suc d)) (expr_depths (suc k)) e
 
@@ -373,7 +373,7 @@ params_in_shows zero zero e = nothing_shows []
 params_in_shows zero (suc d) e = nothing_in (Params (Param (Expr whole (suc d)))) (Params (Param (Expr outline (suc d)))) (λ s x h. inr h) (inr (refl, refl))
 params_in_shows (suc k) zero e =
     zero_nothing (Params (Param (Expr whole (suc k)))) (Params (Param (Expr whole zero))) (Params (Param (Expr outline zero))) (params_depths (param_depths (expr_depths (suc k))))
-    (separated_some (Param (Expr whole (suc k))) (is name) (param_opens (Expr whole (suc k))))
+    (separated_some (Param (Expr whole (suc k))) (has_class name_class) (param_opens (Expr whole (suc k))))
     (params_shows zero (Expr whole (suc k)) (Expr whole zero) (Expr outline zero) (expr_depths (suc k)) e)
 params_in_shows (suc k) (suc d) e = params_shows (suc d) (Expr whole (suc k)) (Expr whole (suc d)) (Expr outline (suc d)) (expr_depths (suc k)) e
 
@@ -403,11 +403,11 @@ next_expr k d e =
 
 expr_some : (k : ℕ) (x : Term) → Expr whole (suc k) x [] → ⊥
 unfolding Expr Operand
-expr_some k = not_empty (Expr whole (suc k)) (among firsts_of_expression) (choice_opens (Expr whole k) (ArgsIn k (Expr whole k)) (Operand whole k))
+expr_some k = not_empty (Expr whole (suc k)) (has_class_in firsts_of_expression) (choice_opens (Expr whole k) (ArgsIn k (Expr whole k)) (Operand whole k))
 
 operand_some : (k : ℕ) (x : Term) → Operand whole (suc k) x [] → ⊥
 unfolding Expr Operand
-operand_some k = not_empty (Operand whole (suc k)) (among firsts_of_expression) (unary_opens (Expr whole k) (ArgsIn k (Expr whole k)) (Operand whole k))
+operand_some k = not_empty (Operand whole (suc k)) (has_class_in firsts_of_expression) (unary_opens (Expr whole k) (ArgsIn k (Expr whole k)) (Operand whole k))
 
 zero_expr : (k : ℕ) → ShowsExpr (suc k) 1 → ShowsExpr (suc k) 0
 unfolding Expr Operand
@@ -426,18 +426,18 @@ expr_shows (suc k) zero = zero_expr k (next_expr k zero (expr_shows k zero))
 expr_shows (suc k) (suc d) = next_expr k d (expr_shows k d)
 
 pub loop_open : (t : Token) (p : List BinderTerm × BodyTerm) → core_open (loop_term t p) ≡ ends_open p.1
-loop_open t p = go (is for_word t) refl
+loop_open t p = go (has_class for_word t) refl
   where
-    go : (b : Bool) → is for_word t ≡ b → core_open (loop_term t p) ≡ ends_open p.1
+    go : (b : Bool) → has_class for_word t ≡ b → core_open (loop_term t p) ≡ ends_open p.1
     go true e = rw e refl
     go false e = rw e refl
 
-pub same_open : (ms : List MarkTerm) (core : CoreTerm) → instance_open (instance_term ms core) ≡ core_open core
+pub same_open : (ms : List ModifierTerm) (core : CoreTerm) → instance_open (instance_term ms core) ≡ core_open core
 same_open [] core = refl
 same_open (m ∷ ms) core = refl
 
 module _ (d : ℕ) (E E1 E2 : Language Term) (DE : Depths E) (e : Shows d closed E DE E1 E2) (As A1 A2 : Language (List ArgTerm)) (DA : Depths As) (a : Shows d closed As DA A1 A2) (Ns N1 N2 : Language (List BinderTerm)) (DN : Depths Ns) (n : Shows d closed Ns DN N1 N2) (B B1 B2 : Language BodyTerm) (DB : Depths B) (b : Shows d ends_open B DB B1 B2) where
-  core_shows : Shows (suc d) core_open (Core E As Ns B) (core_depths DE DA DN DB) (Core E1 A1 N1 B1) (Core E2 A2 N2 B2)
+  core_shows : Shows (suc d) core_open (CoreOf E As Ns B) (core_depths DE DA DN DB) (CoreOf E1 A1 N1 B1) (CoreOf E2 A2 N2 B2)
   core_shows =
       either_shows
       (if_shows (suc d) _ _ _ _
@@ -445,7 +445,7 @@ module _ (d : ℕ) (E E1 E2 : Language Term) (DE : Depths E) (e : Shows d closed
       _ _ _ _ (behind_shows else_word refl (deeper_shows b)))
       (either_shows
       (second_shows loop_term core_open loop_open (one_shows (for_word ∷ intersection_for_word ∷ []) refl) (second_shows pair_of (λ p. ends_open p.1) (λ x y. refl) (parentheses_shows n) (deeper_shows b)))
-      (second_shows call_term core_open (λ t p. refl) (is_shows name refl) (second_shows pair_of (λ p. ends_open p.1) (λ x y. refl) (parentheses_shows a) (deeper_shows b))))
+      (second_shows call_term core_open (λ t p. refl) (is_shows name_class refl) (second_shows pair_of (λ p. ends_open p.1) (λ x y. refl) (parentheses_shows a) (deeper_shows b))))
 
   instance_shows : Shows (suc d) instance_open (Instance E As Ns B) (instance_depths DE DA DN DB) (Instance E1 A1 N1 B1) (Instance E2 A2 N2 B2)
   instance_shows = second_shows instance_term instance_open same_open (many_shows (plain_mapped _ (one_shows (times_sign ∷ remainder_sign ∷ hash_sign ∷ not_sign ∷ []) refl))) core_shows
@@ -462,10 +462,10 @@ module _ (d : ℕ) (I I1 I2 : Language InstanceTerm) (DI : Depths I) (i : Shows 
   statement_of_shows X X1 X2 DX x Ps P1 P2 DP p B B1 B2 DB b =
       either_shows (plain_mapped _ (is_shows semicolon_sign refl))
       (either_shows (plain_shows _ (is_shows open_brace_sign refl) (before_shows close_brace_sign refl (deeper_shows s)))
-      (either_shows (plain_shows _ (is_shows special refl) (behind_shows assign_sign refl (before_shows semicolon_sign refl x)))
-      (either_shows (plain_shows _ (is_shows name refl) (behind_shows assign_sign refl (before_shows semicolon_sign refl x)))
-      (either_shows (plain_shows _ (is_shows module_word refl) (plain_shows pair_of (is_shows name refl) (plain_shows pair_of (parentheses_shows p) (deeper_shows b))))
-      (either_shows (plain_shows _ (is_shows function_word refl) (plain_shows pair_of (is_shows name refl) (plain_shows pair_of (parentheses_shows p) (behind_shows assign_sign refl (before_shows semicolon_sign refl x)))))
+      (either_shows (plain_shows _ (is_shows special_class refl) (behind_shows assign_sign refl (before_shows semicolon_sign refl x)))
+      (either_shows (plain_shows _ (is_shows name_class refl) (behind_shows assign_sign refl (before_shows semicolon_sign refl x)))
+      (either_shows (plain_shows _ (is_shows module_word refl) (plain_shows pair_of (is_shows name_class refl) (plain_shows pair_of (parentheses_shows p) (deeper_shows b))))
+      (either_shows (plain_shows _ (is_shows function_word refl) (plain_shows pair_of (is_shows name_class refl) (plain_shows pair_of (parentheses_shows p) (behind_shows assign_sign refl (before_shows semicolon_sign refl x)))))
       (plain_mapped InstanceStatement i))))))
 
 -- the statements in braces, and a body
@@ -500,10 +500,10 @@ next_body k d b =
     body_of_shows d (InstanceIn whole k (Body whole k)) (InstanceIn whole d (Body whole d)) (InstanceIn outline d (Body outline d)) (instance_in_depths k (body_depths k)) (instance_in_shows k d b)
     (StatementsIn k (Statement whole k)) (StatementsIn d (Statement whole d)) (StatementsIn d (Statement outline d)) (statements_in_depths k (statement_depths k)) b.0
 
-body_of_some : (I : Language InstanceTerm) (Ss : Language (List StatementTerm)) → Opens I (among firsts_of_instance) → (x : BodyTerm) → BodyOf I Ss x [] → ⊥
-body_of_some I Ss opens x (inl h) = not_empty (Mapped (λ t. EmptyBody t.place) (One (is semicolon_sign))) (is semicolon_sign) (mapped_opens (λ t. EmptyBody t.place) (One (is semicolon_sign)) (is semicolon_sign) (one_opens (is semicolon_sign))) x h
-body_of_some I Ss opens x (inr (inl h)) = not_empty (Both block_term (One (is open_brace_sign)) (Before Ss (is close_brace_sign))) (is open_brace_sign) (both_opens block_term (One (is open_brace_sign)) (Before Ss (is close_brace_sign)) (is open_brace_sign) (one_opens (is open_brace_sign))) x h
-body_of_some I Ss opens x (inr (inr h)) = not_empty (Mapped InstanceBody I) (among firsts_of_instance) (mapped_opens InstanceBody I (among firsts_of_instance) opens) x h
+body_of_some : (I : Language InstanceTerm) (Ss : Language (List StatementTerm)) → Opens I (has_class_in firsts_of_instance) → (x : BodyTerm) → BodyOf I Ss x [] → ⊥
+body_of_some I Ss opens x (inl h) = not_empty (ImageOf (λ t. EmptyBody t.place) (One (has_class semicolon_sign))) (has_class semicolon_sign) (mapped_opens (λ t. EmptyBody t.place) (One (has_class semicolon_sign)) (has_class semicolon_sign) (one_opens (has_class semicolon_sign))) x h
+body_of_some I Ss opens x (inr (inl h)) = not_empty (Both block_term (One (has_class open_brace_sign)) (BeforeToken Ss (has_class close_brace_sign))) (has_class open_brace_sign) (both_opens block_term (One (has_class open_brace_sign)) (BeforeToken Ss (has_class close_brace_sign)) (has_class open_brace_sign) (one_opens (has_class open_brace_sign))) x h
+body_of_some I Ss opens x (inr (inr h)) = not_empty (ImageOf InstanceBody I) (has_class_in firsts_of_instance) (mapped_opens InstanceBody I (has_class_in firsts_of_instance) opens) x h
 
 body_some : (k : ℕ) (x : BodyTerm) → Body whole (suc k) x [] → ⊥
 unfolding Statement Body
@@ -521,7 +521,7 @@ body_shows : (k d : ℕ) → ShowsBody k d
 body_shows zero zero = (nothing_shows [], no_body zero)
 body_shows zero (suc d) = (nothing_in (Many (Statement whole (suc d))) (Many (Statement outline (suc d))) (λ s x h. none_many (Statement whole (suc d)) x s h) refl, no_body (suc d))
 body_shows (suc k) zero = (
-  zero_nothing (Many (Statement whole (suc k))) (Many (Statement whole 1)) (Many (Statement outline 1)) (many_depths (statement_depths (suc k))) (many_some (Statement whole (suc k)) (among firsts_of_statement) (statement_at_opens whole (suc k)))
+  zero_nothing (Many (Statement whole (suc k))) (Many (Statement whole 1)) (Many (Statement outline 1)) (many_depths (statement_depths (suc k))) (many_some (Statement whole (suc k)) (has_class_in firsts_of_statement) (statement_at_opens whole (suc k)))
       (many_shows (next_statement k zero (body_shows k zero))),
   zero_body k (body_shows k zero),
 )
@@ -535,5 +535,5 @@ statement_shows : (k d : ℕ) → ShowsStatement k (suc d)
 statement_shows zero d = no_statement (suc d)
 statement_shows (suc k) d = next_statement k d (body_shows k d)
 
-pub program_shows : (k d : ℕ) → Shows (suc d) closed (WholeProgram k) (program_depths k) (WholeProgram (suc d)) (Outline (suc d))
-program_shows k d = before_shows end refl (many_shows (statement_shows k d))
+pub program_shows : (k d : ℕ) → Shows (suc d) closed (WholeProgram k) (program_depths k) (WholeProgram (suc d)) (ProgramOutline (suc d))
+program_shows k d = before_shows end_class refl (many_shows (statement_shows k d))

@@ -2,7 +2,7 @@
 use Rattle.std.proofs.Common.{◌≡◌, ℕ, zero, suc, ◌≤◌, List, [], ◌∷◌, length, Bool, true, false, cond, Ok, Err, Option, Some, refl, arith, ◌&&◌}
 use Rattle.scad_lexer.specs.declared.token.Token.{Token}
 use Rattle.scad_grammar.specs.declared.SyntaxFault.{SyntaxFault}
-use Rattle.scad_grammar.specs.Reading.{Read, after, starts, one_of, mapped, nothing, both, choice, ahead, with_front, many_times, many, trailing_times, trailing}
+use Rattle.scad_grammar.specs.Reading.{Read, then_read, next_is, one_of, image_read, nothing, both, choice, two_ahead, with_front, many_times, many, trailing_times, trailing_items}
 use Rattle.scad_grammar.specs.Faults.{TokenReader}
 use Rattle.scad_grammar.proofs.Ahead.{rest_of}
 
@@ -12,7 +12,7 @@ left q = length (rest_of q)
 pub record Shrinks {A : Type 0} (r : TokenReader A) : Type 0 where
   pub at : (ts : List Token) → left (r ts) ≤ length ts
 
-pub after_left : {A B : Type 0} (n : ℕ) (q : Read Token SyntaxFault A) (g : A → List Token → Read Token SyntaxFault B) → left q ≤ n → ((x : A) (us : List Token) → left (g x us) ≤ length us) → left (after q g) ≤ n
+pub after_left : {A B : Type 0} (n : ℕ) (q : Read Token SyntaxFault A) (g : A → List Token → Read Token SyntaxFault B) → left q ≤ n → ((x : A) (us : List Token) → left (g x us) ≤ length us) → left (then_read q g) ≤ n
 after_left n (Ok p) g l h = omega (arith, l, h p.0 p.1)
 after_left n (Err e) g l h = l
 
@@ -33,23 +33,23 @@ one_shrinks test fault = record { at = at }
 pub nothing_shrinks : {A : Type 0} (a : A) → Shrinks (nothing a)
 nothing_shrinks a = record { at = same_left }
 
-pub mapped_shrinks : {A B : Type 0} (f : A → B) (r : TokenReader A) → Shrinks r → Shrinks (mapped f r)
+pub mapped_shrinks : {A B : Type 0} (f : A → B) (r : TokenReader A) → Shrinks r → Shrinks (image_read f r)
 mapped_shrinks f r h = record { at = λ ts. after_left (length ts) (r ts) (λ a us. Ok (f a, us)) (h.at ts) (λ a us. same_left us) }
 
 pub both_shrinks : {A B C : Type 0} (f : A → B → C) (r : TokenReader A) (s : TokenReader B) → Shrinks r → Shrinks s → Shrinks (both f r s)
-both_shrinks f r s h k = record { at = λ ts. after_left (length ts) (r ts) (λ a us. after (s us) (λ b vs. Ok (f a b, vs))) (h.at ts) (λ a us. after_left (length us) (s us) (λ b vs. Ok (f a b, vs)) (k.at us) (λ b vs. same_left vs)) }
+both_shrinks f r s h k = record { at = λ ts. after_left (length ts) (r ts) (λ a us. then_read (s us) (λ b vs. Ok (f a b, vs))) (h.at ts) (λ a us. after_left (length us) (s us) (λ b vs. Ok (f a b, vs)) (k.at us) (λ b vs. same_left vs)) }
 
 pub choice_shrinks : {A : Type 0} (test : Token → Bool) (r s : TokenReader A) → Shrinks r → Shrinks s → Shrinks (choice test r s)
-choice_shrinks test r s h k = record { at = λ ts. cond_left (length ts) (starts test ts) (r ts) (s ts) (h.at ts) (k.at ts) }
+choice_shrinks test r s h k = record { at = λ ts. cond_left (length ts) (next_is test ts) (r ts) (s ts) (h.at ts) (k.at ts) }
 
-ahead_left : {A C : Type 0} (f : Token → Token → A → C) (a b : Token → Bool) (r : TokenReader A) (s : TokenReader C) → Shrinks r → Shrinks s → (ts : List Token) → left (ahead f a b r s ts) ≤ length ts
+ahead_left : {A C : Type 0} (f : Token → Token → A → C) (a b : Token → Bool) (r : TokenReader A) (s : TokenReader C) → Shrinks r → Shrinks s → (ts : List Token) → left (two_ahead f a b r s ts) ≤ length ts
 ahead_left f a b r s h k [] = k.at []
 ahead_left f a b r s h k (t ∷ []) = k.at (t ∷ [])
 ahead_left f a b r s h k (t ∷ u ∷ ts) =
-    cond_left (length (t ∷ u ∷ ts)) (a t && b u) (after (r ts) (λ x us. Ok (f t u x, us))) (s (t ∷ u ∷ ts))
+    cond_left (length (t ∷ u ∷ ts)) (a t && b u) (then_read (r ts) (λ x us. Ok (f t u x, us))) (s (t ∷ u ∷ ts))
     (let less = after_left (length ts) (r ts) (λ x us. Ok (f t u x, us)) (h.at ts) (λ x us. same_left us) in omega (arith, less)) (k.at (t ∷ u ∷ ts))
 
-pub ahead_shrinks : {A C : Type 0} (f : Token → Token → A → C) (a b : Token → Bool) (r : TokenReader A) (s : TokenReader C) → Shrinks r → Shrinks s → Shrinks (ahead f a b r s)
+pub ahead_shrinks : {A C : Type 0} (f : Token → Token → A → C) (a b : Token → Bool) (r : TokenReader A) (s : TokenReader C) → Shrinks r → Shrinks s → Shrinks (two_ahead f a b r s)
 ahead_shrinks f a b r s h k = record { at = ahead_left f a b r s h k }
 
 front_left : {A : Type 0} (n : ℕ) (x : A) (q : Read Token SyntaxFault (List A)) → left q ≤ n → left (with_front x q) ≤ n
@@ -60,7 +60,7 @@ pub times_left : {A : Type 0} (n : ℕ) (test : Token → Bool) (r : TokenReader
 unfolding many_times
 times_left zero test r h ts = same_left ts
 times_left (suc n) test r h ts =
-    cond_left (length ts) (starts test ts) (after (r ts) (λ x us. with_front x (many_times n test r us))) (Ok ([], ts))
+    cond_left (length ts) (next_is test ts) (then_read (r ts) (λ x us. with_front x (many_times n test r us))) (Ok ([], ts))
     (after_left (length ts) (r ts) (λ x us. with_front x (many_times n test r us)) (h.at ts) (λ x us. front_left (length us) x (many_times n test r us) (times_left n test r h us))) (same_left ts)
 
 pub many_shrinks : {A : Type 0} (test : Token → Bool) (r : TokenReader A) → Shrinks r → Shrinks (many test r)
@@ -73,11 +73,11 @@ trailing_left zero mark go r h ts = same_left ts
 trailing_left (suc n) mark go r h [] = omega arith
 trailing_left (suc n) mark go r h (t ∷ ts) =
     let item = after_left (length ts) (r ts) (λ x us. with_front x (trailing_times n mark go r us)) (h.at ts) (λ x us. front_left (length us) x (trailing_times n mark go r us) (trailing_left n mark go r h us)) in
-    let items = cond_left (length ts) (starts go ts) (after (r ts) (λ x us. with_front x (trailing_times n mark go r us))) (Ok ([], ts)) item (same_left ts) in
-    cond_left (length (t ∷ ts)) (mark t) (cond (starts go ts) (after (r ts) (λ x us. with_front x (trailing_times n mark go r us))) (Ok ([], ts))) (Ok ([], t ∷ ts)) (omega (arith, items)) (same_left (t ∷ ts))
+    let items = cond_left (length ts) (next_is go ts) (then_read (r ts) (λ x us. with_front x (trailing_times n mark go r us))) (Ok ([], ts)) item (same_left ts) in
+    cond_left (length (t ∷ ts)) (mark t) (cond (next_is go ts) (then_read (r ts) (λ x us. with_front x (trailing_times n mark go r us))) (Ok ([], ts))) (Ok ([], t ∷ ts)) (omega (arith, items)) (same_left (t ∷ ts))
 
-pub trailing_shrinks : {A : Type 0} (mark go : Token → Bool) (r : TokenReader A) → Shrinks r → Shrinks (trailing mark go r)
-unfolding trailing
+pub trailing_shrinks : {A : Type 0} (mark go : Token → Bool) (r : TokenReader A) → Shrinks r → Shrinks (trailing_items mark go r)
+unfolding trailing_items
 trailing_shrinks mark go r h = record { at = λ ts. trailing_left (length ts) mark go r h ts }
 
 pub front_rest : {A : Type 0} (x : A) (q : Read Token SyntaxFault (List A)) → rest_of (with_front x q) ≡ rest_of q

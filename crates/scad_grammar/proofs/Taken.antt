@@ -1,8 +1,8 @@
 -- What a tree tells of the tokens that write it: how deep each is. Only a comma behind a last item is not in the tree.
 use Rattle.std.proofs.Common.{◌≡◌, ℕ, suc, List, [], ◌∷◌, ◌++◌, drop, map, Bool, true, false, cond, Option, Some, None, refl, sym, ap, ◌∙◌, append_assoc, append-nil}
 use Rattle.scad_lexer.specs.declared.token.Token.{Token}
-use Rattle.scad_ast.specs.Terms.{Term, NumberTerm, TextTerm, TruthTerm, UndefTerm, ChildCountTerm, SpecialTerm, NameTerm, CallTerm, ParenTerm, ListTerm, RangeTerm, SteppedRangeTerm, PostfixTerm, UnaryTerm, ChainTerm, ChoiceTerm, Terms, no_terms, and_term, ArgTerms, no_args, and_named, and_special, and_positional, SuffixTerms, no_suffixes, and_index, and_member, LinkTerms, no_links, and_link, LinkTerm, SuffixTerm, IndexTerm, MemberTerm, ArgTerm, NamedTerm, SpecialArgTerm, PositionalTerm, terms_from, links_from, suffixes_from, args_from, ParamTerm, PlainTerm, DefaultTerm, BinderTerm, MarkTerm, StatementTerm, EmptyStatement, BlockStatement, AssignmentTerm, SpecialAssignmentTerm, ModuleTerm, FunctionTerm, InstanceStatement, StatementTerms, no_statements, and_statement, InstanceTerm, AnInstance, CoreTerm, IfTerm, IfElseTerm, ForTerm, IntersectionForTerm, ModuleCallTerm, BodyTerm, EmptyBody, BlockBody, InstanceBody, statements_from}
-use Rattle.scad_grammar.specs.Classes.{comma_sign, for_word, special, is}
+use Rattle.scad_ast.specs.Terms.{Term, NumberTerm, TextTerm, TruthTerm, UndefTerm, ChildCountTerm, SpecialTerm, NameTerm, CallTerm, ParenTerm, ListTerm, RangeTerm, SteppedRangeTerm, PostfixTerm, UnaryTerm, ChainTerm, ChoiceTerm, Terms, no_terms, and_term, ArgTerms, no_args, and_named, and_special, and_positional, SuffixTerms, no_suffixes, and_index, and_member, LinkTerms, no_links, and_link, LinkTerm, SuffixTerm, IndexTerm, MemberTerm, ArgTerm, NamedTerm, SpecialArgTerm, PositionalTerm, terms_from, links_from, suffixes_from, args_from, ParamTerm, PlainTerm, DefaultTerm, BinderTerm, ModifierTerm, StatementTerm, EmptyStatement, BlockStatement, AssignmentTerm, SpecialAssignmentTerm, ModuleTerm, FunctionTerm, InstanceStatement, StatementTerms, no_statements, and_statement, InstanceTerm, AnInstance, CoreTerm, IfTerm, IfElseTerm, ForTerm, IntersectionForTerm, ModuleCallTerm, BodyTerm, EmptyBody, BlockBody, InstanceBody, statements_from}
+use Rattle.scad_grammar.specs.Classes.{comma_sign, for_word, special_class, has_class}
 use Rattle.scad_grammar.specs.Grammar.{Rest, items, range, stepped_range, chain_term, choice_term, postfix_term, name_term, bracket_term, given_term, param_term, instance_term, loop_term, if_term}
 
 -- the depths of the first tokens, and what stands behind them
@@ -27,7 +27,7 @@ deep f ts = (map suc (f ts).0, (f ts).1)
 -- a comma, where one stands
 abbrev pub last_comma : Takes
 last_comma [] = ([], [])
-last_comma (t ∷ ts) = cond (is comma_sign t) (0 ∷ [], ts) ([], t ∷ ts)
+last_comma (t ∷ ts) = cond (has_class comma_sign t) (0 ∷ [], ts) ([], t ∷ ts)
 
 abbrev pub in_pair : Takes → Takes
 in_pair f = and_then one (and_then (deep f) one)
@@ -252,9 +252,9 @@ bracket_taken t (Some (x, range to)) ts = refl
 bracket_taken t (Some (x, stepped_range step to)) ts = refl
 
 pub given_taken : (t : Token) (x : Term) (ts : List Token) → argument (given_term t x) ts ≡ and_then one (and_then one (term x)) ts
-given_taken t x ts = go (is special t) refl
+given_taken t x ts = go (has_class special_class t) refl
   where
-    go : (b : Bool) → is special t ≡ b → argument (given_term t x) ts ≡ and_then one (and_then one (term x)) ts
+    go : (b : Bool) → has_class special_class t ≡ b → argument (given_term t x) ts ≡ and_then one (and_then one (term x)) ts
     go true e = rw e refl
     go false e = rw e refl
 
@@ -262,7 +262,7 @@ pub parameter_taken : (t : Token) (o : Option Term) (ts : List Token) → parame
 parameter_taken t None ts = refl
 parameter_taken t (Some x) ts = refl
 
-pub instance_taken : (ms : List MarkTerm) (c : CoreTerm) (ts : List Token) → instance (instance_term ms c) ts ≡ and_then (each (λ m. one) ms) (core c) ts
+pub instance_taken : (ms : List ModifierTerm) (c : CoreTerm) (ts : List Token) → instance (instance_term ms c) ts ≡ and_then (each (λ m. one) ms) (core c) ts
 instance_taken [] c ts = refl
 instance_taken (m ∷ ms) c ts = refl
 
@@ -274,8 +274,8 @@ if_taken p None ts = then_none (tested p) ts
 if_taken p (Some b) ts = refl
 
 pub loop_taken : (t : Token) (p : List BinderTerm × BodyTerm) (ts : List Token) → core (loop_term t p) ts ≡ and_then one (and_then (in_pair (separated binder p.0)) (deep (body p.1))) ts
-loop_taken t p ts = go (is for_word t) refl
+loop_taken t p ts = go (has_class for_word t) refl
   where
-    go : (b : Bool) → is for_word t ≡ b → core (loop_term t p) ts ≡ and_then one (and_then (in_pair (separated binder p.0)) (deep (body p.1))) ts
+    go : (b : Bool) → has_class for_word t ≡ b → core (loop_term t p) ts ≡ and_then one (and_then (in_pair (separated binder p.0)) (deep (body p.1))) ts
     go true e = rw e refl
     go false e = rw e refl

@@ -3,8 +3,8 @@ use Rattle.std.proofs.lemmas.Bool.Decides.{eqb_tells}
 use Rattle.std.proofs.Common.{◌≡◌, ℕ, List, [], ◌∷◌, ◌++◌, Bool, true, false, cond, nat_eq, not, Option, Some, None, ◌⊎◌, inl, inr, refl, sym, ap, ◌∙◌}
 use Rattle.scad_lexer.specs.declared.token.Token.{Token}
 use Rattle.scad_grammar.specs.declared.SyntaxFault.TheVariants.{Expected, NotInProfile}
-use Rattle.scad_grammar.specs.Classes.{is_listed, among, other_than, class_of}
-use Rattle.scad_grammar.specs.Reading.{starts}
+use Rattle.scad_grammar.specs.Classes.{is_listed, has_class_in, has_class_outside, token_class}
+use Rattle.scad_grammar.specs.Reading.{next_is}
 use Rattle.scad_grammar.specs.Languages.{Language, One}
 use Rattle.scad_grammar.specs.Faults.{TokenReader, one, first, fault_of, left_out_classes, left_out_of_expressions}
 use Rattle.scad_grammar.proofs.Readers.{IsReader, IsPlain, Both, one_reads, starts_of, starts_not, starts_less, never_starts, both_reads}
@@ -63,33 +63,33 @@ either_listed (x ∷ xs) ys k h = go (nat_eq k x) h (either_listed xs ys k)
     go false e f = f e
 
 -- the same of the next token
-pub next_apart : (xs ys : List ℕ) → apart xs ys ≡ true → (l : List Token) → starts (among xs) l ≡ true → starts (among ys) l ≡ false
-next_apart xs ys e = starts_not (among xs) (among ys) (λ t. classes_apart xs ys e (class_of t.kind))
+pub next_apart : (xs ys : List ℕ) → apart xs ys ≡ true → (l : List Token) → next_is (has_class_in xs) l ≡ true → next_is (has_class_in ys) l ≡ false
+next_apart xs ys e = starts_not (has_class_in xs) (has_class_in ys) (λ t. classes_apart xs ys e (token_class t.kind))
 
-pub next_within : (xs ys : List ℕ) → within xs ys ≡ true → (l : List Token) → starts (among xs) l ≡ true → starts (among ys) l ≡ true
-next_within xs ys e = starts_of (among xs) (among ys) (λ t. classes_within xs ys e (class_of t.kind))
+pub next_within : (xs ys : List ℕ) → within xs ys ≡ true → (l : List Token) → next_is (has_class_in xs) l ≡ true → next_is (has_class_in ys) l ≡ true
+next_within xs ys e = starts_of (has_class_in xs) (has_class_in ys) (λ t. classes_within xs ys e (token_class t.kind))
 
-pub next_less : (xs ys : List ℕ) → within xs ys ≡ true → (l : List Token) → starts (among ys) l ≡ false → starts (among xs) l ≡ false
-next_less xs ys e = starts_less (among ys) (among xs) (λ t. classes_less xs ys e (class_of t.kind))
+pub next_less : (xs ys : List ℕ) → within xs ys ≡ true → (l : List Token) → next_is (has_class_in ys) l ≡ false → next_is (has_class_in xs) l ≡ false
+next_less xs ys e = starts_less (has_class_in ys) (has_class_in xs) (λ t. classes_less xs ys e (token_class t.kind))
 
-pub next_other : (xs ys : List ℕ) → apart xs ys ≡ true → (l : List Token) → starts (among xs) l ≡ true → starts (other_than ys) l ≡ true
-next_other xs ys e = starts_of (among xs) (other_than ys) (λ t h. not_true (among ys t) (classes_apart xs ys e (class_of t.kind) h))
+pub next_other : (xs ys : List ℕ) → apart xs ys ≡ true → (l : List Token) → next_is (has_class_in xs) l ≡ true → next_is (has_class_outside ys) l ≡ true
+next_other xs ys e = starts_of (has_class_in xs) (has_class_outside ys) (λ t h. not_true (has_class_in ys t) (classes_apart xs ys e (token_class t.kind) h))
 
 -- after a list of arguments stands what ends it
-pub stops_at : (ys : List ℕ) (l : List Token) → starts (other_than ys) l ≡ false → (l ≡ []) ⊎ (starts (among ys) l ≡ true)
+pub stops_at : (ys : List ℕ) (l : List Token) → next_is (has_class_outside ys) l ≡ false → (l ≡ []) ⊎ (next_is (has_class_in ys) l ≡ true)
 stops_at ys [] h = inl refl
-stops_at ys (t ∷ l) h = inr (go (among ys t) h)
+stops_at ys (t ∷ l) h = inr (go (has_class_in ys t) h)
   where
     go : (b : Bool) → not b ≡ false → b ≡ true
     go true e = refl
     go false e = absurd (cc)
 
 -- nothing but what ends it goes on
-pub no_close : (ys zs : List ℕ) → apart ys zs ≡ true → (l : List Token) → starts (other_than ys) l ≡ false → starts (among zs) l ≡ false
-no_close ys zs e l h = elim (stops_at ys l h) [ inl p ↦ ap (starts (among zs)) p | inr p ↦ next_apart ys zs e l p ]
+pub no_close : (ys zs : List ℕ) → apart ys zs ≡ true → (l : List Token) → next_is (has_class_outside ys) l ≡ false → next_is (has_class_in zs) l ≡ false
+no_close ys zs e l h = elim (stops_at ys l h) [ inl p ↦ ap (next_is (has_class_in zs)) p | inr p ↦ next_apart ys zs e l p ]
 
-pub close_ends : (ys : List ℕ) (l : List Token) → starts (among ys) l ≡ true → starts (other_than ys) l ≡ false
-close_ends ys l = starts_not (among ys) (other_than ys) (λ t e. ap not e) l
+pub close_ends : (ys : List ℕ) (l : List Token) → next_is (has_class_in ys) l ≡ true → next_is (has_class_outside ys) l ≡ false
+close_ends ys l = starts_not (has_class_in ys) (has_class_outside ys) (λ t e. ap not e) l
 
 abbrev pub OneReads : (Token → Bool) → Type 0
 OneReads test = IsReader (one test) (One test) (One test) (λ x t. false)
@@ -100,7 +100,7 @@ plain_of false = tt
 
 pub fault_plain : (classes : List ℕ) (o : Option Token) → IsPlain (fault_of classes o)
 fault_plain classes None = tt
-fault_plain classes (Some t) = plain_of (among classes t)
+fault_plain classes (Some t) = plain_of (has_class_in classes t)
 
 pub one_at : (test : Token → Bool) → (t : Token) × (test t ≡ true) → OneReads test
 one_at test some = one_reads test (fault_of left_out_classes) (fault_plain left_out_classes) some
@@ -110,6 +110,6 @@ first_at test some = one_reads test (fault_of left_out_of_expressions) (fault_pl
 
 -- a token, and then something
 pub then : {B C : Type 0} (rb : TokenReader B) (Lb Wb : Language B) (test : Token → Bool) (mb : B → Token → Bool) (mc : C → Token → Bool) (f : Token → B → C) → OneReads test → IsReader rb Lb Wb mb → (w : List Token) × (y : B) × Wb y w
-    → ((t : Token) (y : B) (rest : List Token) → starts (mc (f t y)) rest ≡ false → starts (mb y) rest ≡ false)
+    → ((t : Token) (y : B) (rest : List Token) → next_is (mc (f t y)) rest ≡ false → next_is (mb y) rest ≡ false)
     → IsReader (both f (one test) rb) (Both f (One test) Lb) (Both f (One test) Wb) mc
 then rb Lb Wb test mb mc f it ib some down = both_reads f (one test) rb (One test) (One test) Lb Wb (λ x t. false) mb mc it ib some (λ x y s rest h e. never_starts (s ++ rest)) down

@@ -2,11 +2,11 @@
 use Rattle.std.proofs.Common.{◌≡◌, ℕ, zero, suc, List, [], ◌∷◌, ◌++◌, map, Bool, true, false, cond, Option, Some, None, inl, inr, refl, sym, ap, ◌∙◌, subst, append_assoc, append-nil}
 use Rattle.scad_lexer.specs.declared.token.Token.{Token}
 use Rattle.scad_ast.specs.Terms.{Term, ArgTerm, PositionalTerm, ParamTerm, BinderTerm, StatementTerm, InstanceStatement, InstanceTerm, BodyTerm, InstanceBody, statements_from}
-use Rattle.scad_grammar.specs.Classes.{numeral, text, true_word, false_word, undef_word, child_count, special, open_parenthesis_sign, close_parenthesis_sign, open_bracket_sign, close_bracket_sign, open_brace_sign, close_brace_sign, comma_sign, semicolon_sign, assign_sign, colon_sign, question_sign, dot_sign, name, end, if_word, else_word, for_word, intersection_for_word, module_word, function_word, class_of, is, among}
-use Rattle.scad_grammar.specs.Languages.{Language, One, Mapped, Both, BothIf, EitherOf, Nothing, Many, Maybe, Never, Behind, Before, Separated, first_of, second_of, pair_of, cons}
-use Rattle.scad_grammar.specs.Grammar.{InParentheses, items, range_rest, Arg, Args, Param, Params, Binders, Bracket, Primary, Suffix, Unary, Chain, Choice, whole, ArgsIn, ParamsIn, BindersIn, StatementsIn, InstanceIn, Expr, Operand, Core, Instance, BodyOf, StatementOf, Statement, Body, WholeProgram, levels, link, chain_term, choice_term, unary_term, postfix_term, index_term, member_term, name_term, paren_term, bracket_term, given_term, param_term, binder_term, if_term, IsNearest, instance_term, loop_term, call_term, block_term, bare_block_term, assignment_term, special_assignment_term, module_term, function_term}
-use Rattle.scad_grammar.specs.Reading.{starts}
-use Rattle.scad_grammar.specs.Depths.{Depths, deeper, one_depth, mapped_depths, both_depths, both_if_depths, of_either, either_depths, nothing_depths, of_many, many_depths, of_maybe, maybe_depths, never_depths, behind_depths, before_depths, separated_depths, parentheses_depths, arg_depths, args_depths, param_depths, params_depths, binders_depths, bracket_depths, primary_depths, suffix_depths, unary_depths, chain_depths, choice_depths, args_in_depths, params_in_depths, binders_in_depths, expr_depths, operand_depths, core_depths, instance_depths, body_of_depths, statement_of_depths, statements_in_depths, instance_in_depths, statement_depths, body_depths, program_depths, HasDepths}
+use Rattle.scad_grammar.specs.Classes.{numeral_class, text_class, true_word, false_word, undef_word, child_count_class, special_class, open_parenthesis_sign, close_parenthesis_sign, open_bracket_sign, close_bracket_sign, open_brace_sign, close_brace_sign, comma_sign, semicolon_sign, assign_sign, colon_sign, question_sign, dot_sign, name_class, end_class, if_word, else_word, for_word, intersection_for_word, module_word, function_word, token_class, has_class, has_class_in}
+use Rattle.scad_grammar.specs.Languages.{Language, One, ImageOf, Both, BothIf, EitherOf, Nothing, Many, Maybe, Never, AfterToken, BeforeToken, SeparatedList, first_of, second_of, pair_of, cons}
+use Rattle.scad_grammar.specs.Grammar.{InParentheses, items, range_rest, Arg, Args, Param, Params, Binders, Bracket, Primary, Suffix, Unary, Chain, Choice, whole, ArgsIn, ParamsIn, BindersIn, StatementsIn, InstanceIn, Expr, Operand, CoreOf, Instance, BodyOf, StatementOf, Statement, Body, WholeProgram, levels, link, chain_term, choice_term, unary_term, postfix_term, index_term, member_term, name_term, paren_term, bracket_term, given_term, param_term, binder_term, if_term, IsNearest, instance_term, loop_term, call_term, block_term, bare_block_term, assignment_term, special_assignment_term, module_term, function_term}
+use Rattle.scad_grammar.specs.Reading.{next_is}
+use Rattle.scad_grammar.specs.Depths.{Depths, deeper, one_depth, image_depths, both_depths, both_if_depths, of_either, either_depths, nothing_depths, of_many, many_depths, of_maybe, maybe_depths, never_depths, after_token_depths, before_token_depths, separated_list_depths, parentheses_depths, arg_depths, args_depths, param_depths, params_depths, binders_depths, bracket_depths, primary_depths, suffix_depths, unary_depths, chain_depths, choice_depths, args_in_depths, params_in_depths, binders_in_depths, expr_depths, operand_depths, core_depths, instance_depths, body_of_depths, statement_of_depths, statements_in_depths, instance_in_depths, statement_depths, body_depths, program_depths, HasDepths}
 use Rattle.scad_grammar.proofs.Tests.{apart, classes_apart}
 use Rattle.scad_grammar.proofs.Programs.{one_program}
 use Rattle.scad_grammar.proofs.Taken.{Taken, Takes, one, none, and_then, deep, last_comma, in_pair, each, perhaps, more, items_taken, separated, term, link_taken, suffix_taken, argument, rest_taken, range_taken, parameter, binder, statement, statements, instance, core, body, same_pair, statements_taken, chain_taken, postfix_taken, sides, choice_taken, named_taken, inner_taken, bracket_taken, given_taken, parameter_taken, instance_taken, tested, if_taken, loop_taken}
@@ -19,7 +19,7 @@ abbrev any : List Token → Type 0
 any r = Unit {0}
 
 abbrev no_comma : List Token → Type 0
-no_comma r = starts (is comma_sign) r ≡ false
+no_comma r = next_is (has_class comma_sign) r ≡ false
 
 weaker : {A : Type 0} {w : A → Takes} {L : Language A} {D : Depths L} → Walks w any L D → Walks w no_comma L D
 weaker h = record { at = λ x s e r n. h.at x s e r tt }
@@ -31,8 +31,8 @@ one_walks : (test : Token → Bool) → Walks (λ t. one) any (One test) (one_de
 unfolding one_depth
 one_walks test = record { at = λ t s h r n. ap (λ s. one (s ++ r)) h.1 }
 
-mapped_walks : {A B : Type 0} (f : A → B) {w : A → Takes} (v : B → Takes) {stops : List Token → Type 0} {L : Language A} {D : Depths L} → ((a : A) (ts : List Token) → v (f a) ts ≡ w a ts) → Walks w stops L D → Walks v stops (Mapped f L) (mapped_depths f D)
-unfolding mapped_depths
+mapped_walks : {A B : Type 0} (f : A → B) {w : A → Takes} (v : B → Takes) {stops : List Token → Type 0} {L : Language A} {D : Depths L} → ((a : A) (ts : List Token) → v (f a) ts ≡ w a ts) → Walks w stops L D → Walks v stops (ImageOf f L) (image_depths f D)
+unfolding image_depths
 mapped_walks f v same h = record { at = λ b s x r n. ap (λ b. v b (s ++ r)) x.2 ∙ same x.0 (s ++ r) ∙ h.at x.0 s x.1 r n }
 
 both_walks : {A B C : Type 0} (f : A → B → C) (wa : A → Takes) (wb : B → Takes) (wc : C → Takes) {sa sb : List Token → Type 0} {La : Language A} {Lb : Language B} {D : Depths La} {E : Depths Lb}
@@ -103,26 +103,26 @@ no_comma_there : (r : List Token) → no_comma r → last_comma r ≡ ([], r)
 no_comma_there [] n = refl
 no_comma_there (t ∷ r) n = ap (λ b. cond b (0 ∷ [], r) ([], t ∷ r)) n
 
-comma_at : (o : Option Token) (s : List Token) (h : Maybe (One (is comma_sign)) o s) (r : List Token) → no_comma r → last_comma (s ++ r) ≡ (of_maybe (One (is comma_sign)) (one_depth (is comma_sign)) o s h, r)
+comma_at : (o : Option Token) (s : List Token) (h : Maybe (One (has_class comma_sign)) o s) (r : List Token) → no_comma r → last_comma (s ++ r) ≡ (of_maybe (One (has_class comma_sign)) (one_depth (has_class comma_sign)) o s h, r)
 unfolding one_depth
 comma_at None s h r n = ap (λ s. last_comma (s ++ r)) h ∙ no_comma_there r n
 comma_at (Some t) s h r n = ap (λ s. last_comma (s ++ r)) h.1 ∙ ap (λ b. cond b (0 ∷ [], r) ([], t ∷ r)) h.0
 
-comma_walks : Walks (λ o. last_comma) no_comma (Maybe (One (is comma_sign))) (maybe_depths (one_depth (is comma_sign)))
+comma_walks : Walks (λ o. last_comma) no_comma (Maybe (One (has_class comma_sign))) (maybe_depths (one_depth (has_class comma_sign)))
 unfolding maybe_depths
 comma_walks = record { at = comma_at }
 
-behind_walks : {A : Type 0} (c : ℕ) {w : A → Takes} {stops : List Token → Type 0} {L : Language A} {D : Depths L} → Walks w stops L D → Walks (λ x. and_then one (w x)) stops (Behind (is c) L) (behind_depths (is c) D)
-behind_walks c {w} h = any_walks second_of (λ t. one) w (λ x. and_then one (w x)) (λ a b ts. refl) (one_walks (is c)) h
+behind_walks : {A : Type 0} (c : ℕ) {w : A → Takes} {stops : List Token → Type 0} {L : Language A} {D : Depths L} → Walks w stops L D → Walks (λ x. and_then one (w x)) stops (AfterToken (has_class c) L) (after_token_depths (has_class c) D)
+behind_walks c {w} h = any_walks second_of (λ t. one) w (λ x. and_then one (w x)) (λ a b ts. refl) (one_walks (has_class c)) h
 
-ended_walks : {A : Type 0} (c : ℕ) {w : A → Takes} {stops : List Token → Type 0} {L : Language A} {D : Depths L} → ((t : Token) (r : List Token) → is c t ≡ true → stops (t ∷ r)) → Walks w stops L D → Walks (λ x. and_then (w x) one) any (Before L (is c)) (before_depths (is c) D)
-ended_walks c {w} {stops} before h = both_walks first_of w (λ t. one) (λ x. and_then (w x) one) (λ a b p q ts x y. refl) (λ t q r x n. subst (λ q. stops (q ++ r)) (sym x.1) (before t r x.0)) h (one_walks (is c))
+ended_walks : {A : Type 0} (c : ℕ) {w : A → Takes} {stops : List Token → Type 0} {L : Language A} {D : Depths L} → ((t : Token) (r : List Token) → has_class c t ≡ true → stops (t ∷ r)) → Walks w stops L D → Walks (λ x. and_then (w x) one) any (BeforeToken L (has_class c)) (before_token_depths (has_class c) D)
+ended_walks c {w} {stops} before h = both_walks first_of w (λ t. one) (λ x. and_then (w x) one) (λ a b p q ts x y. refl) (λ t q r x n. subst (λ q. stops (q ++ r)) (sym x.1) (before t r x.0)) h (one_walks (has_class c))
 
-before_walks : {A : Type 0} (c : ℕ) {w : A → Takes} {L : Language A} {D : Depths L} → Walks w any L D → Walks (λ x. and_then (w x) one) any (Before L (is c)) (before_depths (is c) D)
+before_walks : {A : Type 0} (c : ℕ) {w : A → Takes} {L : Language A} {D : Depths L} → Walks w any L D → Walks (λ x. and_then (w x) one) any (BeforeToken L (has_class c)) (before_token_depths (has_class c) D)
 before_walks c h = ended_walks c (λ t r e. tt) h
 
-closing : (c : ℕ) → apart (c ∷ []) (comma_sign ∷ []) ≡ true → (t : Token) (r : List Token) → is c t ≡ true → no_comma (t ∷ r)
-closing c a t r e = classes_apart (c ∷ []) (comma_sign ∷ []) a (class_of t.kind) e
+closing : (c : ℕ) → apart (c ∷ []) (comma_sign ∷ []) ≡ true → (t : Token) (r : List Token) → has_class c t ≡ true → no_comma (t ∷ r)
+closing c a t r e = classes_apart (c ∷ []) (comma_sign ∷ []) a (token_class t.kind) e
 
 parentheses_walks : {A : Type 0} {w : A → Takes} {L : Language A} {D : Depths L} → Walks w any L D → Walks (λ x. in_pair (w x)) any (InParentheses L) (parentheses_depths D)
 parentheses_walks h = behind_walks open_parenthesis_sign (before_walks close_parenthesis_sign (deep_walks h))
@@ -130,7 +130,7 @@ parentheses_walks h = behind_walks open_parenthesis_sign (before_walks close_par
 list_walks : {A : Type 0} {w : A → Takes} {L : Language A} {D : Depths L} → Walks w no_comma L D → Walks (λ x. in_pair (w x)) any (InParentheses L) (parentheses_depths D)
 list_walks h = behind_walks open_parenthesis_sign (ended_walks close_parenthesis_sign (closing close_parenthesis_sign refl) (deep_walks h))
 
-separated_walks : {A : Type 0} {w : A → Takes} {L : Language A} {D : Depths L} → Walks w any L D → Walks (separated w) no_comma (Separated (is comma_sign) L) (separated_depths (is comma_sign) D)
+separated_walks : {A : Type 0} {w : A → Takes} {L : Language A} {D : Depths L} → Walks w any L D → Walks (separated w) no_comma (SeparatedList (has_class comma_sign) L) (separated_list_depths (has_class comma_sign) D)
 separated_walks {A} {w} h =
     any_walks first_of (items_taken w) (λ o. last_comma) (separated w) (λ a b ts. refl)
     (any_walks cons w (each (more w)) (items_taken w) (λ x xs ts. refl) h (many_walks (behind_walks comma_sign h))) comma_walks
@@ -156,44 +156,44 @@ module _ (L : Language Term) (D : Depths L) (e : Walks term any L D) where
   args_walks = either_walks (separated_walks arg_walks) (no_items argument)
 
   param_walks : Walks parameter any (Param L) (param_depths D)
-  param_walks = any_walks param_term (λ t. one) (perhaps (λ x. and_then one (term x))) parameter parameter_taken (one_walks (is name)) (maybe_walks (behind_walks assign_sign e))
+  param_walks = any_walks param_term (λ t. one) (perhaps (λ x. and_then one (term x))) parameter parameter_taken (one_walks (has_class name_class)) (maybe_walks (behind_walks assign_sign e))
 
   params_walks : Walks (separated parameter) no_comma (Params (Param L)) (params_depths (param_depths D))
   params_walks = either_walks (separated_walks param_walks) (no_items parameter)
 
   binders_walks : Walks (separated binder) no_comma (Binders L) (binders_depths D)
-  binders_walks = separated_walks (any_walks binder_term (λ t. one) (λ x. and_then one (term x)) binder (λ t x ts. refl) (one_walks (is name)) (behind_walks assign_sign e))
+  binders_walks = separated_walks (any_walks binder_term (λ t. one) (λ x. and_then one (term x)) binder (λ t x ts. refl) (one_walks (has_class name_class)) (behind_walks assign_sign e))
 
-  range_walks : Walks rest_taken no_comma (Behind (is colon_sign) (Both range_rest L (Maybe (Behind (is colon_sign) L)))) (behind_depths (is colon_sign) (both_depths range_rest D (maybe_depths (behind_depths (is colon_sign) D))))
+  range_walks : Walks rest_taken no_comma (AfterToken (has_class colon_sign) (Both range_rest L (Maybe (AfterToken (has_class colon_sign) L)))) (after_token_depths (has_class colon_sign) (both_depths range_rest D (maybe_depths (after_token_depths (has_class colon_sign) D))))
   range_walks =
       weaker (both_walks second_of (λ t. one) range_taken rest_taken
-      (λ t b p q ts x y. subst (λ b. rest_taken b ts ≡ and_then one (range_taken b) ts) (sym y.6) (colon_first y.0 y.1 ts)) (λ b q r x n. tt) (one_walks (is colon_sign))
+      (λ t b p q ts x y. subst (λ b. rest_taken b ts ≡ and_then one (range_taken b) ts) (sym y.6) (colon_first y.0 y.1 ts)) (λ b q r x n. tt) (one_walks (has_class colon_sign))
       (any_walks range_rest term (perhaps (λ y. and_then one (term y))) range_taken of_range e (maybe_walks (behind_walks colon_sign e))))
 
-  items_walks : Walks rest_taken no_comma (Mapped items (Both first_of (Many (Behind (is comma_sign) L)) (Maybe (One (is comma_sign))))) (mapped_depths items (both_depths first_of (many_depths (behind_depths (is comma_sign) D)) (maybe_depths (one_depth (is comma_sign)))))
+  items_walks : Walks rest_taken no_comma (ImageOf items (Both first_of (Many (AfterToken (has_class comma_sign) L)) (Maybe (One (has_class comma_sign))))) (image_depths items (both_depths first_of (many_depths (after_token_depths (has_class comma_sign) D)) (maybe_depths (one_depth (has_class comma_sign)))))
   items_walks =
       mapped_walks items rest_taken (λ xs ts. refl)
       (any_walks first_of (each (more term)) (λ o. last_comma) (λ xs. and_then (each (more term) xs) last_comma) (λ a b ts. refl) (many_walks (behind_walks comma_sign e)) comma_walks)
 
   bracket_walks : Walks term any (Bracket L) (bracket_depths D)
   bracket_walks =
-      any_walks bracket_term (λ t. one) (λ o. and_then (deep (inner_taken o)) one) term bracket_taken (one_walks (is open_bracket_sign))
+      any_walks bracket_term (λ t. one) (λ o. and_then (deep (inner_taken o)) one) term bracket_taken (one_walks (has_class open_bracket_sign))
       (ended_walks close_bracket_sign (closing close_bracket_sign refl)
       (deep_walks (maybe_walks (any_walks pair_of term rest_taken (λ p. and_then (term p.0) (rest_taken p.1)) (λ a b ts. refl) e (either_walks range_walks items_walks)))))
 
   suffix_walks : Walks suffix_taken any (Suffix L) (suffix_depths D)
   suffix_walks =
-      either_walks (any_walks index_term (λ t. one) (λ x. and_then (deep (term x)) one) suffix_taken (λ t x ts. refl) (one_walks (is open_bracket_sign)) (before_walks close_bracket_sign (deep_walks e)))
-      (any_walks member_term (λ t. one) (λ t. one) suffix_taken (λ t u ts. refl) (one_walks (is dot_sign)) (one_walks (is name)))
+      either_walks (any_walks index_term (λ t. one) (λ x. and_then (deep (term x)) one) suffix_taken (λ t x ts. refl) (one_walks (has_class open_bracket_sign)) (before_walks close_bracket_sign (deep_walks e)))
+      (any_walks member_term (λ t. one) (λ t. one) suffix_taken (λ t u ts. refl) (one_walks (has_class dot_sign)) (one_walks (has_class name_class)))
 
   chain_walks : (below : List (List ℕ)) → Walks term any (Chain below L) (chain_depths below D)
   chain_walks [] = e
   chain_walks (ops ∷ below) =
       any_walks chain_term term (each link_taken) term chain_taken (chain_walks below)
-      (many_walks (any_walks link (λ t. one) term link_taken (λ t x ts. refl) (one_walks (among ops)) (chain_walks below)))
+      (many_walks (any_walks link (λ t. one) term link_taken (λ t x ts. refl) (one_walks (has_class_in ops)) (chain_walks below)))
 
-one_of_term : (f : Token → Term) (c : ℕ) → ((t : Token) (ts : List Token) → term (f t) ts ≡ one ts) → Walks term any (Mapped f (One (is c))) (mapped_depths f (one_depth (is c)))
-one_of_term f c same = mapped_walks f term same (one_walks (is c))
+one_of_term : (f : Token → Term) (c : ℕ) → ((t : Token) (ts : List Token) → term (f t) ts ≡ one ts) → Walks term any (ImageOf f (One (has_class c))) (image_depths f (one_depth (has_class c)))
+one_of_term f c same = mapped_walks f term same (one_walks (has_class c))
 
 abbrev sides_of : Term × Term → Takes
 sides_of q = and_then (deep (term q.0)) (and_then one (deep (term q.1)))
@@ -201,10 +201,10 @@ sides_of q = and_then (deep (term q.0)) (and_then one (deep (term q.1)))
 module _ (L : Language Term) (D : Depths L) (e : Walks term any L D) (As : Language (List ArgTerm)) (DA : Depths As) (a : Walks (separated argument) no_comma As DA) (U : Language Term) (DU : Depths U) (u : Walks term any U DU) where
   primary_walks : Walks term any (Primary L As) (primary_depths D DA)
   primary_walks =
-      either_walks (one_of_term _ numeral (λ t ts. refl)) (either_walks (one_of_term _ text (λ t ts. refl)) (either_walks (one_of_term _ true_word (λ t ts. refl)) (either_walks (one_of_term _ false_word (λ t ts. refl))
-      (either_walks (one_of_term _ undef_word (λ t ts. refl)) (either_walks (one_of_term _ child_count (λ t ts. refl)) (either_walks (one_of_term _ special (λ t ts. refl))
-      (either_walks (any_walks name_term (λ t. one) (perhaps (λ xs. in_pair (separated argument xs))) term named_taken (one_walks (is name)) (maybe_walks (list_walks a)))
-      (either_walks (any_walks paren_term (λ t. one) (λ x. and_then (deep (term x)) one) term (λ t x ts. refl) (one_walks (is open_parenthesis_sign)) (before_walks close_parenthesis_sign (deep_walks e))) (bracket_walks L D e)))))))))
+      either_walks (one_of_term _ numeral_class (λ t ts. refl)) (either_walks (one_of_term _ text_class (λ t ts. refl)) (either_walks (one_of_term _ true_word (λ t ts. refl)) (either_walks (one_of_term _ false_word (λ t ts. refl))
+      (either_walks (one_of_term _ undef_word (λ t ts. refl)) (either_walks (one_of_term _ child_count_class (λ t ts. refl)) (either_walks (one_of_term _ special_class (λ t ts. refl))
+      (either_walks (any_walks name_term (λ t. one) (perhaps (λ xs. in_pair (separated argument xs))) term named_taken (one_walks (has_class name_class)) (maybe_walks (list_walks a)))
+      (either_walks (any_walks paren_term (λ t. one) (λ x. and_then (deep (term x)) one) term (λ t x ts. refl) (one_walks (has_class open_parenthesis_sign)) (before_walks close_parenthesis_sign (deep_walks e))) (bracket_walks L D e)))))))))
 
   unary_walks : Walks term any (Unary L As U) (unary_depths D DA DU)
   unary_walks =
@@ -214,7 +214,7 @@ module _ (L : Language Term) (D : Depths L) (e : Walks term any L D) (As : Langu
   choice_walks : Walks term any (Choice L As U) (choice_depths D DA DU)
   choice_walks =
       any_walks choice_term term (perhaps sides) term choice_taken (chain_walks (Unary L As U) (unary_depths D DA DU) unary_walks levels)
-      (maybe_walks (any_walks pair_of (λ t. one) sides_of sides (λ t q ts. refl) (one_walks (is question_sign))
+      (maybe_walks (any_walks pair_of (λ t. one) sides_of sides (λ t q ts. refl) (one_walks (has_class question_sign))
       (any_walks pair_of (λ x. deep (term x)) (λ y. and_then one (deep (term y))) sides_of (λ x y ts. refl) (deep_walks e) (behind_walks colon_sign (deep_walks e)))))
 
 args_in_walks : (k : ℕ) → Walks term any (Expr whole k) (expr_depths k) → Walks (separated argument) no_comma (ArgsIn k (Expr whole k)) (args_in_depths k (expr_depths k))
@@ -253,16 +253,16 @@ abbrev with_body : {A : Type 0} → (A → Takes) → A × BodyTerm → Takes
 with_body w p = and_then (in_pair (w p.0)) (deep (body p.1))
 
 module _ (E : Language Term) (DE : Depths E) (e : Walks term any E DE) (As : Language (List ArgTerm)) (DA : Depths As) (a : Walks (separated argument) no_comma As DA) (Ns : Language (List BinderTerm)) (DN : Depths Ns) (n : Walks (separated binder) no_comma Ns DN) (B : Language BodyTerm) (DB : Depths B) (b : Walks body any B DB) where
-  core_walks : Walks core any (Core E As Ns B) (core_depths DE DA DN DB)
+  core_walks : Walks core any (CoreOf E As Ns B) (core_depths DE DA DN DB)
   core_walks =
       either_walks
       (if_walks tested (perhaps (λ y. and_then one (deep (body y)))) if_taken
-      (any_walks pair_of (λ t. one) (with_body term) tested (λ t p ts. refl) (one_walks (is if_word)) (any_walks pair_of (λ x. in_pair (term x)) (λ y. deep (body y)) (with_body term) (λ x y ts. refl) (parentheses_walks e) (deep_walks b)))
+      (any_walks pair_of (λ t. one) (with_body term) tested (λ t p ts. refl) (one_walks (has_class if_word)) (any_walks pair_of (λ x. in_pair (term x)) (λ y. deep (body y)) (with_body term) (λ x y ts. refl) (parentheses_walks e) (deep_walks b)))
       (maybe_walks (behind_walks else_word (deep_walks b))))
       (either_walks
-      (any_walks loop_term (λ t. one) (with_body (separated binder)) core loop_taken (one_walks (among (for_word ∷ intersection_for_word ∷ [])))
+      (any_walks loop_term (λ t. one) (with_body (separated binder)) core loop_taken (one_walks (has_class_in (for_word ∷ intersection_for_word ∷ [])))
       (any_walks pair_of (λ x. in_pair (separated binder x)) (λ y. deep (body y)) (with_body (separated binder)) (λ x y ts. refl) (list_walks n) (deep_walks b)))
-      (any_walks call_term (λ t. one) (with_body (separated argument)) core (λ t p ts. refl) (one_walks (is name))
+      (any_walks call_term (λ t. one) (with_body (separated argument)) core (λ t p ts. refl) (one_walks (has_class name_class))
       (any_walks pair_of (λ x. in_pair (separated argument x)) (λ y. deep (body y)) (with_body (separated argument)) (λ x y ts. refl) (list_walks a) (deep_walks b))))
 
   instance_walks : Walks instance any (Instance E As Ns B) (instance_depths DE DA DN DB)
@@ -283,24 +283,24 @@ function_taken p = and_then one (and_then (in_pair (separated parameter p.1.0)) 
 module _ (I : Language InstanceTerm) (DI : Depths I) (i : Walks instance any I DI) (Ss : Language (List StatementTerm)) (DS : Depths Ss) (s : Walks (each statement) any Ss DS) where
   body_of_walks : Walks body any (BodyOf I Ss) (body_of_depths DI DS)
   body_of_walks =
-      either_walks (mapped_walks _ body (λ t ts. refl) (one_walks (is semicolon_sign)))
-      (either_walks (any_walks block_term (λ t. one) (λ x. and_then (deep (each statement x)) one) body (λ t x ts. same_braces x ts) (one_walks (is open_brace_sign)) (before_walks close_brace_sign (deep_walks s)))
+      either_walks (mapped_walks _ body (λ t ts. refl) (one_walks (has_class semicolon_sign)))
+      (either_walks (any_walks block_term (λ t. one) (λ x. and_then (deep (each statement x)) one) body (λ t x ts. same_braces x ts) (one_walks (has_class open_brace_sign)) (before_walks close_brace_sign (deep_walks s)))
       (mapped_walks InstanceBody body (λ x ts. refl) i))
 
   statement_of_walks : (X : Language Term) (DX : Depths X) → Walks term any X DX → (Ps : Language (List ParamTerm)) (DP : Depths Ps) → Walks (separated parameter) no_comma Ps DP → (B : Language BodyTerm) (DB : Depths B) → Walks body any B DB
       → Walks statement any (StatementOf X Ps I Ss B) (statement_of_depths DX DP DI DS DB)
   statement_of_walks X DX x Ps DP p B DB b =
-      either_walks (mapped_walks _ statement (λ t ts. refl) (one_walks (is semicolon_sign)))
-      (either_walks (any_walks bare_block_term (λ t. one) (λ y. and_then (deep (each statement y)) one) statement (λ t y ts. same_braces y ts) (one_walks (is open_brace_sign)) (before_walks close_brace_sign (deep_walks s)))
-      (either_walks (any_walks special_assignment_term (λ t. one) value_ended statement (λ t y ts. refl) (one_walks (is special)) (behind_walks assign_sign (before_walks semicolon_sign x)))
-      (either_walks (any_walks assignment_term (λ t. one) value_ended statement (λ t y ts. refl) (one_walks (is name)) (behind_walks assign_sign (before_walks semicolon_sign x)))
+      either_walks (mapped_walks _ statement (λ t ts. refl) (one_walks (has_class semicolon_sign)))
+      (either_walks (any_walks bare_block_term (λ t. one) (λ y. and_then (deep (each statement y)) one) statement (λ t y ts. same_braces y ts) (one_walks (has_class open_brace_sign)) (before_walks close_brace_sign (deep_walks s)))
+      (either_walks (any_walks special_assignment_term (λ t. one) value_ended statement (λ t y ts. refl) (one_walks (has_class special_class)) (behind_walks assign_sign (before_walks semicolon_sign x)))
+      (either_walks (any_walks assignment_term (λ t. one) value_ended statement (λ t y ts. refl) (one_walks (has_class name_class)) (behind_walks assign_sign (before_walks semicolon_sign x)))
       (either_walks
-      (any_walks module_term (λ t. one) module_taken statement (λ t q ts. refl) (one_walks (is module_word))
-      (any_walks pair_of (λ t. one) (with_body (separated parameter)) module_taken (λ t q ts. refl) (one_walks (is name))
+      (any_walks module_term (λ t. one) module_taken statement (λ t q ts. refl) (one_walks (has_class module_word))
+      (any_walks pair_of (λ t. one) (with_body (separated parameter)) module_taken (λ t q ts. refl) (one_walks (has_class name_class))
       (any_walks pair_of (λ y. in_pair (separated parameter y)) (λ y. deep (body y)) (with_body (separated parameter)) (λ y z ts. refl) (list_walks p) (deep_walks b))))
       (either_walks
-      (any_walks function_term (λ t. one) function_taken statement (λ t q ts. refl) (one_walks (is function_word))
-      (any_walks pair_of (λ t. one) (λ q. and_then (in_pair (separated parameter q.0)) (value_ended q.1)) function_taken (λ t q ts. refl) (one_walks (is name))
+      (any_walks function_term (λ t. one) function_taken statement (λ t q ts. refl) (one_walks (has_class function_word))
+      (any_walks pair_of (λ t. one) (λ q. and_then (in_pair (separated parameter q.0)) (value_ended q.1)) function_taken (λ t q ts. refl) (one_walks (has_class name_class))
       (any_walks pair_of (λ y. in_pair (separated parameter y)) value_ended (λ q. and_then (in_pair (separated parameter q.0)) (value_ended q.1)) (λ y z ts. refl) (list_walks p) (behind_walks assign_sign (before_walks semicolon_sign x)))))
       (mapped_walks InstanceStatement statement (λ y ts. refl) i))))))
 
@@ -349,7 +349,7 @@ statement_walks zero = no_statement
 statement_walks (suc k) = next_statement k (body_walks k)
 
 program_walks : (k : ℕ) → Walks (λ x. and_then (each statement x) one) any (WholeProgram k) (program_depths k)
-program_walks k = before_walks end (many_walks (statement_walks k))
+program_walks k = before_walks end_class (many_walks (statement_walks k))
 
 told : (x : List StatementTerm) (s : List Token) (depths : List ℕ) → HasDepths x s depths → and_then (each statement x) one (s ++ []) ≡ (depths, [])
 told x s depths h = (program_walks h.0).at x s h.1 [] tt ∙ ap (λ (l : List ℕ). (l, [])) (sym h.2)

@@ -2,9 +2,9 @@
 use Rattle.std.proofs.Common.{ℕ, zero, suc, ◌+◌, ◌≤◌, List, [], ◌∷◌, Bool, Option, Some, None, inl, inr, arith}
 use Rattle.scad_lexer.specs.declared.token.Token.{Token}
 use Rattle.scad_ast.specs.Terms.{Term, ArgTerm, StatementTerm, InstanceStatement, InstanceTerm, ParamTerm, BinderTerm, BodyTerm, InstanceBody, PositionalTerm}
-use Rattle.scad_grammar.specs.Classes.{open_parenthesis_sign, close_parenthesis_sign, close_bracket_sign, open_brace_sign, close_brace_sign, comma_sign, semicolon_sign, assign_sign, colon_sign, question_sign, open_bracket_sign, name, end, if_word, else_word, is, among}
-use Rattle.scad_grammar.specs.Languages.{Language, One, Mapped, Both, BothIf, EitherOf, Nothing, Many, Maybe, Never, Behind, Before, Separated, first_of, second_of, pair_of, cons}
-use Rattle.scad_grammar.specs.Grammar.{InParentheses, Arg, Args, Param, Params, Binders, Bracket, Primary, Suffix, Unary, Chain, Choice, Detail, whole, outline, ArgsIn, ParamsIn, BindersIn, StatementsIn, InstanceIn, Expr, Operand, Instance, BodyOf, StatementOf, Statement, Body, ProgramIn, WholeProgram, Outline, levels, link, chain_term, items, if_term, IsNearest}
+use Rattle.scad_grammar.specs.Classes.{open_parenthesis_sign, close_parenthesis_sign, close_bracket_sign, open_brace_sign, close_brace_sign, comma_sign, semicolon_sign, assign_sign, colon_sign, question_sign, open_bracket_sign, name_class, end_class, if_word, else_word, has_class, has_class_in}
+use Rattle.scad_grammar.specs.Languages.{Language, One, ImageOf, Both, BothIf, EitherOf, Nothing, Many, Maybe, Never, AfterToken, BeforeToken, SeparatedList, first_of, second_of, pair_of, cons}
+use Rattle.scad_grammar.specs.Grammar.{InParentheses, Arg, Args, Param, Params, Binders, Bracket, Primary, Suffix, Unary, Chain, Choice, Detail, whole, outline, ArgsIn, ParamsIn, BindersIn, StatementsIn, InstanceIn, Expr, Operand, Instance, BodyOf, StatementOf, Statement, Body, ProgramIn, WholeProgram, ProgramOutline, levels, link, chain_term, items, if_term, IsNearest}
 
 record Within {A : Type 0} (L M : Language A) : Type 0 where
   at : (x : A) (s : List Token) → L x s → M x s
@@ -21,7 +21,7 @@ both_if_within f Fit h k = record { at = λ c s x. (x.0, x.1, x.2, x.3, h.at x.0
 either_within : {A : Type 0} {La Ma Lb Mb : Language A} → Within La Ma → Within Lb Mb → Within (EitherOf La Lb) (EitherOf Ma Mb)
 either_within h k = record { at = λ x s y. elim y [ inl z ↦ inl (h.at x s z) | inr z ↦ inr (k.at x s z) ] }
 
-mapped_within : {A B : Type 0} (f : A → B) {L M : Language A} → Within L M → Within (Mapped f L) (Mapped f M)
+mapped_within : {A B : Type 0} (f : A → B) {L M : Language A} → Within L M → Within (ImageOf f L) (ImageOf f M)
 mapped_within f h = record { at = λ b s x. (x.0, h.at x.0 s x.1, x.2) }
 
 many_at : {A : Type 0} (L M : Language A) → Within L M → (xs : List A) (s : List Token) → Many L xs s → Many M xs s
@@ -38,66 +38,66 @@ maybe_at L M h (Some y) s x = h.at y s x
 maybe_within : {A : Type 0} {L M : Language A} → Within L M → Within (Maybe L) (Maybe M)
 maybe_within {A} {L} {M} h = record { at = maybe_at L M h }
 
-behind_within : {A : Type 0} (test : Token → Bool) {L M : Language A} → Within L M → Within (Behind test L) (Behind test M)
+behind_within : {A : Type 0} (test : Token → Bool) {L M : Language A} → Within L M → Within (AfterToken test L) (AfterToken test M)
 behind_within test h = both_within second_of (same_within (One test)) h
 
-before_within : {A : Type 0} (test : Token → Bool) {L M : Language A} → Within L M → Within (Before L test) (Before M test)
+before_within : {A : Type 0} (test : Token → Bool) {L M : Language A} → Within L M → Within (BeforeToken L test) (BeforeToken M test)
 before_within test h = both_within first_of h (same_within (One test))
 
 parentheses_within : {A : Type 0} {L M : Language A} → Within L M → Within (InParentheses L) (InParentheses M)
-parentheses_within h = behind_within (is open_parenthesis_sign) (before_within (is close_parenthesis_sign) h)
+parentheses_within h = behind_within (has_class open_parenthesis_sign) (before_within (has_class close_parenthesis_sign) h)
 
-separated_within : {A : Type 0} (mark : Token → Bool) {L M : Language A} → Within L M → Within (Separated mark L) (Separated mark M)
+separated_within : {A : Type 0} (mark : Token → Bool) {L M : Language A} → Within L M → Within (SeparatedList mark L) (SeparatedList mark M)
 separated_within mark h = both_within first_of (both_within cons h (many_within (behind_within mark h))) (same_within (Maybe (One mark)))
 
 module _ (E F : Language Term) (e : Within E F) where
   arg_within : Within (Arg E) (Arg F)
-  arg_within = either_within (both_within _ (same_within _) (behind_within (is assign_sign) e)) (mapped_within PositionalTerm e)
+  arg_within = either_within (both_within _ (same_within _) (behind_within (has_class assign_sign) e)) (mapped_within PositionalTerm e)
 
   args_within : Within (Args E) (Args F)
-  args_within = either_within (separated_within (is comma_sign) arg_within) (same_within (Nothing []))
+  args_within = either_within (separated_within (has_class comma_sign) arg_within) (same_within (Nothing []))
 
   param_within : Within (Param E) (Param F)
-  param_within = both_within _ (same_within (One (is name))) (maybe_within (behind_within (is assign_sign) e))
+  param_within = both_within _ (same_within (One (has_class name_class))) (maybe_within (behind_within (has_class assign_sign) e))
 
   params_within : Within (Params (Param E)) (Params (Param F))
-  params_within = either_within (separated_within (is comma_sign) param_within) (same_within (Nothing []))
+  params_within = either_within (separated_within (has_class comma_sign) param_within) (same_within (Nothing []))
 
   binders_within : Within (Binders E) (Binders F)
-  binders_within = separated_within (is comma_sign) (both_within _ (same_within (One (is name))) (behind_within (is assign_sign) e))
+  binders_within = separated_within (has_class comma_sign) (both_within _ (same_within (One (has_class name_class))) (behind_within (has_class assign_sign) e))
 
   bracket_within : Within (Bracket E) (Bracket F)
   bracket_within =
-      both_within _ (same_within (One (is open_bracket_sign)))
-      (before_within (is close_bracket_sign)
+      both_within _ (same_within (One (has_class open_bracket_sign)))
+      (before_within (has_class close_bracket_sign)
       (maybe_within (both_within pair_of e
-      (either_within (behind_within (is colon_sign) (both_within _ e (maybe_within (behind_within (is colon_sign) e))))
-      (mapped_within items (both_within first_of (many_within (behind_within (is comma_sign) e)) (same_within (Maybe (One (is comma_sign))))))))))
+      (either_within (behind_within (has_class colon_sign) (both_within _ e (maybe_within (behind_within (has_class colon_sign) e))))
+      (mapped_within items (both_within first_of (many_within (behind_within (has_class comma_sign) e)) (same_within (Maybe (One (has_class comma_sign))))))))))
 
   suffix_within : Within (Suffix E) (Suffix F)
-  suffix_within = either_within (both_within _ (same_within (One (is open_bracket_sign))) (before_within (is close_bracket_sign) e)) (same_within _)
+  suffix_within = either_within (both_within _ (same_within (One (has_class open_bracket_sign))) (before_within (has_class close_bracket_sign) e)) (same_within _)
 
 module _ (E F U V : Language Term) (As Bs : Language (List ArgTerm)) (e : Within E F) (a : Within As Bs) (u : Within U V) where
   primary_within : Within (Primary E As) (Primary F Bs)
   primary_within =
       either_within (same_within _) (either_within (same_within _) (either_within (same_within _) (either_within (same_within _) (either_within (same_within _) (either_within (same_within _) (either_within (same_within _)
-      (either_within (both_within _ (same_within (One (is name))) (maybe_within (parentheses_within a)))
-      (either_within (both_within _ (same_within (One (is open_parenthesis_sign))) (before_within (is close_parenthesis_sign) e)) (bracket_within E F e)))))))))
+      (either_within (both_within _ (same_within (One (has_class name_class))) (maybe_within (parentheses_within a)))
+      (either_within (both_within _ (same_within (One (has_class open_parenthesis_sign))) (before_within (has_class close_parenthesis_sign) e)) (bracket_within E F e)))))))))
 
   unary_within : Within (Unary E As U) (Unary F Bs V)
   unary_within = either_within (both_within _ (same_within _) u) (both_within _ primary_within (many_within (suffix_within E F e)))
 
   chain_within : (below : List (List ℕ)) {X Y : Language Term} → Within X Y → Within (Chain below X) (Chain below Y)
   chain_within [] h = h
-  chain_within (ops ∷ below) h = both_within chain_term (chain_within below h) (many_within (both_within link (same_within (One (among ops))) (chain_within below h)))
+  chain_within (ops ∷ below) h = both_within chain_term (chain_within below h) (many_within (both_within link (same_within (One (has_class_in ops))) (chain_within below h)))
 
   choice_within : Within (Choice E As U) (Choice F Bs V)
-  choice_within = both_within _ (chain_within levels unary_within) (maybe_within (both_within pair_of (same_within (One (is question_sign))) (both_within pair_of e (behind_within (is colon_sign) e))))
+  choice_within = both_within _ (chain_within levels unary_within) (maybe_within (both_within pair_of (same_within (One (has_class question_sign))) (both_within pair_of e (behind_within (has_class colon_sign) e))))
 
 instance_within : (E F : Language Term) (As Bs : Language (List ArgTerm)) (Ns Ms : Language (List BinderTerm)) (B C : Language BodyTerm) → Within E F → Within As Bs → Within Ns Ms → Within B C → Within (Instance E As Ns B) (Instance F Bs Ms C)
 instance_within E F As Bs Ns Ms B C e a n b =
     both_within _ (same_within _)
-    (either_within (both_if_within if_term IsNearest (both_within pair_of (same_within (One (is if_word))) (both_within pair_of (parentheses_within e) b)) (maybe_within (behind_within (is else_word) b)))
+    (either_within (both_if_within if_term IsNearest (both_within pair_of (same_within (One (has_class if_word))) (both_within pair_of (parentheses_within e) b)) (maybe_within (behind_within (has_class else_word) b)))
     (either_within (both_within _ (same_within _) (both_within pair_of (parentheses_within n) b))
     (both_within _ (same_within _) (both_within pair_of (parentheses_within a) b))))
 
@@ -105,17 +105,17 @@ module _ (I J : Language InstanceTerm) (i : Within I J) (Ss Rs : Language (List 
   body_within : Within (BodyOf I Ss) (BodyOf J Rs)
   body_within =
       either_within (same_within _)
-      (either_within (both_within _ (same_within (One (is open_brace_sign))) (before_within (is close_brace_sign) s))
+      (either_within (both_within _ (same_within (One (has_class open_brace_sign))) (before_within (has_class close_brace_sign) s))
       (mapped_within InstanceBody i))
 
   statement_within : (X Y : Language Term) (Ps Qs : Language (List ParamTerm)) (B C : Language BodyTerm) → Within X Y → Within Ps Qs → Within B C → Within (StatementOf X Ps I Ss B) (StatementOf Y Qs J Rs C)
   statement_within X Y Ps Qs B C x p b =
       either_within (same_within _)
-      (either_within (both_within _ (same_within (One (is open_brace_sign))) (before_within (is close_brace_sign) s))
-      (either_within (both_within _ (same_within _) (behind_within (is assign_sign) (before_within (is semicolon_sign) x)))
-      (either_within (both_within _ (same_within (One (is name))) (behind_within (is assign_sign) (before_within (is semicolon_sign) x)))
-      (either_within (both_within _ (same_within _) (both_within pair_of (same_within (One (is name))) (both_within pair_of (parentheses_within p) b)))
-      (either_within (both_within _ (same_within _) (both_within pair_of (same_within (One (is name))) (both_within pair_of (parentheses_within p) (behind_within (is assign_sign) (before_within (is semicolon_sign) x)))))
+      (either_within (both_within _ (same_within (One (has_class open_brace_sign))) (before_within (has_class close_brace_sign) s))
+      (either_within (both_within _ (same_within _) (behind_within (has_class assign_sign) (before_within (has_class semicolon_sign) x)))
+      (either_within (both_within _ (same_within (One (has_class name_class))) (behind_within (has_class assign_sign) (before_within (has_class semicolon_sign) x)))
+      (either_within (both_within _ (same_within _) (both_within pair_of (same_within (One (has_class name_class))) (both_within pair_of (parentheses_within p) b)))
+      (either_within (both_within _ (same_within _) (both_within pair_of (same_within (One (has_class name_class))) (both_within pair_of (parentheses_within p) (behind_within (has_class assign_sign) (before_within (has_class semicolon_sign) x)))))
       (mapped_within InstanceStatement i))))))
 
 -- whatever holds of no token at all
@@ -190,11 +190,11 @@ module _ (g : Detail) where
       )
 
   pub program_within : (d k : ℕ) → d ≤ k → (x : List StatementTerm) (s : List Token) → WholeProgram d x s → ProgramIn g k x s
-  program_within d k l = (before_within (is end) (many_within (statement_in_within d k l).0)).at
+  program_within d k l = (before_within (has_class end_class) (many_within (statement_in_within d k l).0)).at
 
 pub lift : (n d : ℕ) (x : List StatementTerm) (s : List Token) → WholeProgram d x s → WholeProgram (n + d) x s
 lift n d = program_within whole d (n + d) (omega arith)
 
 -- a program is its own outline
-pub is_outline : (d : ℕ) (x : List StatementTerm) (s : List Token) → WholeProgram d x s → Outline d x s
+pub is_outline : (d : ℕ) (x : List StatementTerm) (s : List Token) → WholeProgram d x s → ProgramOutline d x s
 is_outline d = program_within outline d d (omega arith)

@@ -10,28 +10,28 @@ use Rattle.scad_lexer.specs.declared.token.Symbol.{Symbol}
 use Rattle.scad_lexer.specs.declared.token.Symbol.TheVariants.{OpenParenthesis, CloseParenthesis, OpenBracket, CloseBracket, OpenBrace, CloseBrace, Comma, Semicolon, Assign, Colon, Question, Dot, Plus, Minus, Times, Divide, Remainder, Less, Greater, LessEqual, GreaterEqual, Equal, NotEqual, And, Or, Not, Hash, Caret}
 
 -- the class of a numeral
-abbrev pub numeral : ℕ
-numeral = 0
+abbrev pub numeral_class : ℕ
+numeral_class = 0
 
 -- the class of a name
-abbrev pub name : ℕ
-name = 1
+abbrev pub name_class : ℕ
+name_class = 1
 
 -- the class of `$children`
-abbrev pub child_count : ℕ
-child_count = 2
+abbrev pub child_count_class : ℕ
+child_count_class = 2
 
 -- the class of any other special name
-abbrev pub special : ℕ
-special = 3
+abbrev pub special_class : ℕ
+special_class = 3
 
 -- the class of a text
-abbrev pub text : ℕ
-text = 4
+abbrev pub text_class : ℕ
+text_class = 4
 
 -- the class of the end
-abbrev pub end : ℕ
-end = 5
+abbrev pub end_class : ℕ
+end_class = 5
 
 -- the classes of reserved names: the word `module`
 abbrev pub module_word : ℕ
@@ -245,14 +245,14 @@ symbol_class Hash = hash_sign
 symbol_class Caret = caret_sign
 
 -- the class of a token; `$children` has its own
-abbrev pub class_of : TokenKind → ℕ
-class_of (Numeral n) = numeral
-class_of (Name bytes) = name
-class_of (Special bytes) = cond (bytes_eq bytes (codes "children")) child_count special
-class_of (Text bytes) = text
-class_of (ReservedToken reserved) = reserved_class reserved
-class_of (SymbolToken symbol) = symbol_class symbol
-class_of End = end
+abbrev pub token_class : TokenKind → ℕ
+token_class (Numeral n) = numeral_class
+token_class (Name bytes) = name_class
+token_class (Special bytes) = cond (bytes_eq bytes (codes "children")) child_count_class special_class
+token_class (Text bytes) = text_class
+token_class (ReservedToken reserved) = reserved_class reserved
+token_class (SymbolToken symbol) = symbol_class symbol
+token_class End = end_class
 
 -- the class is one of these
 abbrev pub is_listed : List ℕ → ℕ → Bool
@@ -260,25 +260,25 @@ is_listed [] wanted = false
 is_listed (known ∷ others) wanted = cond (nat_eq wanted known) true (is_listed others wanted)
 
 -- a token of one of these classes
-abbrev pub among : List ℕ → Token → Bool
-among classes token = is_listed classes (class_of token.kind)
+abbrev pub has_class_in : List ℕ → Token → Bool
+has_class_in classes token = is_listed classes (token_class token.kind)
 
 -- a token of this class
-abbrev pub is : ℕ → Token → Bool
-is wanted = among (wanted ∷ [])
+abbrev pub has_class : ℕ → Token → Bool
+has_class wanted = has_class_in (wanted ∷ [])
 
 -- a token of none of these classes
-abbrev pub other_than : List ℕ → Token → Bool
-other_than classes token = not (among classes token)
+abbrev pub has_class_outside : List ℕ → Token → Bool
+has_class_outside classes token = not (has_class_in classes token)
 
 -- what an argument may be given by: a name, or a special name other than `$children`
 abbrev pub argument_names : List ℕ
-argument_names = name ∷ special ∷ []
+argument_names = name_class ∷ special_class ∷ []
 
 -- the number of a numeral
-abbrev pub number_of : TokenKind → ℕ
-number_of (Numeral n) = n
-number_of kind = 0
+abbrev pub numeral_value : TokenKind → ℕ
+numeral_value (Numeral n) = n
+numeral_value kind = 0
 
 -- the bytes of a name, a special name or a text
 abbrev pub bytes_of : TokenKind → List ℕ

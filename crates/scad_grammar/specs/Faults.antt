@@ -3,12 +3,12 @@ use Rattle.std.specs.Prelude.{ℕ, List, [], ◌∷◌, Bool, cond, Option, Some
 use Rattle.scad_lexer.specs.declared.token.Token.{Token}
 use Rattle.scad_grammar.specs.declared.SyntaxFault.{SyntaxFault}
 use Rattle.scad_grammar.specs.declared.SyntaxFault.TheVariants.{Expected, NotInProfile}
-use Rattle.scad_grammar.specs.Classes.{special, for_word, if_word, function_word, use_word, include_word, let_word, each_word, caret_sign, among}
+use Rattle.scad_grammar.specs.Classes.{special_class, for_word, if_word, function_word, use_word, include_word, let_word, each_word, caret_sign, has_class_in}
 use Rattle.scad_grammar.specs.Reading.{Reader, one_of}
 
 -- forms that this profile leaves out wherever no program goes on with them
 abbrev pub left_out_classes : List ℕ
-left_out_classes = use_word ∷ include_word ∷ let_word ∷ each_word ∷ caret_sign ∷ special ∷ []
+left_out_classes = use_word ∷ include_word ∷ let_word ∷ each_word ∷ caret_sign ∷ special_class ∷ []
 
 -- the same in the place of an expression
 abbrev pub left_out_of_expressions : List ℕ
@@ -17,7 +17,7 @@ left_out_of_expressions = for_word ∷ if_word ∷ function_word ∷ left_out_cl
 -- the fault of a token, or of the end of all tokens, where those of these classes are left out
 abbrev pub fault_of : List ℕ → Option Token → SyntaxFault
 fault_of classes None = Expected
-fault_of classes (Some token) = cond (among classes token) NotInProfile Expected
+fault_of classes (Some token) = cond (has_class_in classes token) NotInProfile Expected
 
 -- reads tokens from their front
 abbrev pub TokenReader : Type 0 → Type 0

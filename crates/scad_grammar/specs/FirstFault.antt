@@ -4,9 +4,9 @@ use Rattle.scad_lexer.specs.declared.token.Token.{Token}
 use Rattle.scad_ast.specs.Terms.{StatementTerm}
 use Rattle.scad_grammar.specs.declared.SyntaxFault.{SyntaxFault}
 use Rattle.scad_grammar.specs.declared.SyntaxFault.TheVariants.{Expected, Nested, NotInProfile}
-use Rattle.scad_grammar.specs.Classes.{numeral, among, is}
+use Rattle.scad_grammar.specs.Classes.{numeral_class, has_class_in, has_class}
 use Rattle.scad_grammar.specs.Faults.{left_out_classes, left_out_of_expressions}
-use Rattle.scad_grammar.specs.Grammar.{WholeProgram, Outline}
+use Rattle.scad_grammar.specs.Grammar.{WholeProgram, ProgramOutline}
 
 -- some program, however deep, begins with these tokens
 abbrev pub BeginsSome : List Token → Type 0
@@ -15,18 +15,18 @@ BeginsSome tokens = (depth : ℕ) × (program : List StatementTerm) × (rest : L
 -- Some program begins with these tokens in which each of them is less deep than so much: an outline does,
 -- and before its first gap an outline shows only what is less deep.
 abbrev pub BeginsWithin : ℕ → List Token → Type 0
-BeginsWithin depth tokens = BeginsSome tokens × (program : List StatementTerm) × (rest : List Token) × Outline depth program (tokens ++ rest)
+BeginsWithin depth tokens = BeginsSome tokens × (program : List StatementTerm) × (rest : List Token) × ProgramOutline depth program (tokens ++ rest)
 
 -- the place behind these tokens is that of an expression: a numeral could stand there
 abbrev pub BeforeExpression : List Token → Type 0
-BeforeExpression tokens = (next : Token) × (is numeral next ≡ true) × BeginsSome (tokens ++ next ∷ [])
+BeforeExpression tokens = (next : Token) × (has_class numeral_class next ≡ true) × BeginsSome (tokens ++ next ∷ [])
 
 -- behind these tokens, this one is of a form that the profile leaves out
 abbrev pub IsLeftOut : List Token → Token → Type 0
-IsLeftOut tokens token = (among left_out_classes token ≡ true) ⊎ ((among left_out_of_expressions token ≡ true) × BeforeExpression tokens)
+IsLeftOut tokens token = (has_class_in left_out_classes token ≡ true) ⊎ ((has_class_in left_out_of_expressions token ≡ true) × BeforeExpression tokens)
 
--- Behind these tokens, this one is such a fault. Expected and NotInProfile: no program goes on with it, and it is
--- of a form that isn't left out, or is. Nested: programs go on with it, but only such in which it is too deep.
+-- Behind these tokens, this one is such a fault. Nested: programs go on with it, but in each it is too deep. Else none goes
+-- on with it: NotInProfile where its form is left out, or Expected.
 abbrev pub IsFault : ℕ → SyntaxFault → List Token → Token → Type 0
 IsFault depth Expected tokens token = (BeginsSome (tokens ++ token ∷ []) → ⊥) × (IsLeftOut tokens token → ⊥)
 IsFault depth NotInProfile tokens token = (BeginsSome (tokens ++ token ∷ []) → ⊥) × IsLeftOut tokens token

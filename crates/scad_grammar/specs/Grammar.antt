@@ -8,13 +8,13 @@ use Rattle.scad_ast.specs.declared.operator.UnaryOp.{UnaryOp}
 use Rattle.scad_ast.specs.declared.operator.UnaryOp.TheVariants.{Negate, Keep, Not}
 use Rattle.scad_ast.specs.declared.operator.Modifier.{Modifier}
 use Rattle.scad_ast.specs.declared.operator.Modifier.TheVariants.{Disable, Background, Highlight, Root}
-use Rattle.scad_ast.specs.Terms.{Term, NumberTerm, TextTerm, TruthTerm, UndefTerm, ChildCountTerm, SpecialTerm, NameTerm, CallTerm, ParenTerm, ListTerm, RangeTerm, SteppedRangeTerm, PostfixTerm, UnaryTerm, ChainTerm, ChoiceTerm, LinkTerm, SuffixTerm, IndexTerm, MemberTerm, ArgTerm, NamedTerm, SpecialArgTerm, PositionalTerm, terms_from, links_from, suffixes_from, args_from, place_of, ParamTerm, PlainTerm, DefaultTerm, BinderTerm, MarkTerm, StatementTerm, EmptyStatement, BlockStatement, AssignmentTerm, SpecialAssignmentTerm, ModuleTerm, FunctionTerm, InstanceStatement, InstanceTerm, AnInstance, CoreTerm, IfTerm, IfElseTerm, ForTerm, IntersectionForTerm, ModuleCallTerm, BodyTerm, EmptyBody, BlockBody, InstanceBody, statements_from, place_of_core}
-use Rattle.scad_grammar.specs.Classes.{numeral, name, child_count, special, text, end, module_word, function_word, if_word, else_word, for_word, intersection_for_word, true_word, false_word, undef_word, open_parenthesis_sign, close_parenthesis_sign, open_bracket_sign, close_bracket_sign, open_brace_sign, close_brace_sign, comma_sign, semicolon_sign, assign_sign, colon_sign, question_sign, dot_sign, plus_sign, minus_sign, times_sign, divide_sign, remainder_sign, less_sign, greater_sign, less_equal_sign, greater_equal_sign, equal_sign, not_equal_sign, and_sign, or_sign, not_sign, hash_sign, caret_sign, argument_names, class_of, among, is, number_of, bytes_of}
-use Rattle.scad_grammar.specs.Languages.{Language, One, Mapped, Both, BothIf, EitherOf, Nothing, Many, Maybe, Never, first_of, pair_of, Behind, Before, Separated}
+use Rattle.scad_ast.specs.Terms.{Term, NumberTerm, TextTerm, TruthTerm, UndefTerm, ChildCountTerm, SpecialTerm, NameTerm, CallTerm, ParenTerm, ListTerm, RangeTerm, SteppedRangeTerm, PostfixTerm, UnaryTerm, ChainTerm, ChoiceTerm, LinkTerm, SuffixTerm, IndexTerm, MemberTerm, ArgTerm, NamedTerm, SpecialArgTerm, PositionalTerm, terms_from, links_from, suffixes_from, args_from, place_of_term, ParamTerm, PlainTerm, DefaultTerm, BinderTerm, ModifierTerm, StatementTerm, EmptyStatement, BlockStatement, AssignmentTerm, SpecialAssignmentTerm, ModuleTerm, FunctionTerm, InstanceStatement, InstanceTerm, AnInstance, CoreTerm, IfTerm, IfElseTerm, ForTerm, IntersectionForTerm, ModuleCallTerm, BodyTerm, EmptyBody, BlockBody, InstanceBody, statements_from, place_of_core}
+use Rattle.scad_grammar.specs.Classes.{numeral_class, name_class, child_count_class, special_class, text_class, end_class, module_word, function_word, if_word, else_word, for_word, intersection_for_word, true_word, false_word, undef_word, open_parenthesis_sign, close_parenthesis_sign, open_bracket_sign, close_bracket_sign, open_brace_sign, close_brace_sign, comma_sign, semicolon_sign, assign_sign, colon_sign, question_sign, dot_sign, plus_sign, minus_sign, times_sign, divide_sign, remainder_sign, less_sign, greater_sign, less_equal_sign, greater_equal_sign, equal_sign, not_equal_sign, and_sign, or_sign, not_sign, hash_sign, caret_sign, argument_names, token_class, has_class_in, has_class, numeral_value, bytes_of}
+use Rattle.scad_grammar.specs.Languages.{Language, One, ImageOf, Both, BothIf, EitherOf, Nothing, Many, Maybe, Never, first_of, pair_of, AfterToken, BeforeToken, SeparatedList}
 
 -- something in parentheses
 abbrev pub InParentheses : {A : Type 0} → Language A → Language A
-InParentheses L = Behind (is open_parenthesis_sign) (Before L (is close_parenthesis_sign))
+InParentheses L = AfterToken (has_class open_parenthesis_sign) (BeforeToken L (has_class close_parenthesis_sign))
 
 -- the operator of two sides that a sign of this class writes
 abbrev pub binary_at : ℕ → BinaryOp
@@ -36,26 +36,26 @@ modifier_at sign = cond (nat_eq sign times_sign) Disable (cond (nat_eq sign rema
 
 -- what the parts of a form make: here an operator with its right side
 abbrev pub link : Token → Term → LinkTerm
-link token right = record { op = binary_at (class_of token.kind); at = token.place; right = right }
+link token right = record { op = binary_at (token_class token.kind); at = token.place; right = right }
 
 -- a chain of one is what it has; operators of one level group to the left
 abbrev pub chain_term : Term → List LinkTerm → Term
 chain_term x [] = x
-chain_term x (operator ∷ operators) = ChainTerm (place_of x) x (links_from (operator ∷ operators))
+chain_term x (operator ∷ operators) = ChainTerm (place_of_term x) x (links_from (operator ∷ operators))
 
 -- a choice, where a `?` follows
 abbrev pub choice_term : Term → Option (Token × (Term × Term)) → Term
 choice_term x None = x
-choice_term x (Some parts) = ChoiceTerm (place_of x) x parts.0.place parts.1.0 parts.1.1
+choice_term x (Some parts) = ChoiceTerm (place_of_term x) x parts.0.place parts.1.0 parts.1.1
 
 -- an operator before its operand
 abbrev pub unary_term : Token → Term → Term
-unary_term token operand = UnaryTerm token.place (unary_at (class_of token.kind)) operand
+unary_term token operand = UnaryTerm token.place (unary_at (token_class token.kind)) operand
 
 -- an expression with what stands behind it, if something does
 abbrev pub postfix_term : Term → List SuffixTerm → Term
 postfix_term x [] = x
-postfix_term x (suffix ∷ suffixes) = PostfixTerm (place_of x) x (suffixes_from (suffix ∷ suffixes))
+postfix_term x (suffix ∷ suffixes) = PostfixTerm (place_of_term x) x (suffixes_from (suffix ∷ suffixes))
 
 -- an index, at the place of its `[`
 abbrev pub index_term : Token → Term → SuffixTerm
@@ -100,16 +100,16 @@ range_rest next (Some to) = stepped_range next to
 
 -- an argument with a name or a special name
 abbrev pub given_term : Token → Term → ArgTerm
-given_term token value = cond (is special token) (SpecialArgTerm token.place (bytes_of token.kind) value) (NamedTerm token.place (bytes_of token.kind) value)
+given_term token value = cond (has_class special_class token) (SpecialArgTerm token.place (bytes_of token.kind) value) (NamedTerm token.place (bytes_of token.kind) value)
 
 -- SPECIAL is a special name other than `$children`.
 -- arg = NAME "=" expr | SPECIAL "=" expr | expr
 abbrev pub Arg : Language Term → Language ArgTerm
-Arg E = EitherOf (Both given_term (One (among argument_names)) (Behind (is assign_sign) E)) (Mapped PositionalTerm E)
+Arg E = EitherOf (Both given_term (One (has_class_in argument_names)) (AfterToken (has_class assign_sign) E)) (ImageOf PositionalTerm E)
 
 -- args = [ arg { "," arg } [","] ]
 abbrev pub Args : Language Term → Language (List ArgTerm)
-Args E = EitherOf (Separated (is comma_sign) (Arg E)) (Nothing [])
+Args E = EitherOf (SeparatedList (has_class comma_sign) (Arg E)) (Nothing [])
 
 -- a parameter, with its default where one follows
 abbrev pub param_term : Token → Option Term → ParamTerm
@@ -118,11 +118,11 @@ param_term token (Some default) = DefaultTerm token.place (bytes_of token.kind) 
 
 -- param = NAME [ "=" expr ]
 abbrev pub Param : Language Term → Language ParamTerm
-Param E = Both param_term (One (is name)) (Maybe (Behind (is assign_sign) E))
+Param E = Both param_term (One (has_class name_class)) (Maybe (AfterToken (has_class assign_sign) E))
 
 -- params = [ param { "," param } [","] ], over what a parameter is
 abbrev pub Params : Language ParamTerm → Language (List ParamTerm)
-Params P = EitherOf (Separated (is comma_sign) P) (Nothing [])
+Params P = EitherOf (SeparatedList (has_class comma_sign) P) (Nothing [])
 
 -- a variable of a loop, with what it goes over
 abbrev pub binder_term : Token → Term → BinderTerm
@@ -130,43 +130,43 @@ binder_term token over = record { at = token.place; name = bytes_of token.kind; 
 
 -- binder = NAME "=" expr
 abbrev pub Binder : Language Term → Language BinderTerm
-Binder E = Both binder_term (One (is name)) (Behind (is assign_sign) E)
+Binder E = Both binder_term (One (has_class name_class)) (AfterToken (has_class assign_sign) E)
 
 -- binder { "," binder } [","]
 abbrev pub Binders : Language Term → Language (List BinderTerm)
-Binders E = Separated (is comma_sign) (Binder E)
+Binders E = SeparatedList (has_class comma_sign) (Binder E)
 
 -- expressions; E is an expression one deeper, As arguments one deeper, and U an operand of a unary operator
 
 -- "[" "]" | "[" expr { "," expr } [","] "]" | "[" expr ":" expr [ ":" expr ] "]"
 abbrev pub Bracket : Language Term → Language Term
 Bracket E =
-    Both bracket_term (One (is open_bracket_sign))
-    (Before
+    Both bracket_term (One (has_class open_bracket_sign))
+    (BeforeToken
     (Maybe (Both pair_of E
-    (EitherOf (Behind (is colon_sign) (Both range_rest E (Maybe (Behind (is colon_sign) E))))
-    (Mapped items (Both first_of (Many (Behind (is comma_sign) E)) (Maybe (One (is comma_sign))))))))
-    (is close_bracket_sign))
+    (EitherOf (AfterToken (has_class colon_sign) (Both range_rest E (Maybe (AfterToken (has_class colon_sign) E))))
+    (ImageOf items (Both first_of (Many (AfterToken (has_class comma_sign) E)) (Maybe (One (has_class comma_sign))))))))
+    (has_class close_bracket_sign))
 
 -- primary = NUMERAL | TEXT | "true" | "false" | "undef" | "$children" | SPECIAL | NAME | NAME "(" args ")" | "(" expr ")" | lists and ranges
 abbrev pub Primary : Language Term → Language (List ArgTerm) → Language Term
 Primary E As =
-    EitherOf (Mapped (λ token. NumberTerm token.place (number_of token.kind)) (One (is numeral)))
-    (EitherOf (Mapped (λ token. TextTerm token.place (bytes_of token.kind)) (One (is text)))
-    (EitherOf (Mapped (λ token. TruthTerm token.place true) (One (is true_word)))
-    (EitherOf (Mapped (λ token. TruthTerm token.place false) (One (is false_word)))
-    (EitherOf (Mapped (λ token. UndefTerm token.place) (One (is undef_word)))
-    (EitherOf (Mapped (λ token. ChildCountTerm token.place) (One (is child_count)))
-    (EitherOf (Mapped (λ token. SpecialTerm token.place (bytes_of token.kind)) (One (is special)))
-    (EitherOf (Both name_term (One (is name)) (Maybe (InParentheses As)))
-    (EitherOf (Both paren_term (One (is open_parenthesis_sign)) (Before E (is close_parenthesis_sign)))
+    EitherOf (ImageOf (λ token. NumberTerm token.place (numeral_value token.kind)) (One (has_class numeral_class)))
+    (EitherOf (ImageOf (λ token. TextTerm token.place (bytes_of token.kind)) (One (has_class text_class)))
+    (EitherOf (ImageOf (λ token. TruthTerm token.place true) (One (has_class true_word)))
+    (EitherOf (ImageOf (λ token. TruthTerm token.place false) (One (has_class false_word)))
+    (EitherOf (ImageOf (λ token. UndefTerm token.place) (One (has_class undef_word)))
+    (EitherOf (ImageOf (λ token. ChildCountTerm token.place) (One (has_class child_count_class)))
+    (EitherOf (ImageOf (λ token. SpecialTerm token.place (bytes_of token.kind)) (One (has_class special_class)))
+    (EitherOf (Both name_term (One (has_class name_class)) (Maybe (InParentheses As)))
+    (EitherOf (Both paren_term (One (has_class open_parenthesis_sign)) (BeforeToken E (has_class close_parenthesis_sign)))
     (Bracket E)))))))))
 
 -- suffix = "[" expr "]" | "." NAME
 abbrev pub Suffix : Language Term → Language SuffixTerm
 Suffix E =
-    EitherOf (Both index_term (One (is open_bracket_sign)) (Before E (is close_bracket_sign)))
-    (Both member_term (One (is dot_sign)) (One (is name)))
+    EitherOf (Both index_term (One (has_class open_bracket_sign)) (BeforeToken E (has_class close_bracket_sign)))
+    (Both member_term (One (has_class dot_sign)) (One (has_class name_class)))
 
 -- postfix = primary { suffix }
 abbrev pub Postfix : Language Term → Language (List ArgTerm) → Language Term
@@ -174,12 +174,12 @@ Postfix E As = Both postfix_term (Primary E As) (Many (Suffix E))
 
 -- unary = ("-" | "+" | "!") unary | postfix
 abbrev pub Unary : Language Term → Language (List ArgTerm) → Language Term → Language Term
-Unary E As U = EitherOf (Both unary_term (One (among (minus_sign ∷ plus_sign ∷ not_sign ∷ []))) U) (Postfix E As)
+Unary E As U = EitherOf (Both unary_term (One (has_class_in (minus_sign ∷ plus_sign ∷ not_sign ∷ []))) U) (Postfix E As)
 
 -- a chain of the operators of some levels, the loosest first
 abbrev pub Chain : List (List ℕ) → Language Term → Language Term
 Chain [] X = X
-Chain (ops ∷ levels) X = Both chain_term (Chain levels X) (Many (Both link (One (among ops)) (Chain levels X)))
+Chain (ops ∷ levels) X = Both chain_term (Chain levels X) (Many (Both link (One (has_class_in ops)) (Chain levels X)))
 
 -- or, and, equal, order, sum, product
 abbrev pub levels : List (List ℕ)
@@ -190,7 +190,7 @@ levels =
 
 -- expr = or [ "?" expr ":" expr ]
 abbrev pub Choice : Language Term → Language (List ArgTerm) → Language Term → Language Term
-Choice E As U = Both choice_term (Chain levels (Unary E As U)) (Maybe (Both pair_of (One (is question_sign)) (Both pair_of E (Behind (is colon_sign) E))))
+Choice E As U = Both choice_term (Chain levels (Unary E As U)) (Maybe (Both pair_of (One (has_class question_sign)) (Both pair_of E (AfterToken (has_class colon_sign) E))))
 
 -- A program is written whole, or in outline. Before its first gap an outline shows nothing that is too deep: what may
 -- be missing is missing there, and a gap stands for what may not.
@@ -200,9 +200,9 @@ pub data Detail : Type 0 where
 
 -- What is too deep: no whole program has it. In an outline a gap stands for it: a token that no form of the grammar
 -- has, the sign `^`.
-abbrev pub TooDeep : {A : Type 0} → Detail → (Token → A) → Language A
-TooDeep whole f = Never
-TooDeep outline f = Mapped f (One (is caret_sign))
+abbrev pub Gap : {A : Type 0} → Detail → (Token → A) → Language A
+Gap whole f = Never
+Gap outline f = ImageOf f (One (has_class caret_sign))
 
 -- arguments whose tokens are less deep than so much; E is an expression as deep
 abbrev pub ArgsIn : ℕ → Language Term → Language (List ArgTerm)
@@ -216,33 +216,33 @@ ParamsIn (suc depth) E = Params (Param E)
 
 -- variables of a loop whose tokens are less deep than so much
 abbrev pub BindersIn : Detail → ℕ → Language Term → Language (List BinderTerm)
-BindersIn detail zero E = TooDeep detail (λ token. [])
+BindersIn detail zero E = Gap detail (λ token. [])
 BindersIn detail (suc depth) E = Binders E
 
 -- an expression whose tokens are less deep than so much
 unfoldable mutual
   pub Expr : Detail → ℕ → Language Term
-  Expr detail zero = TooDeep detail (λ token. UndefTerm token.place)
+  Expr detail zero = Gap detail (λ token. UndefTerm token.place)
   Expr detail (suc depth) = Choice (Expr detail depth) (ArgsIn depth (Expr detail depth)) (Operand detail depth)
 
   -- an operand whose tokens are less deep than so much
   pub Operand : Detail → ℕ → Language Term
-  Operand detail zero = TooDeep detail (λ token. UndefTerm token.place)
+  Operand detail zero = Gap detail (λ token. UndefTerm token.place)
   Operand detail (suc depth) = Unary (Expr detail depth) (ArgsIn depth (Expr detail depth)) (Operand detail depth)
 
 -- statements; E is an expression one deeper, and so are As arguments, Ps parameters, Ns variables of a loop,
--- Ss statements and B a body
+-- Ss statements and B a body; X is an expression as deep as the statement, and I an instance
 
 -- a modifier with its place
-abbrev pub mark_term : Token → MarkTerm
-mark_term token = record { at = token.place; modifier = modifier_at (class_of token.kind) }
+abbrev pub modifier_term : Token → ModifierTerm
+modifier_term token = record { at = token.place; modifier = modifier_at (token_class token.kind) }
 
 -- an instance, at the place of its first modifier, if it has some
-abbrev pub instance_term : List MarkTerm → CoreTerm → InstanceTerm
+abbrev pub instance_term : List ModifierTerm → CoreTerm → InstanceTerm
 instance_term [] core = AnInstance (place_of_core core) [] core
 instance_term (mark ∷ marks) core = AnInstance mark.at (mark ∷ marks) core
 
--- an `else` behind this body would be its own, and so behind an instance and what stands behind its modifiers
+-- whether a body ends in an `if` without `else`: one that stands behind the body would then belong to that `if`
 abbrev mutual
   pub ends_open : BodyTerm → Bool
   ends_open (EmptyBody at) = false
@@ -273,22 +273,22 @@ if_term parts (Some other) = IfElseTerm parts.0.place parts.1.0 parts.1.1 other
 
 -- a loop, by its word
 abbrev pub loop_term : Token → (List BinderTerm × BodyTerm) → CoreTerm
-loop_term token parts = cond (is for_word token) (ForTerm token.place parts.0 parts.1) (IntersectionForTerm token.place parts.0 parts.1)
+loop_term token parts = cond (has_class for_word token) (ForTerm token.place parts.0 parts.1) (IntersectionForTerm token.place parts.0 parts.1)
 
 -- a call of a module
 abbrev pub call_term : Token → (List ArgTerm × BodyTerm) → CoreTerm
 call_term token parts = ModuleCallTerm token.place (bytes_of token.kind) parts.0 parts.1
 
 -- core = "if" "(" expr ")" body [ "else" body ] | ("for" | "intersection_for") "(" binders ")" body | NAME "(" args ")" body
-abbrev pub Core : Language Term → Language (List ArgTerm) → Language (List BinderTerm) → Language BodyTerm → Language CoreTerm
-Core E As Ns B =
-    EitherOf (BothIf if_term IsNearest (Both pair_of (One (is if_word)) (Both pair_of (InParentheses E) B)) (Maybe (Behind (is else_word) B)))
-    (EitherOf (Both loop_term (One (among (for_word ∷ intersection_for_word ∷ []))) (Both pair_of (InParentheses Ns) B))
-    (Both call_term (One (is name)) (Both pair_of (InParentheses As) B)))
+abbrev pub CoreOf : Language Term → Language (List ArgTerm) → Language (List BinderTerm) → Language BodyTerm → Language CoreTerm
+CoreOf E As Ns B =
+    EitherOf (BothIf if_term IsNearest (Both pair_of (One (has_class if_word)) (Both pair_of (InParentheses E) B)) (Maybe (AfterToken (has_class else_word) B)))
+    (EitherOf (Both loop_term (One (has_class_in (for_word ∷ intersection_for_word ∷ []))) (Both pair_of (InParentheses Ns) B))
+    (Both call_term (One (has_class name_class)) (Both pair_of (InParentheses As) B)))
 
 -- instance = { "*" | "%" | "#" | "!" } core
 abbrev pub Instance : Language Term → Language (List ArgTerm) → Language (List BinderTerm) → Language BodyTerm → Language InstanceTerm
-Instance E As Ns B = Both instance_term (Many (Mapped mark_term (One (among (times_sign ∷ remainder_sign ∷ hash_sign ∷ not_sign ∷ []))))) (Core E As Ns B)
+Instance E As Ns B = Both instance_term (Many (ImageOf modifier_term (One (has_class_in (times_sign ∷ remainder_sign ∷ hash_sign ∷ not_sign ∷ []))))) (CoreOf E As Ns B)
 
 -- a body of statements in braces
 abbrev pub block_term : Token → List StatementTerm → BodyTerm
@@ -297,9 +297,9 @@ block_term token statements = BlockBody token.place (statements_from statements)
 -- body = ";" | "{" { statement } "}" | instance
 abbrev pub BodyOf : Language InstanceTerm → Language (List StatementTerm) → Language BodyTerm
 BodyOf I Ss =
-    EitherOf (Mapped (λ token. EmptyBody token.place) (One (is semicolon_sign)))
-    (EitherOf (Both block_term (One (is open_brace_sign)) (Before Ss (is close_brace_sign)))
-    (Mapped InstanceBody I))
+    EitherOf (ImageOf (λ token. EmptyBody token.place) (One (has_class semicolon_sign)))
+    (EitherOf (Both block_term (One (has_class open_brace_sign)) (BeforeToken Ss (has_class close_brace_sign)))
+    (ImageOf InstanceBody I))
 
 -- a bare block
 abbrev pub bare_block_term : Token → List StatementTerm → StatementTerm
@@ -323,16 +323,15 @@ function_term token parts = FunctionTerm token.place (bytes_of parts.0.kind) par
 
 -- statement = ";" | "{" { statement } "}" | SPECIAL "=" expr ";" | NAME "=" expr ";" | "module" NAME "(" params ")" body
 --           | "function" NAME "(" params ")" "=" expr ";" | instance
--- X is an expression as deep as the statement, and I an instance
 abbrev pub StatementOf : Language Term → Language (List ParamTerm) → Language InstanceTerm → Language (List StatementTerm) → Language BodyTerm → Language StatementTerm
 StatementOf X Ps I Ss B =
-    EitherOf (Mapped (λ token. EmptyStatement token.place) (One (is semicolon_sign)))
-    (EitherOf (Both bare_block_term (One (is open_brace_sign)) (Before Ss (is close_brace_sign)))
-    (EitherOf (Both special_assignment_term (One (is special)) (Behind (is assign_sign) (Before X (is semicolon_sign))))
-    (EitherOf (Both assignment_term (One (is name)) (Behind (is assign_sign) (Before X (is semicolon_sign))))
-    (EitherOf (Both module_term (One (is module_word)) (Both pair_of (One (is name)) (Both pair_of (InParentheses Ps) B)))
-    (EitherOf (Both function_term (One (is function_word)) (Both pair_of (One (is name)) (Both pair_of (InParentheses Ps) (Behind (is assign_sign) (Before X (is semicolon_sign))))))
-    (Mapped InstanceStatement I))))))
+    EitherOf (ImageOf (λ token. EmptyStatement token.place) (One (has_class semicolon_sign)))
+    (EitherOf (Both bare_block_term (One (has_class open_brace_sign)) (BeforeToken Ss (has_class close_brace_sign)))
+    (EitherOf (Both special_assignment_term (One (has_class special_class)) (AfterToken (has_class assign_sign) (BeforeToken X (has_class semicolon_sign))))
+    (EitherOf (Both assignment_term (One (has_class name_class)) (AfterToken (has_class assign_sign) (BeforeToken X (has_class semicolon_sign))))
+    (EitherOf (Both module_term (One (has_class module_word)) (Both pair_of (One (has_class name_class)) (Both pair_of (InParentheses Ps) B)))
+    (EitherOf (Both function_term (One (has_class function_word)) (Both pair_of (One (has_class name_class)) (Both pair_of (InParentheses Ps) (AfterToken (has_class assign_sign) (BeforeToken X (has_class semicolon_sign))))))
+    (ImageOf InstanceStatement I))))))
 
 -- statements whose tokens are less deep than so much; S is a statement as deep
 abbrev pub StatementsIn : ℕ → Language StatementTerm → Language (List StatementTerm)
@@ -353,21 +352,21 @@ unfoldable mutual
 
   -- a body whose tokens are less deep than so much
   pub Body : Detail → ℕ → Language BodyTerm
-  Body detail zero = TooDeep detail (λ token. EmptyBody token.place)
+  Body detail zero = Gap detail (λ token. EmptyBody token.place)
   Body detail (suc depth) = BodyOf (InstanceIn detail depth (Body detail depth)) (StatementsIn depth (Statement detail depth))
 
 -- { statement }, and the end
 abbrev pub ProgramIn : Detail → ℕ → Language (List StatementTerm)
-ProgramIn detail depth = Before (Many (Statement detail depth)) (is end)
+ProgramIn detail depth = BeforeToken (Many (Statement detail depth)) (has_class end_class)
 
 -- the least depth that no token of a program may have
-abbrev pub too_deep : ℕ
-too_deep = 65
+abbrev pub least_too_deep : ℕ
+least_too_deep = 65
 
 -- a program whose tokens are less deep than so much
 abbrev pub WholeProgram : ℕ → Language (List StatementTerm)
 WholeProgram = ProgramIn whole
 
 -- an outline whose tokens are less deep than so much, but for the gaps and what stands behind one
-abbrev pub Outline : ℕ → Language (List StatementTerm)
-Outline = ProgramIn outline
+abbrev pub ProgramOutline : ℕ → Language (List StatementTerm)
+ProgramOutline = ProgramIn outline

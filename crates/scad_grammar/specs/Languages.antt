@@ -11,8 +11,8 @@ abbrev pub One : (Token → Bool) → Language Token
 One test token tokens = (test token ≡ true) × (tokens ≡ token ∷ [])
 
 -- something that stands for another thing
-abbrev pub Mapped : {A B : Type 0} → (A → B) → Language A → Language B
-Mapped {A} f L b tokens = (a : A) × L a tokens × (b ≡ f a)
+abbrev pub ImageOf : {A B : Type 0} → (A → B) → Language A → Language B
+ImageOf {A} f L b tokens = (a : A) × L a tokens × (b ≡ f a)
 
 -- one after the other
 abbrev pub Both : {A B C : Type 0} → (A → B → C) → Language A → Language B → Language C
@@ -62,14 +62,14 @@ pair_of a b = (a, b)
 abbrev pub cons : {A : Type 0} → A → List A → List A
 cons x xs = x ∷ xs
 
--- a token of these before something
-abbrev pub Behind : {A : Type 0} → (Token → Bool) → Language A → Language A
-Behind test L = Both second_of (One test) L
+-- first one token of these, then something behind it, for which the whole stands
+abbrev pub AfterToken : {A : Type 0} → (Token → Bool) → Language A → Language A
+AfterToken test L = Both second_of (One test) L
 
--- a token of these behind something
-abbrev pub Before : {A : Type 0} → Language A → (Token → Bool) → Language A
-Before L test = Both first_of L (One test)
+-- first something, for which the whole stands, then one token of these behind it
+abbrev pub BeforeToken : {A : Type 0} → Language A → (Token → Bool) → Language A
+BeforeToken L test = Both first_of L (One test)
 
 -- some, at least one, with separators between them and maybe one behind the last
-abbrev pub Separated : {A : Type 0} → (Token → Bool) → Language A → Language (List A)
-Separated mark L = Both first_of (Both cons L (Many (Behind mark L))) (Maybe (One mark))
+abbrev pub SeparatedList : {A : Type 0} → (Token → Bool) → Language A → Language (List A)
+SeparatedList mark L = Both first_of (Both cons L (Many (AfterToken mark L))) (Maybe (One mark))

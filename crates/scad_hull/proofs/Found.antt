@@ -2,7 +2,7 @@
 use Rattle.std.proofs.Common.{◌≡◌, inl, inr, Bool, true, false, not, ◌&&◌, ◌||◌, ℕ, suc, zero, ◌+◌, ◌-◌, ◌<◌, ◌≤◌, ℤ, List, [], ◌∷◌, ◌++◌, length, map, filter, flat_map, fold, refl, sym, ap, ◌∙◌, arith, true≢false, append-nil, append_assoc}
 use Rattle.std.specs.List.{AllByRecursion, list_any, range_with_len}
 use Rattle.std.proofs.lemmas.Bool.{cases_Bool, cond-true, cond-false, and_from, and_left, and_right, or_left, or_right, or_cases, not_from_true, not_from_false}
-use Rattle.scad_hull.specs.Hulls.{faces_of, first_of_planes, from, is_supporting, shares_plane, triples, triples_by, triples_from}
+use Rattle.scad_hull.specs.Hulls.{faces_of, first_of_planes, numbers_between, is_supporting, shares_plane, triples, triples_by, triples_from}
 use Rattle.scad_hull.specs.Steps.{with_triple, with_triples}
 use Rattle.scad_hull.proofs.Supporting.{all_first, all_triples, support_of, through_both, IsSupport, IsTriple}
 use Rattle.scad_hull.proofs.Members.{all_filter}
@@ -126,7 +126,7 @@ one_by_one points faces (t ∷ ts) h = elim (cases_Bool (is_supporting points t)
   ]
 ]
 
--- all of them, from none
+-- all of them, where none were found before
 pub all_faces_are : (points : List (List ℤ)) → with_triples points [] (triples (length points)) ≡ faces_of points
 all_faces_are points = one_by_one points [] (triples (length points)) (all_triples (length points)) ∙ filter_all (λ u. not (listed points [] u)) (λ u. refl) (found points (triples (length points)))
 
@@ -138,13 +138,13 @@ from_by : (a m n : ℕ) → n - a ≡ m → a < n → range_with_len a (n - a) �
 from_by a zero n e lt = absurd (omega (arith, e, lt))
 from_by a (suc m) n e lt = from_more a m n e
 
-pub from_next : (a n : ℕ) → a < n → from a n ≡ a ∷ from (a + 1) n
+pub from_next : (a n : ℕ) → a < n → numbers_between a n ≡ a ∷ numbers_between (a + 1) n
 from_next a n lt = from_by a (n - a) n refl lt
 
 none_left : (a n : ℕ) → n ≤ a → n - a ≡ 0
 none_left a n h = omega (arith, h)
 
-pub from_done : (a n : ℕ) → n ≤ a → from a n ≡ []
+pub from_done : (a n : ℕ) → n ≤ a → numbers_between a n ≡ []
 from_done a n h = ap (range_with_len a) (none_left a n h)
 
 range_push : (a m : ℕ) → range_with_len a (suc m) ≡ range_with_len a m ++ (a + m) ∷ []
@@ -154,15 +154,15 @@ range_push a (suc m) = ap (λ ks. a ∷ ks) (range_push (a + 1) m ∙ ap (λ k. 
 one_more : (m : ℕ) → (m + 1) - 0 ≡ suc m
 one_more m = omega arith
 
-pub from_push : (m : ℕ) → from 0 (m + 1) ≡ from 0 m ++ m ∷ []
+pub from_push : (m : ℕ) → numbers_between 0 (m + 1) ≡ numbers_between 0 m ++ m ∷ []
 from_push m = ap (range_with_len 0) (one_more m) ∙ range_push 0 m ∙ ap (λ k. range_with_len 0 m ++ k ∷ []) (omega arith) ∙ ap (λ k. range_with_len 0 k ++ m ∷ []) (omega arith)
 
 -- the steps of the three loops: what is left, added to the faces so far
-pub triple_next : (points : List (List ℤ)) (faces : List (List ℕ)) (n i j k : ℕ) → k < n → with_triples points faces (map (λ l. i ∷ j ∷ l ∷ []) (from k n)) ≡ with_triples points (with_triple points faces (i ∷ j ∷ k ∷ [])) (map (λ l. i ∷ j ∷ l ∷ []) (from (k + 1) n))
+pub triple_next : (points : List (List ℤ)) (faces : List (List ℕ)) (n i j k : ℕ) → k < n → with_triples points faces (map (λ l. i ∷ j ∷ l ∷ []) (numbers_between k n)) ≡ with_triples points (with_triple points faces (i ∷ j ∷ k ∷ [])) (map (λ l. i ∷ j ∷ l ∷ []) (numbers_between (k + 1) n))
 triple_next points faces n i j k lt = ap (λ ks. with_triples points faces (map (λ l. i ∷ j ∷ l ∷ []) ks)) (from_next k n lt)
 
-pub pair_next : (points : List (List ℤ)) (faces : List (List ℕ)) (n i j : ℕ) → j < n → with_triples points faces (flat_map (triples_by n i) (from j n)) ≡ with_triples points (with_triples points faces (triples_by n i j)) (flat_map (triples_by n i) (from (j + 1) n))
-pair_next points faces n i j lt = ap (λ ks. with_triples points faces (flat_map (triples_by n i) ks)) (from_next j n lt) ∙ fold_append (with_triple points) faces (triples_by n i j) (flat_map (triples_by n i) (from (j + 1) n))
+pub pair_next : (points : List (List ℤ)) (faces : List (List ℕ)) (n i j : ℕ) → j < n → with_triples points faces (flat_map (triples_by n i) (numbers_between j n)) ≡ with_triples points (with_triples points faces (triples_by n i j)) (flat_map (triples_by n i) (numbers_between (j + 1) n))
+pair_next points faces n i j lt = ap (λ ks. with_triples points faces (flat_map (triples_by n i) ks)) (from_next j n lt) ∙ fold_append (with_triple points) faces (triples_by n i j) (flat_map (triples_by n i) (numbers_between (j + 1) n))
 
-pub first_next : (points : List (List ℤ)) (faces : List (List ℕ)) (n i : ℕ) → i < n → with_triples points faces (flat_map (triples_from n) (from i n)) ≡ with_triples points (with_triples points faces (triples_from n i)) (flat_map (triples_from n) (from (i + 1) n))
-first_next points faces n i lt = ap (λ ks. with_triples points faces (flat_map (triples_from n) ks)) (from_next i n lt) ∙ fold_append (with_triple points) faces (triples_from n i) (flat_map (triples_from n) (from (i + 1) n))
+pub first_next : (points : List (List ℤ)) (faces : List (List ℕ)) (n i : ℕ) → i < n → with_triples points faces (flat_map (triples_from n) (numbers_between i n)) ≡ with_triples points (with_triples points faces (triples_from n i)) (flat_map (triples_from n) (numbers_between (i + 1) n))
+first_next points faces n i lt = ap (λ ks. with_triples points faces (flat_map (triples_from n) ks)) (from_next i n lt) ∙ fold_append (with_triple points) faces (triples_from n i) (flat_map (triples_from n) (numbers_between (i + 1) n))

@@ -2,7 +2,7 @@
 use Rattle.std.proofs.Common.{◌≡◌, inl, inr, [], ◌∷◌, List, get_or, length, map, ◌<◌, refl, sym, ap, ap₂, ◌∙◌, arith, ℤ, pos, negsuc, ◌+ℤ◌, ◌-ℤ◌, ◌*ℤ◌, neg_ℤ, ◌<ℤ◌, ◌≤ℤ◌, ℕ, zero, suc, All}
 use Rattle.std.specs.List.{AllByRecursion}
 use Rattle.std.proofs.lemmas.List.Elements.{All-from_recursion, recursion_from_All}
-use Rattle.plane_predicate.specs.Space.{Coefficients, Coordinates, point_at, value, negative}
+use Rattle.plane_predicate.specs.Space.{Coefficients, Coordinates, point_at, value, negated_point}
 use Rattle.plane_predicate.proofs.IntegerRing.{sums, mul_neg_right}
 use Rattle.plane_predicate.proofs.Polynomials.{var, num, plus, times, minus, ring}
 use Rattle.plane_predicate.proofs.Signs.{signs, pos_neg, least_most, neg_cancel}
@@ -110,7 +110,7 @@ none_summed m = sym (no_values m.a m.b m.c m.d)
 by_negative : (a b c d x y z w : ℤ) → a *ℤ neg_ℤ x +ℤ b *ℤ neg_ℤ y +ℤ c *ℤ neg_ℤ z -ℤ d *ℤ neg_ℤ w ≡ pos 0 -ℤ (a *ℤ x +ℤ b *ℤ y +ℤ c *ℤ z -ℤ d *ℤ w)
 by_negative a b c d x y z w = omega (arith, sums, mul_neg_right a x, mul_neg_right b y, mul_neg_right c z, mul_neg_right d w)
 
-value_negative : (m : Coefficients) (p : Coordinates) → value m (negative p) ≡ pos 0 -ℤ value m p
+value_negative : (m : Coefficients) (p : Coordinates) → value m (negated_point p) ≡ pos 0 -ℤ value m p
 value_negative m p = by_negative m.a m.b m.c m.d p.x p.y p.z p.w
 
 length_map : {X Y : Type 0} (f : X → Y) (ps : List X) → length (map f ps) ≡ length ps
@@ -179,7 +179,7 @@ by_planes points q v weights e above h =
     }
 
 from_weights_of : (points : List (List ℤ)) (q : Coordinates) (weights : List ℤ) (u : ℤ) → length weights ≡ suc (length (map point_at points)) → AreLeast weights → pos 0 <ℤ u →
-    ((m : Coefficients) → u *ℤ value m (negative (summed points)) ≡ weighted_sum weights (value m (negative q) ∷ map (λ v. value m v) (map point_at points))) → IsInnerCombination points q
+    ((m : Coefficients) → u *ℤ value m (negated_point (summed points)) ≡ weighted_sum weights (value m (negated_point q) ∷ map (λ v. value m v) (map point_at points))) → IsInnerCombination points q
 from_weights_of points q [] u e least above sum = absurd (omega (arith, e))
 from_weights_of points q (v ∷ weights) u e least above sum =
     let same : length weights ≡ length points = omega (arith, e, length_map point_at points) in
@@ -189,7 +189,7 @@ from_weights_of points q (v ∷ weights) u e least above sum =
     ∙ sym (weighted_raised m u weights points same))
 
 -- the alternative's weights for minus q and the points, of which minus their sum is the target
-from_weights : (points : List (List ℤ)) (q : Coordinates) → IsCombination (negative q ∷ map point_at points) (λ p. p) (negative (summed points)) → IsInnerCombination points q
+from_weights : (points : List (List ℤ)) (q : Coordinates) → IsCombination (negated_point q ∷ map point_at points) (λ p. p) (negated_point (summed points)) → IsInnerCombination points q
 from_weights points q c = from_weights_of points q c.weights c.by c.one_each c.least c.above c.sum
 
 -- ---- the plane that keeps them apart
@@ -206,7 +206,7 @@ all_mapped : (m : Coefficients) (points : List (List ℤ)) → AllByRecursion (�
 all_mapped m [] h = tt
 all_mapped m (p ∷ points) h = (h.0, all_mapped m points h.1)
 
-from_apart : (points : List (List ℤ)) (q : Coordinates) → (AreOnOnePlane points → ⊥) → HasNoSupport points q → IsApart (negative q ∷ map point_at points) (λ p. p) (negative (summed points)) → ⊥
+from_apart : (points : List (List ℤ)) (q : Coordinates) → (AreOnOnePlane points → ⊥) → HasNoSupport points q → IsApart (negated_point q ∷ map point_at points) (λ p. p) (negated_point (summed points)) → ⊥
 from_apart points q solid none k =
     let far = some_below k.plane points (omega (arith, sums, value_negative k.plane (summed points), k.ahead)) in
     some_support points q solid k.plane (record {
@@ -219,7 +219,7 @@ from_apart points q solid none k =
 
 -- a point that no support has on it or behind is an inner combination
 pub inner : (points : List (List ℤ)) (q : Coordinates) → (AreOnOnePlane points → ⊥) → HasNoSupport points q → IsInnerCombination points q
-inner points q solid none = elim (alternative (negative q ∷ map point_at points) (λ p. p) (negative (summed points))) [
+inner points q solid none = elim (alternative (negated_point q ∷ map point_at points) (λ p. p) (negated_point (summed points))) [
   | inl c ↦ from_weights points q c
   | inr k ↦ absurd (from_apart points q solid none k)
 ]

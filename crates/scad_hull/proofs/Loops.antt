@@ -9,16 +9,16 @@ use Rattle.std.proofs.lemmas.List.Elements.{All-from_recursion, recursion_from_A
 use Rattle.plane_predicate.specs.Space.{Coefficients, Coordinates, point_at, value, opposite_of, AreCollinear}
 use Rattle.plane_predicate.proofs.IntegerRing.{sums}
 use Rattle.primitives.specs.Shapes.{corner, value_at, HasTriangle, IsInRange, IsInside, IsShape, MakesShape}
-use Rattle.primitives.specs.GridSizes.{IsOnGrid}
+use Rattle.primitives.specs.GridSizes.{IsWithinGridLimits}
 use Rattle.primitives.proofs.ShapeBodies.{range_on_grid, shape_of}
 use Rattle.std.specs.Cmp.Lexicographic.{slice_cmp}
 use Rattle.primitives.specs.Spanning.{HasNoDirection, IsTriangle}
 use Rattle.primitives.specs.declared.spanning.Triangle.{Triangle}
 use Rattle.primitives.proofs.OnePlane.{nowhere}
-use Rattle.scad_hull.specs.Hulls.{points_in_order, faces_of, from, hull_of, point_put_among, is_directed, has_none_ahead, is_supporting, plane_of, shares_plane, AreOnOnePlane}
+use Rattle.scad_hull.specs.Hulls.{points_in_order, faces_of, numbers_between, hull_of, point_put_among, is_directed, has_none_ahead, is_supporting, plane_of, shares_plane, AreOnOnePlane}
 use Rattle.scad_hull.specs.Combinations.{IsInnerCombination}
-use Rattle.scad_hull.specs.Refusals.{AreInRange, HaveHull}
-use Rattle.scad_hull.specs.Steps.{with_triple, AreNumbered}
+use Rattle.scad_hull.specs.Refusals.{ArePointsInRange, HaveHull}
+use Rattle.scad_hull.specs.Steps.{with_triple, AreNumberedPoints}
 use Rattle.scad_hull.proofs.Lines.{collinear_by, on_one_plane, plane, with_direction}
 use Rattle.scad_hull.proofs.Members.{all_from, all_weaker, IsWithin}
 use Rattle.scad_hull.proofs.Solids.{inside_where_combined, makes_shape}
@@ -35,36 +35,36 @@ length_range : (a m : ℕ) → length (range_with_len a m) ≡ m
 length_range a zero = refl
 length_range a (suc m) = ap suc (length_range (a + 1) m)
 
-length_from : (n : ℕ) → length (from 0 n) ≡ n
+length_from : (n : ℕ) → length (numbers_between 0 n) ≡ n
 length_from n = length_range 0 (n - 0) ∙ omega arith
 
-pub get_from : (n k d : ℕ) → k < n → get_or (from 0 n) k d ≡ k
+pub get_from : (n k d : ℕ) → k < n → get_or (numbers_between 0 n) k d ≡ k
 get_from n k d lt = get_range 0 (n - 0) k d (omega (arith, lt)) ∙ omega arith
 
-pub all_below : (points : List (List ℤ)) (all : List ℕ) → AreNumbered points all → All (λ (i : ℕ). i < length points) all
-all_below points all h = subst (All (λ (i : ℕ). i < length points)) (sym h.numbers) (All-from_recursion (λ (i : ℕ). i < length points) (from 0 (length points)) (all_weaker (IsWithin 0 (length points)) (λ (i : ℕ). i < length points) (λ i w. w.below) (from 0 (length points)) (all_from 0 (length points))))
+pub all_below : (points : List (List ℤ)) (all : List ℕ) → AreNumberedPoints points all → All (λ (i : ℕ). i < length points) all
+all_below points all h = subst (All (λ (i : ℕ). i < length points)) (sym h.numbers) (All-from_recursion (λ (i : ℕ). i < length points) (numbers_between 0 (length points)) (all_weaker (IsWithin 0 (length points)) (λ (i : ℕ). i < length points) (λ i w. w.below) (numbers_between 0 (length points)) (all_from 0 (length points))))
 
-pub length_all : (points : List (List ℤ)) (all : List ℕ) → AreNumbered points all → length all ≡ length points
+pub length_all : (points : List (List ℤ)) (all : List ℕ) → AreNumberedPoints points all → length all ≡ length points
 length_all points all h = ap length h.numbers ∙ length_from (length points)
 
-number_at : (points : List (List ℤ)) (all : List ℕ) → AreNumbered points all → (k d : ℕ) → k < length points → get_or all k d ≡ k
+number_at : (points : List (List ℤ)) (all : List ℕ) → AreNumberedPoints points all → (k d : ℕ) → k < length points → get_or all k d ≡ k
 number_at points all h k d lt = ap (λ (ks : List ℕ). get_or ks k d) h.numbers ∙ get_from (length points) k d lt
 
 -- ---- a free side
 above_most : (x : ℤ) → pos 0 <ℤ x → x ≤ℤ pos 0 → ⊥
 above_most x h k = omega (arith, sums, h, k)
 
-some_ahead : (points : List (List ℤ)) (all : List ℕ) (m : Coefficients) → AreNumbered points all → Any (λ (i : ℕ). pos 0 <ℤ value_at points m i) all → has_none_ahead points m ≡ true → ⊥
+some_ahead : (points : List (List ℤ)) (all : List ℕ) (m : Coefficients) → AreNumberedPoints points all → Any (λ (i : ℕ). pos 0 <ℤ value_at points m i) all → has_none_ahead points m ≡ true → ⊥
 some_ahead points all m h a e =
     let below : a.1 < length points = subst (λ (i : ℕ). i < length points) a.3 (all_below points all h a.0 a.1 a.2) in
     above_most (value_at points m a.1) a.4 (none_ahead points m e a.1 [] below)
 
-all_behind : (points : List (List ℤ)) (all : List ℕ) (m : Coefficients) → AreNumbered points all → All (λ (i : ℕ). value_at points m i ≤ℤ pos 0) all → has_none_ahead points m ≡ true
+all_behind : (points : List (List ℤ)) (all : List ℕ) (m : Coefficients) → AreNumberedPoints points all → All (λ (i : ℕ). value_at points m i ≤ℤ pos 0) all → has_none_ahead points m ≡ true
 all_behind points all m h a =
     has_none points m (λ k d lt. subst (λ (p : List ℤ). value m (point_at p) ≤ℤ pos 0) (get_or_default points k [] d lt)
     (subst (λ (i : ℕ). value_at points m i ≤ℤ pos 0) (number_at points all h k 0 lt) (a k 0 (omega (arith, lt, length_all points all h)))))
 
-pub side_is : (points : List (List ℤ)) (all : List ℕ) (m : Coefficients) → AreNumbered points all → (b : Bool) → OnTrue b (Any (λ (i : ℕ). pos 0 <ℤ value_at points m i) all) → OnFalse b (All (λ (i : ℕ). value_at points m i ≤ℤ pos 0) all) → not b ≡ has_none_ahead points m
+pub side_is : (points : List (List ℤ)) (all : List ℕ) (m : Coefficients) → AreNumberedPoints points all → (b : Bool) → OnTrue b (Any (λ (i : ℕ). pos 0 <ℤ value_at points m i) all) → OnFalse b (All (λ (i : ℕ). value_at points m i ≤ℤ pos 0) all) → not b ≡ has_none_ahead points m
 side_is points all m h true some none = sym (false_from_ne_true (has_none_ahead points m) (some_ahead points all m h some))
 side_is points all m h false some none = sym (all_behind points all m h none)
 
@@ -117,7 +117,7 @@ supports_second points t m o b c r em eb e ec f eo er =
     ∙ or_false (has_none_ahead points n) (has_none_ahead points (opposite_of n)) (ap (has_none_ahead points) (sym em) ∙ sym ec ∙ f))
 
 -- ---- points on one plane
-lines_by : (points : List (List ℤ)) (all : List ℕ) → AreNumbered points all → (HasTriangle points all → ⊥) → (s k : ℕ) → s < length points → k < length points → AreCollinear (corner points 0) (corner points s) (corner points k)
+lines_by : (points : List (List ℤ)) (all : List ℕ) → AreNumberedPoints points all → (HasTriangle points all → ⊥) → (s k : ℕ) → s < length points → k < length points → AreCollinear (corner points 0) (corner points s) (corner points k)
 lines_by points all h none s k hs hk =
     let same = length_all points all h in
     let first = number_at points all h 0 0 (omega (arith, hs)) in
@@ -134,7 +134,7 @@ lines_by points all h none s k hs hk =
       apart = λ c. apart (subst (λ (i : ℕ). AreCollinear (corner points 0) (corner points s) (corner points i)) third (subst (λ (i : ℕ). AreCollinear (corner points 0) (corner points i) (corner points (get_or all k 0))) second (subst (λ (i : ℕ). AreCollinear (corner points i) (corner points (get_or all s 0)) (corner points (get_or all k 0))) first c)));
     }))
 
-pub flat_by_lines : (points : List (List ℤ)) (all : List ℕ) → AreNumbered points all → (HasTriangle points all → ⊥) → AreOnOnePlane points
+pub flat_by_lines : (points : List (List ℤ)) (all : List ℕ) → AreNumberedPoints points all → (HasTriangle points all → ⊥) → AreOnOnePlane points
 flat_by_lines points all h none = on_one_plane points 0 (lines_by points all h none)
 
 pub flat_by_plane : (points : List (List ℤ)) (all : List ℕ) (t : Triangle) → IsTriangle points all t → (m : Coefficients) → m ≡ plane points (get_or all t.first 0) (get_or all t.second 0) (get_or all t.third 0) → All (λ p. value m (point_at p) ≡ pos 0) points → AreOnOnePlane points
@@ -145,7 +145,7 @@ flat_by_plane points all t h m e on =
 no_size : (a b c : ℤ) → 0 < unsigned_abs a + unsigned_abs b + unsigned_abs c → a ≡ pos 0 → b ≡ pos 0 → c ≡ pos 0 → ⊥
 no_size a b c h ea eb ec = omega (arith, h, ap unsigned_abs ea, ap unsigned_abs eb, ap unsigned_abs ec)
 
-pub solid_by_plane : (points : List (List ℤ)) (all : List ℕ) → AreNumbered points all → (t : Triangle) → IsTriangle points all t → (m : Coefficients) → m ≡ plane points (get_or all t.first 0) (get_or all t.second 0) (get_or all t.third 0) → (All (λ p. value m (point_at p) ≡ pos 0) points → ⊥) → AreOnOnePlane points → ⊥
+pub solid_by_plane : (points : List (List ℤ)) (all : List ℕ) → AreNumberedPoints points all → (t : Triangle) → IsTriangle points all t → (m : Coefficients) → m ≡ plane points (get_or all t.first 0) (get_or all t.second 0) (get_or all t.third 0) → (All (λ p. value m (point_at p) ≡ pos 0) points → ⊥) → AreOnOnePlane points → ⊥
 solid_by_plane points all numbered t h m e off f =
     let i = get_or all t.first 0 in let j = get_or all t.second 0 in let k = get_or all t.third 0 in
     let below = all_below points all numbered in
@@ -226,18 +226,18 @@ all_different : (P : List ℤ → Type 0) (points given : List (List ℤ)) → A
 all_different P points [] h k = h
 all_different P points (p ∷ given) h k = all_different P (point_put_among p points) given (all_put P p points k.0 h) k.1
 
-pub range_different : (given : List (List ℤ)) → AreInRange given → AreInRange (points_in_order given)
+pub range_different : (given : List (List ℤ)) → ArePointsInRange given → ArePointsInRange (points_in_order given)
 range_different given h = All-from_recursion (λ p. IsInRange (point_at p)) (points_in_order given) (all_different (λ p. IsInRange (point_at p)) [] given tt (recursion_from_All (λ p. IsInRange (point_at p)) given h))
 
-pub numbered_by : (given points : List (List ℤ)) (all : List ℕ) → points ≡ points_in_order given → AreInRange given → length (points_in_order given) ≤ 128 → all ≡ from 0 (length points) → AreNumbered points all
+pub numbered_by : (given points : List (List ℤ)) (all : List ℕ) → points ≡ points_in_order given → ArePointsInRange given → length (points_in_order given) ≤ 128 → all ≡ numbers_between 0 (length points) → AreNumberedPoints points all
 numbered_by given points all e range few numbers = record {
-  grid = subst (λ ps. All (λ p. IsOnGrid (point_at p)) ps) (sym e) (range_on_grid (points_in_order given) (range_different given range));
+  grid = subst (λ ps. All (λ p. IsWithinGridLimits (point_at p)) ps) (sym e) (range_on_grid (points_in_order given) (range_different given range));
   few = subst (λ ps. length ps ≤ 128) (sym e) few;
   numbers = numbers;
 }
 
-pub shape_by : (given points : List (List ℤ)) (faces : List (List ℕ)) → points ≡ points_in_order given → AreInRange given → (AreOnOnePlane points → ⊥) → faces ≡ faces_of points → MakesShape (record { points = points; faces = faces })
-shape_by given points faces e range solid ef = subst (λ fs. MakesShape (record { points = points; faces = fs })) (sym ef) (makes_shape points (subst AreInRange (sym e) (range_different given range)) solid)
+pub shape_by : (given points : List (List ℤ)) (faces : List (List ℕ)) → points ≡ points_in_order given → ArePointsInRange given → (AreOnOnePlane points → ⊥) → faces ≡ faces_of points → MakesShape (record { points = points; faces = faces })
+shape_by given points faces e range solid ef = subst (λ fs. MakesShape (record { points = points; faces = fs })) (sym ef) (makes_shape points (subst ArePointsInRange (sym e) (range_different given range)) solid)
 
 pub inside_by : (given points : List (List ℤ)) → points ≡ points_in_order given → (AreOnOnePlane points → ⊥) → (q : Coordinates) → pos 0 <ℤ q.w → IsInside (hull_of given) q ↔ IsInnerCombination (points_in_order given) q
 inside_by given points e solid q hw = inside_where_combined (points_in_order given) (subst (λ ps. AreOnOnePlane ps → ⊥) e solid) q hw

@@ -2,7 +2,7 @@
 use Rattle.std.proofs.Common.{◌≡◌, ◌⊎◌, inl, inr, Bool, true, List, [], ◌∷◌, ◌++◌, length, get_or, map, filter, flat_map, refl, sym, ap, ◌∙◌, subst, arith, ℕ, zero, suc, ◌+◌, ◌-◌, ◌<◌, ◌≤◌, true≢false}
 use Rattle.std.specs.List.{AllByRecursion, range_with_len}
 use Rattle.std.proofs.lemmas.Bool.{cases_Bool, cases_lt, cond-true, cond-false}
-use Rattle.scad_hull.specs.Hulls.{from}
+use Rattle.scad_hull.specs.Hulls.{numbers_between}
 
 -- ---- all members
 pub all_append : {X : Type 0} (P : X → Type 0) (xs ys : List X) → AllByRecursion P xs → AllByRecursion P ys → AllByRecursion P (xs ++ ys)
@@ -43,7 +43,7 @@ all_from_by : (a n m : ℕ) → n - a ≡ m → AllByRecursion (IsWithin a n) (r
 all_from_by a n zero e = tt
 all_from_by a n (suc m) e = all_range a (suc m) n (omega (arith, e))
 
-pub all_from : (a n : ℕ) → AllByRecursion (IsWithin a n) (from a n)
+pub all_from : (a n : ℕ) → AllByRecursion (IsWithin a n) (numbers_between a n)
 all_from a n = all_from_by a n (n - a) refl
 
 -- ---- one member
@@ -84,7 +84,7 @@ pub among_range : (a m k : ℕ) → a ≤ k → k < a + m → IsAmong k (range_w
 among_range a zero k h lt = absurd (omega (arith, h, lt))
 among_range a (suc m) k h lt = elim (at_or_after a k h) [ inl e ↦ inl e | inr after ↦ inr (among_range (a + 1) m k after (omega (arith, lt))) ]
 
-pub among_from : (a n k : ℕ) → a ≤ k → k < n → IsAmong k (from a n)
+pub among_from : (a n k : ℕ) → a ≤ k → k < n → IsAmong k (numbers_between a n)
 among_from a n k h lt = among_range a (n - a) k h (omega (arith, h, lt))
 
 -- its place

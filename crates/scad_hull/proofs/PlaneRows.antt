@@ -7,7 +7,7 @@ use Rattle.std.proofs.lemmas.List.Elements.{All-push}
 use Rattle.std.proofs.lemmas.List.Folds.{list_any_at}
 use Rattle.primitives.specs.Shapes.{value_at}
 use Rattle.scad_hull.specs.Hulls.{is_supporting, plane_of, shares_plane}
-use Rattle.scad_hull.specs.Steps.{with_triple, with_triples, AreFound, AreListed, AreThree, HasNoFace, HasPointsOn, IsCommonRow}
+use Rattle.scad_hull.specs.Steps.{with_triple, with_triples, AreFoundFaces, AreListed, AreThree, HasNoFace, HasPointsOn, IsCommonRow}
 use Rattle.scad_hull.specs.declared.face_list.FaceList.{FaceList}
 use Rattle.scad_hull.proofs.Found.{listed, listed_push}
 use Rattle.scad_hull.proofs.Tests.{shares, triple}
@@ -50,7 +50,7 @@ one_more_on points t row n on within is before = λ k e.
     ]
 
 -- the triples of two points and one in a row that has both are on the plane of the row's face
-pub listed_by : (points : List (List ℤ)) (found : FaceList) (i j : ℕ) (row : List Bool) → AreFound points found → IsCommonRow found.rows.items i j row →
+pub listed_by : (points : List (List ℤ)) (found : FaceList) (i j : ℕ) (row : List Bool) → AreFoundFaces points found → IsCommonRow found.rows.items i j row →
     AreListed points found.faces.items i j row
 listed_by points found i j row f c = λ k e.
     let faces = found.faces.items in
@@ -79,7 +79,7 @@ none_added points faces i j none (k ∷ ks) =
 
 -- one more face with its row
 pub found_push : (points : List (List ℤ)) (old new : FaceList) (t : List ℕ) (row : List Bool) → new.faces.items ≡ old.faces.items ++ t ∷ [] → new.rows.items ≡ old.rows.items ++ row ∷ [] →
-    AreThree (length points) t → HasPointsOn points t row → AreFound points old → AreFound points new
+    AreThree (length points) t → HasPointsOn points t row → AreFoundFaces points old → AreFoundFaces points new
 found_push points old new t row ef er three on f =
     let faces = old.faces.items in
     let rows = old.rows.items in

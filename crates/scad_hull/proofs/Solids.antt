@@ -9,7 +9,7 @@ use Rattle.plane_predicate.proofs.Opposites.{size_of_negative}
 use Rattle.plane_predicate.proofs.Polynomials.{var, num, plus, times, minus, ring}
 use Rattle.plane_predicate.proofs.Signs.{signs, pos_neg, neg_neg, most_most, most_least, neg_pos}
 use Rattle.plane_predicate.proofs.Vectors.{minorP, value-opposite}
-use Rattle.primitives.specs.Shapes.{Mesh, corner, value_at, HasFreeSide, HasTriangle, IsBehindFace, IsFacePlane, IsInRange, IsInside, IsOnOnePlane, MakesShape}
+use Rattle.primitives.specs.Shapes.{Mesh, corner, value_at, HasFreeSide, HasTriangle, IsBehindFace, IsPlaneOfFace, IsInRange, IsInside, IsOnOnePlane, MakesShape}
 use Rattle.primitives.proofs.Moves.{cancelled}
 use Rattle.scad_hull.specs.Combinations.{IsInnerCombination}
 use Rattle.scad_hull.specs.Hulls.{faces_of, plane_of, AreOnOnePlane}
@@ -167,7 +167,7 @@ numbers_there points t n = subst (All (λ (i : ℕ). i < length points)) (sym n.
 faces_there : (points : List (List ℤ)) → All (λ f. All (λ (i : ℕ). i < length points) f) (faces_of points)
 faces_there points = λ k d lt. numbers_there points (get_or (faces_of points) k d) (All-from_recursion (IsSupport points) (faces_of points) (all_faces points) k d lt).numbers
 
-face_plane : (points : List (List ℤ)) (t : List ℕ) (f : HasFreeSide points t) → IsFacePlane (hull_mesh points) t f.plane
+face_plane : (points : List (List ℤ)) (t : List ℕ) (f : HasFreeSide points t) → IsPlaneOfFace (hull_mesh points) t f.plane
 face_plane points t f = record {
   directed = f.directed;
   on = f.on;

@@ -7,7 +7,7 @@ use Rattle.plane_predicate.proofs.IntegerRing.{mul_comm_ℤ, zero_mul}
 use Rattle.primitives.specs.Shapes.{corner}
 use Rattle.primitives.proofs.Moves.{cancelled}
 use Rattle.primitives.proofs.OnePlane.{nowhere, two_planes}
-use Rattle.scad_hull.specs.Hulls.{faces_of, first_of_planes, from, is_supporting, plane_of, shares_plane, triples, triples_by, triples_from}
+use Rattle.scad_hull.specs.Hulls.{faces_of, first_of_planes, numbers_between, is_supporting, plane_of, shares_plane, triples, triples_by, triples_from}
 use Rattle.scad_hull.proofs.Lines.{at, holds_first, holds_second, holds_third, plane, zero_by}
 use Rattle.scad_hull.proofs.Members.{all_filter, all_flat, all_from, all_map, all_weaker, among_filter, among_flat, among_from, among_map, IsAmong, IsWithin, member}
 use Rattle.scad_hull.proofs.Tests.{Holds, shared, shares, supports, Supports, triple}
@@ -42,16 +42,16 @@ pub record IsTriple (n : ℕ) (t : List ℕ) : Type 0 where
 
 pub all_triples : (n : ℕ) → AllByRecursion (IsTriple n) (triples n)
 all_triples n =
-    all_flat (IsTriple n) (triples_from n) (from 0 n) (all_weaker (IsWithin 0 n) (λ i. AllByRecursion (IsTriple n) (triples_from n i)) (λ i wi.
-    all_flat (IsTriple n) (triples_by n i) (from (i + 1) n) (all_weaker (IsWithin (i + 1) n) (λ j. AllByRecursion (IsTriple n) (triples_by n i j)) (λ j wj.
-    all_map (IsTriple n) (triple i j) (from (j + 1) n) (all_weaker (IsWithin (j + 1) n) (λ k. IsTriple n (triple i j k)) (λ k wk.
-    record { i = i; j = j; k = k; is = refl; up = omega (arith, wj.least); more = omega (arith, wk.least); below = wk.below }) (from (j + 1) n) (all_from (j + 1) n))) (from (i + 1) n) (all_from (i + 1) n))) (from 0 n) (all_from 0 n))
+    all_flat (IsTriple n) (triples_from n) (numbers_between 0 n) (all_weaker (IsWithin 0 n) (λ i. AllByRecursion (IsTriple n) (triples_from n i)) (λ i wi.
+    all_flat (IsTriple n) (triples_by n i) (numbers_between (i + 1) n) (all_weaker (IsWithin (i + 1) n) (λ j. AllByRecursion (IsTriple n) (triples_by n i j)) (λ j wj.
+    all_map (IsTriple n) (triple i j) (numbers_between (j + 1) n) (all_weaker (IsWithin (j + 1) n) (λ k. IsTriple n (triple i j k)) (λ k wk.
+    record { i = i; j = j; k = k; is = refl; up = omega (arith, wj.least); more = omega (arith, wk.least); below = wk.below }) (numbers_between (j + 1) n) (all_from (j + 1) n))) (numbers_between (i + 1) n) (all_from (i + 1) n))) (numbers_between 0 n) (all_from 0 n))
 
 pub among_triples : (n i j k : ℕ) → i < j → j < k → k < n → IsAmong (triple i j k) (triples n)
 among_triples n i j k hi hj hk =
-    among_flat (triples_from n) i (triple i j k) (from 0 n) (among_from 0 n i (omega arith) (omega (arith, hi, hj, hk)))
-    (among_flat (triples_by n i) j (triple i j k) (from (i + 1) n) (among_from (i + 1) n j (omega (arith, hi)) (omega (arith, hj, hk)))
-    (among_map (triple i j) k (from (j + 1) n) (among_from (j + 1) n k (omega (arith, hj)) hk)))
+    among_flat (triples_from n) i (triple i j k) (numbers_between 0 n) (among_from 0 n i (omega arith) (omega (arith, hi, hj, hk)))
+    (among_flat (triples_by n i) j (triple i j k) (numbers_between (i + 1) n) (among_from (i + 1) n j (omega (arith, hi)) (omega (arith, hj, hk)))
+    (among_map (triple i j) k (numbers_between (j + 1) n) (among_from (j + 1) n k (omega (arith, hj)) hk)))
 
 -- ---- supporting triples
 pub record IsSupport (points : List (List ℤ)) (t : List ℕ) : Type 0 where

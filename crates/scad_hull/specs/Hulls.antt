@@ -39,21 +39,21 @@ is_supporting points triple =
 abbrev pub shares_plane : List (List ℤ) → List ℕ → List ℕ → Bool
 shares_plane points s t = list_all (λ i. int_eq (value_at points (plane_of points s) i) (pos 0)) t
 
--- the numbers from a on, below n
-abbrev pub from : ℕ → ℕ → List ℕ
-from a n = range_with_len a (n - a)
+-- the ascending numbers that are at least a and below n
+abbrev pub numbers_between : ℕ → ℕ → List ℕ
+numbers_between a n = range_with_len a (n - a)
 
 -- the triples of ascending numbers below n that begin with i and j
 abbrev pub triples_by : ℕ → ℕ → ℕ → List (List ℕ)
-triples_by n i j = map (λ k. i ∷ j ∷ k ∷ []) (from (j + 1) n)
+triples_by n i j = map (λ k. i ∷ j ∷ k ∷ []) (numbers_between (j + 1) n)
 
 -- the triples of ascending numbers below n that begin with i
 abbrev pub triples_from : ℕ → ℕ → List (List ℕ)
-triples_from n i = flat_map (triples_by n i) (from (i + 1) n)
+triples_from n i = flat_map (triples_by n i) (numbers_between (i + 1) n)
 
 -- the triples of ascending numbers below n
 abbrev pub triples : ℕ → List (List ℕ)
-triples n = flat_map (triples_from n) (from 0 n)
+triples n = flat_map (triples_from n) (numbers_between 0 n)
 
 -- of triples with equal planes the first alone
 abbrev pub first_of_planes : List (List ℤ) → List (List ℕ) → List (List ℕ)

@@ -8,20 +8,20 @@ use Rattle.primitives.specs.declared.stop.ShapeStop.TheVariants.{Kind, NoMemory}
 use Rattle.scad_hull.specs.Hulls.{points_in_order, AreOnOnePlane}
 
 -- all coordinates are at most 65,535 in size
-abbrev pub AreInRange : List (List ℤ) → Type 0
-AreInRange given = All (λ p. IsInRange (point_at p)) given
+abbrev pub ArePointsInRange : List (List ℤ) → Type 0
+ArePointsInRange given = All (λ p. IsInRange (point_at p)) given
 
 -- points with a hull: in range, at most 128 different ones, and not all on one plane
 pub record HaveHull (given : List (List ℤ)) : Type 0 where
-  pub range : AreInRange given
+  pub range : ArePointsInRange given
   pub few : length (points_in_order given) ≤ 128
   pub solid : AreOnOnePlane (points_in_order given) → ⊥
 
 -- why points have no hull: the first of these conditions that fails. Want of memory may come at any time
 abbrev pub IsHullStop : List (List ℤ) → ShapeStop → Type 0
-IsHullStop given (Kind OutOfRange) = AreInRange given → ⊥
-IsHullStop given (Kind LongList) = AreInRange given × (128 < length (points_in_order given))
-IsHullStop given (Kind FewPoints) = AreInRange given × (length (points_in_order given) ≤ 128) × AreOnOnePlane (points_in_order given)
+IsHullStop given (Kind OutOfRange) = ArePointsInRange given → ⊥
+IsHullStop given (Kind LongList) = ArePointsInRange given × (128 < length (points_in_order given))
+IsHullStop given (Kind FewPoints) = ArePointsInRange given × (length (points_in_order given) ≤ 128) × AreOnOnePlane (points_in_order given)
 IsHullStop given (Kind kind) = ⊥
 IsHullStop given NoMemory = ⊤
 

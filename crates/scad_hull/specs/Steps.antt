@@ -2,9 +2,9 @@
 use Rattle.std.specs.Prelude.{◌≡◌, ℕ, ◌<◌, ◌≤◌, Bool, true, false, not, cond, ◌&&◌, ℤ, pos, List, [], ◌∷◌, ◌++◌, get_or, length, fold, All}
 use Rattle.std.specs.List.{list_any}
 use Rattle.plane_predicate.specs.Space.{point_at}
-use Rattle.primitives.specs.GridSizes.{IsOnGrid}
+use Rattle.primitives.specs.GridSizes.{IsWithinGridLimits}
 use Rattle.primitives.specs.Shapes.{value_at}
-use Rattle.scad_hull.specs.Hulls.{from, is_supporting, plane_of, shares_plane}
+use Rattle.scad_hull.specs.Hulls.{numbers_between, is_supporting, plane_of, shares_plane}
 use Rattle.scad_hull.specs.declared.face_list.FaceList.{FaceList}
 
 -- the faces so far, and one more triple if it is supporting and its plane is not that of a face so far
@@ -16,10 +16,10 @@ abbrev pub with_triples : List (List ℤ) → List (List ℕ) → List (List ℕ
 with_triples points faces triples = fold (with_triple points) faces triples
 
 -- points of a hull, and all their numbers
-pub record AreNumbered (points : List (List ℤ)) (all : List ℕ) : Type 0 where
-  pub grid : All (λ p. IsOnGrid (point_at p)) points
+pub record AreNumberedPoints (points : List (List ℤ)) (all : List ℕ) : Type 0 where
+  pub grid : All (λ p. IsWithinGridLimits (point_at p)) points
   pub few : length points ≤ 128
-  pub numbers : all ≡ from 0 (length points)
+  pub numbers : all ≡ numbers_between 0 (length points)
 
 -- the numbers of three points
 pub record AreThree (count : ℕ) (t : List ℕ) : Type 0 where
@@ -31,7 +31,7 @@ abbrev pub HasPointsOn : List (List ℤ) → List ℕ → List Bool → Type 0
 HasPointsOn points triple row = (k : ℕ) → get_or row k false ≡ true → value_at points (plane_of points triple) k ≡ pos 0
 
 -- faces found so far: triples of points, each with a row of points on its plane
-pub record AreFound (points : List (List ℤ)) (found : FaceList) : Type 0 where
+pub record AreFoundFaces (points : List (List ℤ)) (found : FaceList) : Type 0 where
   pub three : All (AreThree (length points)) found.faces.items
   pub many : length found.rows.items ≡ length found.faces.items
   pub rows : (f : ℕ) → f < length found.rows.items →

@@ -3,7 +3,7 @@
 ghost use Rattle.std.specs.Prelude.{◌<◌, ◌≤◌, All, length};
 ghost use Rattle.std.specs.Bool.{OnTrue};
 ghost use Rattle.plane_predicate.specs.Space.{point_at};
-ghost use Rattle.primitives.specs.GridSizes.{IsOnGrid};
+ghost use Rattle.primitives.specs.GridSizes.{IsWithinGridLimits};
 ghost use Rattle.scad_hull.specs.Steps.{AreThree, HasNoFace};
 
 use crate::triples::{is_point_ahead, through};
@@ -17,7 +17,7 @@ pub fn is_surrounded(
     second: usize,
     around: &mut [u32; 3],
 ) -> bool
-    requires grid { All (λ p. IsOnGrid (point_at p)) points.now }
+    requires grid { All (λ p. IsWithinGridLimits (point_at p)) points.now }
     requires few { length points.now ≤ 128 }
     requires first_in { first < length points.now }
     requires second_in { second < length points.now }
@@ -34,7 +34,7 @@ pub fn is_surrounded(
 
 // Whether three points are round the line through two others: about the line, the way from each to the next turns left.
 fn surround(points: &[[i64; 3]], first: usize, second: usize, around: [u32; 3]) -> bool
-    requires grid { All (λ p. IsOnGrid (point_at p)) points.now }
+    requires grid { All (λ p. IsWithinGridLimits (point_at p)) points.now }
     requires few { length points.now ≤ 128 }
     requires first_in { first < length points.now }
     requires second_in { second < length points.now }
@@ -55,7 +55,7 @@ fn surround(points: &[[i64; 3]], first: usize, second: usize, around: [u32; 3]) 
 
 // Three points that may be round the line through two others.
 fn guess(points: &[[i64; 3]], first: usize, second: usize) -> [u32; 3]
-    requires grid { All (λ p. IsOnGrid (point_at p)) points.now }
+    requires grid { All (λ p. IsWithinGridLimits (point_at p)) points.now }
     requires few { length points.now ≤ 128 }
     requires first_in { first < length points.now }
     requires second_in { second < length points.now }
@@ -73,7 +73,7 @@ fn guess(points: &[[i64; 3]], first: usize, second: usize) -> [u32; 3]
 // Three points that may be round the line through two others. From one point off the line on, those furthest to the right
 // and to the left about it are kept, until a further one is to the right of the one and to the left of the other.
 fn guess_from(points: &[[i64; 3]], first: usize, second: usize, start: usize) -> [u32; 3]
-    requires grid { All (λ p. IsOnGrid (point_at p)) points.now }
+    requires grid { All (λ p. IsWithinGridLimits (point_at p)) points.now }
     requires few { length points.now ≤ 128 }
     requires first_in { first < length points.now }
     requires second_in { second < length points.now }

@@ -3,8 +3,8 @@
 ghost use Rattle.std.specs.Prelude.{◌≡◌, ◌<◌, ◌≤◌, true, IfOk, OnOk, length};
 ghost use Rattle.std.specs.Bool.{OnTrue};
 ghost use Rattle.std.specs.List.{list_any};
-ghost use Rattle.scad_hull.specs.Hulls.{faces_of, from, shares_plane, triples_by, triples_from};
-ghost use Rattle.scad_hull.specs.Steps.{with_triple, with_triples, AreFound, AreListed, AreNumbered, AreThree};
+ghost use Rattle.scad_hull.specs.Hulls.{faces_of, numbers_between, shares_plane, triples_by, triples_from};
+ghost use Rattle.scad_hull.specs.Steps.{with_triple, with_triples, AreFoundFaces, AreListed, AreNumberedPoints, AreThree};
 
 use crate::around::is_surrounded;
 use crate::face_list::{FaceList, Row};
@@ -12,10 +12,10 @@ use crate::plane_points::{common_row, row_of};
 use crate::triples::{is_listed, supports};
 use std::alloc::{AllocError, Global};
 
-/// The numbers of so many points, from 0.
+/// The numbers of so many points; the first is 0.
 pub fn numbers(alloc: Global, count: usize) -> Result<Vec<u32>, AllocError>
     requires { count ≤ 128 }
-    ensures { IfOk result (λ v. v.items ≡ from 0 count) }
+    ensures { IfOk result (λ v. v.items ≡ numbers_between 0 count) }
 {
     let mut all = Vec::new(alloc);
     for number in 0..count {
@@ -31,7 +31,7 @@ pub fn hull_faces(
     points: &[[i64; 3]],
     all: &[u32],
 ) -> Result<Vec<[u32; 3]>, AllocError>
-    requires { AreNumbered points.now all.now }
+    requires { AreNumberedPoints points.now all.now }
     ensures { IfOk result (λ v. v.items ≡ faces_of points.now) }
 {
     let mut found = FaceList::new(alloc);
@@ -48,12 +48,12 @@ fn push_from(
     all: &[u32],
     first: usize,
 ) -> Result<(), AllocError>
-    requires numbered { AreNumbered points.now all.now }
+    requires numbered { AreNumberedPoints points.now all.now }
     requires first_in { first < length points.now }
-    requires found { AreFound points.now found.old }
+    requires found { AreFoundFaces points.now found.old }
     ensures faces { OnOk result (found.new.faces.items
         ≡ with_triples points.now found.old.faces.items (triples_from (length points.now) first)) }
-    ensures found { OnOk result (AreFound points.now found.new) }
+    ensures found { OnOk result (AreFoundFaces points.now found.new) }
 {
     let mut around = [first as u32, first as u32, first as u32];
     for second in first + 1..points.len() {
@@ -71,14 +71,14 @@ fn push_by(
     first: usize,
     second: usize,
 ) -> Result<(), AllocError>
-    requires numbered { AreNumbered points.now all.now }
+    requires numbered { AreNumberedPoints points.now all.now }
     requires ascending { (first < second) × (second < length points.now) }
-    requires found { AreFound points.now found.old }
+    requires found { AreFoundFaces points.now found.old }
     requires around { AreThree (length points.now) around.old }
     ensures faces { OnOk result (found.new.faces.items
         ≡ with_triples points.now found.old.faces.items
         (triples_by (length points.now) first second)) }
-    ensures found { OnOk result (AreFound points.now found.new) }
+    ensures found { OnOk result (AreFoundFaces points.now found.new) }
     ensures around { AreThree (length points.now) around.new }
 {
     match common_row(&found.rows, first, second) {
@@ -101,14 +101,14 @@ fn push_past(
     second: usize,
     row: &Row,
 ) -> Result<(), AllocError>
-    requires numbered { AreNumbered points.now all.now }
+    requires numbered { AreNumberedPoints points.now all.now }
     requires ascending { (first < second) × (second < length points.now) }
-    requires found { AreFound points.now found.old }
+    requires found { AreFoundFaces points.now found.old }
     requires listed { AreListed points.now found.old.faces.items first second row.now }
     ensures faces { OnOk result (found.new.faces.items
         ≡ with_triples points.now found.old.faces.items
         (triples_by (length points.now) first second)) }
-    ensures found { OnOk result (AreFound points.now found.new) }
+    ensures found { OnOk result (AreFoundFaces points.now found.new) }
 {
     for third in second + 1..points.len() {
         push_triple(
@@ -130,14 +130,14 @@ fn push_triple(
     is_known: bool,
     triple: [u32; 3],
 ) -> Result<(), AllocError>
-    requires numbered { AreNumbered points.now all.now }
+    requires numbered { AreNumberedPoints points.now all.now }
     requires three { AreThree (length points.now) triple }
-    requires found { AreFound points.now found.old }
+    requires found { AreFoundFaces points.now found.old }
     requires known { OnTrue is_known (list_any (λ s. shares_plane points.now s triple)
         found.old.faces.items ≡ true) }
     ensures faces { OnOk result (found.new.faces.items
         ≡ with_triple points.now found.old.faces.items triple) }
-    ensures found { OnOk result (AreFound points.now found.new) }
+    ensures found { OnOk result (AreFoundFaces points.now found.new) }
 {
     if is_known {
         return Ok(());

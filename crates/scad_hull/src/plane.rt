@@ -3,16 +3,16 @@
 ghost use Rattle.std.specs.Prelude.{◌≡◌, pos, All};
 ghost use Rattle.std.specs.Bool.{OnTrue, OnFalse};
 ghost use Rattle.plane_predicate.specs.Space.{point_at, value};
-ghost use Rattle.primitives.specs.GridSizes.{IsOnGrid};
+ghost use Rattle.primitives.specs.GridSizes.{IsWithinGridLimits};
 ghost use Rattle.scad_hull.specs.Hulls.{AreOnOnePlane};
-ghost use Rattle.scad_hull.specs.Steps.{AreNumbered};
+ghost use Rattle.scad_hull.specs.Steps.{AreNumberedPoints};
 
 use primitives::facing::{FacePlane, goes_through, plane_through};
 use primitives::find_triangle;
 
 /// Whether all points are on one plane, by a triangle of them.
 pub fn are_on_one_plane(points: &[[i64; 3]], all: &[u32]) -> bool
-    requires { AreNumbered points.now all.now }
+    requires { AreNumberedPoints points.now all.now }
     ensures flat { OnTrue result (AreOnOnePlane points.now) }
     ensures solid { OnFalse result (AreOnOnePlane points.now → ⊥) }
 {
@@ -29,7 +29,7 @@ pub fn are_on_one_plane(points: &[[i64; 3]], all: &[u32]) -> bool
 
 // Whether a plane goes through all points.
 fn holds_all(points: &[[i64; 3]], plane: &FacePlane) -> bool
-    requires { All (λ p. IsOnGrid (point_at p)) points.now }
+    requires { All (λ p. IsWithinGridLimits (point_at p)) points.now }
     ensures all { OnTrue result (All (λ p. value plane.now (point_at p) ≡ pos 0) points.now) }
     ensures past { OnFalse result (All (λ p. value plane.now (point_at p) ≡ pos 0) points.now → ⊥) }
 {

@@ -3,7 +3,7 @@
 ghost use Rattle.std.specs.Prelude.{◌≡◌, ◌<◌, ◌≤◌, true, false, All, IfSome, get_or, length};
 ghost use Rattle.std.specs.Bool.{OnTrue};
 ghost use Rattle.plane_predicate.specs.Space.{point_at};
-ghost use Rattle.primitives.specs.GridSizes.{IsOnGrid};
+ghost use Rattle.primitives.specs.GridSizes.{IsWithinGridLimits};
 ghost use Rattle.scad_hull.specs.Steps.{AreThree, HasPointsOn, IsCommonRow};
 
 use crate::face_list::Row;
@@ -11,7 +11,7 @@ use crate::triples::{is_point_on, through};
 
 /// Which points are on the plane of a triple.
 pub fn row_of(points: &[[i64; 3]], triple: [u32; 3]) -> Row
-    requires grid { All (λ p. IsOnGrid (point_at p)) points.now }
+    requires grid { All (λ p. IsWithinGridLimits (point_at p)) points.now }
     requires few { length points.now ≤ 128 }
     requires three { AreThree (length points.now) triple }
     ensures { HasPointsOn points.now triple result }

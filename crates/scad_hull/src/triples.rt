@@ -5,10 +5,10 @@ ghost use Rattle.std.specs.Bool.{OnTrue};
 ghost use Rattle.std.specs.List.{list_any};
 ghost use Rattle.std.specs.Ordering.{int_eq};
 ghost use Rattle.plane_predicate.specs.Space.{point_at, value};
-ghost use Rattle.primitives.specs.GridSizes.{IsOnGrid};
+ghost use Rattle.primitives.specs.GridSizes.{IsWithinGridLimits};
 ghost use Rattle.primitives.specs.Shapes.{value_at};
 ghost use Rattle.scad_hull.specs.Hulls.{is_directed, has_none_ahead, is_supporting, plane_of, shares_plane};
-ghost use Rattle.scad_hull.specs.Steps.{AreNumbered, AreThree};
+ghost use Rattle.scad_hull.specs.Steps.{AreNumberedPoints, AreThree};
 
 use primitives::face_has_ahead;
 use primitives::facing::{
@@ -17,7 +17,7 @@ use primitives::facing::{
 
 /// Whether three points are not on one line, and no point lies strictly on one side of their plane.
 pub fn supports(points: &[[i64; 3]], all: &[u32], triple: [u32; 3]) -> bool
-    requires numbered { AreNumbered points.now all.now }
+    requires numbered { AreNumberedPoints points.now all.now }
     requires three { AreThree (length points.now) triple }
     ensures { result ≡ is_supporting points.now triple }
 {
@@ -40,7 +40,7 @@ fn is_directed(plane: &FacePlane) -> bool
 
 // Whether no point is strictly ahead of a plane.
 fn has_free_side(points: &[[i64; 3]], all: &[u32], plane: &FacePlane) -> bool
-    requires { AreNumbered points.now all.now }
+    requires { AreNumberedPoints points.now all.now }
     ensures { result ≡ has_none_ahead points.now plane.now }
 {
     !face_has_ahead(points, all, plane)
@@ -48,7 +48,7 @@ fn has_free_side(points: &[[i64; 3]], all: &[u32], plane: &FacePlane) -> bool
 
 /// The plane through three points.
 pub fn through(points: &[[i64; 3]], triple: [u32; 3]) -> FacePlane
-    requires grid { All (λ p. IsOnGrid (point_at p)) points.now }
+    requires grid { All (λ p. IsWithinGridLimits (point_at p)) points.now }
     requires three { AreThree (length points.now) triple }
     ensures { result ≡ plane_of points.now triple }
 {
@@ -58,7 +58,7 @@ pub fn through(points: &[[i64; 3]], triple: [u32; 3]) -> FacePlane
 
 /// Whether the plane of a triple is that of one of some faces.
 pub fn is_listed(points: &[[i64; 3]], faces: &[[u32; 3]], triple: [u32; 3]) -> bool
-    requires grid { All (λ p. IsOnGrid (point_at p)) points.now }
+    requires grid { All (λ p. IsWithinGridLimits (point_at p)) points.now }
     requires faces_three { All (AreThree (length points.now)) faces.now }
     requires three { AreThree (length points.now) triple }
     ensures { result ≡ list_any (λ s. shares_plane points.now s triple) faces.now }
@@ -73,7 +73,7 @@ pub fn is_listed(points: &[[i64; 3]], faces: &[[u32; 3]], triple: [u32; 3]) -> b
 
 // Whether the plane of one triple goes through the points of another.
 fn is_on_plane(points: &[[i64; 3]], of: [u32; 3], triple: [u32; 3]) -> bool
-    requires grid { All (λ p. IsOnGrid (point_at p)) points.now }
+    requires grid { All (λ p. IsWithinGridLimits (point_at p)) points.now }
     requires of_three { AreThree (length points.now) of }
     requires three { AreThree (length points.now) triple }
     ensures { result ≡ shares_plane points.now of triple }
@@ -91,7 +91,7 @@ fn is_on_plane(points: &[[i64; 3]], of: [u32; 3], triple: [u32; 3]) -> bool
 
 // Whether a plane goes through a point.
 fn holds(plane: &FacePlane, at: [i64; 3]) -> bool
-    requires { IsOnGrid (point_at at) }
+    requires { IsWithinGridLimits (point_at at) }
     ensures { result ≡ int_eq (value plane.now (point_at at)) (pos 0) }
 {
     goes_through(plane, at)
@@ -99,7 +99,7 @@ fn holds(plane: &FacePlane, at: [i64; 3]) -> bool
 
 /// Whether a point is strictly ahead of a plane.
 pub fn is_point_ahead(points: &[[i64; 3]], plane: &FacePlane, number: u32) -> bool
-    requires grid { All (λ p. IsOnGrid (point_at p)) points.now }
+    requires grid { All (λ p. IsWithinGridLimits (point_at p)) points.now }
     requires there { number < length points.now }
     ensures { OnTrue result (pos 0 <ℤ value_at points.now plane.now number) }
 {
@@ -108,7 +108,7 @@ pub fn is_point_ahead(points: &[[i64; 3]], plane: &FacePlane, number: u32) -> bo
 
 /// Whether a plane goes through a point.
 pub fn is_point_on(points: &[[i64; 3]], plane: &FacePlane, number: u32) -> bool
-    requires grid { All (λ p. IsOnGrid (point_at p)) points.now }
+    requires grid { All (λ p. IsWithinGridLimits (point_at p)) points.now }
     requires there { number < length points.now }
     ensures { OnTrue result (value_at points.now plane.now number ≡ pos 0) }
 {

@@ -17,7 +17,7 @@ use Rattle.scad_value.specs.View.{val_of, value_step, values_step}
 use Rattle.scad_definitions.specs.Blocks.{BlockTable}
 use Rattle.scad_func.specs.Meaning.{Env, no_activation, entered_scope}
 use Rattle.scad_func.specs.View.{table_in}
-use Rattle.scad_func.specs.Definitions.{statements_at, block_scope, IsWhole}
+use Rattle.scad_func.specs.Definitions.{statements_at, block_scope, IsWholeTable}
 use Rattle.scad_func.specs.declared.source.Source.{Source}
 use Rattle.scad_instances.specs.declared.numbered.NumberedInstance.{NumberedInstance}
 use Rattle.scad_meaning.specs.Bodies.{is_child, evaluated_in, children_in}
@@ -64,7 +64,7 @@ module _ {E : Type 0} (r : Result (Vec NumberedInstance Global) E) (children : L
       go (Err stop) h = tt
 
 -- how many children there are
-pub children_counted : (old new : Source) (block : ℕ) (env inner : Env) (found : List NumberedInstance) → IsWhole (table_in old) → new ≡ old
+pub children_counted : (old new : Source) (block : ℕ) (env inner : Env) (found : List NumberedInstance) → IsWholeTable (table_in old) → new ≡ old
     → inner ≡ block_scope (table_in old) block no_activation env → map term_of_numbered found ≡ children_in inner (statements_at (table_in new) block)
     → length found ≡ length (children_in (entered_scope (statements_at (table_in old) block) no_activation env) (statements_at (table_in old) block))
 children_counted old new block env inner found whole same is e =

@@ -12,7 +12,7 @@ use Rattle.scad_ast.specs.declared.statement.Body.TheFolds.{fold_out-Instance, f
 use Rattle.scad_ast.specs.Terms.{StatementTerm, EmptyStatement, BlockStatement, AssignmentTerm, SpecialAssignmentTerm, ModuleTerm, FunctionTerm, InstanceStatement, StatementTerms, no_statements, and_statement, statements_from, InstanceTerm, AnInstance, CoreTerm, IfTerm, IfElseTerm, ForTerm, IntersectionForTerm, ModuleCallTerm, BodyTerm, EmptyBody, BlockBody, InstanceBody}
 use Rattle.scad_ast.specs.StatementView.{statement_of, statements_of, instance_of, core_of, body_step, core_step, statement_step, instance_step, statements_step}
 use Rattle.scad_definitions.specs.Blocks.{Entity, a_block, a_function, a_module, entities_of, entities_in, entities_of_instance, entities_of_core, entities_of_body, count_blocks, nothing_there, BlockTable, StandAt}
-use Rattle.scad_func.specs.Definitions.{statements_at, IsBlockOf, IsWhole}
+use Rattle.scad_func.specs.Definitions.{statements_at, IsBlockOf, IsWholeTable}
 use Rattle.scad_meaning.specs.Bodies.{is_on, instances_in, instances_of, evaluated_in}
 use Rattle.scad_meaning.specs.Meaning.{core_of_instance}
 use Rattle.scad_instances.specs.Positions.{CoreHasBlocks, has_else}
@@ -58,7 +58,7 @@ module _ (table : BlockTable) where
   body_stands (BlockBody at inner) n h = h.1
   body_stands (InstanceBody instance) n h = h.1
 
-  module _ (whole : IsWhole table) where
+  module _ (whole : IsWholeTable table) where
     -- a body's block ends behind all that stands in it
     ends_behind : (n : ℕ) (ss : StatementTerms) → n < length table.entries → statements_at table n ≡ ss
         → Ends n (n + 1 + count_blocks (entities_in ss))

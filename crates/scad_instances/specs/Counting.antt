@@ -5,7 +5,7 @@ use Rattle.scad_value.specs.declared.bounded_value.BoundedValue.{BoundedValue}
 use Rattle.scad_value.specs.Values.{NumberVal}
 use Rattle.scad_value.specs.BoundedView.{bounded_val}
 use Rattle.scad_func.specs.Meaning.{entered_scope, no_activation}
-use Rattle.scad_func.specs.Evaluations.{Keeps, env_here}
+use Rattle.scad_func.specs.Evaluations.{KeepsEvaluation, env_here}
 use Rattle.scad_func.specs.declared.evaluation.Evaluation.{Evaluation}
 use Rattle.scad_meaning.specs.Bodies.{children_in}
 
@@ -13,5 +13,5 @@ use Rattle.scad_meaning.specs.Bodies.{children_in}
 -- one in which is evaluated, unless memory runs out, and all is as before.
 pub record CountsChildren {E : Type 0} (body : StatementTerms) (old new : Evaluation) (result : Result BoundedValue E) : Type 0 where
   pub count : IfOk result (λ count. bounded_val count ≡ NumberVal (pos (length (children_in (entered_scope body no_activation (env_here old)) body))))
-  pub kept : Keeps old new
+  pub kept : KeepsEvaluation old new
   pub turns : new.turns ≡ old.turns

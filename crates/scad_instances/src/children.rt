@@ -5,7 +5,7 @@ ghost use Rattle.std.specs.Str.{bytes_eq};
 ghost use Rattle.scad_ast.specs.StatementView.{instance_of};
 ghost use Rattle.scad_func.specs.Meaning.{visible_module};
 ghost use Rattle.scad_func.specs.View.{table_in};
-ghost use Rattle.scad_func.specs.Definitions.{statements_at, IsWhole};
+ghost use Rattle.scad_func.specs.Definitions.{statements_at, IsWholeTable};
 ghost use Rattle.scad_func.specs.Evaluations.{env_here};
 ghost use Rattle.scad_meaning.specs.Bodies.{children_in, is_child};
 ghost use Rattle.scad_meaning.specs.Meaning.{instances_chosen};
@@ -52,7 +52,7 @@ fn children<'a>(
     evaluation: &Evaluation<'a, '_>,
     block: u32,
 ) -> Result<Vec<NumberedInstance<'a>>, NoMemory>
-    requires { IsWhole (table_in evaluation.now.source.now) }
+    requires { IsWholeTable (table_in evaluation.now.source.now) }
     ensures { let table = table_in evaluation.now.source.now in
         IfOk result (λ found. HaveBodyBlocks table (children_in (env_here evaluation.now)
         (statements_at table block)) found.items) }
@@ -73,7 +73,7 @@ pub fn count_children(
     evaluation: &mut Evaluation<'_, '_>,
     block: u32,
 ) -> Result<BoundedValue, NoMemory>
-    requires { IsWhole (table_in evaluation.old.source.now) }
+    requires { IsWholeTable (table_in evaluation.old.source.now) }
     ensures { CountsChildren (statements_at (table_in evaluation.old.source.now) block)
         evaluation.old evaluation.new result }
 {
@@ -96,7 +96,7 @@ pub fn chosen_instances<'a>(
     block: u32,
     chosen: Option<&Chosen>,
 ) -> Result<Vec<NumberedInstance<'a>>, NoMemory>
-    requires whole { IsWhole (table_in evaluation.now.source.now) }
+    requires whole { IsWholeTable (table_in evaluation.now.source.now) }
     requires safe { IsSafeChosen chosen }
     ensures { let table = table_in evaluation.now.source.now in
         let wanted = instances_chosen (env_here evaluation.now) (chosen_seen chosen.entry)

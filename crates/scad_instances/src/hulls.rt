@@ -6,7 +6,7 @@ ghost use Rattle.int_transform.specs.Maps.{coordinates, image, map_of};
 ghost use Rattle.scad_design.specs.Placing.{StaysSafe};
 ghost use Rattle.scad_design.specs.View.{plain_of};
 ghost use Rattle.scad_meaning.specs.Hulls.{is_nothing, is_union, points_of, hull_mesh, StaySafe};
-ghost use Rattle.scad_meaning.specs.Verdicts.{Judge, IsRight};
+ghost use Rattle.scad_meaning.specs.Verdicts.{Judge, IsRightJudge};
 ghost use Rattle.scad_instances.specs.Answers.{MeetsShape, IsPastRange};
 
 use csg_tree::Op;
@@ -32,7 +32,7 @@ pub fn is_nothing(design: &Design) -> bool
 /// other than a union, `TooLarge` where else a coordinate of a leaf is past 2^53 - 1 after some step,
 /// and else what is wrong with the points of all leaves, moved by their steps.
 pub fn design_hull(alloc: Global, design: &Design) -> Result<Shape, ShapeStop>
-    ensures { (judge : Judge) → IsRight judge →
+    ensures { (judge : Judge) → IsRightJudge judge →
         MeetsShape result (judge.hull (plain_of design.now)) (hull_mesh (plain_of design.now)) }
 {
     if !is_union(design) {

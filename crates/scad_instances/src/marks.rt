@@ -2,7 +2,7 @@
 
 ghost use Rattle.std.specs.Prelude.{◌≡◌};
 ghost use Rattle.std.specs.List.{list_any};
-ghost use Rattle.scad_ast.specs.StatementView.{marks_of, instance_of};
+ghost use Rattle.scad_ast.specs.StatementView.{modifiers_of, instance_of};
 ghost use Rattle.scad_meaning.specs.Bodies.{switches_off, is_root, is_on, has_root_modifier};
 
 use scad_ast::{Instance, Modifier, PlacedModifiers};
@@ -22,7 +22,7 @@ pub fn has_root_modifier(instance: &Instance) -> bool
 }
 
 fn any_off(marks: &PlacedModifiers) -> bool
-    ensures { result ≡ list_any (λ m. switches_off m.modifier) (marks_of marks.now) }
+    ensures { result ≡ list_any (λ m. switches_off m.modifier) (modifiers_of marks.now) }
 {
     for mark in &marks.items {
         if switches_off(mark.modifier) {
@@ -33,7 +33,7 @@ fn any_off(marks: &PlacedModifiers) -> bool
 }
 
 fn any_root(marks: &PlacedModifiers) -> bool
-    ensures { result ≡ list_any (λ m. is_root m.modifier) (marks_of marks.now) }
+    ensures { result ≡ list_any (λ m. is_root m.modifier) (modifiers_of marks.now) }
 {
     for mark in &marks.items {
         if is_root(mark.modifier) {

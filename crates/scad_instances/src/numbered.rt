@@ -6,7 +6,7 @@ ghost use Rattle.std.specs.List.{All, filter};
 ghost use Rattle.scad_ast.specs.Terms.{statements_from};
 ghost use Rattle.scad_ast.specs.StatementView.{core_of, instance_of, statement_of, statements_of};
 ghost use Rattle.scad_definitions.specs.Blocks.{BlockTable, StandAt, entities_in, entities_of, entities_of_instance, count_blocks};
-ghost use Rattle.scad_func.specs.Definitions.{statements_at, IsWhole};
+ghost use Rattle.scad_func.specs.Definitions.{statements_at, IsWholeTable};
 ghost use Rattle.scad_func.specs.View.{table_in};
 ghost use Rattle.scad_meaning.specs.Bodies.{instances_of, evaluated_in, is_on};
 ghost use Rattle.scad_instances.specs.Positions.{term_of_numbered, HasBlocks, HaveBodyBlocks, AddsInstances, PassesOver, BlocksBegin, has_else};
@@ -34,7 +34,7 @@ pub(crate) fn numbered_instances<'a>(
     source: &Source<'a>,
     block: u32,
 ) -> Result<Vec<NumberedInstance<'a>>, NoMemory>
-    requires { IsWhole (table_in source.now) }
+    requires { IsWholeTable (table_in source.now) }
     ensures { let table = table_in source.now in
         IfOk result (λ found. HaveBodyBlocks table
         (evaluated_in (statements_at table block)) found.items) }
@@ -52,7 +52,7 @@ fn add_block<'a>(
     block: u32,
     found: &mut Vec<NumberedInstance<'a>>,
 ) -> Result<(), NoMemory>
-    requires whole { IsWhole (table_in source.now) }
+    requires whole { IsWholeTable (table_in source.now) }
     requires there { block < length (table_in source.now).entries }
     ensures { let table = table_in source.now in
         AddsInstances table (evaluated_in (statements_at table block)) found.old.items
@@ -83,7 +83,7 @@ fn add_all<'a>(
     first: u32,
     found: &mut Vec<NumberedInstance<'a>>,
 ) -> Result<u32, NoMemory>
-    requires whole { IsWhole (table_in source.now) }
+    requires whole { IsWholeTable (table_in source.now) }
     requires stand { StandAt (table_in source.now) first
         (entities_in (statements_from (statements_of statements.now))) }
     ensures { let terms = statements_from (statements_of statements.now) in
@@ -104,7 +104,7 @@ fn add<'a>(
     first: u32,
     found: &mut Vec<NumberedInstance<'a>>,
 ) -> Result<u32, NoMemory>
-    requires whole { IsWhole (table_in source.now) }
+    requires whole { IsWholeTable (table_in source.now) }
     requires stand { StandAt (table_in source.now) first
         (entities_of (statement_of statement.now)) }
     ensures { let term = statement_of statement.now in
@@ -128,7 +128,7 @@ fn add_instance<'a>(
     block: u32,
     found: &mut Vec<NumberedInstance<'a>>,
 ) -> Result<u32, NoMemory>
-    requires whole { IsWhole (table_in source.now) }
+    requires whole { IsWholeTable (table_in source.now) }
     requires stand { StandAt (table_in source.now) block
         (entities_of_instance (instance_of instance.now)) }
     ensures { let term = instance_of instance.now in
@@ -146,7 +146,7 @@ fn add_instance<'a>(
 
 // The number behind all blocks of an instance.
 fn block_end(source: &Source<'_>, numbered: NumberedInstance<'_>) -> u32
-    requires whole { IsWhole (table_in source.now) }
+    requires whole { IsWholeTable (table_in source.now) }
     requires begins { BlocksBegin (table_in source.now) numbered }
     ensures { result ≡ numbered.entry.block + count_blocks
         (entities_of_instance (term_of_numbered numbered.entry)) }

@@ -2,7 +2,7 @@
 
 ghost use Rattle.scad_modules.specs.Bounds.{IsSafeSolid, IsSafeFlat};
 ghost use Rattle.scad_modules.specs.View.{solid_call_of, flat_call_of};
-ghost use Rattle.scad_meaning.specs.Verdicts.{Judge, IsRight, solid_of, outline_of};
+ghost use Rattle.scad_meaning.specs.Verdicts.{Judge, IsRightJudge, solid_mesh, flat_outline};
 ghost use Rattle.scad_instances.specs.Answers.{MeetsShape, MeetsFlat};
 
 use plane_predicate::Unit;
@@ -14,9 +14,9 @@ use std::alloc::Global;
 /// A solid shape in grid steps, or the first check of shapes that it fails.
 pub fn solid_shape(alloc: Global, unit: Unit, shape: &SolidShape) -> Result<Shape, ShapeStop>
     requires { IsSafeSolid (solid_call_of shape.now) }
-    ensures { (judge : Judge) → IsRight judge →
+    ensures { (judge : Judge) → IsRightJudge judge →
         MeetsShape result (judge.solid unit (solid_call_of shape.now))
-        (solid_of unit (solid_call_of shape.now)) }
+        (solid_mesh unit (solid_call_of shape.now)) }
 {
     match shape {
         SolidShape::Cube { size, center } => cube_shape(alloc, *size, *center, unit),
@@ -33,9 +33,9 @@ pub fn solid_shape(alloc: Global, unit: Unit, shape: &SolidShape) -> Result<Shap
 /// A shape in the plane in grid steps, or the first check of shapes that it fails.
 pub fn flat_shape(alloc: Global, unit: Unit, shape: &FlatShape) -> Result<Flat, ShapeStop>
     requires { IsSafeFlat (flat_call_of shape.now) }
-    ensures { (judge : Judge) → IsRight judge →
+    ensures { (judge : Judge) → IsRightJudge judge →
         MeetsFlat result (judge.flat unit (flat_call_of shape.now))
-        (outline_of unit (flat_call_of shape.now)) }
+        (flat_outline unit (flat_call_of shape.now)) }
 {
     match shape {
         FlatShape::Square { size, center } => square_flat(alloc, *size, *center, unit),

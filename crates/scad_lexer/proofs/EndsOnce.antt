@@ -9,8 +9,8 @@ use Rattle.scad_lexer.specs.declared.word.Word.{Word}
 use Rattle.scad_lexer.specs.declared.word.Word.TheVariants.{Blank, UnclosedComment, Name, Special, Numeral, NumeralAndLetter, Text, UnclosedText, Symbol}
 use Rattle.scad_lexer.specs.declared.meaning.WordMeaning.{WordMeaning}
 use Rattle.scad_lexer.specs.declared.meaning.WordMeaning.TheVariants.{NoToken, OneToken, BadWord}
-use Rattle.scad_lexer.specs.Words.{digit, run_of}
-use Rattle.scad_lexer.specs.Tokens.{LexOutcome, GivesTokens, FaultAt, tokens_in_front, tokens_at, IsEnd, IsStray, IsFaulty, Piece, ReadsWords, LexesFrom, meaning_of, name_or, reserved_of, zero_fraction, numeral_or_too_large, number_from, numeral_of, or_letter, text_from, bytes_written, without_quotes, place_after, is_end, ends_once}
+use Rattle.scad_lexer.specs.Words.{is_digit_byte, run_of}
+use Rattle.scad_lexer.specs.Tokens.{LexOutcome, GivesTokens, FaultAt, tokens_in_front, tokens_at, IsEnd, IsStray, IsFaulty, SourceWord, ReadsWords, LexesFrom, word_meaning, name_or, reserved_of, zero_fraction, numeral_or_too_large, decimal_from, numeral_meaning, or_letter, text_from, bytes_written, without_quotes, place_after, is_end, ends_once}
 
 -- what a word stands for is no end
 abbrev IsPlain : WordMeaning → Type 0
@@ -26,10 +26,10 @@ plain_cond : (b : Bool) (m n : WordMeaning) → IsPlain m → IsPlain n → IsPl
 plain_cond true m n h k = h
 plain_cond false m n h k = k
 
-plain_numeral : (w : List ℕ) → IsPlain (numeral_of w)
+plain_numeral : (w : List ℕ) → IsPlain (numeral_meaning w)
 plain_numeral w =
-    plain_cond (zero_fraction (drop (run_of digit w) w)) (numeral_or_too_large (number_from 0 (take (run_of digit w) w))) _
-    (plain_cond (nat_lt (number_from 0 (take (run_of digit w) w)) (2 ^ 53)) _ _ refl tt) tt
+    plain_cond (zero_fraction (drop (run_of is_digit_byte w) w)) (numeral_or_too_large (decimal_from 0 (take (run_of is_digit_byte w) w))) _
+    (plain_cond (nat_lt (decimal_from 0 (take (run_of is_digit_byte w) w)) (2 ^ 53)) _ _ refl tt) tt
 
 plain_letter : (m : WordMeaning) (at : ℕ) → IsPlain (or_letter m at)
 plain_letter (OneToken k) at = tt
@@ -40,13 +40,13 @@ plain_text : (r : Result (List ℕ) ℕ) → IsPlain (text_from r)
 plain_text (Ok bs) = refl
 plain_text (Err at) = tt
 
-plain : (w : Word) (bytes : List ℕ) → IsPlain (meaning_of w bytes)
+plain : (w : Word) (bytes : List ℕ) → IsPlain (word_meaning w bytes)
 plain Blank bytes = tt
 plain UnclosedComment bytes = tt
 plain Name bytes = plain_name bytes (reserved_of bytes)
 plain Special bytes = refl
 plain Numeral bytes = plain_numeral bytes
-plain NumeralAndLetter bytes = plain_letter (numeral_of (take (length bytes - 1) bytes)) (length bytes - 1)
+plain NumeralAndLetter bytes = plain_letter (numeral_meaning (take (length bytes - 1) bytes)) (length bytes - 1)
 plain Text bytes = plain_text (bytes_written (without_quotes bytes))
 plain UnclosedText bytes = tt
 plain (Symbol s) bytes = refl
@@ -71,9 +71,9 @@ last p text o (inl a) = subst EndsOnce (sym a.1) refl
 last p text o (inr (inl a)) = subst EndsOnce (sym a.2) tt
 last p text o (inr (inr a)) = subst EndsOnce (sym a.outcome) tt
 
-pub reads_end : (pieces : List Piece) (p : Place) (text : List ℕ) (o : LexOutcome) → ReadsWords pieces p text o → EndsOnce o
+pub reads_end : (pieces : List SourceWord) (p : Place) (text : List ℕ) (o : LexOutcome) → ReadsWords pieces p text o → EndsOnce o
 reads_end [] p text o h = last p text o h
-reads_end (x ∷ xs) p text o h = subst EndsOnce (sym h.2.2) (more_tokens p (meaning_of x.word (take x.bytes text)) h.2.0 (plain x.word (take x.bytes text)) (reads_end xs (place_after p (take x.bytes text)) (drop x.bytes text) h.2.0 h.2.1))
+reads_end (x ∷ xs) p text o h = subst EndsOnce (sym h.2.2) (more_tokens p (word_meaning x.word (take x.bytes text)) h.2.0 (plain x.word (take x.bytes text)) (reads_end xs (place_after p (take x.bytes text)) (drop x.bytes text) h.2.0 h.2.1))
 
 pub end_once : (p : Place) (text : List ℕ) (r : Result (Vec Token) Stop) → IfOk r (λ ts. LexesFrom p text (GivesTokens ts.items)) → IfOk r (λ ts. ends_once ts.items ≡ true)
 end_once p text (Ok ts) h = reads_end h.0 p text (GivesTokens ts.items) h.1

@@ -11,8 +11,8 @@ use Rattle.scad_lexer.specs.declared.word.Word.{Word}
 use Rattle.scad_lexer.specs.declared.word.Word.TheVariants.{Blank, UnclosedComment, Name, Special, Numeral, NumeralAndLetter, Text, UnclosedText, Symbol}
 use Rattle.scad_lexer.specs.declared.meaning.WordMeaning.{WordMeaning}
 use Rattle.scad_lexer.specs.declared.meaning.WordMeaning.TheVariants.{NoToken, OneToken, BadWord}
-use Rattle.scad_lexer.specs.Words.{has, digit, run_of}
-use Rattle.scad_lexer.specs.Tokens.{zero_fraction, number_from, numeral_or_too_large, numeral_of, or_letter, escape_at, with_byte, with_escape, bytes_written, bytes_after_backslash, without_quotes, text_from, meaning_of, place_after, LexOutcome, GivesTokens, FaultAt, tokens_in_front, tokens_at, IsEnd, IsStray, IsFaulty, Piece, ReadsWords, IsLexStop, IsPlaceOfByteFrom, StandsAtByte}
+use Rattle.scad_lexer.specs.Words.{is_of_class, is_digit_byte, run_of}
+use Rattle.scad_lexer.specs.Tokens.{zero_fraction, decimal_from, numeral_or_too_large, numeral_meaning, or_letter, escape_at, with_byte, with_escape, bytes_written, bytes_after_backslash, without_quotes, text_from, word_meaning, place_after, LexOutcome, GivesTokens, FaultAt, tokens_in_front, tokens_at, IsEnd, IsStray, IsFaulty, SourceWord, ReadsWords, IsLexStop, IsPlaceOfByteFrom, StandsAtByte}
 use Rattle.scad_lexer.proofs.Lengths.{some_bytes}
 
 -- ---- a fault of a word stands before one of its bytes
@@ -25,10 +25,10 @@ inside_cond : (n : ℕ) (b : Bool) (m o : WordMeaning) → IsInside n m → IsIn
 inside_cond n true m o h k = h
 inside_cond n false m o h k = k
 
-inside_numeral : (n : ℕ) (w : List ℕ) → 1 ≤ n → IsInside n (numeral_of w)
+inside_numeral : (n : ℕ) (w : List ℕ) → 1 ≤ n → IsInside n (numeral_meaning w)
 inside_numeral n w some =
-    inside_cond n (zero_fraction (drop (run_of digit w) w)) (numeral_or_too_large (number_from 0 (take (run_of digit w) w))) _
-    (inside_cond n (nat_lt (number_from 0 (take (run_of digit w) w)) (2 ^ 53)) _ _ tt (omega (arith, some))) (omega (arith, some))
+    inside_cond n (zero_fraction (drop (run_of is_digit_byte w) w)) (numeral_or_too_large (decimal_from 0 (take (run_of is_digit_byte w) w))) _
+    (inside_cond n (nat_lt (decimal_from 0 (take (run_of is_digit_byte w) w)) (2 ^ 53)) _ _ tt (omega (arith, some))) (omega (arith, some))
 
 inside_letter : (n : ℕ) (m : WordMeaning) (at : ℕ) → at < n → IsInside n m → IsInside n (or_letter m at)
 inside_letter n (BadWord k before) at l h = h
@@ -62,7 +62,7 @@ mutual
   text_byte [] = tt
   text_byte (b ∷ w) =
       byte_cond (length (b ∷ w)) (nat_eq b 92) (bytes_after_backslash w) _ (escape_byte w)
-      (byte_cond (length (b ∷ w)) (has Printable b) _ (Err 0) (more_bytes (1 + length w) (length (b ∷ w)) _ (omega arith) (byte_behind (length w) 1 b (bytes_written w) (text_byte w))) (omega arith))
+      (byte_cond (length (b ∷ w)) (is_of_class Printable b) _ (Err 0) (more_bytes (1 + length w) (length (b ∷ w)) _ (omega arith) (byte_behind (length w) 1 b (bytes_written w) (text_byte w))) (omega arith))
 
   escape_byte : (w : List ℕ) → HasByte (suc (length w)) (bytes_after_backslash w)
   escape_byte [] = omega arith
@@ -75,14 +75,14 @@ inside_text : (n m : ℕ) (r : Result (List ℕ) ℕ) → m ≤ n - 1 - 1 → Ha
 inside_text n m (Ok bs) l h = tt
 inside_text n m (Err at) l h = omega (arith, l, h)
 
-inside_word : (w : Word) (bytes : List ℕ) → 1 ≤ length bytes → IsInside (length bytes) (meaning_of w bytes)
+inside_word : (w : Word) (bytes : List ℕ) → 1 ≤ length bytes → IsInside (length bytes) (word_meaning w bytes)
 inside_word Blank bytes some = tt
 inside_word UnclosedComment bytes some = omega (arith, some)
 inside_word Name bytes some = tt
 inside_word Special bytes some = tt
 inside_word Numeral bytes some = inside_numeral (length bytes) bytes some
 inside_word NumeralAndLetter bytes some =
-    inside_letter (length bytes) (numeral_of (take (length bytes - 1) bytes)) (length bytes - 1) (omega (arith, some))
+    inside_letter (length bytes) (numeral_meaning (take (length bytes - 1) bytes)) (length bytes - 1) (omega (arith, some))
     (inside_numeral (length bytes) (take (length bytes - 1) bytes) some)
 inside_word Text bytes some = inside_text (length bytes) (length (without_quotes bytes)) (bytes_written (without_quotes bytes)) (inside_length bytes) (text_byte (without_quotes bytes))
 inside_word UnclosedText bytes some = omega (arith, some)
@@ -133,11 +133,11 @@ further : (p : Place) (n : ℕ) (text : List ℕ) (ts : List Token) (o : LexOutc
 further p n text ts (GivesTokens us) h = tt
 further p n text ts (FaultAt k at) h = byte_further p n text at h
 
-reads_byte : (pieces : List Piece) (p : Place) (text : List ℕ) (o : LexOutcome) → ReadsWords pieces p text o → FaultsAtByte p text o
+reads_byte : (pieces : List SourceWord) (p : Place) (text : List ℕ) (o : LexOutcome) → ReadsWords pieces p text o → FaultsAtByte p text o
 reads_byte [] p text o h = last_byte p text o h
 reads_byte (x ∷ xs) p text o h =
     subst (FaultsAtByte p text) (sym h.2.2)
-    (further p x.bytes text (tokens_at p (meaning_of x.word (take x.bytes text))) h.2.0
+    (further p x.bytes text (tokens_at p (word_meaning x.word (take x.bytes text))) h.2.0
     (reads_byte xs (place_after p (take x.bytes text)) (drop x.bytes text) h.2.0 h.2.1))
 
 pub stands_at_byte : (text : List ℕ) (r : Result (Vec Token) Stop) → IfErr r (λ stop. IsLexStop text stop) → IfErr r (λ stop. StandsAtByte text stop)

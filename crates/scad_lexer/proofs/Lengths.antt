@@ -7,8 +7,8 @@ use Rattle.scad_lexer.specs.declared.token.Token.{Token}
 use Rattle.scad_lexer.specs.declared.word.Word.{Word}
 use Rattle.scad_lexer.specs.declared.meaning.WordMeaning.{WordMeaning}
 use Rattle.scad_lexer.specs.declared.meaning.WordMeaning.TheVariants.{NoToken, OneToken, BadWord}
-use Rattle.scad_lexer.specs.Words.{word_of}
-use Rattle.scad_lexer.specs.Tokens.{LexOutcome, GivesTokens, FaultAt, tokens_in_front, tokens_at, IsEnd, IsStray, IsFaulty, Piece, ReadsWords, LexesFrom, meaning_of, place_after}
+use Rattle.scad_lexer.specs.Words.{word_of_bytes}
+use Rattle.scad_lexer.specs.Tokens.{LexOutcome, GivesTokens, FaultAt, tokens_in_front, tokens_at, IsEnd, IsStray, IsFaulty, SourceWord, ReadsWords, LexesFrom, word_meaning, place_after}
 
 abbrev HasFew : ℕ → LexOutcome → Type 0
 HasFew n (GivesTokens ts) = length ts ≤ n + 1
@@ -30,18 +30,18 @@ fewer n m (GivesTokens ts) l h = omega (arith, l, h)
 fewer n m (FaultAt k p) l h = tt
 
 -- a word has bytes
-pub some_bytes : (text : List ℕ) (n : ℕ) (word : Word) → word_of (take n text) ≡ Some word → 1 ≤ n
+pub some_bytes : (text : List ℕ) (n : ℕ) (word : Word) → word_of_bytes (take n text) ≡ Some word → 1 ≤ n
 some_bytes text zero word e = absurd (let f : ◌≡◌ {A = Option Word} None (Some word) = e in cc)
 some_bytes text (suc n) word e = omega arith
 
-reads_few : (pieces : List Piece) (p : Place) (text : List ℕ) (o : LexOutcome) → ReadsWords pieces p text o → HasFew (length text) o
+reads_few : (pieces : List SourceWord) (p : Place) (text : List ℕ) (o : LexOutcome) → ReadsWords pieces p text o → HasFew (length text) o
 reads_few [] p text o h = last p text o h
 reads_few (x ∷ xs) p text o h =
     let some = some_bytes text x.bytes x.word h.0.found in
     let rest = length-drop x.bytes text in
     subst (HasFew (length text)) (sym h.2.2)
     (fewer (suc (length (drop x.bytes text))) (length text) _ (omega (arith, some, rest, h.0.within))
-    (one_more p (meaning_of x.word (take x.bytes text)) (length (drop x.bytes text)) h.2.0 (reads_few xs (place_after p (take x.bytes text)) (drop x.bytes text) h.2.0 h.2.1)))
+    (one_more p (word_meaning x.word (take x.bytes text)) (length (drop x.bytes text)) h.2.0 (reads_few xs (place_after p (take x.bytes text)) (drop x.bytes text) h.2.0 h.2.1)))
 
 pub few_tokens : (p : Place) (text : List ℕ) (r : Result (Vec Token) Stop) → IfOk r (λ ts. LexesFrom p text (GivesTokens ts.items)) → IfOk r (λ ts. length ts.items ≤ length text + 1)
 few_tokens p text (Ok ts) h = reads_few h.0 p text (GivesTokens ts.items) h.1

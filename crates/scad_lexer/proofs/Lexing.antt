@@ -15,8 +15,8 @@ use Rattle.scad_lexer.specs.declared.word.Word.{Word}
 use Rattle.scad_lexer.specs.declared.word.Word.TheVariants.{Symbol as SymbolWord}
 use Rattle.scad_lexer.specs.declared.meaning.WordMeaning.{WordMeaning}
 use Rattle.scad_lexer.specs.declared.meaning.WordMeaning.TheVariants.{NoToken, OneToken, BadWord}
-use Rattle.scad_lexer.specs.Words.{word_from, word_of, IsLongest, HasNoWord}
-use Rattle.scad_lexer.specs.Tokens.{LexOutcome, GivesTokens, FaultAt, tokens_in_front, tokens_at, IsFaultless, IsEnd, IsStray, IsFaulty, Piece, ReadsWords, LexesFrom, Lexes, IsLexStopFrom, IsLexStop, Agrees, meaning_of, place_after, AppendsNext}
+use Rattle.scad_lexer.specs.Words.{word_from, word_of_bytes, IsLongest, HasNoWord}
+use Rattle.scad_lexer.specs.Tokens.{LexOutcome, GivesTokens, FaultAt, tokens_in_front, tokens_at, IsFaultless, IsEnd, IsStray, IsFaulty, SourceWord, ReadsWords, LexesFrom, Lexes, IsLexStopFrom, IsLexStop, Agrees, word_meaning, place_after, AppendsNext}
 use Rattle.scad_lexer.proofs.Longest.{drop_more}
 use Rattle.scad_lexer.proofs.Scanned.{rest_all}
 
@@ -24,7 +24,7 @@ use Rattle.scad_lexer.proofs.Scanned.{rest_all}
 longest_once : (text : List ℕ) (n m : ℕ) (w v : Word) → IsLongest text n w → IsLongest text m v → (n ≡ m) × (w ≡ v)
 longest_once text n m w v a b =
     let same : n ≡ m = omega (arith, b.most n w a.within a.found, a.most m v b.within b.found) in
-    let both : Some w ≡ Some v = sym a.found ∙ ap (λ n. word_of (take n text)) same ∙ b.found in
+    let both : Some w ≡ Some v = sym a.found ∙ ap (λ n. word_of_bytes (take n text)) same ∙ b.found in
     (same, cc)
 
 no_bytes : (n : ℕ) → take {A = ℕ} n [] ≡ []
@@ -33,7 +33,7 @@ no_bytes (suc n) = refl
 
 empty_longest : (text : List ℕ) (n : ℕ) (w : Word) → text ≡ [] → IsLongest text n w → ⊥
 empty_longest text n w e h =
-    let none : word_of (take n text) ≡ None = ap (λ t. word_of (take n t)) e ∙ ap word_of (no_bytes n) in
+    let none : word_of_bytes (take n text) ≡ None = ap (λ t. word_of_bytes (take n t)) e ∙ ap word_of_bytes (no_bytes n) in
     let both : None ≡ Some w = sym none ∙ h.found in
     cc
 
@@ -48,7 +48,7 @@ last_once p text o q (inr (inr a)) (inl b) = absurd (empty_longest text a.length
 last_once p text o q (inr (inr a)) (inr (inl b)) = absurd (b.1 a.length a.word a.longest.within a.longest.found)
 last_once p text o q (inr (inr a)) (inr (inr b)) =
     let one = longest_once text a.length b.length a.word b.word a.longest b.longest in
-    let means : BadWord a.kind a.before ≡ BadWord b.kind b.before = sym a.means ∙ ap (λ n. meaning_of a.word (take n text)) one.0 ∙ ap (λ w. meaning_of w (take b.length text)) one.1 ∙ b.means in
+    let means : BadWord a.kind a.before ≡ BadWord b.kind b.before = sym a.means ∙ ap (λ n. word_meaning a.word (take n text)) one.0 ∙ ap (λ w. word_meaning w (take b.length text)) one.1 ∙ b.means in
     let kind : a.kind ≡ b.kind = cc in
     let before : a.before ≡ b.before = cc in
     a.outcome ∙ ap (λ k. FaultAt k (place_after p (take a.before text))) kind ∙ ap (λ n. FaultAt b.kind (place_after p (take n text))) before ∙ sym b.outcome
@@ -59,14 +59,14 @@ fault_unsound NoToken j i e h = absurd (cc)
 fault_unsound (OneToken k) j i e h = absurd (cc)
 
 -- a word with no fault is no last thing
-not_last : (p : Place) (text : List ℕ) (o : LexOutcome) (n : ℕ) (w : Word) → (IsEnd p text o ⊎ (IsStray p text o ⊎ IsFaulty p text o)) → IsLongest text n w → IsFaultless (meaning_of w (take n text)) → ⊥
+not_last : (p : Place) (text : List ℕ) (o : LexOutcome) (n : ℕ) (w : Word) → (IsEnd p text o ⊎ (IsStray p text o ⊎ IsFaulty p text o)) → IsLongest text n w → IsFaultless (word_meaning w (take n text)) → ⊥
 not_last p text o n w (inl a) h s = empty_longest text n w a.0 h
 not_last p text o n w (inr (inl a)) h s = a.1 n w h.within h.found
 not_last p text o n w (inr (inr a)) h s =
     let one = longest_once text a.length n a.word w a.longest h in
-    fault_unsound (meaning_of w (take n text)) a.kind a.before (sym (ap (λ n. meaning_of a.word (take n text)) one.0 ∙ ap (λ w. meaning_of w (take n text)) one.1) ∙ a.means) s
+    fault_unsound (word_meaning w (take n text)) a.kind a.before (sym (ap (λ n. word_meaning a.word (take n text)) one.0 ∙ ap (λ w. word_meaning w (take n text)) one.1) ∙ a.means) s
 
-pub reads_once : (xs ys : List Piece) (p : Place) (text : List ℕ) (o q : LexOutcome) → ReadsWords xs p text o → ReadsWords ys p text q → o ≡ q
+pub reads_once : (xs ys : List SourceWord) (p : Place) (text : List ℕ) (o q : LexOutcome) → ReadsWords xs p text o → ReadsWords ys p text q → o ≡ q
 reads_once [] [] p text o q a b = last_once p text o q a b
 reads_once [] (y ∷ ys) p text o q a b = absurd (not_last p text o y.bytes y.word a b.0 b.1)
 reads_once (x ∷ xs) [] p text o q a b = absurd (not_last p text q x.bytes x.word b a.0 a.1)
@@ -74,8 +74,8 @@ reads_once (x ∷ xs) (y ∷ ys) p text o q a b =
     let one = longest_once text x.bytes y.bytes x.word y.word a.0 b.0 in
     let next : ReadsWords ys (place_after p (take x.bytes text)) (drop x.bytes text) b.2.0 = subst (λ n. ReadsWords ys (place_after p (take n text)) (drop n text) b.2.0) (sym one.0) b.2.1 in
     let rest : a.2.0 ≡ b.2.0 = reads_once xs ys (place_after p (take x.bytes text)) (drop x.bytes text) a.2.0 b.2.0 a.2.1 next in
-    a.2.2 ∙ ap (tokens_in_front (tokens_at p (meaning_of x.word (take x.bytes text)))) rest
-    ∙ ap (λ n. tokens_in_front (tokens_at p (meaning_of x.word (take n text))) b.2.0) one.0 ∙ ap (λ w. tokens_in_front (tokens_at p (meaning_of w (take y.bytes text))) b.2.0) one.1 ∙ sym b.2.2
+    a.2.2 ∙ ap (tokens_in_front (tokens_at p (word_meaning x.word (take x.bytes text)))) rest
+    ∙ ap (λ n. tokens_in_front (tokens_at p (word_meaning x.word (take n text))) b.2.0) one.0 ∙ ap (λ w. tokens_in_front (tokens_at p (word_meaning w (take y.bytes text))) b.2.0) one.1 ∙ sym b.2.2
 
 -- a whole text gives one thing
 pub one_outcome : (text : List ℕ) (o q : LexOutcome) → Lexes text o → Lexes text q → o ≡ q
@@ -102,7 +102,7 @@ goes_first text (FaultAt k p) h = h
 -- one word more
 pub goes_on : (text : List ℕ) (ts us : List Token) (p : Place) (rest : List ℕ) (n : ℕ) → GoesOn text ts p rest → AppendsNext ts us p rest n → GoesOn text us (place_after p (take n rest)) (take (length rest - n) (drop n rest))
 goes_on text ts us p rest n told next o h =
-    let made : List Token = tokens_at p (meaning_of next.word (take n rest)) in
+    let made : List Token = tokens_at p (word_meaning next.word (take n rest)) in
     let here : ReadsWords h.0 (place_after p (take n rest)) (drop n rest) o = subst (λ l. ReadsWords h.0 (place_after p (take n rest)) l o) (rest_all rest n) h.1 in
     subst (λ l. Lexes text (tokens_in_front l o)) (sym next.appended)
     (subst (Lexes text) (in_front_twice ts made o)
@@ -121,7 +121,7 @@ pub stray : (p : Place) (text : List ℕ) → 1 ≤ length text → HasNoWord te
 stray p [] some h = absurd (omega arith)
 stray p (b ∷ t) some h = ([], inr (inl ((λ e. cc), h, refl)))
 
-pub faulty : (p : Place) (text : List ℕ) (n : ℕ) (w : Word) (k : FaultKind) (m : ℕ) → IsLongest text n w → BadWord k m ≡ meaning_of w (take n text) → LexesFrom p text (FaultAt k (place_after p (take m text)))
+pub faulty : (p : Place) (text : List ℕ) (n : ℕ) (w : Word) (k : FaultKind) (m : ℕ) → IsLongest text n w → BadWord k m ≡ word_meaning w (take n text) → LexesFrom p text (FaultAt k (place_after p (take m text)))
 faulty p text n w k m h e = ([], inr (inr (record { length = n; word = w; kind = k; before = m; longest = h; means = sym e; outcome = refl })))
 
 pub word_some : (text : List ℕ) (n : ℕ) (w : Word) → IsLongest text n w → 1 ≤ n
@@ -129,10 +129,10 @@ word_some text zero w h = absurd (let e = h.found in cc)
 word_some text (suc n) w h = omega arith
 
 -- a word that makes no token, and one that makes one
-pub appends_none : (text : List ℕ) (ts : List Token) (p : Place) (n : ℕ) (w : Word) → IsLongest text n w → NoToken ≡ meaning_of w (take n text) → AppendsNext ts ts p text n
+pub appends_none : (text : List ℕ) (ts : List Token) (p : Place) (n : ℕ) (w : Word) → IsLongest text n w → NoToken ≡ word_meaning w (take n text) → AppendsNext ts ts p text n
 appends_none text ts p n w h e = record { word = w; longest = h; sound = subst IsFaultless e tt; appended = sym (append-nil ts) ∙ ap (λ m. ts ++ tokens_at p m) e; some = word_some text n w h }
 
-pub appends_one : (text : List ℕ) (ts us : List Token) (p : Place) (n : ℕ) (w : Word) (kind : TokenKind) → IsLongest text n w → OneToken kind ≡ meaning_of w (take n text) → us ≡ ts ++ record { kind = kind; place = p } ∷ [] → AppendsNext ts us p text n
+pub appends_one : (text : List ℕ) (ts us : List Token) (p : Place) (n : ℕ) (w : Word) (kind : TokenKind) → IsLongest text n w → OneToken kind ≡ word_meaning w (take n text) → us ≡ ts ++ record { kind = kind; place = p } ∷ [] → AppendsNext ts us p text n
 appends_one text ts us p n w kind h e made = record { word = w; longest = h; sound = subst IsFaultless e tt; appended = made ∙ ap (λ m. ts ++ tokens_at p m) e; some = word_some text n w h }
 
 pub taken_some : (text : List ℕ) (n : ℕ) (w : Word) → IsLongest text n w → 1 ≤ length (take n text)

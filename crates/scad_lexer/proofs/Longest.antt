@@ -1,7 +1,7 @@
 -- The longest front of a text that is a word.
 use Rattle.std.proofs.Common.{◌≡◌, ℕ, zero, suc, ◌+◌, ◌<◌, ◌≤◌, List, [], ◌∷◌, length, take, drop, get_or, Bool, true, false, cond, Option, Some, None, refl, sym, ap, ◌∙◌, subst, arith, drop-cons, add-one}
 use Rattle.scad_lexer.specs.declared.word.Word.{Word}
-use Rattle.scad_lexer.specs.Words.{run_of, every, when, where_last, with_bytes, more_bytes, one_longer, longest, word_of, word_from, IsLongest, HasNoWord}
+use Rattle.scad_lexer.specs.Words.{run_of, all_bytes, word_where, where_last, with_bytes, more_bytes, one_longer, longest, word_of_bytes, word_from, IsLongest, HasNoWord}
 
 -- what the longest word is
 pub record IsBest (f : List ℕ → Option Word) (t : List ℕ) (w : Word) (n : ℕ) : Type 0 where
@@ -107,16 +107,16 @@ longest_run p f x e h (b ∷ t) = go (p b) refl (longest_run p f x e h t)
 pub run_then : (p : ℕ → Bool) (f : List ℕ → Option Word) (x : Word) → f [] ≡ Some x → ((b : ℕ) (w : List ℕ) → p b ≡ true → f (b ∷ w) ≡ f w) → (t : List ℕ) (n : ℕ) → n ≡ run_of p t → (y : Word) (m : ℕ) → longest f (drop n t) ≡ Some (y, m) → longest f t ≡ Some (y, n + m)
 run_then p f x e h t n same y m g = longest_run p f x e h t ∙ ap (λ n. more_bytes n (longest f (drop n t))) (sym same) ∙ ap (more_bytes n) g
 
-every_step : (p : ℕ → Bool) (b : ℕ) (c : Bool) (x : Word) (w : List ℕ) → p b ≡ c → when (every p (b ∷ w)) x ≡ when (cond c (every p w) false) x
-every_step p b c x w e = ap (λ c. when (cond c (every p w) false) x) e
+every_step : (p : ℕ → Bool) (b : ℕ) (c : Bool) (x : Word) (w : List ℕ) → p b ≡ c → word_where (all_bytes p (b ∷ w)) x ≡ word_where (cond c (all_bytes p w) false) x
+every_step p b c x w e = ap (λ c. word_where (cond c (all_bytes p w) false) x) e
 
-pub longest_every : (p : ℕ → Bool) (x : Word) (t : List ℕ) → longest (λ w. when (every p w) x) t ≡ Some (x, run_of p t)
-longest_every p x [] = longest_end (λ w. when (every p w) x)
+pub longest_every : (p : ℕ → Bool) (x : Word) (t : List ℕ) → longest (λ w. word_where (all_bytes p w) x) t ≡ Some (x, run_of p t)
+longest_every p x [] = longest_end (λ w. word_where (all_bytes p w) x)
 longest_every p x (b ∷ t) = go (p b) refl (longest_every p x t)
   where
-    go : (c : Bool) → p b ≡ c → longest (λ w. when (every p w) x) t ≡ Some (x, run_of p t) → longest (λ w. when (every p w) x) (b ∷ t) ≡ Some (x, cond c (suc (run_of p t)) 0)
-    go true e ih = longest_taken (λ w. when (every p w) x) (λ w. when (every p w) x) b (λ w. every_step p b true x w e) t x (run_of p t) ih
-    go false e ih = longest_stop (λ w. when (every p w) x) b (λ w. every_step p b false x w e) t
+    go : (c : Bool) → p b ≡ c → longest (λ w. word_where (all_bytes p w) x) t ≡ Some (x, run_of p t) → longest (λ w. word_where (all_bytes p w) x) (b ∷ t) ≡ Some (x, cond c (suc (run_of p t)) 0)
+    go true e ih = longest_taken (λ w. word_where (all_bytes p w) x) (λ w. word_where (all_bytes p w) x) b (λ w. every_step p b true x w e) t x (run_of p t) ih
+    go false e ih = longest_stop (λ w. word_where (all_bytes p w) x) b (λ w. every_step p b false x w e) t
 
 -- the first byte that isn't of a run
 pub drop_more : (t : List ℕ) (n : ℕ) → n < length t → drop n t ≡ get_or t n 0 ∷ drop (n + 1) t
@@ -150,7 +150,7 @@ longest_is b t w n e =
     let one : suc n ≡ 1 + n = omega arith in
     subst (λ n. IsLongest (b ∷ t) n w) one (record { within = omega (arith, h.within); found = h.found; most = most h })
   where
-    most : IsBest (word_from b) t w n → (m : ℕ) (o : Word) → m ≤ length (b ∷ t) → word_of (take m (b ∷ t)) ≡ Some o → m ≤ suc n
+    most : IsBest (word_from b) t w n → (m : ℕ) (o : Word) → m ≤ length (b ∷ t) → word_of_bytes (take m (b ∷ t)) ≡ Some o → m ≤ suc n
     most h zero o l g = omega arith
     most h (suc m) o l g = omega (arith, h.most m o (omega arith) g)
 

@@ -1,70 +1,70 @@
 -- What words stand for.
 use Rattle.std.proofs.Common.{◌≡◌, ℕ, zero, suc, ◌+◌, ◌-◌, ◌*◌, ◌<◌, ◌≤◌, List, [], ◌∷◌, ◌++◌, length, take, drop, get_or, Bool, true, false, cond, ◌&&◌, Some, None, Result, Ok, Err, refl, sym, ap, ◌∙◌, arith, nat_eq, append_assoc, append-nil}
 use Rattle.scad_lexer.specs.declared.class.ByteClass.TheVariants.{Byte, Printable}
-use Rattle.scad_lexer.specs.Words.{has, begins_with, every}
-use Rattle.scad_lexer.specs.Tokens.{number_from, zero_fraction, with_byte, escape_of, escape_at, with_escape, bytes_written, bytes_after_backslash}
+use Rattle.scad_lexer.specs.Words.{is_of_class, begins_with, all_bytes}
+use Rattle.scad_lexer.specs.Tokens.{decimal_from, zero_fraction, with_byte, escape_of, escape_at, with_escape, bytes_written, bytes_after_backslash}
 use Rattle.scad_lexer.proofs.Longest.{drop_more}
 use Rattle.scad_lexer.proofs.Scanned.{rest_all}
 
-pub number_more : (v : ℕ) (t : List ℕ) (n : ℕ) → n < length t → number_from v (drop n t) ≡ number_from (v * 10 + (get_or t n 0 - 48)) (drop (n + 1) t)
-number_more v t n h = ap (number_from v) (drop_more t n h)
+pub number_more : (v : ℕ) (t : List ℕ) (n : ℕ) → n < length t → decimal_from v (drop n t) ≡ decimal_from (v * 10 + (get_or t n 0 - 48)) (drop (n + 1) t)
+number_more v t n h = ap (decimal_from v) (drop_more t n h)
 
-pub number_grows : (v : ℕ) (t : List ℕ) → v ≤ number_from v t
+pub number_grows : (v : ℕ) (t : List ℕ) → v ≤ decimal_from v t
 number_grows v [] = omega arith
 number_grows v (b ∷ t) = omega (arith, number_grows (v * 10 + (b - 48)) t)
 
-pub too_large : (t : List ℕ) (n x v : ℕ) {limit : ℕ} → x ≡ get_or t n 0 - 48 → n < length t → number_from 0 t ≡ number_from v (drop n t) → limit ≤ v * 10 + x → limit ≤ number_from 0 t
+pub too_large : (t : List ℕ) (n x v : ℕ) {limit : ℕ} → x ≡ get_or t n 0 - 48 → n < length t → decimal_from 0 t ≡ decimal_from v (drop n t) → limit ≤ v * 10 + x → limit ≤ decimal_from 0 t
 too_large t n x v {limit} e h told l =
-    let next : number_from 0 t ≡ number_from (v * 10 + x) (drop (n + 1) t) = told ∙ number_more v t n h ∙ ap (λ d. number_from (v * 10 + d) (drop (n + 1) t)) (sym e) in
+    let next : decimal_from 0 t ≡ decimal_from (v * 10 + x) (drop (n + 1) t) = told ∙ number_more v t n h ∙ ap (λ d. decimal_from (v * 10 + d) (drop (n + 1) t)) (sym e) in
     omega (arith, next, number_grows (v * 10 + x) (drop (n + 1) t))
 
-pub every_more : (p : ℕ → Bool) (t : List ℕ) (n : ℕ) → n < length t → p (get_or t n 0) ≡ true → every p (drop n t) ≡ every p (drop (n + 1) t)
-every_more p t n h e = ap (every p) (drop_more t n h) ∙ ap (λ c. cond c (every p (drop (n + 1) t)) false) e
+pub every_more : (p : ℕ → Bool) (t : List ℕ) (n : ℕ) → n < length t → p (get_or t n 0) ≡ true → all_bytes p (drop n t) ≡ all_bytes p (drop (n + 1) t)
+every_more p t n h e = ap (all_bytes p) (drop_more t n h) ∙ ap (λ c. cond c (all_bytes p (drop (n + 1) t)) false) e
 
-pub every_stop : (p : ℕ → Bool) (t : List ℕ) (n : ℕ) → n < length t → p (get_or t n 0) ≡ false → every p (drop n t) ≡ false
-every_stop p t n h e = ap (every p) (drop_more t n h) ∙ ap (λ c. cond c (every p (drop (n + 1) t)) false) e
+pub every_stop : (p : ℕ → Bool) (t : List ℕ) (n : ℕ) → n < length t → p (get_or t n 0) ≡ false → all_bytes p (drop n t) ≡ false
+every_stop p t n h e = ap (all_bytes p) (drop_more t n h) ∙ ap (λ c. cond c (all_bytes p (drop (n + 1) t)) false) e
 
-pub every_end : (p : ℕ → Bool) (t : List ℕ) (n : ℕ) → length t ≤ n → every p (drop n t) ≡ true
+pub every_end : (p : ℕ → Bool) (t : List ℕ) (n : ℕ) → length t ≤ n → all_bytes p (drop n t) ≡ true
 every_end p [] zero h = refl
 every_end p [] (suc n) h = refl
 every_end p (b ∷ t) zero h = absurd (omega arith)
 every_end p (b ∷ t) (suc n) h = every_end p t n (omega arith)
 
 -- a point and what is behind it
-pub zero_point : (t : List ℕ) → 1 ≤ length t → (a b : Bool) → begins_with (has (Byte 46)) t ≡ a → every (λ c. nat_eq c 48) (take (length t - 1) (drop 1 t)) ≡ b → zero_fraction t ≡ (a && b)
+pub zero_point : (t : List ℕ) → 1 ≤ length t → (a b : Bool) → begins_with (is_of_class (Byte 46)) t ≡ a → all_bytes (λ c. nat_eq c 48) (take (length t - 1) (drop 1 t)) ≡ b → zero_fraction t ≡ (a && b)
 zero_point [] h a b e g = absurd (omega arith)
-zero_point (c ∷ t) h a b e g = ap (λ x. x && every (λ c. nat_eq c 48) t) e ∙ ap (λ x. a && x) (ap (every (λ c. nat_eq c 48)) (sym (rest_all (c ∷ t) 1)) ∙ g)
+zero_point (c ∷ t) h a b e g = ap (λ x. x && all_bytes (λ c. nat_eq c 48) t) e ∙ ap (λ x. a && x) (ap (all_bytes (λ c. nat_eq c 48)) (sym (rest_all (c ∷ t) 1)) ∙ g)
 
-pub zero_point_none : (t : List ℕ) → 1 ≤ length t → begins_with (has (Byte 46)) t ≡ false → zero_fraction t ≡ false
+pub zero_point_none : (t : List ℕ) → 1 ≤ length t → begins_with (is_of_class (Byte 46)) t ≡ false → zero_fraction t ≡ false
 zero_point_none [] h e = absurd (omega arith)
-zero_point_none (c ∷ t) h e = ap (λ x. x && every (λ c. nat_eq c 48) t) e
+zero_point_none (c ∷ t) h e = ap (λ x. x && all_bytes (λ c. nat_eq c 48) t) e
 
 -- one byte of a text's inside
-pub step_escape : (t : List ℕ) (b : ℕ) → begins_with (has (Byte 92)) t ≡ true → Some b ≡ escape_at (take (length t - 1) (drop 1 t)) → bytes_written t ≡ with_byte b 2 (bytes_written (drop 2 t))
+pub step_escape : (t : List ℕ) (b : ℕ) → begins_with (is_of_class (Byte 92)) t ≡ true → Some b ≡ escape_at (take (length t - 1) (drop 1 t)) → bytes_written t ≡ with_byte b 2 (bytes_written (drop 2 t))
 unfolding bytes_written bytes_after_backslash
 step_escape [] b e g = absurd (cc)
 step_escape (c ∷ []) b e g = absurd (let f = g ∙ ap escape_at (rest_all (c ∷ []) 1) in cc)
 step_escape (c ∷ d ∷ t) b e g =
-    ap (λ x. cond x (with_escape (escape_of d) (bytes_written t)) (cond (has Printable c) (with_byte c 1 (bytes_written (d ∷ t))) (Err 0))) e
+    ap (λ x. cond x (with_escape (escape_of d) (bytes_written t)) (cond (is_of_class Printable c) (with_byte c 1 (bytes_written (d ∷ t))) (Err 0))) e
     ∙ ap (λ x. with_escape x (bytes_written t)) (sym (g ∙ ap escape_at (rest_all (c ∷ d ∷ t) 1)))
 
-pub bad_escape : (t : List ℕ) → begins_with (has (Byte 92)) t ≡ true → None ≡ escape_at (take (length t - 1) (drop 1 t)) → bytes_written t ≡ Err 0
+pub bad_escape : (t : List ℕ) → begins_with (is_of_class (Byte 92)) t ≡ true → None ≡ escape_at (take (length t - 1) (drop 1 t)) → bytes_written t ≡ Err 0
 unfolding bytes_written bytes_after_backslash
 bad_escape [] e g = absurd (cc)
-bad_escape (c ∷ []) e g = ap (λ x. cond x (Err 0) (cond (has Printable c) (with_byte c 1 (Ok [])) (Err 0))) e
+bad_escape (c ∷ []) e g = ap (λ x. cond x (Err 0) (cond (is_of_class Printable c) (with_byte c 1 (Ok [])) (Err 0))) e
 bad_escape (c ∷ d ∷ t) e g =
-    ap (λ x. cond x (with_escape (escape_of d) (bytes_written t)) (cond (has Printable c) (with_byte c 1 (bytes_written (d ∷ t))) (Err 0))) e
+    ap (λ x. cond x (with_escape (escape_of d) (bytes_written t)) (cond (is_of_class Printable c) (with_byte c 1 (bytes_written (d ∷ t))) (Err 0))) e
     ∙ ap (λ x. with_escape x (bytes_written t)) (sym (g ∙ ap escape_at (rest_all (c ∷ d ∷ t) 1)))
 
-pub step_plain : (t : List ℕ) → begins_with (has (Byte 92)) t ≡ false → begins_with (has Printable) t ≡ true → bytes_written t ≡ with_byte (get_or t 0 0) 1 (bytes_written (drop 1 t))
+pub step_plain : (t : List ℕ) → begins_with (is_of_class (Byte 92)) t ≡ false → begins_with (is_of_class Printable) t ≡ true → bytes_written t ≡ with_byte (get_or t 0 0) 1 (bytes_written (drop 1 t))
 unfolding bytes_written bytes_after_backslash
 step_plain [] e g = absurd (cc)
-step_plain (c ∷ t) e g = ap (λ x. cond x (bytes_after_backslash t) (cond (has Printable c) (with_byte c 1 (bytes_written t)) (Err 0))) e ∙ ap (λ x. cond x (with_byte c 1 (bytes_written t)) (Err 0)) g
+step_plain (c ∷ t) e g = ap (λ x. cond x (bytes_after_backslash t) (cond (is_of_class Printable c) (with_byte c 1 (bytes_written t)) (Err 0))) e ∙ ap (λ x. cond x (with_byte c 1 (bytes_written t)) (Err 0)) g
 
-pub step_bad : (t : List ℕ) → 1 ≤ length t → begins_with (has (Byte 92)) t ≡ false → begins_with (has Printable) t ≡ false → bytes_written t ≡ Err 0
+pub step_bad : (t : List ℕ) → 1 ≤ length t → begins_with (is_of_class (Byte 92)) t ≡ false → begins_with (is_of_class Printable) t ≡ false → bytes_written t ≡ Err 0
 unfolding bytes_written bytes_after_backslash
 step_bad [] h e g = absurd (omega arith)
-step_bad (c ∷ t) h e g = ap (λ x. cond x (bytes_after_backslash t) (cond (has Printable c) (with_byte c 1 (bytes_written t)) (Err 0))) e ∙ ap (λ x. cond x (with_byte c 1 (bytes_written t)) (Err 0)) g
+step_bad (c ∷ t) h e g = ap (λ x. cond x (bytes_after_backslash t) (cond (is_of_class Printable c) (with_byte c 1 (bytes_written t)) (Err 0))) e ∙ ap (λ x. cond x (with_byte c 1 (bytes_written t)) (Err 0)) g
 
 -- what was decoded so far, and what is left
 abbrev pub joined : List ℕ → ℕ → Result (List ℕ) ℕ → Result (List ℕ) ℕ

@@ -10,8 +10,8 @@ use Rattle.scad_lexer.specs.declared.token.Symbol.TheVariants.{OpenParenthesis, 
 use Rattle.scad_lexer.specs.declared.word.Word.{Word}
 use Rattle.scad_lexer.specs.declared.meaning.WordMeaning.{WordMeaning}
 use Rattle.scad_lexer.specs.declared.meaning.WordMeaning.TheVariants.{NoToken, OneToken, BadWord}
-use Rattle.scad_lexer.specs.Words.{longest, word_of, in_exponent, in_fraction, in_whole, in_text, in_escape, in_comment, after_star, word_from, IsLongest}
-use Rattle.scad_lexer.specs.Tokens.{meaning_of, place_after, bytes_written, bytes_after_backslash, LexOutcome, GivesTokens, FaultAt, tokens_in_front, tokens_at, IsFaultless, LexesFrom, Lexes}
+use Rattle.scad_lexer.specs.Words.{longest, word_of_bytes, in_exponent, in_fraction, in_whole, in_text, in_escape, in_comment, after_star, word_from, IsLongest}
+use Rattle.scad_lexer.specs.Tokens.{word_meaning, place_after, bytes_written, bytes_after_backslash, LexOutcome, GivesTokens, FaultAt, tokens_in_front, tokens_at, IsFaultless, LexesFrom, Lexes}
 use Rattle.scad_lexer.proofs.Longest.{best, Best}
 
 -- ---- the outcome of a text, by trying every front of it
@@ -23,19 +23,19 @@ behind go p t k (OneToken kind) = option_map (tokens_in_front (record { kind = k
 
 abbrev by_word : (Place → List ℕ → Option LexOutcome) → Place → List ℕ → Option (Word × ℕ) → Option LexOutcome
 by_word go p t None = Some (FaultAt BadCharacter p)
-by_word go p t (Some r) = behind go p t r.1 (meaning_of r.0 (take r.1 t))
+by_word go p t (Some r) = behind go p t r.1 (word_meaning r.0 (take r.1 t))
 
 -- with at most so many words
 abbrev lexed : ℕ → Place → List ℕ → Option LexOutcome
 lexed zero p t = None
 lexed (suc n) p [] = Some (GivesTokens (record { kind = End; place = p } ∷ []))
-lexed (suc n) p (b ∷ t) = by_word (lexed n) p (b ∷ t) (longest word_of (b ∷ t))
+lexed (suc n) p (b ∷ t) = by_word (lexed n) p (b ∷ t) (longest word_of_bytes (b ∷ t))
 
 -- ---- this is the definition's
 abbrev IsRight : (Place → List ℕ → Option LexOutcome) → Type 0
 IsRight go = (p : Place) (t : List ℕ) (o : LexOutcome) → go p t ≡ Some o → LexesFrom p t o
 
-more : (p : Place) (t : List ℕ) (w : Word) (k : ℕ) → IsLongest t k w → (m : WordMeaning) → meaning_of w (take k t) ≡ m → IsFaultless m →
+more : (p : Place) (t : List ℕ) (w : Word) (k : ℕ) → IsLongest t k w → (m : WordMeaning) → word_meaning w (take k t) ≡ m → IsFaultless m →
     (rest : LexOutcome) → LexesFrom (place_after p (take k t)) (drop k t) rest → (o : LexOutcome) → o ≡ tokens_in_front (tokens_at p m) rest → LexesFrom p t o
 more p t w k l m e s rest h o g =
     (record { bytes = k; word = w } ∷ h.0, (l, subst IsFaultless (sym e) s, (rest, h.1, subst (λ (x : WordMeaning). o ≡ tokens_in_front (tokens_at p x) rest) (sym e) g)))
@@ -45,7 +45,7 @@ mapped f None o h = cc
 mapped f (Some rest) o h = (rest, refl, cc)
 
 behind_is : (go : Place → List ℕ → Option LexOutcome) → IsRight go → (p : Place) (t : List ℕ) (w : Word) (k : ℕ) → IsLongest t k w →
-    (m : WordMeaning) → meaning_of w (take k t) ≡ m → (o : LexOutcome) → behind go p t k m ≡ Some o → LexesFrom p t o
+    (m : WordMeaning) → word_meaning w (take k t) ≡ m → (o : LexOutcome) → behind go p t k m ≡ Some o → LexesFrom p t o
 behind_is go right p t w k l (BadWord kind before) e o h =
     ([], inr (inr (record { length = k; word = w; kind = kind; before = before; longest = l; means = e; outcome = cc })))
 behind_is go right p t w k l NoToken e o h =
@@ -56,15 +56,15 @@ behind_is go right p t w k l (OneToken kind) e o h =
     more p t w k l (OneToken kind) e tt r.0 (right (place_after p (take k t)) (drop k t) r.0 r.1) o r.2
 
 by_word_is : (go : Place → List ℕ → Option LexOutcome) → IsRight go → (p : Place) (b : ℕ) (t : List ℕ) (r : Option (Word × ℕ)) →
-    Best word_of (b ∷ t) r → (o : LexOutcome) → by_word go p (b ∷ t) r ≡ Some o → LexesFrom p (b ∷ t) o
+    Best word_of_bytes (b ∷ t) r → (o : LexOutcome) → by_word go p (b ∷ t) r ≡ Some o → LexesFrom p (b ∷ t) o
 by_word_is go right p b t None l o h = ([], inr (inl (λ e. cc, l, cc)))
 by_word_is go right p b t (Some r) l o h =
-    behind_is go right p (b ∷ t) r.0 r.1 (record { within = l.within; found = l.found; most = l.most }) (meaning_of r.0 (take r.1 (b ∷ t))) refl o h
+    behind_is go right p (b ∷ t) r.0 r.1 (record { within = l.within; found = l.found; most = l.most }) (word_meaning r.0 (take r.1 (b ∷ t))) refl o h
 
 lexed_is : (n : ℕ) → IsRight (lexed n)
 lexed_is zero p t o h = cc
 lexed_is (suc n) p [] o h = ([], inl (refl, cc))
-lexed_is (suc n) p (b ∷ t) o h = by_word_is (lexed n) (lexed_is n) p b t (longest word_of (b ∷ t)) (best word_of (b ∷ t)) o h
+lexed_is (suc n) p (b ∷ t) o h = by_word_is (lexed n) (lexed_is n) p b t (longest word_of_bytes (b ∷ t)) (best word_of_bytes (b ∷ t)) o h
 
 abbrev at : ℕ → ℕ → Place
 at line column = record { line = line; column = column }

@@ -7,7 +7,7 @@ use Rattle.scad_lexer.specs.declared.token.Symbol.{Symbol}
 use Rattle.scad_lexer.specs.declared.token.Symbol.TheVariants.{Dot, Divide}
 use Rattle.scad_lexer.specs.declared.word.Word.{Word}
 use Rattle.scad_lexer.specs.declared.word.Word.TheVariants.{Blank, UnclosedComment, Name, Special, Numeral, NumeralAndLetter, Text, UnclosedText, Symbol as SymbolWord}
-use Rattle.scad_lexer.specs.Words.{has, digit, letter, blank, name_byte, begins_with, run_of, every, when, where_last, with_bytes, more_bytes, one_longer, longest, in_whole, in_fraction, number_end, exponent, after_sign, in_exponent, after_point, after_dollar, after_slash, in_comment, after_star, in_text, in_escape, single, double, double_of, symbol_word, symbol_of, word_from, IsLongest, HasNoWord}
+use Rattle.scad_lexer.specs.Words.{is_of_class, is_digit_byte, is_letter_byte, is_blank_byte, is_name_byte, begins_with, run_of, all_bytes, word_where, where_last, with_bytes, more_bytes, one_longer, longest, in_whole, in_fraction, number_end, after_e, after_sign, in_exponent, after_point, after_dollar, after_slash, in_comment, after_star, in_text, in_escape, one_byte_symbol, two_byte_symbol, two_byte_symbol_from, symbol_word, symbol_of, word_from, IsLongest, HasNoWord}
 use Rattle.scad_lexer.proofs.Longest.{longest_end, longest_step, longest_taken, longest_stop, longest_alone, longest_some, longest_same, longest_every, run_then, behind_run, drop_more, longest_is, longest_isnt}
 
 not_equal : (b c : ℕ) → (b ≡ c → ⊥) → nat_eq b c ≡ false
@@ -39,17 +39,17 @@ pub begins_at : (p : ℕ → Bool) (t : List ℕ) (b : ℕ) (u : List ℕ) (c : 
 begins_at p t b u c e h = ap (begins_with p) (sym h) ∙ e
 
 -- a run of digits, and what is found behind it
-pub digits_then : (f : List ℕ → Option Word) (x : Word) → f [] ≡ Some x → ((b : ℕ) (w : List ℕ) → digit b ≡ true → f (b ∷ w) ≡ f w) → (t : List ℕ) (n : ℕ) → n ≡ run_of digit t → (y : Word) (m : ℕ) → longest f (take (length t - n) (drop n t)) ≡ Some (y, m) → longest f t ≡ Some (y, n + m)
-digits_then f x e h t n same y m g = run_then digit f x e h t n same y m (ap (longest f) (sym (rest_all t n)) ∙ g)
+pub digits_then : (f : List ℕ → Option Word) (x : Word) → f [] ≡ Some x → ((b : ℕ) (w : List ℕ) → is_digit_byte b ≡ true → f (b ∷ w) ≡ f w) → (t : List ℕ) (n : ℕ) → n ≡ run_of is_digit_byte t → (y : Word) (m : ℕ) → longest f (take (length t - n) (drop n t)) ≡ Some (y, m) → longest f t ≡ Some (y, n + m)
+digits_then f x e h t n same y m g = run_then is_digit_byte f x e h t n same y m (ap (longest f) (sym (rest_all t n)) ∙ g)
 
-pub no_digit : (t : List ℕ) (n : ℕ) → n ≡ run_of digit t → begins_with digit (take (length t - n) (drop n t)) ≡ false
-no_digit t n same = ap (begins_with digit) (rest_all t n ∙ ap (λ n. drop n t) same) ∙ go (drop (run_of digit t) t) refl
+pub no_digit : (t : List ℕ) (n : ℕ) → n ≡ run_of is_digit_byte t → begins_with is_digit_byte (take (length t - n) (drop n t)) ≡ false
+no_digit t n same = ap (begins_with is_digit_byte) (rest_all t n ∙ ap (λ n. drop n t) same) ∙ go (drop (run_of is_digit_byte t) t) refl
   where
-    go : (u : List ℕ) → drop (run_of digit t) t ≡ u → begins_with digit u ≡ false
+    go : (u : List ℕ) → drop (run_of is_digit_byte t) t ≡ u → begins_with is_digit_byte u ≡ false
     go [] e = refl
-    go (b ∷ u) e = behind_run digit t b u e
+    go (b ∷ u) e = behind_run is_digit_byte t b u e
 
-whole_digit : (b : ℕ) (w : List ℕ) → digit b ≡ true → in_whole (b ∷ w) ≡ in_whole w
+whole_digit : (b : ℕ) (w : List ℕ) → is_digit_byte b ≡ true → in_whole (b ∷ w) ≡ in_whole w
 unfolding in_whole
 whole_digit b w e = ap (λ c. cond c (in_whole w) (cond (nat_eq b 46) (in_fraction w) (number_end (b ∷ w)))) e
 
@@ -57,33 +57,33 @@ whole_empty : in_whole [] ≡ Some Numeral
 unfolding in_whole
 whole_empty = refl
 
-pub whole_then : (t : List ℕ) (n : ℕ) → n ≡ run_of digit t → (y : Word) (m : ℕ) → longest in_whole (take (length t - n) (drop n t)) ≡ Some (y, m) → longest in_whole t ≡ Some (y, n + m)
+pub whole_then : (t : List ℕ) (n : ℕ) → n ≡ run_of is_digit_byte t → (y : Word) (m : ℕ) → longest in_whole (take (length t - n) (drop n t)) ≡ Some (y, m) → longest in_whole t ≡ Some (y, n + m)
 whole_then = digits_then in_whole Numeral whole_empty whole_digit
 
 -- where no digit stands, a point or the end of the number
-whole_point : (b : ℕ) (w : List ℕ) → digit b ≡ false → nat_eq b 46 ≡ true → in_whole (b ∷ w) ≡ in_fraction w
+whole_point : (b : ℕ) (w : List ℕ) → is_digit_byte b ≡ false → nat_eq b 46 ≡ true → in_whole (b ∷ w) ≡ in_fraction w
 unfolding in_whole
 whole_point b w d e = rw (d, e) refl
 
-whole_other : (b : ℕ) (w : List ℕ) → digit b ≡ false → nat_eq b 46 ≡ false → in_whole (b ∷ w) ≡ number_end (b ∷ w)
+whole_other : (b : ℕ) (w : List ℕ) → is_digit_byte b ≡ false → nat_eq b 46 ≡ false → in_whole (b ∷ w) ≡ number_end (b ∷ w)
 unfolding in_whole
 whole_other b w d e = rw (d, e) refl
 
 same_from : (f g : List ℕ → Option Word) → f [] ≡ g [] → (b : ℕ) (t : List ℕ) → ((w : List ℕ) → f (b ∷ w) ≡ g (b ∷ w)) → longest f (b ∷ t) ≡ longest g (b ∷ t)
 same_from f g e b t h = longest_step f (λ w. g (b ∷ w)) b h t ∙ ap (λ x. one_longer (longest (λ w. g (b ∷ w)) t) (with_bytes 0 x)) e ∙ sym (longest_step g (λ w. g (b ∷ w)) b (λ w. refl) t)
 
-pub point_then : (t : List ℕ) (x : Word) (n : ℕ) → begins_with digit t ≡ false → begins_with (has (Byte 46)) t ≡ true → longest in_fraction (take (length t - 1) (drop 1 t)) ≡ Some (x, n) → longest in_whole t ≡ Some (x, 1 + n)
+pub point_then : (t : List ℕ) (x : Word) (n : ℕ) → begins_with is_digit_byte t ≡ false → begins_with (is_of_class (Byte 46)) t ≡ true → longest in_fraction (take (length t - 1) (drop 1 t)) ≡ Some (x, n) → longest in_whole t ≡ Some (x, 1 + n)
 point_then [] x n d e k = absurd (cc)
 point_then (b ∷ t) x n d e k =
     let one : suc n ≡ 1 + n = omega arith in
     longest_taken in_whole in_fraction b (λ w. whole_point b w d e) t x n (ap (longest in_fraction) (sym (rest_all (b ∷ t) 1)) ∙ k) ∙ ap (λ n. Some (x, n)) one
 
-pub whole_ends : (t : List ℕ) (r : Option (Word × ℕ)) → begins_with digit t ≡ false → begins_with (has (Byte 46)) t ≡ false → longest number_end t ≡ r → longest in_whole t ≡ r
+pub whole_ends : (t : List ℕ) (r : Option (Word × ℕ)) → begins_with is_digit_byte t ≡ false → begins_with (is_of_class (Byte 46)) t ≡ false → longest number_end t ≡ r → longest in_whole t ≡ r
 unfolding in_whole
 whole_ends [] r d e k = longest_end in_whole ∙ sym (longest_end number_end) ∙ k
 whole_ends (b ∷ t) r d e k = same_from in_whole number_end refl b t (λ w. whole_other b w d e) ∙ k
 
-fraction_digit : (b : ℕ) (w : List ℕ) → digit b ≡ true → in_fraction (b ∷ w) ≡ in_fraction w
+fraction_digit : (b : ℕ) (w : List ℕ) → is_digit_byte b ≡ true → in_fraction (b ∷ w) ≡ in_fraction w
 unfolding in_fraction
 fraction_digit b w e = ap (λ c. cond c (in_fraction w) (number_end (b ∷ w))) e
 
@@ -91,87 +91,87 @@ fraction_empty : in_fraction [] ≡ Some Numeral
 unfolding in_fraction
 fraction_empty = refl
 
-fraction_ends : (t : List ℕ) (r : Option (Word × ℕ)) → begins_with digit t ≡ false → longest number_end t ≡ r → longest in_fraction t ≡ r
+fraction_ends : (t : List ℕ) (r : Option (Word × ℕ)) → begins_with is_digit_byte t ≡ false → longest number_end t ≡ r → longest in_fraction t ≡ r
 unfolding in_fraction
 fraction_ends [] r d k = longest_end in_fraction ∙ sym (longest_end number_end) ∙ k
 fraction_ends (b ∷ t) r d k = same_from in_fraction number_end refl b t (λ w. ap (λ c. cond c (in_fraction w) (number_end (b ∷ w))) d) ∙ k
 
-pub fraction_then : (t : List ℕ) (n : ℕ) → n ≡ run_of digit t → (y : Word) (m : ℕ) → longest number_end (take (length t - n) (drop n t)) ≡ Some (y, m) → longest in_fraction t ≡ Some (y, n + m)
+pub fraction_then : (t : List ℕ) (n : ℕ) → n ≡ run_of is_digit_byte t → (y : Word) (m : ℕ) → longest number_end (take (length t - n) (drop n t)) ≡ Some (y, m) → longest in_fraction t ≡ Some (y, n + m)
 fraction_then t n same y m g = digits_then in_fraction Numeral fraction_empty fraction_digit t n same y m (fraction_ends (take (length t - n) (drop n t)) (Some (y, m)) (no_digit t n same) g)
 
 -- the end of a number
-end_power : (b : ℕ) (w : List ℕ) → has Exponent b ≡ true → number_end (b ∷ w) ≡ exponent w
-end_power b w e = ap (λ c. cond c (exponent w) (cond (letter b) (where_last NumeralAndLetter w) None)) e
+end_power : (b : ℕ) (w : List ℕ) → is_of_class Exponent b ≡ true → number_end (b ∷ w) ≡ after_e w
+end_power b w e = ap (λ c. cond c (after_e w) (cond (is_letter_byte b) (where_last NumeralAndLetter w) None)) e
 
-pub power_then : (t : List ℕ) (x : Word) (n : ℕ) → begins_with (has Exponent) t ≡ true → longest exponent (take (length t - 1) (drop 1 t)) ≡ Some (x, n) → longest number_end t ≡ Some (x, 1 + n)
-power_then = begin_then (has Exponent) number_end exponent end_power
+pub power_then : (t : List ℕ) (x : Word) (n : ℕ) → begins_with (is_of_class Exponent) t ≡ true → longest after_e (take (length t - 1) (drop 1 t)) ≡ Some (x, n) → longest number_end t ≡ Some (x, 1 + n)
+power_then = begin_then (is_of_class Exponent) number_end after_e end_power
 
-end_letter : (b : ℕ) (w : List ℕ) → has Exponent b ≡ false → letter b ≡ true → number_end (b ∷ w) ≡ where_last NumeralAndLetter w
+end_letter : (b : ℕ) (w : List ℕ) → is_of_class Exponent b ≡ false → is_letter_byte b ≡ true → number_end (b ∷ w) ≡ where_last NumeralAndLetter w
 end_letter b w e l = rw (e, l) refl
 
-end_none : (b : ℕ) (w : List ℕ) → has Exponent b ≡ false → letter b ≡ false → number_end (b ∷ w) ≡ None
+end_none : (b : ℕ) (w : List ℕ) → is_of_class Exponent b ≡ false → is_letter_byte b ≡ false → number_end (b ∷ w) ≡ None
 end_none b w e l = rw (e, l) refl
 
-pub letter_ends : (t : List ℕ) → begins_with (has Exponent) t ≡ false → begins_with letter t ≡ true → longest number_end t ≡ Some (NumeralAndLetter, 1)
+pub letter_ends : (t : List ℕ) → begins_with (is_of_class Exponent) t ≡ false → begins_with is_letter_byte t ≡ true → longest number_end t ≡ Some (NumeralAndLetter, 1)
 letter_ends [] e l = absurd (cc)
 letter_ends (b ∷ t) e l = longest_taken number_end (where_last NumeralAndLetter) b (λ w. end_letter b w e l) t NumeralAndLetter 0 (longest_alone NumeralAndLetter t)
 
-pub number_ends : (t : List ℕ) → begins_with (has Exponent) t ≡ false → begins_with letter t ≡ false → longest number_end t ≡ Some (Numeral, 0)
-number_ends t e l = begin_none number_end (Some Numeral) refl t (λ b u w h. end_none b w (begins_at (has Exponent) t b u false e h) (begins_at letter t b u false l h))
+pub number_ends : (t : List ℕ) → begins_with (is_of_class Exponent) t ≡ false → begins_with is_letter_byte t ≡ false → longest number_end t ≡ Some (Numeral, 0)
+number_ends t e l = begin_none number_end (Some Numeral) refl t (λ b u w h. end_none b w (begins_at (is_of_class Exponent) t b u false e h) (begins_at is_letter_byte t b u false l h))
 
 -- exponents
-exponent_digit : (b : ℕ) (w : List ℕ) → digit b ≡ true → exponent (b ∷ w) ≡ in_exponent w
-exponent_digit b w e = ap (λ c. cond c (in_exponent w) (cond (has Sign b) (after_sign w) None)) e
+exponent_digit : (b : ℕ) (w : List ℕ) → is_digit_byte b ≡ true → after_e (b ∷ w) ≡ in_exponent w
+exponent_digit b w e = ap (λ c. cond c (in_exponent w) (cond (is_of_class Sign b) (after_sign w) None)) e
 
-pub exponent_then : (t : List ℕ) (x : Word) (n : ℕ) → begins_with digit t ≡ true → longest in_exponent (take (length t - 1) (drop 1 t)) ≡ Some (x, n) → longest exponent t ≡ Some (x, 1 + n)
-exponent_then = begin_then digit exponent in_exponent exponent_digit
+pub exponent_then : (t : List ℕ) (x : Word) (n : ℕ) → begins_with is_digit_byte t ≡ true → longest in_exponent (take (length t - 1) (drop 1 t)) ≡ Some (x, n) → longest after_e t ≡ Some (x, 1 + n)
+exponent_then = begin_then is_digit_byte after_e in_exponent exponent_digit
 
-exponent_sign : (b : ℕ) (w : List ℕ) → digit b ≡ false → has Sign b ≡ true → exponent (b ∷ w) ≡ after_sign w
+exponent_sign : (b : ℕ) (w : List ℕ) → is_digit_byte b ≡ false → is_of_class Sign b ≡ true → after_e (b ∷ w) ≡ after_sign w
 exponent_sign b w d e = rw (d, e) refl
 
-exponent_none : (b : ℕ) (w : List ℕ) → digit b ≡ false → has Sign b ≡ false → exponent (b ∷ w) ≡ None
+exponent_none : (b : ℕ) (w : List ℕ) → is_digit_byte b ≡ false → is_of_class Sign b ≡ false → after_e (b ∷ w) ≡ None
 exponent_none b w d e = rw (d, e) refl
 
-sign_digit : (b : ℕ) (w : List ℕ) → digit b ≡ true → after_sign (b ∷ w) ≡ in_exponent w
+sign_digit : (b : ℕ) (w : List ℕ) → is_digit_byte b ≡ true → after_sign (b ∷ w) ≡ in_exponent w
 sign_digit b w e = ap (λ c. cond c (in_exponent w) None) e
 
-sign_none : (b : ℕ) (w : List ℕ) → digit b ≡ false → after_sign (b ∷ w) ≡ None
+sign_none : (b : ℕ) (w : List ℕ) → is_digit_byte b ≡ false → after_sign (b ∷ w) ≡ None
 sign_none b w e = ap (λ c. cond c (in_exponent w) None) e
 
 two_more : (n : ℕ) → suc (suc n) ≡ 2 + n
 two_more n = omega arith
 
-pub sign_then : (t : List ℕ) (x : Word) (n : ℕ) → begins_with digit t ≡ false → begins_with (has Sign) t ≡ true → begins_with digit (take (length t - 1) (drop 1 t)) ≡ true → longest in_exponent (take (length t - 2) (drop 2 t)) ≡ Some (x, n) → longest exponent t ≡ Some (x, 2 + n)
+pub sign_then : (t : List ℕ) (x : Word) (n : ℕ) → begins_with is_digit_byte t ≡ false → begins_with (is_of_class Sign) t ≡ true → begins_with is_digit_byte (take (length t - 1) (drop 1 t)) ≡ true → longest in_exponent (take (length t - 2) (drop 2 t)) ≡ Some (x, n) → longest after_e t ≡ Some (x, 2 + n)
 sign_then [] x n d e g k = absurd (cc)
 sign_then (b ∷ []) x n d e g k = absurd (cc)
 sign_then (b ∷ c ∷ t) x n d e g k =
-    let next : digit c ≡ true = ap (begins_with digit) (sym (rest_all (b ∷ c ∷ t) 1)) ∙ g in
-    longest_taken exponent after_sign b (λ w. exponent_sign b w d e) (c ∷ t) x (suc n)
+    let next : is_digit_byte c ≡ true = ap (begins_with is_digit_byte) (sym (rest_all (b ∷ c ∷ t) 1)) ∙ g in
+    longest_taken after_e after_sign b (λ w. exponent_sign b w d e) (c ∷ t) x (suc n)
     (longest_taken after_sign in_exponent c (λ w. sign_digit c w next) t x n (ap (longest in_exponent) (sym (rest_all (b ∷ c ∷ t) 2)) ∙ k))
     ∙ ap (λ n. Some (x, n)) (two_more n)
 
 -- a sign with no digit behind it
-sign_alone : (t : List ℕ) → begins_with digit t ≡ false → longest after_sign t ≡ None
-sign_alone t d = begin_none after_sign None refl t (λ b u w h. sign_none b w (begins_at digit t b u false d h))
+sign_alone : (t : List ℕ) → begins_with is_digit_byte t ≡ false → longest after_sign t ≡ None
+sign_alone t d = begin_none after_sign None refl t (λ b u w h. sign_none b w (begins_at is_digit_byte t b u false d h))
 
-pub no_exponent : (t : List ℕ) → begins_with digit t ≡ false → begins_with (has Sign) t ≡ false → longest exponent t ≡ Some (NumeralAndLetter, 0)
-no_exponent t d e = begin_none exponent (Some NumeralAndLetter) refl t (λ b u w h. exponent_none b w (begins_at digit t b u false d h) (begins_at (has Sign) t b u false e h))
+pub no_exponent : (t : List ℕ) → begins_with is_digit_byte t ≡ false → begins_with (is_of_class Sign) t ≡ false → longest after_e t ≡ Some (NumeralAndLetter, 0)
+no_exponent t d e = begin_none after_e (Some NumeralAndLetter) refl t (λ b u w h. exponent_none b w (begins_at is_digit_byte t b u false d h) (begins_at (is_of_class Sign) t b u false e h))
 
-pub no_power : (t : List ℕ) → begins_with digit t ≡ false → begins_with (has Sign) t ≡ true → begins_with digit (take (length t - 1) (drop 1 t)) ≡ false → longest exponent t ≡ Some (NumeralAndLetter, 0)
+pub no_power : (t : List ℕ) → begins_with is_digit_byte t ≡ false → begins_with (is_of_class Sign) t ≡ true → begins_with is_digit_byte (take (length t - 1) (drop 1 t)) ≡ false → longest after_e t ≡ Some (NumeralAndLetter, 0)
 no_power [] d e g = absurd (cc)
 no_power (b ∷ t) d e g =
-    longest_step exponent after_sign b (λ w. exponent_sign b w d e) t
-    ∙ ap (λ r. one_longer r (Some (NumeralAndLetter, 0))) (sign_alone t (ap (begins_with digit) (sym (rest_all (b ∷ t) 1)) ∙ g))
+    longest_step after_e after_sign b (λ w. exponent_sign b w d e) t
+    ∙ ap (λ r. one_longer r (Some (NumeralAndLetter, 0))) (sign_alone t (ap (begins_with is_digit_byte) (sym (rest_all (b ∷ t) 1)) ∙ g))
 
-in_exponent_digit : (b : ℕ) (w : List ℕ) → digit b ≡ true → in_exponent (b ∷ w) ≡ in_exponent w
+in_exponent_digit : (b : ℕ) (w : List ℕ) → is_digit_byte b ≡ true → in_exponent (b ∷ w) ≡ in_exponent w
 unfolding in_exponent
-in_exponent_digit b w e = ap (λ c. cond c (in_exponent w) (cond (letter b) (where_last NumeralAndLetter w) None)) e
+in_exponent_digit b w e = ap (λ c. cond c (in_exponent w) (cond (is_letter_byte b) (where_last NumeralAndLetter w) None)) e
 
-in_exponent_letter : (b : ℕ) (w : List ℕ) → digit b ≡ false → letter b ≡ true → in_exponent (b ∷ w) ≡ where_last NumeralAndLetter w
+in_exponent_letter : (b : ℕ) (w : List ℕ) → is_digit_byte b ≡ false → is_letter_byte b ≡ true → in_exponent (b ∷ w) ≡ where_last NumeralAndLetter w
 unfolding in_exponent
 in_exponent_letter b w d e = rw (d, e) refl
 
-in_exponent_none : (b : ℕ) (w : List ℕ) → digit b ≡ false → letter b ≡ false → in_exponent (b ∷ w) ≡ None
+in_exponent_none : (b : ℕ) (w : List ℕ) → is_digit_byte b ≡ false → is_letter_byte b ≡ false → in_exponent (b ∷ w) ≡ None
 unfolding in_exponent
 in_exponent_none b w d e = rw (d, e) refl
 
@@ -179,50 +179,50 @@ in_exponent_empty : in_exponent [] ≡ Some Numeral
 unfolding in_exponent
 in_exponent_empty = refl
 
-behind_letter : (t : List ℕ) → begins_with digit t ≡ false → begins_with letter t ≡ true → longest in_exponent t ≡ Some (NumeralAndLetter, 1)
+behind_letter : (t : List ℕ) → begins_with is_digit_byte t ≡ false → begins_with is_letter_byte t ≡ true → longest in_exponent t ≡ Some (NumeralAndLetter, 1)
 behind_letter [] d e = absurd (cc)
 behind_letter (b ∷ t) d e = longest_taken in_exponent (where_last NumeralAndLetter) b (λ w. in_exponent_letter b w d e) t NumeralAndLetter 0 (longest_alone NumeralAndLetter t)
 
-pub power_letter : (t : List ℕ) (n : ℕ) → n ≡ run_of digit t → begins_with letter (take (length t - n) (drop n t)) ≡ true → longest in_exponent t ≡ Some (NumeralAndLetter, n + 1)
+pub power_letter : (t : List ℕ) (n : ℕ) → n ≡ run_of is_digit_byte t → begins_with is_letter_byte (take (length t - n) (drop n t)) ≡ true → longest in_exponent t ≡ Some (NumeralAndLetter, n + 1)
 power_letter t n same e = digits_then in_exponent Numeral in_exponent_empty in_exponent_digit t n same NumeralAndLetter 1 (behind_letter (take (length t - n) (drop n t)) (no_digit t n same) e)
 
-pub power_ends : (t : List ℕ) (n : ℕ) → n ≡ run_of digit t → begins_with letter (take (length t - n) (drop n t)) ≡ false → longest in_exponent t ≡ Some (Numeral, n)
+pub power_ends : (t : List ℕ) (n : ℕ) → n ≡ run_of is_digit_byte t → begins_with is_letter_byte (take (length t - n) (drop n t)) ≡ false → longest in_exponent t ≡ Some (Numeral, n)
 power_ends t n same e =
     let r = take (length t - n) (drop n t) in
     let none : n + 0 ≡ n = omega arith in
     digits_then in_exponent Numeral in_exponent_empty in_exponent_digit t n same Numeral 0
-    (begin_none in_exponent (Some Numeral) in_exponent_empty r (λ b u w h. in_exponent_none b w (begins_at digit r b u false (no_digit t n same) h) (begins_at letter r b u false e h)))
+    (begin_none in_exponent (Some Numeral) in_exponent_empty r (λ b u w h. in_exponent_none b w (begins_at is_digit_byte r b u false (no_digit t n same) h) (begins_at is_letter_byte r b u false e h)))
     ∙ ap (λ n. Some (Numeral, n)) none
 
 -- a point
-point_digit : (b : ℕ) (w : List ℕ) → digit b ≡ true → after_point (b ∷ w) ≡ in_fraction w
+point_digit : (b : ℕ) (w : List ℕ) → is_digit_byte b ≡ true → after_point (b ∷ w) ≡ in_fraction w
 point_digit b w e = ap (λ c. cond c (in_fraction w) None) e
 
-point_none : (b : ℕ) (w : List ℕ) → digit b ≡ false → after_point (b ∷ w) ≡ None
+point_none : (b : ℕ) (w : List ℕ) → is_digit_byte b ≡ false → after_point (b ∷ w) ≡ None
 point_none b w e = ap (λ c. cond c (in_fraction w) None) e
 
-pub fraction_behind : (t : List ℕ) (x : Word) (n : ℕ) → begins_with digit t ≡ true → longest in_fraction (take (length t - 1) (drop 1 t)) ≡ Some (x, n) → longest after_point t ≡ Some (x, 1 + n)
-fraction_behind = begin_then digit after_point in_fraction point_digit
+pub fraction_behind : (t : List ℕ) (x : Word) (n : ℕ) → begins_with is_digit_byte t ≡ true → longest in_fraction (take (length t - 1) (drop 1 t)) ≡ Some (x, n) → longest after_point t ≡ Some (x, 1 + n)
+fraction_behind = begin_then is_digit_byte after_point in_fraction point_digit
 
-pub point_alone : (t : List ℕ) → begins_with digit t ≡ false → longest after_point t ≡ Some (SymbolWord Dot, 0)
-point_alone t d = begin_none after_point (Some (SymbolWord Dot)) refl t (λ b u w h. point_none b w (begins_at digit t b u false d h))
+pub point_alone : (t : List ℕ) → begins_with is_digit_byte t ≡ false → longest after_point t ≡ Some (SymbolWord Dot, 0)
+point_alone t d = begin_none after_point (Some (SymbolWord Dot)) refl t (λ b u w h. point_none b w (begins_at is_digit_byte t b u false d h))
 
 -- a dollar
-dollar_letter : (b : ℕ) (w : List ℕ) → letter b ≡ true → after_dollar (b ∷ w) ≡ when (every name_byte w) Special
-dollar_letter b w e = ap (λ c. cond c (when (every name_byte w) Special) None) e
+dollar_letter : (b : ℕ) (w : List ℕ) → is_letter_byte b ≡ true → after_dollar (b ∷ w) ≡ word_where (all_bytes is_name_byte w) Special
+dollar_letter b w e = ap (λ c. cond c (word_where (all_bytes is_name_byte w) Special) None) e
 
-dollar_none : (b : ℕ) (w : List ℕ) → letter b ≡ false → after_dollar (b ∷ w) ≡ None
-dollar_none b w e = ap (λ c. cond c (when (every name_byte w) Special) None) e
+dollar_none : (b : ℕ) (w : List ℕ) → is_letter_byte b ≡ false → after_dollar (b ∷ w) ≡ None
+dollar_none b w e = ap (λ c. cond c (word_where (all_bytes is_name_byte w) Special) None) e
 
-pub special_name : (t : List ℕ) (n : ℕ) → begins_with letter t ≡ true → n ≡ run_of name_byte (take (length t - 1) (drop 1 t)) → longest after_dollar t ≡ Some (Special, 1 + n)
-special_name t n e h = begin_then letter after_dollar (λ w. when (every name_byte w) Special) dollar_letter t Special n e (longest_every name_byte Special (take (length t - 1) (drop 1 t)) ∙ ap (λ n. Some (Special, n)) (sym h))
+pub special_name : (t : List ℕ) (n : ℕ) → begins_with is_letter_byte t ≡ true → n ≡ run_of is_name_byte (take (length t - 1) (drop 1 t)) → longest after_dollar t ≡ Some (Special, 1 + n)
+special_name t n e h = begin_then is_letter_byte after_dollar (λ w. word_where (all_bytes is_name_byte w) Special) dollar_letter t Special n e (longest_every is_name_byte Special (take (length t - 1) (drop 1 t)) ∙ ap (λ n. Some (Special, n)) (sym h))
 
-pub no_special : (t : List ℕ) → begins_with letter t ≡ false → longest after_dollar t ≡ None
-no_special t e = begin_none after_dollar None refl t (λ b u w h. dollar_none b w (begins_at letter t b u false e h))
+pub no_special : (t : List ℕ) → begins_with is_letter_byte t ≡ false → longest after_dollar t ≡ None
+no_special t e = begin_none after_dollar None refl t (λ b u w h. dollar_none b w (begins_at is_letter_byte t b u false e h))
 
 -- a slash
-slash_line : (b : ℕ) (w : List ℕ) → nat_eq b 47 ≡ true → after_slash (b ∷ w) ≡ when (every (has InLine) w) Blank
-slash_line b w e = ap (λ c. cond c (when (every (has InLine) w) Blank) (cond (nat_eq b 42) (in_comment w) None)) e
+slash_line : (b : ℕ) (w : List ℕ) → nat_eq b 47 ≡ true → after_slash (b ∷ w) ≡ word_where (all_bytes (is_of_class InLine) w) Blank
+slash_line b w e = ap (λ c. cond c (word_where (all_bytes (is_of_class InLine) w) Blank) (cond (nat_eq b 42) (in_comment w) None)) e
 
 slash_star : (b : ℕ) (w : List ℕ) → nat_eq b 47 ≡ false → nat_eq b 42 ≡ true → after_slash (b ∷ w) ≡ in_comment w
 slash_star b w d e = rw (d, e) refl
@@ -230,31 +230,31 @@ slash_star b w d e = rw (d, e) refl
 slash_none : (b : ℕ) (w : List ℕ) → nat_eq b 47 ≡ false → nat_eq b 42 ≡ false → after_slash (b ∷ w) ≡ None
 slash_none b w d e = rw (d, e) refl
 
-pub line_comment : (t : List ℕ) (n : ℕ) → begins_with (has (Byte 47)) t ≡ true → n ≡ run_of (has InLine) (take (length t - 1) (drop 1 t)) → longest after_slash t ≡ Some (Blank, 1 + n)
-line_comment t n e h = begin_then (has (Byte 47)) after_slash (λ w. when (every (has InLine) w) Blank) slash_line t Blank n e (longest_every (has InLine) Blank (take (length t - 1) (drop 1 t)) ∙ ap (λ n. Some (Blank, n)) (sym h))
+pub line_comment : (t : List ℕ) (n : ℕ) → begins_with (is_of_class (Byte 47)) t ≡ true → n ≡ run_of (is_of_class InLine) (take (length t - 1) (drop 1 t)) → longest after_slash t ≡ Some (Blank, 1 + n)
+line_comment t n e h = begin_then (is_of_class (Byte 47)) after_slash (λ w. word_where (all_bytes (is_of_class InLine) w) Blank) slash_line t Blank n e (longest_every (is_of_class InLine) Blank (take (length t - 1) (drop 1 t)) ∙ ap (λ n. Some (Blank, n)) (sym h))
 
-pub block_comment : (t : List ℕ) (x : Word) (n : ℕ) → begins_with (has (Byte 47)) t ≡ false → begins_with (has (Byte 42)) t ≡ true → longest in_comment (take (length t - 1) (drop 1 t)) ≡ Some (x, n) → longest after_slash t ≡ Some (x, 1 + n)
+pub block_comment : (t : List ℕ) (x : Word) (n : ℕ) → begins_with (is_of_class (Byte 47)) t ≡ false → begins_with (is_of_class (Byte 42)) t ≡ true → longest in_comment (take (length t - 1) (drop 1 t)) ≡ Some (x, n) → longest after_slash t ≡ Some (x, 1 + n)
 block_comment [] x n d e k = absurd (cc)
 block_comment (b ∷ t) x n d e k =
     let one : suc n ≡ 1 + n = omega arith in
     longest_taken after_slash in_comment b (λ w. slash_star b w d e) t x n (ap (longest in_comment) (sym (rest_all (b ∷ t) 1)) ∙ k) ∙ ap (λ n. Some (x, n)) one
 
-pub slash_alone : (t : List ℕ) → begins_with (has (Byte 47)) t ≡ false → begins_with (has (Byte 42)) t ≡ false → longest after_slash t ≡ Some (SymbolWord Divide, 0)
-slash_alone t d e = begin_none after_slash (Some (SymbolWord Divide)) refl t (λ b u w h. slash_none b w (begins_at (has (Byte 47)) t b u false d h) (begins_at (has (Byte 42)) t b u false e h))
+pub slash_alone : (t : List ℕ) → begins_with (is_of_class (Byte 47)) t ≡ false → begins_with (is_of_class (Byte 42)) t ≡ false → longest after_slash t ≡ Some (SymbolWord Divide, 0)
+slash_alone t d e = begin_none after_slash (Some (SymbolWord Divide)) refl t (λ b u w h. slash_none b w (begins_at (is_of_class (Byte 47)) t b u false d h) (begins_at (is_of_class (Byte 42)) t b u false e h))
 
 -- symbols
 pair_rest : (b c : ℕ) (x : Option Word) → symbol_of b (c ∷ []) ≡ x → (t : List ℕ) → longest (λ w. symbol_of b (c ∷ w)) t ≡ with_bytes 0 x
 pair_rest b c x e t = begin_none (λ w. symbol_of b (c ∷ w)) x e t (λ d u w h. refl)
 
-pub symbol_pair : (b : ℕ) (t : List ℕ) (s : Symbol) → double_of b t ≡ Some s → Some (SymbolWord s, 1) ≡ longest (symbol_of b) t
+pub symbol_pair : (b : ℕ) (t : List ℕ) (s : Symbol) → two_byte_symbol_from b t ≡ Some s → Some (SymbolWord s, 1) ≡ longest (symbol_of b) t
 symbol_pair b [] s e = absurd (cc)
 symbol_pair b (c ∷ t) s e = sym (longest_taken (symbol_of b) (λ w. symbol_of b (c ∷ w)) c (λ w. refl) t (SymbolWord s) 0 (pair_rest b c (Some (SymbolWord s)) (ap symbol_word e) t))
 
-pub symbol_single : (b : ℕ) (t : List ℕ) (x : Option Symbol) → double_of b t ≡ None → single b ≡ x → longest (symbol_of b) t ≡ with_bytes 0 (symbol_word x)
+pub symbol_single : (b : ℕ) (t : List ℕ) (x : Option Symbol) → two_byte_symbol_from b t ≡ None → one_byte_symbol b ≡ x → longest (symbol_of b) t ≡ with_bytes 0 (symbol_word x)
 symbol_single b [] x e h = longest_end (symbol_of b) ∙ ap (λ x. with_bytes 0 (symbol_word x)) h
 symbol_single b (c ∷ t) x e h =
     longest_step (symbol_of b) (λ w. symbol_of b (c ∷ w)) c (λ w. refl) t
-    ∙ ap (λ r. one_longer r (with_bytes 0 (symbol_word (single b)))) (pair_rest b c None (ap symbol_word e) t)
+    ∙ ap (λ r. one_longer r (with_bytes 0 (symbol_word (one_byte_symbol b)))) (pair_rest b c None (ap symbol_word e) t)
     ∙ ap (λ x. with_bytes 0 (symbol_word x)) h
 
 -- one byte on, in a loop
@@ -362,25 +362,25 @@ text_closed t r false n l h e =
 text_closed t r true n l h e = absurd (cc)
 
 -- what a word is that begins with a byte of a class
-is_blank : (b : ℕ) (w : List ℕ) → blank b ≡ true → word_from b w ≡ where_last Blank w
+is_blank : (b : ℕ) (w : List ℕ) → is_blank_byte b ≡ true → word_from b w ≡ where_last Blank w
 unfolding word_from
 is_blank b w e = rw e refl
 
-is_name : (b : ℕ) (w : List ℕ) → blank b ≡ false → letter b ≡ true → word_from b w ≡ when (every name_byte w) Name
+is_name : (b : ℕ) (w : List ℕ) → is_blank_byte b ≡ false → is_letter_byte b ≡ true → word_from b w ≡ word_where (all_bytes is_name_byte w) Name
 unfolding word_from
 is_name b w e f = rw (e, f) refl
 
-is_numeral : (b : ℕ) (w : List ℕ) → blank b ≡ false → letter b ≡ false → digit b ≡ true → word_from b w ≡ in_whole w
+is_numeral : (b : ℕ) (w : List ℕ) → is_blank_byte b ≡ false → is_letter_byte b ≡ false → is_digit_byte b ≡ true → word_from b w ≡ in_whole w
 unfolding word_from
 is_numeral b w e f g = rw (e, f, g) refl
 
-pub blank_word : (b : ℕ) (t : List ℕ) → blank b ≡ true → Some (Blank, 0) ≡ longest (word_from b) t
+pub blank_word : (b : ℕ) (t : List ℕ) → is_blank_byte b ≡ true → Some (Blank, 0) ≡ longest (word_from b) t
 blank_word b t e = sym (longest_same (word_from b) (where_last Blank) (λ w. is_blank b w e) t ∙ longest_alone Blank t)
 
-pub name_word : (b : ℕ) (t : List ℕ) (n : ℕ) → blank b ≡ false → letter b ≡ true → n ≡ run_of name_byte t → Some (Name, n) ≡ longest (word_from b) t
-name_word b t n e f h = ap (λ n. Some (Name, n)) h ∙ sym (longest_same (word_from b) (λ w. when (every name_byte w) Name) (λ w. is_name b w e f) t ∙ longest_every name_byte Name t)
+pub name_word : (b : ℕ) (t : List ℕ) (n : ℕ) → is_blank_byte b ≡ false → is_letter_byte b ≡ true → n ≡ run_of is_name_byte t → Some (Name, n) ≡ longest (word_from b) t
+name_word b t n e f h = ap (λ n. Some (Name, n)) h ∙ sym (longest_same (word_from b) (λ w. word_where (all_bytes is_name_byte w) Name) (λ w. is_name b w e f) t ∙ longest_every is_name_byte Name t)
 
-pub numeral_word : (b : ℕ) (t : List ℕ) (r : Option (Word × ℕ)) → blank b ≡ false → letter b ≡ false → digit b ≡ true → longest in_whole t ≡ r → r ≡ longest (word_from b) t
+pub numeral_word : (b : ℕ) (t : List ℕ) (r : Option (Word × ℕ)) → is_blank_byte b ≡ false → is_letter_byte b ≡ false → is_digit_byte b ≡ true → longest in_whole t ≡ r → r ≡ longest (word_from b) t
 numeral_word b t r e f g h = sym (longest_same (word_from b) in_whole (λ w. is_numeral b w e f g) t ∙ h)
 
 quote_is : (w : List ℕ) → word_from 34 w ≡ in_text w
@@ -411,29 +411,29 @@ point_word b t r e h = subst (λ b. r ≡ longest (word_from b) t) (sym e) (sym 
 pub slash_word : (b : ℕ) (t : List ℕ) (r : Option (Word × ℕ)) → b ≡ 47 → longest after_slash t ≡ r → r ≡ longest (word_from b) t
 slash_word b t r e h = subst (λ b. r ≡ longest (word_from b) t) (sym e) (sym (longest_same (word_from 47) after_slash slash_is t ∙ h))
 
-is_symbol : (b : ℕ) (w : List ℕ) → blank b ≡ false → letter b ≡ false → digit b ≡ false → nat_eq b 36 ≡ false → nat_eq b 34 ≡ false → nat_eq b 46 ≡ false → nat_eq b 47 ≡ false → word_from b w ≡ symbol_of b w
+is_symbol : (b : ℕ) (w : List ℕ) → is_blank_byte b ≡ false → is_letter_byte b ≡ false → is_digit_byte b ≡ false → nat_eq b 36 ≡ false → nat_eq b 34 ≡ false → nat_eq b 46 ≡ false → nat_eq b 47 ≡ false → word_from b w ≡ symbol_of b w
 unfolding word_from
 is_symbol b w e f g h i j k = rw (e, f, g, h, i, j, k) refl
 
-pub symbol_found : (b : ℕ) (t : List ℕ) → blank b ≡ false → letter b ≡ false → digit b ≡ false → (b ≡ 36 → ⊥) → (b ≡ 34 → ⊥) → (b ≡ 46 → ⊥) → (b ≡ 47 → ⊥) → longest (symbol_of b) t ≡ longest (word_from b) t
+pub symbol_found : (b : ℕ) (t : List ℕ) → is_blank_byte b ≡ false → is_letter_byte b ≡ false → is_digit_byte b ≡ false → (b ≡ 36 → ⊥) → (b ≡ 34 → ⊥) → (b ≡ 46 → ⊥) → (b ≡ 47 → ⊥) → longest (symbol_of b) t ≡ longest (word_from b) t
 symbol_found b t e f g h i j k = sym (longest_same (word_from b) (symbol_of b) (λ w. is_symbol b w e f g (not_equal b 36 h) (not_equal b 34 i) (not_equal b 46 j) (not_equal b 47 k)) t)
 
 -- a blank byte is a word of its own
-pub blank_found : (t : List ℕ) → begins_with blank t ≡ true → IsLongest t 1 Blank
+pub blank_found : (t : List ℕ) → begins_with is_blank_byte t ≡ true → IsLongest t 1 Blank
 blank_found [] h = absurd (cc)
 blank_found (b ∷ t) h = longest_is b t Blank 0 (sym (blank_word b t h))
 
 -- what a word is that begins with a symbol of one byte
-is_single : (b : ℕ) (w : List ℕ) (s : Symbol) → single b ≡ Some s → word_from b w ≡ symbol_of b w
+is_single : (b : ℕ) (w : List ℕ) (s : Symbol) → one_byte_symbol b ≡ Some s → word_from b w ≡ symbol_of b w
 unfolding word_from
 is_single b w s h = grind (arith, nat_tests)
 
-no_pair : (b : ℕ) (t : List ℕ) → ((c : ℕ) → double b c ≡ None) → double_of b t ≡ None
+no_pair : (b : ℕ) (t : List ℕ) → ((c : ℕ) → two_byte_symbol b c ≡ None) → two_byte_symbol_from b t ≡ None
 no_pair b [] h = refl
 no_pair b (c ∷ t) h = h c
 
 -- the symbol of a byte that begins no symbol of two
-pub lone_found : (t : List ℕ) (r : Option Symbol) → 1 ≤ length t → IfSome r (λ s. single (get_or t 0 0) ≡ Some s) → IfSome r (λ s. (c : ℕ) → double (get_or t 0 0) c ≡ None) → IfSome r (λ s. IsLongest t 1 (SymbolWord s))
+pub lone_found : (t : List ℕ) (r : Option Symbol) → 1 ≤ length t → IfSome r (λ s. one_byte_symbol (get_or t 0 0) ≡ Some s) → IfSome r (λ s. (c : ℕ) → two_byte_symbol (get_or t 0 0) c ≡ None) → IfSome r (λ s. IsLongest t 1 (SymbolWord s))
 lone_found t None l h e = tt
 lone_found [] (Some s) l h e = absurd (omega arith)
 lone_found (b ∷ t) (Some s) l h e =

@@ -8,17 +8,17 @@ use Rattle.scad_lexer.specs.declared.token.TokenKind.TheVariants.{End}
 use Rattle.scad_lexer.specs.declared.word.Word.{Word}
 use Rattle.scad_lexer.specs.declared.meaning.WordMeaning.{WordMeaning}
 use Rattle.scad_lexer.specs.declared.meaning.WordMeaning.TheVariants.{NoToken, OneToken, BadWord}
-use Rattle.scad_lexer.specs.Words.{word_of, longest, IsLongest, HasNoWord}
-use Rattle.scad_lexer.specs.Tokens.{LexOutcome, GivesTokens, FaultAt, tokens_in_front, tokens_at, IsFaultless, LexesFrom, Lexes, meaning_of, place_after, ends_once}
+use Rattle.scad_lexer.specs.Words.{word_of_bytes, longest, IsLongest, HasNoWord}
+use Rattle.scad_lexer.specs.Tokens.{LexOutcome, GivesTokens, FaultAt, tokens_in_front, tokens_at, IsFaultless, LexesFrom, Lexes, word_meaning, place_after, ends_once}
 use Rattle.scad_lexer.proofs.EndsOnce.{reads_end}
 use Rattle.scad_lexer.proofs.Lexing.{stray, faulty, word_some}
 use Rattle.scad_lexer.proofs.Longest.{Best, best}
 
 -- no word begins a text, or one that is the longest
 first_word : (text : List ℕ) → HasNoWord text ⊎ ((n : ℕ) × (word : Word) × IsLongest text n word)
-first_word text = go (longest word_of text) (best word_of text)
+first_word text = go (longest word_of_bytes text) (best word_of_bytes text)
   where
-    go : (r : Option (Word × ℕ)) → Best word_of text r → HasNoWord text ⊎ ((n : ℕ) × (word : Word) × IsLongest text n word)
+    go : (r : Option (Word × ℕ)) → Best word_of_bytes text r → HasNoWord text ⊎ ((n : ℕ) × (word : Word) × IsLongest text n word)
     go None h = inl h
     go (Some p) h = inr (p.1, p.0, record { within = h.within; found = h.found; most = h.most })
 
@@ -27,11 +27,11 @@ abbrev GivesSome : Place → List ℕ → Type 0
 GivesSome p text = (o : LexOutcome) × LexesFrom p text o
 
 -- a word without a fault gives what it makes, and then what is behind it
-sound_word : (p : Place) (text : List ℕ) (n : ℕ) (word : Word) → IsLongest text n word → IsFaultless (meaning_of word (take n text)) → GivesSome (place_after p (take n text)) (drop n text) → GivesSome p text
-sound_word p text n word h sound rest = (tokens_in_front (tokens_at p (meaning_of word (take n text))) rest.0, (record { bytes = n; word = word } ∷ rest.1.0, (h, sound, (rest.0, rest.1.1, refl))))
+sound_word : (p : Place) (text : List ℕ) (n : ℕ) (word : Word) → IsLongest text n word → IsFaultless (word_meaning word (take n text)) → GivesSome (place_after p (take n text)) (drop n text) → GivesSome p text
+sound_word p text n word h sound rest = (tokens_in_front (tokens_at p (word_meaning word (take n text))) rest.0, (record { bytes = n; word = word } ∷ rest.1.0, (h, sound, (rest.0, rest.1.1, refl))))
 
 -- a word gives its fault, or else what is behind it
-any_word : (p : Place) (text : List ℕ) (n : ℕ) (word : Word) → IsLongest text n word → GivesSome (place_after p (take n text)) (drop n text) → (m : WordMeaning) → m ≡ meaning_of word (take n text) → GivesSome p text
+any_word : (p : Place) (text : List ℕ) (n : ℕ) (word : Word) → IsLongest text n word → GivesSome (place_after p (take n text)) (drop n text) → (m : WordMeaning) → m ≡ word_meaning word (take n text) → GivesSome p text
 any_word p text n word h rest (BadWord kind before) e = (FaultAt kind (place_after p (take before text)), faulty p text n word kind before h e)
 any_word p text n word h rest NoToken e = sound_word p text n word h (subst IsFaultless e tt) rest
 any_word p text n word h rest (OneToken kind) e = sound_word p text n word h (subst IsFaultless e tt) rest
@@ -44,7 +44,7 @@ begun p text some shorter = go (first_word text)
     go (inl none) = (FaultAt BadCharacter p, stray p text some none)
     go (inr (n, word, h)) =
         let fewer : length (drop n text) < length text = omega (arith, h.within, word_some text n word h, length-drop n text) in
-        any_word p text n word h (shorter (place_after p (take n text)) (drop n text) fewer) (meaning_of word (take n text)) refl
+        any_word p text n word h (shorter (place_after p (take n text)) (drop n text) fewer) (word_meaning word (take n text)) refl
 
 -- by induction on the length
 gives_some : (n : ℕ) (p : Place) (text : List ℕ) → length text ≤ n → GivesSome p text

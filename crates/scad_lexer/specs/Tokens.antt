@@ -18,7 +18,7 @@ use Rattle.scad_lexer.specs.declared.word.Word.TheVariants.{Blank, UnclosedComme
 use Rattle.scad_lexer.specs.declared.class.ByteClass.TheVariants.{Printable}
 use Rattle.scad_lexer.specs.declared.meaning.WordMeaning.{WordMeaning}
 use Rattle.scad_lexer.specs.declared.meaning.WordMeaning.TheVariants.{NoToken, OneToken, BadWord}
-use Rattle.scad_lexer.specs.Words.{has, digit, run_of, every, IsLongest, HasNoWord}
+use Rattle.scad_lexer.specs.Words.{is_of_class, is_digit_byte, run_of, all_bytes, IsLongest, HasNoWord}
 
 -- the reserved name that these bytes are
 abbrev pub reserved_of : List ℕ → Option Reserved
@@ -41,26 +41,27 @@ abbrev pub name_token : List ℕ → TokenKind
 name_token bytes = name_or bytes (reserved_of bytes)
 
 -- the number that decimal digits write, behind those that wrote a value
-abbrev pub number_from : ℕ → List ℕ → ℕ
-number_from value [] = value
-number_from value (byte ∷ bytes) = number_from (value * 10 + (byte - 48)) bytes
+abbrev pub decimal_from : ℕ → List ℕ → ℕ
+decimal_from value [] = value
+decimal_from value (byte ∷ bytes) = decimal_from (value * 10 + (byte - 48)) bytes
 
 -- behind the whole part of a numeral: nothing, or a point and zeros
 abbrev pub zero_fraction : List ℕ → Bool
 zero_fraction [] = true
-zero_fraction (byte ∷ bytes) = nat_eq byte 46 && every (λ c. nat_eq c 48) bytes
+zero_fraction (byte ∷ bytes) = nat_eq byte 46 && all_bytes (λ c. nat_eq c 48) bytes
 
 -- the least number that is too large for a numeral
-abbrev pub too_large : ℕ
-too_large = 2 ^ 53
+abbrev pub least_too_large_numeral : ℕ
+least_too_large_numeral = 2 ^ 53
 
 -- a number, unless it is too large
 abbrev pub numeral_or_too_large : ℕ → WordMeaning
-numeral_or_too_large n = cond (nat_lt n too_large) (OneToken (NumeralToken n)) (BadWord TooLarge 0)
+numeral_or_too_large n = cond (nat_lt n least_too_large_numeral) (OneToken (NumeralToken n)) (BadWord TooLarge 0)
 
--- a numeral: its whole part, where nothing but zeros is behind its point, and no exponent
-abbrev pub numeral_of : List ℕ → WordMeaning
-numeral_of bytes = cond (zero_fraction (drop (run_of digit bytes) bytes)) (numeral_or_too_large (number_from 0 (take (run_of digit bytes) bytes))) (BadWord NotWhole 0)
+-- what a numeral stands for: its whole part where only zeros are behind its point; else, and with an exponent, NotWhole;
+-- above 2^53 - 1 it is TooLarge
+abbrev pub numeral_meaning : List ℕ → WordMeaning
+numeral_meaning bytes = cond (zero_fraction (drop (run_of is_digit_byte bytes) bytes)) (numeral_or_too_large (decimal_from 0 (take (run_of is_digit_byte bytes) bytes))) (BadWord NotWhole 0)
 
 -- the fault that a numeral has, or else that of the letter behind so many bytes
 abbrev pub or_letter : WordMeaning → ℕ → WordMeaning
@@ -70,7 +71,7 @@ or_letter (OneToken kind) at = BadWord BadCharacter at
 
 -- a numeral with a letter behind it: the numeral's fault, or that of the letter
 abbrev pub letter_behind : List ℕ → WordMeaning
-letter_behind bytes = or_letter (numeral_of (take (length bytes - 1) bytes)) (length bytes - 1)
+letter_behind bytes = or_letter (numeral_meaning (take (length bytes - 1) bytes)) (length bytes - 1)
 
 -- the byte that an escape stands for: `\"`, `\\`, `\n`, `\t`, `\r`
 abbrev pub escape_of : ℕ → Option ℕ
@@ -96,7 +97,7 @@ with_escape (Some byte) rest = with_byte byte 2 rest
 unfoldable mutual
   pub bytes_written : List ℕ → Result (List ℕ) ℕ
   bytes_written [] = Ok []
-  bytes_written (byte ∷ bytes) = cond (nat_eq byte 92) (bytes_after_backslash bytes) (cond (has Printable byte) (with_byte byte 1 (bytes_written bytes)) (Err 0))
+  bytes_written (byte ∷ bytes) = cond (nat_eq byte 92) (bytes_after_backslash bytes) (cond (is_of_class Printable byte) (with_byte byte 1 (bytes_written bytes)) (Err 0))
 
   -- the same behind a backslash
   pub bytes_after_backslash : List ℕ → Result (List ℕ) ℕ
@@ -113,20 +114,20 @@ text_from (Ok bytes) = OneToken (TextToken bytes)
 text_from (Err at) = BadWord BadCharacter (1 + at)
 
 -- what a text with both its quotes stands for
-abbrev pub text_of : List ℕ → WordMeaning
-text_of bytes = text_from (bytes_written (without_quotes bytes))
+abbrev pub text_meaning : List ℕ → WordMeaning
+text_meaning bytes = text_from (bytes_written (without_quotes bytes))
 
 -- what a word stands for
-abbrev pub meaning_of : Word → List ℕ → WordMeaning
-meaning_of Blank bytes = NoToken
-meaning_of UnclosedComment bytes = BadWord OpenComment 0
-meaning_of Name bytes = OneToken (name_token bytes)
-meaning_of Special bytes = OneToken (SpecialToken (drop 1 bytes))
-meaning_of Numeral bytes = numeral_of bytes
-meaning_of NumeralAndLetter bytes = letter_behind bytes
-meaning_of Text bytes = text_of bytes
-meaning_of UnclosedText bytes = BadWord OpenText 0
-meaning_of (Symbol symbol) bytes = OneToken (SymbolToken symbol)
+abbrev pub word_meaning : Word → List ℕ → WordMeaning
+word_meaning Blank bytes = NoToken
+word_meaning UnclosedComment bytes = BadWord OpenComment 0
+word_meaning Name bytes = OneToken (name_token bytes)
+word_meaning Special bytes = OneToken (SpecialToken (drop 1 bytes))
+word_meaning Numeral bytes = numeral_meaning bytes
+word_meaning NumeralAndLetter bytes = letter_behind bytes
+word_meaning Text bytes = text_meaning bytes
+word_meaning UnclosedText bytes = BadWord OpenText 0
+word_meaning (Symbol symbol) bytes = OneToken (SymbolToken symbol)
 
 -- the place behind these bytes: a newline begins a line
 abbrev pub place_after : Place → List ℕ → Place
@@ -171,25 +172,25 @@ pub record IsFaulty (at : Place) (text : List ℕ) (given : LexOutcome) : Type 0
   pub kind : FaultKind
   pub before : ℕ
   pub longest : IsLongest text length word
-  pub means : meaning_of word (take length text) ≡ BadWord kind before
+  pub means : word_meaning word (take length text) ≡ BadWord kind before
   pub outcome : given ≡ FaultAt kind (place_after at (take before text))
 
 -- a word of a source, by its length
-pub record Piece : Type 0 where
+pub record SourceWord : Type 0 where
   pub bytes : ℕ
   pub word : Word
 
 -- the text from a place on is these words, each the longest there, and then its end or its first fault
-abbrev pub ReadsWords : List Piece → Place → List ℕ → LexOutcome → Type 0
+abbrev pub ReadsWords : List SourceWord → Place → List ℕ → LexOutcome → Type 0
 ReadsWords [] at text outcome = IsEnd at text outcome ⊎ (IsStray at text outcome ⊎ IsFaulty at text outcome)
 ReadsWords (piece ∷ pieces) at text outcome =
-    IsLongest text piece.bytes piece.word × IsFaultless (meaning_of piece.word (take piece.bytes text))
+    IsLongest text piece.bytes piece.word × IsFaultless (word_meaning piece.word (take piece.bytes text))
     × ((rest : LexOutcome) × ReadsWords pieces (place_after at (take piece.bytes text)) (drop piece.bytes text) rest
-    × (outcome ≡ tokens_in_front (tokens_at at (meaning_of piece.word (take piece.bytes text))) rest))
+    × (outcome ≡ tokens_in_front (tokens_at at (word_meaning piece.word (take piece.bytes text))) rest))
 
 -- what a text gives from a place on
 abbrev pub LexesFrom : Place → List ℕ → LexOutcome → Type 0
-LexesFrom at text outcome = (pieces : List Piece) × ReadsWords pieces at text outcome
+LexesFrom at text outcome = (pieces : List SourceWord) × ReadsWords pieces at text outcome
 
 -- what a whole source gives: blanks, comments and tokens, each as long as possible
 abbrev pub Lexes : List ℕ → LexOutcome → Type 0
@@ -219,19 +220,20 @@ Agrees (Ok tokens) outcome = outcome ≡ GivesTokens tokens.items
 Agrees (Err (Fault fault)) outcome = outcome ≡ FaultAt fault.kind fault.place
 Agrees (Err NoMemory) outcome = Unit {0}
 
--- the longest word of a text has no fault, and the token that it makes at its place, if it makes one, is appended to those before
+-- the longest word of a text has no fault, and the token that it makes at its place, if it makes one, is appended to those
+-- before
 pub record AppendsNext (before after : List Token) (at : Place) (text : List ℕ) (bytes : ℕ) : Type 0 where
   pub word : Word
   pub longest : IsLongest text bytes word
-  pub sound : IsFaultless (meaning_of word (take bytes text))
-  pub appended : after ≡ before ++ tokens_at at (meaning_of word (take bytes text))
+  pub sound : IsFaultless (word_meaning word (take bytes text))
+  pub appended : after ≡ before ++ tokens_at at (word_meaning word (take bytes text))
   pub some : 1 ≤ bytes
 
 -- a fault stands within the word
-abbrev pub IsWithin : ℕ → WordMeaning → Type 0
-IsWithin n (BadWord kind before) = before ≤ n
-IsWithin n NoToken = Unit {0}
-IsWithin n (OneToken kind) = Unit {0}
+abbrev pub IsFaultWithin : ℕ → WordMeaning → Type 0
+IsFaultWithin n (BadWord kind before) = before ≤ n
+IsFaultWithin n NoToken = Unit {0}
+IsFaultWithin n (OneToken kind) = Unit {0}
 
 -- the end of a source
 abbrev pub is_end : TokenKind → Bool

@@ -8,32 +8,32 @@ use Rattle.scad_lexer.specs.declared.word.Word.{Word}
 use Rattle.scad_lexer.specs.declared.word.Word.TheVariants.{Blank, UnclosedComment, Name, Special, Numeral, NumeralAndLetter, Text, UnclosedText, Symbol as SymbolWord}
 
 -- space, tab, carriage return, newline
-abbrev pub blank : ℕ → Bool
-blank byte = nat_eq byte 32 || nat_eq byte 9 || nat_eq byte 13 || nat_eq byte 10
+abbrev pub is_blank_byte : ℕ → Bool
+is_blank_byte byte = nat_eq byte 32 || nat_eq byte 9 || nat_eq byte 13 || nat_eq byte 10
 
 -- a letter or `_`
-abbrev pub letter : ℕ → Bool
-letter byte = (nat_le 65 byte && nat_le byte 90) || (nat_le 97 byte && nat_le byte 122) || nat_eq byte 95
+abbrev pub is_letter_byte : ℕ → Bool
+is_letter_byte byte = (nat_le 65 byte && nat_le byte 90) || (nat_le 97 byte && nat_le byte 122) || nat_eq byte 95
 
 -- `0` to `9`
-abbrev pub digit : ℕ → Bool
-digit byte = nat_le 48 byte && nat_le byte 57
+abbrev pub is_digit_byte : ℕ → Bool
+is_digit_byte byte = nat_le 48 byte && nat_le byte 57
 
 -- what a name may go on with
-abbrev pub name_byte : ℕ → Bool
-name_byte byte = letter byte || digit byte
+abbrev pub is_name_byte : ℕ → Bool
+is_name_byte byte = is_letter_byte byte || is_digit_byte byte
 
 -- a byte of the class
-abbrev pub has : ByteClass → ℕ → Bool
-has BlankByte byte = blank byte
-has Letter byte = letter byte
-has Digit byte = digit byte
-has NameByte byte = name_byte byte
-has InLine byte = not (nat_eq byte 10)
-has Exponent byte = nat_eq byte 101 || nat_eq byte 69
-has Sign byte = nat_eq byte 43 || nat_eq byte 45
-has Printable byte = nat_le 32 byte && nat_le byte 126
-has (Byte only) byte = nat_eq byte only
+abbrev pub is_of_class : ByteClass → ℕ → Bool
+is_of_class BlankByte byte = is_blank_byte byte
+is_of_class Letter byte = is_letter_byte byte
+is_of_class Digit byte = is_digit_byte byte
+is_of_class NameByte byte = is_name_byte byte
+is_of_class InLine byte = not (nat_eq byte 10)
+is_of_class Exponent byte = nat_eq byte 101 || nat_eq byte 69
+is_of_class Sign byte = nat_eq byte 43 || nat_eq byte 45
+is_of_class Printable byte = nat_le 32 byte && nat_le byte 126
+is_of_class (Byte only) byte = nat_eq byte only
 
 -- the first byte is so
 abbrev pub begins_with : (ℕ → Bool) → List ℕ → Bool
@@ -46,13 +46,13 @@ run_of test [] = 0
 run_of test (byte ∷ bytes) = cond (test byte) (suc (run_of test bytes)) 0
 
 -- all are so
-abbrev pub every : (ℕ → Bool) → List ℕ → Bool
-every test [] = true
-every test (byte ∷ bytes) = cond (test byte) (every test bytes) false
+abbrev pub all_bytes : (ℕ → Bool) → List ℕ → Bool
+all_bytes test [] = true
+all_bytes test (byte ∷ bytes) = cond (test byte) (all_bytes test bytes) false
 
 -- this word, where the test holds
-abbrev pub when : Bool → Word → Option Word
-when holds word = cond holds (Some word) None
+abbrev pub word_where : Bool → Word → Option Word
+word_where holds word = cond holds (Some word) None
 
 -- this word, where nothing more follows
 abbrev pub where_last : Word → List ℕ → Option Word
@@ -61,40 +61,40 @@ where_last word (byte ∷ bytes) = None
 
 -- The words below are read as follows: what a word is, by the bytes of it that are left.
 
--- a numeral: digits, then maybe a point and digits, then maybe an exponent; here behind a digit of its exponent
+-- after a digit of a numeral's exponent: more digits, or one letter, with which it is a fault
 unfoldable pub in_exponent : List ℕ → Option Word
 in_exponent [] = Some Numeral
-in_exponent (byte ∷ bytes) = cond (digit byte) (in_exponent bytes) (cond (letter byte) (where_last NumeralAndLetter bytes) None)
+in_exponent (byte ∷ bytes) = cond (is_digit_byte byte) (in_exponent bytes) (cond (is_letter_byte byte) (where_last NumeralAndLetter bytes) None)
 
 -- after the sign of an exponent
 abbrev pub after_sign : List ℕ → Option Word
 after_sign [] = None
-after_sign (byte ∷ bytes) = cond (digit byte) (in_exponent bytes) None
+after_sign (byte ∷ bytes) = cond (is_digit_byte byte) (in_exponent bytes) None
 
 -- after `e` or `E`, which is a letter after the numeral where no digits follow
-abbrev pub exponent : List ℕ → Option Word
-exponent [] = Some NumeralAndLetter
-exponent (byte ∷ bytes) = cond (digit byte) (in_exponent bytes) (cond (has Sign byte) (after_sign bytes) None)
+abbrev pub after_e : List ℕ → Option Word
+after_e [] = Some NumeralAndLetter
+after_e (byte ∷ bytes) = cond (is_digit_byte byte) (in_exponent bytes) (cond (is_of_class Sign byte) (after_sign bytes) None)
 
 -- after the last digit of the whole part or the fraction
 abbrev pub number_end : List ℕ → Option Word
 number_end [] = Some Numeral
-number_end (byte ∷ bytes) = cond (has Exponent byte) (exponent bytes) (cond (letter byte) (where_last NumeralAndLetter bytes) None)
+number_end (byte ∷ bytes) = cond (is_of_class Exponent byte) (after_e bytes) (cond (is_letter_byte byte) (where_last NumeralAndLetter bytes) None)
 
 -- after the point of a numeral, or a digit of its fraction
 unfoldable pub in_fraction : List ℕ → Option Word
 in_fraction [] = Some Numeral
-in_fraction (byte ∷ bytes) = cond (digit byte) (in_fraction bytes) (number_end (byte ∷ bytes))
+in_fraction (byte ∷ bytes) = cond (is_digit_byte byte) (in_fraction bytes) (number_end (byte ∷ bytes))
 
 -- after a digit of the whole part
 unfoldable pub in_whole : List ℕ → Option Word
 in_whole [] = Some Numeral
-in_whole (byte ∷ bytes) = cond (digit byte) (in_whole bytes) (cond (nat_eq byte 46) (in_fraction bytes) (number_end (byte ∷ bytes)))
+in_whole (byte ∷ bytes) = cond (is_digit_byte byte) (in_whole bytes) (cond (nat_eq byte 46) (in_fraction bytes) (number_end (byte ∷ bytes)))
 
 -- after a point: a symbol, or a numeral with at least one digit
 abbrev pub after_point : List ℕ → Option Word
 after_point [] = Some (SymbolWord Dot)
-after_point (byte ∷ bytes) = cond (digit byte) (in_fraction bytes) None
+after_point (byte ∷ bytes) = cond (is_digit_byte byte) (in_fraction bytes) None
 
 -- after the opening quote of a text: a backslash takes the next byte with it, and a newline ends nothing
 unfoldable mutual
@@ -121,16 +121,16 @@ unfoldable mutual
 -- after `/`: a symbol, or one of the two comments
 abbrev pub after_slash : List ℕ → Option Word
 after_slash [] = Some (SymbolWord Divide)
-after_slash (byte ∷ bytes) = cond (nat_eq byte 47) (when (every (has InLine) bytes) Blank) (cond (nat_eq byte 42) (in_comment bytes) None)
+after_slash (byte ∷ bytes) = cond (nat_eq byte 47) (word_where (all_bytes (is_of_class InLine) bytes) Blank) (cond (nat_eq byte 42) (in_comment bytes) None)
 
 -- after `$`
 abbrev pub after_dollar : List ℕ → Option Word
 after_dollar [] = None
-after_dollar (byte ∷ bytes) = cond (letter byte) (when (every name_byte bytes) Special) None
+after_dollar (byte ∷ bytes) = cond (is_letter_byte byte) (word_where (all_bytes is_name_byte bytes) Special) None
 
 -- the symbol of one byte
-abbrev pub single : ℕ → Option Symbol
-single byte =
+abbrev pub one_byte_symbol : ℕ → Option Symbol
+one_byte_symbol byte =
     cond (nat_eq byte 40) (Some OpenParenthesis) (cond (nat_eq byte 41) (Some CloseParenthesis)
     (cond (nat_eq byte 91) (Some OpenBracket) (cond (nat_eq byte 93) (Some CloseBracket)
     (cond (nat_eq byte 123) (Some OpenBrace) (cond (nat_eq byte 125) (Some CloseBrace)
@@ -142,16 +142,16 @@ single byte =
     (cond (nat_eq byte 33) (Some Not) (cond (nat_eq byte 35) (Some Hash) (cond (nat_eq byte 94) (Some Caret) None)))))))))))))))))))
 
 -- the symbol of two bytes
-abbrev pub double : ℕ → ℕ → Option Symbol
-double byte next =
+abbrev pub two_byte_symbol : ℕ → ℕ → Option Symbol
+two_byte_symbol byte next =
     cond (nat_eq byte 60 && nat_eq next 61) (Some LessEqual) (cond (nat_eq byte 62 && nat_eq next 61) (Some GreaterEqual)
     (cond (nat_eq byte 61 && nat_eq next 61) (Some Equal) (cond (nat_eq byte 33 && nat_eq next 61) (Some NotEqual)
     (cond (nat_eq byte 38 && nat_eq next 38) (Some And) (cond (nat_eq byte 124 && nat_eq next 124) (Some Or) None)))))
 
 -- the symbol of two bytes, the second of which begins the text
-abbrev pub double_of : ℕ → List ℕ → Option Symbol
-double_of byte [] = None
-double_of byte (next ∷ bytes) = double byte next
+abbrev pub two_byte_symbol_from : ℕ → List ℕ → Option Symbol
+two_byte_symbol_from byte [] = None
+two_byte_symbol_from byte (next ∷ bytes) = two_byte_symbol byte next
 
 -- the word that a symbol makes, if there is one
 abbrev pub symbol_word : Option Symbol → Option Word
@@ -160,35 +160,35 @@ symbol_word (Some symbol) = Some (SymbolWord symbol)
 
 -- the symbol that one byte is, or two, the first of which is given apart
 abbrev pub symbol_of : ℕ → List ℕ → Option Word
-symbol_of byte [] = symbol_word (single byte)
-symbol_of byte (next ∷ []) = symbol_word (double byte next)
+symbol_of byte [] = symbol_word (one_byte_symbol byte)
+symbol_of byte (next ∷ []) = symbol_word (two_byte_symbol byte next)
 symbol_of byte (next ∷ third ∷ bytes) = None
 
 -- what a word is that begins with this byte
 unfoldable pub word_from : ℕ → List ℕ → Option Word
 word_from byte bytes =
-    cond (blank byte) (where_last Blank bytes)
-    (cond (letter byte) (when (every name_byte bytes) Name)
-    (cond (digit byte) (in_whole bytes)
+    cond (is_blank_byte byte) (where_last Blank bytes)
+    (cond (is_letter_byte byte) (word_where (all_bytes is_name_byte bytes) Name)
+    (cond (is_digit_byte byte) (in_whole bytes)
     (cond (nat_eq byte 36) (after_dollar bytes)
     (cond (nat_eq byte 34) (in_text bytes)
     (cond (nat_eq byte 46) (after_point bytes)
     (cond (nat_eq byte 47) (after_slash bytes) (symbol_of byte bytes)))))))
 
 -- what these bytes are, if they are one word
-abbrev pub word_of : List ℕ → Option Word
-word_of [] = None
-word_of (byte ∷ bytes) = word_from byte bytes
+abbrev pub word_of_bytes : List ℕ → Option Word
+word_of_bytes [] = None
+word_of_bytes (byte ∷ bytes) = word_from byte bytes
 
 -- the first n bytes are this word, and no more bytes are any
 pub record IsLongest (text : List ℕ) (n : ℕ) (word : Word) : Type 0 where
   pub within : n ≤ length text
-  pub found : word_of (take n text) ≡ Some word
-  pub most : (m : ℕ) (other : Word) → m ≤ length text → word_of (take m text) ≡ Some other → m ≤ n
+  pub found : word_of_bytes (take n text) ≡ Some word
+  pub most : (m : ℕ) (other : Word) → m ≤ length text → word_of_bytes (take m text) ≡ Some other → m ≤ n
 
 -- no word begins here
 abbrev pub HasNoWord : List ℕ → Type 0
-HasNoWord text = (m : ℕ) (other : Word) → m ≤ length text → word_of (take m text) ≡ Some other → ⊥
+HasNoWord text = (m : ℕ) (other : Word) → m ≤ length text → word_of_bytes (take m text) ≡ Some other → ⊥
 
 -- a word, if any was read, and how many bytes it has
 abbrev pub with_bytes : ℕ → Option Word → Option (Word × ℕ)

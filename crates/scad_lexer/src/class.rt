@@ -1,5 +1,5 @@
 ghost use Rattle.std.specs.Prelude.{◌≡◌, ◌≤◌, IsTrue, length};
-ghost use Rattle.scad_lexer.specs.Words.{has, run_of, begins_with};
+ghost use Rattle.scad_lexer.specs.Words.{is_of_class, run_of, begins_with};
 
 /// A class of bytes.
 #[derive(Clone, Copy, Debug, PartialEq, Eq)]
@@ -26,7 +26,7 @@ pub enum ByteClass {
 impl ByteClass {
     /// Whether a byte is of this class.
     pub fn has(self, byte: u8) -> bool
-        ensures { result ≡ has self byte }
+        ensures { result ≡ is_of_class self byte }
     {
         match self {
             ByteClass::BlankByte => matches!(byte, b' ' | b'\t' | b'\r' | b'\n'),
@@ -43,7 +43,7 @@ impl ByteClass {
 
     /// Whether the text begins with a byte of this class.
     pub fn begins(self, text: &[u8]) -> bool
-        ensures begins { result ≡ begins_with (has self) text.now }
+        ensures begins { result ≡ begins_with (is_of_class self) text.now }
         ensures some { IsTrue result → 1 ≤ length text.now }
     {
         match text {
@@ -55,7 +55,7 @@ impl ByteClass {
     /// How many bytes at the front are of this class.
     #[tactic(auto, using(crate::proofs::Longest::run_more, crate::proofs::Longest::run_stop, crate::proofs::Longest::run_end))]
     pub fn run(self, text: &[u8]) -> usize
-        ensures run { result ≡ run_of (has self) text.now }
+        ensures run { result ≡ run_of (is_of_class self) text.now }
         ensures within { result ≤ length text.now }
     {
         let mut n = 0;

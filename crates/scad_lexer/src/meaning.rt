@@ -1,7 +1,7 @@
 ghost use Rattle.std.specs.Prelude.{◌≡◌, ◌-◌, ◌^◌, ◌<◌, ◌≤◌, length, IfOk, IfErr, IfSome, IfNone, MatchOption, drop, nat_eq, MatchResult, Ok, Err};
 ghost use Rattle.std.specs.Str.{bytes_eq};
-ghost use Rattle.scad_lexer.specs.Words.{every};
-ghost use Rattle.scad_lexer.specs.Tokens.{reserved_of, escape_at, with_byte, zero_fraction, number_from, numeral_of, letter_behind, bytes_written, without_quotes, text_of, meaning_of, name_token, IsWithin};
+ghost use Rattle.scad_lexer.specs.Words.{all_bytes};
+ghost use Rattle.scad_lexer.specs.Tokens.{reserved_of, escape_at, with_byte, zero_fraction, decimal_from, numeral_meaning, letter_behind, bytes_written, without_quotes, text_meaning, word_meaning, name_token, IsFaultWithin};
 
 use crate::class::ByteClass;
 use crate::token::{Reserved, TokenKind};
@@ -22,8 +22,8 @@ pub enum WordMeaning {
 /// What a word stands for, by the kind of word that it is.
 pub fn meant(alloc: Global, word: Word, bytes: &[u8]) -> Result<WordMeaning, NoMemory>
     requires { 1 ≤ length bytes.now }
-    ensures means { IfOk result (λ m. m ≡ meaning_of word bytes.now) }
-    ensures within { IfOk result (λ m. IsWithin (length bytes.now) m) }
+    ensures means { IfOk result (λ m. m ≡ word_meaning word bytes.now) }
+    ensures within { IfOk result (λ m. IsFaultWithin (length bytes.now) m) }
 {
     match word {
         Word::Blank => Ok(WordMeaning::NoToken),
@@ -81,8 +81,8 @@ fn same(word: &[u8], name: &[u8]) -> bool
 
 // What a numeral stands for.
 fn numeral(bytes: &[u8]) -> WordMeaning
-    ensures means { result ≡ numeral_of bytes.now }
-    ensures within { IsWithin 0 result }
+    ensures means { result ≡ numeral_meaning bytes.now }
+    ensures within { IsFaultWithin 0 result }
 {
     let digits = ByteClass::Digit.run(bytes);
     if !is_zero_fraction(&bytes[digits..]) {
@@ -105,7 +105,7 @@ fn is_zero_fraction(bytes: &[u8]) -> bool
 }
 
 fn is_zeros(bytes: &[u8]) -> bool
-    ensures { result ≡ every (λ c. nat_eq c 48) bytes.now }
+    ensures { result ≡ all_bytes (λ c. nat_eq c 48) bytes.now }
 {
     for byte in bytes {
         if *byte != b'0' {
@@ -117,8 +117,8 @@ fn is_zeros(bytes: &[u8]) -> bool
 
 // The number that digits write, where it is below 2^53.
 fn number(digits: &[u8]) -> Option<Numeral>
-    ensures { MatchOption result (2 ^ 53 ≤ number_from 0 digits.now) (λ n. (n
-        ≡ number_from 0 digits.now) × (n < 2 ^ 53)) }
+    ensures { MatchOption result (2 ^ 53 ≤ decimal_from 0 digits.now) (λ n. (n
+        ≡ decimal_from 0 digits.now) × (n < 2 ^ 53)) }
 {
     let mut number: u64 = 0;
     for digit in digits {
@@ -134,7 +134,7 @@ fn number(digits: &[u8]) -> Option<Numeral>
 fn numeral_and_letter(bytes: &[u8]) -> WordMeaning
     requires { 1 ≤ length bytes.now }
     ensures means { result ≡ letter_behind bytes.now }
-    ensures within { IsWithin (length bytes.now) result }
+    ensures within { IsFaultWithin (length bytes.now) result }
 {
     let letter = bytes.len() - 1;
     match numeral(&bytes[..letter]) {
@@ -145,8 +145,8 @@ fn numeral_and_letter(bytes: &[u8]) -> WordMeaning
 
 // What a text with both its quotes stands for.
 fn text(alloc: Global, bytes: &[u8]) -> Result<WordMeaning, NoMemory>
-    ensures means { IfOk result (λ m. m ≡ text_of bytes.now) }
-    ensures within { IfOk result (λ m. IsWithin (length bytes.now) m) }
+    ensures means { IfOk result (λ m. m ≡ text_meaning bytes.now) }
+    ensures within { IfOk result (λ m. IsFaultWithin (length bytes.now) m) }
 {
     match decode(alloc, without_quotes(bytes))? {
         Ok(bytes) => Ok(WordMeaning::OneToken(TokenKind::Text(CompactBytes::of(alloc, &bytes)?))),

@@ -1,6 +1,6 @@
 ghost use Rattle.std.specs.Prelude.{◌≡◌, ℕ, ◌+◌, ◌≤◌, ◌<◌, ◌^◌, length, false, not, nat_eq, ◌&&◌, Some, IfSome, IfNone};
 ghost use Rattle.scad_lexer.specs.declared.class.ByteClass.TheVariants.{BlankByte, Letter, Digit};
-ghost use Rattle.scad_lexer.specs.Words.{has, longest, more_bytes, word_from, in_whole, in_fraction, number_end, exponent, in_exponent, after_point, after_slash, after_dollar, in_text, in_comment, single, double, double_of, symbol_of, begins_with, IsLongest, HasNoWord};
+ghost use Rattle.scad_lexer.specs.Words.{is_of_class, longest, more_bytes, word_from, in_whole, in_fraction, number_end, after_e, in_exponent, after_point, after_slash, after_dollar, in_text, in_comment, one_byte_symbol, two_byte_symbol, two_byte_symbol_from, symbol_of, begins_with, IsLongest, HasNoWord};
 
 use crate::class::ByteClass;
 use crate::token::Symbol;
@@ -31,8 +31,8 @@ pub fn lone_symbol(text: &[u8]) -> Option<Symbol>
 
 // The symbol of a byte that begins no symbol of two bytes.
 fn lone(byte: u8) -> Option<Symbol>
-    ensures found { IfSome result (λ s. single byte ≡ Some s) }
-    ensures where_last { IfSome result (λ s. (next : ℕ) → double byte next ≡ None) }
+    ensures found { IfSome result (λ s. one_byte_symbol byte ≡ Some s) }
+    ensures where_last { IfSome result (λ s. (next : ℕ) → two_byte_symbol byte next ≡ None) }
 {
     match one_byte(byte) {
         Some(Symbol::Less | Symbol::Greater | Symbol::Assign | Symbol::Not) => None,
@@ -69,9 +69,9 @@ fn after_byte(byte: u8, rest: &[u8]) -> Option<(Word, usize)>
 
 // The same after a byte that is no blank, letter or digit.
 fn after_mark(byte: u8, rest: &[u8]) -> Option<(Word, usize)>
-    requires blank { has BlankByte byte ≡ false }
-    requires letter { has Letter byte ≡ false }
-    requires digit { has Digit byte ≡ false }
+    requires blank { is_of_class BlankByte byte ≡ false }
+    requires letter { is_of_class Letter byte ≡ false }
+    requires digit { is_of_class Digit byte ≡ false }
     ensures found { result ≡ longest (word_from byte) rest.now }
     ensures within { IfSome result (λ p. p.1 ≤ length rest.now) }
 {
@@ -101,7 +101,7 @@ fn whole(text: &[u8]) -> (Word, usize)
 
 // What follows the last digit of a numeral's whole part.
 fn whole_end(text: &[u8]) -> (Word, usize)
-    requires { begins_with (has Digit) text.now ≡ false }
+    requires { begins_with (is_of_class Digit) text.now ≡ false }
     ensures found { longest in_whole text.now ≡ Some result }
     ensures within { result.1 ≤ length text.now }
 {
@@ -140,7 +140,7 @@ fn number_tail(text: &[u8]) -> (Word, usize)
 
 // What follows the letter of an exponent.
 fn power(text: &[u8]) -> (Word, usize)
-    ensures found { longest exponent text.now ≡ Some result }
+    ensures found { longest after_e text.now ≡ Some result }
     ensures within { result.1 ≤ length text.now }
 {
     if ByteClass::Digit.begins(text) {
@@ -283,7 +283,7 @@ fn symbol(byte: u8, text: &[u8]) -> Option<(Word, usize)>
 
 // The symbol of a byte and the one that begins the text.
 fn pair(byte: u8, text: &[u8]) -> Option<Symbol>
-    ensures found { result ≡ double_of byte text.now }
+    ensures found { result ≡ two_byte_symbol_from byte text.now }
     ensures within { IfSome result (λ s. 1 ≤ length text.now) }
 {
     match text {
@@ -293,7 +293,7 @@ fn pair(byte: u8, text: &[u8]) -> Option<Symbol>
 }
 
 fn two_bytes(first: u8, second: u8) -> Option<Symbol>
-    ensures { result ≡ double first second }
+    ensures { result ≡ two_byte_symbol first second }
 {
     match (first, second) {
         (b'<', b'=') => Some(Symbol::LessEqual),
@@ -308,7 +308,7 @@ fn two_bytes(first: u8, second: u8) -> Option<Symbol>
 
 #[inline(always)]
 fn one_byte(byte: u8) -> Option<Symbol>
-    ensures { result ≡ single byte }
+    ensures { result ≡ one_byte_symbol byte }
 {
     match byte {
         b'(' => Some(Symbol::OpenParenthesis),

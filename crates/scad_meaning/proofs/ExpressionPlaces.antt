@@ -3,22 +3,22 @@ use Rattle.std.proofs.Common.{ℕ, zero, suc, ◌+◌, Bool, true, false, cond, 
 use Rattle.std.specs.Prelude.{IfSome, flat_map}
 use Rattle.text_place.specs.declared.fault.Place.{Place}
 use Rattle.text_place.specs.declared.fault.FaultKind.TheVariants.{UnknownName, BadArgument, TooManyTurns, NotInProfile}
-use Rattle.scad_ast.specs.Terms.{Term, NumberTerm, TextTerm, TruthTerm, UndefTerm, ChildCountTerm, SpecialTerm, NameTerm, CallTerm, ParenTerm, ListTerm, RangeTerm, SteppedRangeTerm, PostfixTerm, UnaryTerm, ChainTerm, ChoiceTerm, Terms, no_terms, and_term, ArgTerms, no_args, and_named, and_special, and_positional, NamedTerm, SpecialArgTerm, PositionalTerm, SuffixTerms, no_suffixes, and_index, and_member, LinkTerms, no_links, and_link, ParamTerm, PlainTerm, DefaultTerm, place_of}
+use Rattle.scad_ast.specs.Terms.{Term, NumberTerm, TextTerm, TruthTerm, UndefTerm, ChildCountTerm, SpecialTerm, NameTerm, CallTerm, ParenTerm, ListTerm, RangeTerm, SteppedRangeTerm, PostfixTerm, UnaryTerm, ChainTerm, ChoiceTerm, Terms, no_terms, and_term, ArgTerms, no_args, and_named, and_special, and_positional, NamedTerm, SpecialArgTerm, PositionalTerm, SuffixTerms, no_suffixes, and_index, and_member, LinkTerms, no_links, and_link, ParamTerm, PlainTerm, DefaultTerm, place_of_term}
 use Rattle.scad_ast.specs.Places.{places_of_term, places_of_terms, places_of_args, places_of_suffixes, places_of_links, places_of_param}
 use Rattle.scad_value.specs.Values.{Val, NumberVal, TruthVal, TextVal, ListVal, RangeVal, UndefVal, parts_of, truth_of}
 use Rattle.scad_value.specs.Operators.{binary_of, unary_of, index_of, value_or_long_list}
 use Rattle.scad_scope.specs.Names.{Pairs, find_in}
-use Rattle.scad_definitions.specs.Arguments.{names_of, no_arguments_of, destination_of, with_argument}
+use Rattle.scad_definitions.specs.Arguments.{parameter_names, no_arguments_of, destination_of, with_argument}
 use Rattle.scad_definitions.specs.Blocks.{SourceFunction}
 use Rattle.scad_builtin.specs.declared.function.Builtin.{Builtin}
-use Rattle.scad_builtin.specs.Builtins.{builtin_of, takes, builtin_value}
+use Rattle.scad_builtin.specs.Builtins.{builtin_of, takes_count, builtin_value}
 use Rattle.scad_func.specs.Limits.{most_turns}
-use Rattle.scad_func.specs.Meaning.{Outcome, Gives, Faults, then_with, answer_at, Env, Within, no_activation, visible_variable, visible_function, count_elements, Evaluates, Setting, value_at, setting_with_calls, in_scope, with_more_bindings, each_value, with_first_term, only_values, count_of_terms, BoundArguments, Arguments, each_argument, parameter_value, each_parameter, with_pairs, function_value, function_called, built_in, call_value, operand, each_suffix, each_link, count_where_whole, value_within}
+use Rattle.scad_func.specs.Meaning.{Outcome, Gives, Faults, then_with, answer_at, Env, Within, no_activation, visible_variable, visible_function, count_elements, EvaluatesExpression, Setting, deeper_value, setting_with_calls, in_scope, with_more_bindings, each_value, with_first_term, only_values, count_of_terms, BoundArguments, Arguments, each_argument, parameter_value, each_parameter, with_pairs, function_value, function_called, built_in_value, call_value, value_here, each_suffix, each_link, count_where_whole, value_within}
 use Rattle.scad_value.specs.Answers.{range_of, stepped_range_of, member_of, wants_right}
 use Rattle.scad_meaning.proofs.HeldPlaces.{every_joined, if_keeps, Whatever, Held, first_held, rest_held, FunctionHeld, ScopeHeld, function_found, Keeps, skip_keeps, option_keeps, some_keeps, turn_keeps, call_keeps, answered_keeps}
 
 module _ (P : Place → Type 0) where
-  place_held : (e : Term) → Held P (places_of_term e) → P (place_of e)
+  place_held : (e : Term) → Held P (places_of_term e) → P (place_of_term e)
   place_held (NumberTerm at n) h = h.0
   place_held (TextTerm at bytes) h = h.0
   place_held (TruthTerm at truth) h = h.0
@@ -52,7 +52,7 @@ module _ (P : Place → Type 0) where
   settled_keeps false at out p h = h
 
   -- expressions one evaluation deeper fault at their own places, or at those of the scope's definitions
-  abbrev pub Good : Evaluates → Type 0
+  abbrev pub Good : EvaluatesExpression → Type 0
   Good at_next_depth = (counts : Bool) (calls : ℕ) (env : Env) (bindings : Pairs Val) (e : Term) (turns : ℕ)
       → ScopeHeld P env → Held P (places_of_term e) → Keeps P Whatever (at_next_depth counts calls env bindings e turns)
 
@@ -60,13 +60,13 @@ module _ (P : Place → Type 0) where
   Sits here = Good here.at_next_depth × ScopeHeld P here.env
 
   pub value_keeps : (here : Setting) → Sits here → (counts : Bool) (e : Term) (turns : ℕ) → Held P (places_of_term e)
-      → Keeps P Whatever (value_at here counts e turns)
+      → Keeps P Whatever (deeper_value here counts e turns)
   value_keeps here s counts e turns h = s.0 counts here.calls_left here.env here.bindings e turns s.1 h
 
   values_keep : (here : Setting) → Sits here → (es : Terms) (turns : ℕ) → Held P (places_of_terms es) → Keeps P Whatever (each_value here es turns)
   values_keep here s no_terms turns h = tt
   values_keep here s (and_term e es) turns h =
-      skip_keeps P Whatever (value_at here true e turns) _ (value_keeps here s true e turns (first_held P (places_of_term e) (places_of_terms es) h)) (λ turns v.
+      skip_keeps P Whatever (deeper_value here true e turns) _ (value_keeps here s true e turns (first_held P (places_of_term e) (places_of_terms es) h)) (λ turns v.
       skip_keeps P Whatever (each_value here es turns) _ (values_keep here s es turns (rest_held P (places_of_term e) (places_of_terms es) h)) (λ turns vs. tt))
 
   -- arguments and parameters
@@ -88,16 +88,16 @@ module _ (P : Place → Type 0) where
   arguments_keep here s names positional no_args given turns h = tt
   arguments_keep here s names positional (and_named at name value rest) given turns h =
       some_keeps P Whatever (destination_of names positional given (NamedTerm at name value)) BadArgument at _ h.0 (λ target.
-      skip_keeps P Whatever (value_at here true value turns) _ (value_keeps here s true value turns (first_held P (places_of_term value) (places_of_args rest) h.1)) (λ turns v.
+      skip_keeps P Whatever (deeper_value here true value turns) _ (value_keeps here s true value turns (first_held P (places_of_term value) (places_of_args rest) h.1)) (λ turns v.
       arguments_keep here s names positional rest (with_argument given target v) turns (rest_held P (places_of_term value) (places_of_args rest) h.1)))
   arguments_keep here s names positional (and_special at name value rest) given turns h =
       some_keeps P Whatever (destination_of names positional given (SpecialArgTerm at name value)) BadArgument at _ h.0 (λ target.
-      skip_keeps P Whatever (value_at here true value turns) _ (value_keeps here s true value turns (first_held P (places_of_term value) (places_of_args rest) h.1)) (λ turns v.
+      skip_keeps P Whatever (deeper_value here true value turns) _ (value_keeps here s true value turns (first_held P (places_of_term value) (places_of_args rest) h.1)) (λ turns v.
       arguments_keep here s names positional rest (with_argument given target v) turns (rest_held P (places_of_term value) (places_of_args rest) h.1)))
   arguments_keep here s names positional (and_positional value rest) given turns h =
-      some_keeps P Whatever (destination_of names positional given (PositionalTerm value)) BadArgument (place_of value) _
+      some_keeps P Whatever (destination_of names positional given (PositionalTerm value)) BadArgument (place_of_term value) _
       (place_held value (first_held P (places_of_term value) (places_of_args rest) h)) (λ target.
-      skip_keeps P Whatever (value_at here true value turns) _ (value_keeps here s true value turns (first_held P (places_of_term value) (places_of_args rest) h)) (λ turns v.
+      skip_keeps P Whatever (deeper_value here true value turns) _ (value_keeps here s true value turns (first_held P (places_of_term value) (places_of_args rest) h)) (λ turns v.
       arguments_keep here s names (positional + 1) rest (with_argument given target v) turns (rest_held P (places_of_term value) (places_of_args rest) h)))
 
   parameter_keeps : (here : Setting) → Sits here → (p : ParamTerm) (bound_argument : Option Val) (turns : ℕ) → Held P (places_of_param p)
@@ -123,7 +123,7 @@ module _ (P : Place → Type 0) where
   function_keeps defining_scope s f given turns h =
       skip_keeps P Whatever (each_parameter (with_more_bindings defining_scope given.dynamic) f.params given.bound turns) _
       (parameters_keep (with_more_bindings defining_scope given.dynamic) s f.params given.bound turns h.0) (λ turns vs.
-      value_keeps (in_scope (with_more_bindings defining_scope given.dynamic) (Within (with_pairs (names_of f.params) vs []) [] [] no_activation defining_scope.env))
+      value_keeps (in_scope (with_more_bindings defining_scope given.dynamic) (Within (with_pairs (parameter_names f.params) vs []) [] [] no_activation defining_scope.env))
       (s.0, (tt, tt, tt, s.1)) true f.value turns h.1)
 
   function_called_keeps : (defining_scope : Setting) → Sits defining_scope → (at : Place) (f : SourceFunction) (given : Arguments) (turns : ℕ) → P at → FunctionHeld P f
@@ -134,11 +134,11 @@ module _ (P : Place → Type 0) where
       function_keeps (setting_with_calls defining_scope calls) s f given turns h))
 
   built_in_keeps : (here : Setting) → Sits here → (at : Place) (name : List ℕ) (args : ArgTerms) (turns : ℕ) (found : Option Builtin)
-      → P at → Held P (places_of_args args) → Keeps P Whatever (built_in here at name args turns found)
+      → P at → Held P (places_of_args args) → Keeps P Whatever (built_in_value here at name args turns found)
   built_in_keeps here s at name args turns None p h = p
   built_in_keeps here s at name args turns (Some builtin) p h =
       option_keeps P (λ es. Held P (places_of_terms es)) Whatever (only_values args) BadArgument at _ p (only_held args h) (λ es g.
-      if_keeps (Keeps P Whatever) (takes builtin (count_of_terms es))
+      if_keeps (Keeps P Whatever) (takes_count builtin (count_of_terms es))
       (then_with (each_value here es turns) (λ turns vs. answer_at (builtin_value builtin vs) at turns)) (Faults BadArgument at)
       (skip_keeps P Whatever (each_value here es turns) _ (values_keep here s es turns g) (λ turns vs. answered_keeps P (builtin_value builtin vs) at turns p)) p)
 
@@ -147,13 +147,13 @@ module _ (P : Place → Type 0) where
       → Keeps P Whatever (call_value here at name args turns found)
   called_keeps here s at name args turns None p h g = built_in_keeps here s at name args turns (builtin_of name) p h
   called_keeps here s at name args turns (Some f) p h g =
-      skip_keeps P Whatever (each_argument here (names_of f.0.params) 0 args (no_arguments_of (length (names_of f.0.params))) turns) _
-      (arguments_keep here s (names_of f.0.params) 0 args (no_arguments_of (length (names_of f.0.params))) turns h) (λ turns given.
+      skip_keeps P Whatever (each_argument here (parameter_names f.0.params) 0 args (no_arguments_of (length (parameter_names f.0.params))) turns) _
+      (arguments_keep here s (parameter_names f.0.params) 0 args (no_arguments_of (length (parameter_names f.0.params))) turns h) (λ turns given.
       function_called_keeps (in_scope here f.1) (s.0, g.1) at f.0 given turns p g.0)
 
   -- an expression at its own depth
   mutual
-    operand_keeps : (here : Setting) → Sits here → (e : Term) (turns : ℕ) → Held P (places_of_term e) → Keeps P Whatever (operand here e turns)
+    operand_keeps : (here : Setting) → Sits here → (e : Term) (turns : ℕ) → Held P (places_of_term e) → Keeps P Whatever (value_here here e turns)
     operand_keeps here s (NumberTerm at n) turns h = tt
     operand_keeps here s (TextTerm at bytes) turns h = tt
     operand_keeps here s (TruthTerm at truth) turns h = tt
@@ -168,28 +168,28 @@ module _ (P : Place → Type 0) where
         skip_keeps P Whatever (each_value here items turns) _ (values_keep here s items turns h.1) (λ turns vs.
         answered_keeps P (value_or_long_list (Ok (ListVal vs))) at turns h.0)
     operand_keeps here s (RangeTerm at from to) turns h =
-        skip_keeps P Whatever (value_at here true from turns) _ (value_keeps here s true from turns (first_held P (places_of_term from) (places_of_term to) h.1)) (λ turns a.
-        skip_keeps P Whatever (value_at here true to turns) _ (value_keeps here s true to turns (rest_held P (places_of_term from) (places_of_term to) h.1)) (λ turns b.
+        skip_keeps P Whatever (deeper_value here true from turns) _ (value_keeps here s true from turns (first_held P (places_of_term from) (places_of_term to) h.1)) (λ turns a.
+        skip_keeps P Whatever (deeper_value here true to turns) _ (value_keeps here s true to turns (rest_held P (places_of_term from) (places_of_term to) h.1)) (λ turns b.
         answered_keeps P (range_of a b) at turns h.0))
     operand_keeps here s (SteppedRangeTerm at from step to) turns h =
         let both = first_held P (places_of_term from ++ places_of_term step) (places_of_term to) h.1 in
-        skip_keeps P Whatever (value_at here true from turns) _ (value_keeps here s true from turns (first_held P (places_of_term from) (places_of_term step) both)) (λ turns a.
-        skip_keeps P Whatever (value_at here true step turns) _ (value_keeps here s true step turns (rest_held P (places_of_term from) (places_of_term step) both)) (λ turns b.
-        skip_keeps P Whatever (value_at here true to turns) _
+        skip_keeps P Whatever (deeper_value here true from turns) _ (value_keeps here s true from turns (first_held P (places_of_term from) (places_of_term step) both)) (λ turns a.
+        skip_keeps P Whatever (deeper_value here true step turns) _ (value_keeps here s true step turns (rest_held P (places_of_term from) (places_of_term step) both)) (λ turns b.
+        skip_keeps P Whatever (deeper_value here true to turns) _
         (value_keeps here s true to turns (rest_held P (places_of_term from ++ places_of_term step) (places_of_term to) h.1)) (λ turns c.
         answered_keeps P (stepped_range_of a b c) at turns h.0)))
     operand_keeps here s (PostfixTerm at of rest) turns h =
-        skip_keeps P Whatever (operand here of turns) _ (operand_keeps here s of turns (first_held P (places_of_term of) (places_of_suffixes rest) h.1)) (λ turns v.
+        skip_keeps P Whatever (value_here here of turns) _ (operand_keeps here s of turns (first_held P (places_of_term of) (places_of_suffixes rest) h.1)) (λ turns v.
         suffixes_keep here s v rest turns (rest_held P (places_of_term of) (places_of_suffixes rest) h.1))
     operand_keeps here s (UnaryTerm at op of) turns h =
-        skip_keeps P Whatever (value_at here false of turns) _ (value_keeps here s false of turns h.1) (λ turns v.
+        skip_keeps P Whatever (deeper_value here false of turns) _ (value_keeps here s false of turns h.1) (λ turns v.
         answered_keeps P (unary_of op v) at turns h.0)
     operand_keeps here s (ChainTerm at first rest) turns h =
-        skip_keeps P Whatever (operand here first turns) _ (operand_keeps here s first turns (first_held P (places_of_term first) (places_of_links rest) h.1)) (λ turns v.
+        skip_keeps P Whatever (value_here here first turns) _ (operand_keeps here s first turns (first_held P (places_of_term first) (places_of_links rest) h.1)) (λ turns v.
         links_keep here s v rest turns (rest_held P (places_of_term first) (places_of_links rest) h.1))
     operand_keeps here s (ChoiceTerm at test mark one other) turns h =
         let both = first_held P (places_of_term test ++ mark ∷ places_of_term one) (places_of_term other) h.1 in
-        skip_keeps P Whatever (operand here test turns) _ (operand_keeps here s test turns (first_held P (places_of_term test) (mark ∷ places_of_term one) both)) (λ turns v.
+        skip_keeps P Whatever (value_here here test turns) _ (operand_keeps here s test turns (first_held P (places_of_term test) (mark ∷ places_of_term one) both)) (λ turns v.
         value_keeps here s true (cond (truth_of v) one other) turns
         (if_keeps (λ e. Held P (places_of_term e)) (truth_of v) one other (rest_held P (places_of_term test) (mark ∷ places_of_term one) both).1
         (rest_held P (places_of_term test ++ mark ∷ places_of_term one) (places_of_term other) h.1)))
@@ -198,7 +198,7 @@ module _ (P : Place → Type 0) where
         → Keeps P Whatever (each_suffix here v rest turns)
     suffixes_keep here s v no_suffixes turns h = tt
     suffixes_keep here s v (and_index at index rest) turns h =
-        skip_keeps P Whatever (value_at here true index turns) _ (value_keeps here s true index turns (first_held P (places_of_term index) (places_of_suffixes rest) h.1)) (λ turns w.
+        skip_keeps P Whatever (deeper_value here true index turns) _ (value_keeps here s true index turns (first_held P (places_of_term index) (places_of_suffixes rest) h.1)) (λ turns w.
         skip_keeps P Whatever (answer_at (index_of v w) at turns) _ (answered_keeps P (index_of v w) at turns h.0) (λ turns x.
         suffixes_keep here s x rest turns (rest_held P (places_of_term index) (places_of_suffixes rest) h.1)))
     suffixes_keep here s v (and_member at name name_at rest) turns h =
@@ -210,10 +210,10 @@ module _ (P : Place → Type 0) where
         → Keeps P Whatever (each_link here v rest turns)
     links_keep here s v no_links turns h = tt
     links_keep here s v (and_link op at right rest) turns h =
-        let one = then_with (operand here right turns) (λ turns w. answer_at (binary_of op v w) at turns) in
+        let one = then_with (value_here here right turns) (λ turns w. answer_at (binary_of op v w) at turns) in
         skip_keeps P Whatever (if wants_right op v then one else Gives turns (TruthVal (truth_of v))) _
         (if_keeps (Keeps P Whatever) (wants_right op v) one (Gives turns (TruthVal (truth_of v)))
-        (skip_keeps P Whatever (operand here right turns) _ (operand_keeps here s right turns (first_held P (places_of_term right) (places_of_links rest) h.1)) (λ turns w.
+        (skip_keeps P Whatever (value_here here right turns) _ (operand_keeps here s right turns (first_held P (places_of_term right) (places_of_links rest) h.1)) (λ turns w.
         answered_keeps P (binary_of op v w) at turns h.0)) tt) (λ turns x.
         links_keep here s x rest turns (rest_held P (places_of_term right) (places_of_links rest) h.1))
 
@@ -222,5 +222,5 @@ module _ (P : Place → Type 0) where
   evaluated_good zero counts calls env bindings e turns s h = place_held e h
   evaluated_good (suc left) counts calls env bindings e turns s h =
       let here : Setting = record { at_next_depth = value_within left; calls_left = calls; env = env; bindings = bindings } in
-      settled_keeps counts (place_of e) (operand here e turns) (place_held e h)
+      settled_keeps counts (place_of_term e) (value_here here e turns) (place_held e h)
       (operand_keeps here (evaluated_good left, s) e turns h)

@@ -10,9 +10,9 @@ use Rattle.text_place.specs.declared.fault.FaultKind.TheVariants.{TooManyTurns}
 use Rattle.scad_ast.specs.Terms.{StatementTerm, EmptyStatement, BlockStatement, AssignmentTerm, SpecialAssignmentTerm, ModuleTerm, FunctionTerm, InstanceStatement, StatementTerms, no_statements, and_statement, InstanceTerm, BodyTerm, EmptyBody, BlockBody, InstanceBody}
 use Rattle.scad_ast.specs.Places.{places_of_term, places_of_param, places_of_statement, places_of_statements, places_of_instance, places_of_body}
 use Rattle.scad_value.specs.Values.{Val}
-use Rattle.scad_value.specs.Operators.{Answer}
-use Rattle.scad_scope.specs.Names.{Pairs, find_in, or_else}
-use Rattle.scad_definitions.specs.Blocks.{SourceFunction, SourceModule, Assigned, same_name, with_assigned, all_assigned, assigned_in, assigned_by, assignments_of, statements_of_body}
+use Rattle.scad_value.specs.Operators.{AnswerOrFault}
+use Rattle.scad_scope.specs.Names.{Pairs, find_in, or_found_outside}
+use Rattle.scad_definitions.specs.Blocks.{SourceFunction, SourceModule, SourceAssignment, same_assigned_name, with_assigned, all_assigned, assigned_in, assigned_by, assignments_of, statements_of_body}
 use Rattle.scad_func.specs.Limits.{most_turns}
 use Rattle.scad_func.specs.Meaning.{Outcome, Gives, Faults, then_with, or_fault, answer_at, Env, Outermost, Within, Activation, no_activation, activation, with_defining_scope, visible_function, visible_module, or_outer_activation, activation_in, functions_standing_in, function_standing, modules_standing_in, module_standing, entered_scope, with_value, turn, one_call_fewer}
 use Rattle.scad_meaning.specs.Bodies.{instances_in, instances_of, is_on, evaluated_in}
@@ -26,7 +26,7 @@ pub if_keeps : {A : Type 0} (Q : A → Type 0) (b : Bool) (x y : A) → Q x → 
 if_keeps Q true x y h g = h
 if_keeps Q false x y h g = g
 
-pub or_keeps : {A : Type 0} (Q : A → Type 0) (o other : Option A) → IfSome o Q → IfSome other Q → IfSome (or_else o other) Q
+pub or_keeps : {A : Type 0} (Q : A → Type 0) (o other : Option A) → IfSome o Q → IfSome other Q → IfSome (or_found_outside o other) Q
 or_keeps Q (Some x) other h g = h
 or_keeps Q None other h g = g
 
@@ -154,7 +154,7 @@ module _ (P : Place → Type 0) where
   body_held (InstanceBody instance) h = every_joined P (places_of_instance instance) [] h tt
 
   -- the assignments of statements
-  abbrev pub AssignedHeld : Assigned → Type 0
+  abbrev pub AssignedHeld : SourceAssignment → Type 0
   AssignedHeld a = P a.at × Held (places_of_term a.value)
 
   mutual
@@ -173,13 +173,13 @@ module _ (P : Place → Type 0) where
     assignment_held (FunctionTerm at name name_at params value) h = tt
     assignment_held (InstanceStatement instance) h = tt
 
-  with_held : (before : List Assigned) (a : Assigned) → AllByRecursion AssignedHeld before → AssignedHeld a → AllByRecursion AssignedHeld (with_assigned before a)
+  with_held : (before : List SourceAssignment) (a : SourceAssignment) → AllByRecursion AssignedHeld before → AssignedHeld a → AllByRecursion AssignedHeld (with_assigned before a)
   with_held [] a h g = (g, tt)
   with_held (b ∷ bs) a h g =
-      if_keeps (AllByRecursion AssignedHeld) (same_name b a) (record b { value = a.value } ∷ bs) (b ∷ with_assigned bs a)
+      if_keeps (AllByRecursion AssignedHeld) (same_assigned_name b a) (record b { value = a.value } ∷ bs) (b ∷ with_assigned bs a)
       ((h.0.0, g.1), h.1) (h.0, with_held bs a h.1 g)
 
-  all_held : (before rest : List Assigned) → AllByRecursion AssignedHeld before → AllByRecursion AssignedHeld rest → AllByRecursion AssignedHeld (all_assigned before rest)
+  all_held : (before rest : List SourceAssignment) → AllByRecursion AssignedHeld before → AllByRecursion AssignedHeld rest → AllByRecursion AssignedHeld (all_assigned before rest)
   all_held before [] h g = h
   all_held before (a ∷ rest) h g = all_held (with_assigned before a) rest (with_held before a h g.0) g.1
 
@@ -243,6 +243,6 @@ module _ (P : Place → Type 0) where
   call_keeps Q zero at go p g = p
   call_keeps Q (suc calls) at go p g = g calls
 
-  pub answered_keeps : (answer : Answer Val) (at : Place) (turns : ℕ) → P at → Keeps Whatever (answer_at answer at turns)
+  pub answered_keeps : (answer : AnswerOrFault Val) (at : Place) (turns : ℕ) → P at → Keeps Whatever (answer_at answer at turns)
   answered_keeps (Ok v) at turns p = tt
   answered_keeps (Err kind) at turns p = p

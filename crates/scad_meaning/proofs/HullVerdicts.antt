@@ -6,8 +6,8 @@ use Rattle.plane_predicate.specs.Space.{point_at, value}
 use Rattle.primitives.specs.Shapes.{HasTriangle, IsInRange}
 use Rattle.primitives.specs.Spanning.{IsTriangle}
 use Rattle.primitives.specs.declared.spanning.Triangle.{Triangle}
-use Rattle.scad_hull.specs.Hulls.{points_in_order, from, AreOnOnePlane}
-use Rattle.scad_hull.specs.Steps.{AreNumbered}
+use Rattle.scad_hull.specs.Hulls.{points_in_order, numbers_between, AreOnOnePlane}
+use Rattle.scad_hull.specs.Steps.{AreNumberedPoints}
 use Rattle.scad_hull.proofs.Lines.{plane}
 use Rattle.scad_hull.proofs.Loops.{flat_by_lines, flat_by_plane, numbered_by, solid_by_plane}
 use Rattle.scad_design.specs.Designs.{DesignTree, empty, a_leaf, joined_designs}
@@ -23,14 +23,14 @@ triangle_of points all t = record { first = t.first; second = t.second; third = 
 is_triangle : (points : List (List ℤ)) (all : List ℕ) (t : HasTriangle points all) → IsTriangle points all (triangle_of points all t)
 is_triangle points all t = record { first_in = t.first_in; second_in = t.second_in; third_in = t.third_in; apart = t.apart }
 
-decided_by_triangle : (points : List (List ℤ)) (all : List ℕ) → AreNumbered points all → HasTriangle points all → Decided (AreOnOnePlane points)
+decided_by_triangle : (points : List (List ℤ)) (all : List ℕ) → AreNumberedPoints points all → HasTriangle points all → Decided (AreOnOnePlane points)
 decided_by_triangle points all h t =
     let m = plane points (get_or all t.first 0) (get_or all t.second 0) (get_or all t.third 0) in
     ⊎_elim (λ on. inl (flat_by_plane points all (triangle_of points all t) (is_triangle points all t) m refl on))
     (λ off. inr (solid_by_plane points all h (triangle_of points all t) (is_triangle points all t) m refl off))
     (decided_all (λ p. value m (point_at p) ≡ pos 0) (λ p. decided_same_ℤ (value m (point_at p)) (pos 0)) points)
 
-decided_one_plane : (points : List (List ℤ)) (all : List ℕ) → AreNumbered points all → Decided (AreOnOnePlane points)
+decided_one_plane : (points : List (List ℤ)) (all : List ℕ) → AreNumberedPoints points all → Decided (AreOnOnePlane points)
 decided_one_plane points all h =
     ⊎_elim (λ t. decided_by_triangle points all h t) (λ none. inl (flat_by_lines points all h none)) (decided_triangle points all)
 
@@ -54,7 +54,7 @@ points_verdict design union safe =
     ⊎_elim (λ few.
     ⊎_elim (λ flat. inr (FewPoints, (union, safe, (range, few, flat))))
     (λ solid. inl (record { union = union; safe = safe; points = record { range = range; few = few; solid = solid } }))
-    (decided_one_plane (points_in_order given) (from 0 (length (points_in_order given))) (numbered_by given (points_in_order given) (from 0 (length (points_in_order given))) refl range few refl)))
+    (decided_one_plane (points_in_order given) (numbers_between 0 (length (points_in_order given))) (numbered_by given (points_in_order given) (numbers_between 0 (length (points_in_order given))) refl range few refl)))
     (λ many. inr (LongList, (union, safe, (range, many))))
     (at_most_or_more (length (points_in_order given)) 128))
     (λ past. inr (OutOfRange, (union, safe, past)))

@@ -1,6 +1,6 @@
--- The faults of instances stand at places of the text, and so do the parts of designs, which are sound: by one lemma for each
--- equation.
-use Rattle.std.proofs.Common.{◌≡◌, refl, subst, ℕ, zero, suc, ◌+◌, ◌/◌, Bool, true, false, ◌&&◌, nat_lt, nat_eq, List, [], ◌∷◌, ◌++◌, length, take, drop, Option, Some, None, Ok, Err, if◌then◌else◌}
+-- The faults of instances stand at places of the text, and so do the parts of designs. Their steps are not singular, and what holds
+-- of each shape that is let through holds of their shapes: by one lemma for each equation.
+use Rattle.std.proofs.Common.{◌≡◌, refl, subst, ℕ, zero, suc, ◌+◌, ◌/◌, Bool, true, false, ◌&&◌, nat_lt, nat_eq, List, [], ◌∷◌, ◌++◌, length, take, drop, Option, Some, None, Ok, Err, if◌then◌else◌, ℤ}
 use Rattle.std.specs.Prelude.{All, IfOk, IfSome, flat_map, is_some, codes}
 use Rattle.std.specs.List.{AllByRecursion}
 use Rattle.std.proofs.lemmas.List.Elements.{All-nil, All-cons, All-head, All-tail, All-append, All-take, All-drop, All-filter}
@@ -12,40 +12,57 @@ use Rattle.int_transform.specs.declared.affine.Affine.{Affine}
 use Rattle.plane_predicate.specs.declared.unit.Unit.{Unit as LengthUnit}
 use Rattle.primitives.specs.Shapes.{Mesh, IsShape}
 use Rattle.scad_ast.specs.Terms.{BinderTerm, StatementTerms, InstanceTerm, AnInstance, CoreTerm, IfTerm, IfElseTerm, ForTerm, IntersectionForTerm, ModuleCallTerm, BodyTerm, ArgTerm, ArgTerms, no_args, and_named, and_special, and_positional, SpecialArgTerm, args_from, place_of_core}
-use Rattle.scad_ast.specs.Places.{places_of_term, places_of_args, places_of_binder, places_of_mark, places_of_statements, places_of_core, places_of_body}
+use Rattle.scad_ast.specs.Places.{places_of_term, places_of_args, places_of_binder, places_of_modifier, places_of_statements, places_of_core, places_of_body}
 use Rattle.scad_value.specs.Values.{Val, Vals, no_vals, and_val, truth_of}
-use Rattle.scad_value.specs.Operators.{Answer}
+use Rattle.scad_value.specs.Operators.{AnswerOrFault}
 use Rattle.scad_scope.specs.Names.{Pairs, find_in}
-use Rattle.scad_definitions.specs.Arguments.{names_of, no_arguments_of, destination_of, with_argument}
-use Rattle.scad_definitions.specs.Blocks.{SourceModule, Assigned, assignments_of, statements_of_body}
+use Rattle.scad_definitions.specs.Arguments.{parameter_names, no_arguments_of, destination_of, with_argument}
+use Rattle.scad_definitions.specs.Blocks.{SourceModule, SourceAssignment, assignments_of, statements_of_body}
 use Rattle.scad_func.specs.Limits.{most_evaluations}
-use Rattle.scad_func.specs.Meaning.{Outcome, Gives, Faults, then_with, Env, Outermost, Within, Activation, no_activation, activation, visible_module, activation_in, entered_scope, with_value, Setting, value_at, Arguments, each_argument, each_parameter}
+use Rattle.scad_func.specs.Meaning.{Outcome, Gives, Faults, then_with, Env, Outermost, Within, Activation, no_activation, activation, visible_module, activation_in, entered_scope, with_value, Setting, deeper_value, Arguments, each_argument, each_parameter}
 use Rattle.scad_modules.specs.declared.table.BuiltinModule.{BuiltinModule}
 use Rattle.scad_modules.specs.declared.table.BuiltinModule.TheVariants.{Echo}
 use Rattle.scad_modules.specs.Table.{module_named, parameters_of}
-use Rattle.scad_modules.specs.Effects.{EffectCall, a_solid, a_flat, a_move, a_join, a_hull, an_extrusion, no_geometry, some_children, FlatCall, ChosenCall}
+use Rattle.scad_modules.specs.Effects.{EffectCall, a_solid, a_flat, a_move, a_join, a_hull, an_extrusion, no_geometry, some_children, SolidCall, FlatCall, ChosenCall}
 use Rattle.scad_modules.specs.Calls.{effect_of}
-use Rattle.scad_design.specs.Designs.{DesignTree, empty, a_leaf, joined_designs, join, designs_within, balanced, join_children, moved_by}
+use Rattle.scad_design.specs.Designs.{DesignTree, empty, a_leaf, joined_designs, join, designs_within, balanced_join, join_children, moved_by}
 use Rattle.int_transform.proofs.Ranges.{IsRegular}
 use Rattle.primitives.specs.Sizes.{AreSizes}
-use Rattle.scad_design.specs.Trees.{AreRegular, IsSound}
+use Rattle.scad_design.specs.Trees.{AreRegular}
 use Rattle.scad_hull.proofs.Loops.{hull_is_shape}
 use Rattle.scad_meaning.specs.declared.extrusion.Extrusion.{Extrusion}
 use Rattle.scad_meaning.specs.Hulls.{is_nothing, points_of, hull_mesh}
-use Rattle.scad_meaning.specs.Verdicts.{Judge, Verdict, IsRight, IsSolidVerdict, IsFlatVerdict, IsHeightVerdict, IsHullVerdict, solid_of, extrusion_mesh}
+use Rattle.scad_meaning.specs.Verdicts.{Judge, Verdict, IsRightJudge, IsSolidVerdict, IsFlatVerdict, IsHeightVerdict, IsHullVerdict, solid_mesh, extrusion_mesh}
 use Rattle.scad_meaning.specs.Bodies.{evaluated_in, is_child, children_in, has_root_modifier, has_no_geometry, is_bare}
 use Rattle.scad_meaning.specs.Loops.{items_of}
-use Rattle.scad_meaning.specs.Meaning.{Context, inside_scope, with_bindings, with_calls_left, inside_root, inside_extrusion, setting, InstanceDesign, MemberDesigns, first_root, no_design, no_members, as_member, and_members, joined_members, EvaluatesInstance, Evaluator, assigned_value, with_assignment, each_assigned, core_of_instance, each_member, each_in_scope, each_in_body, body_design, after_step, each_step, in_loop, each_iteration, loop_design, leaf_design, unless_refused, with_leaf_of, hull_design, answered_with, module_scope, module_design, each_echo_argument, arguments_for, children_design, chosen_children, after_call, flat_design, effect_design, built_in_design, call_design, core_design, root_design, instance_design, design_within, evaluator_with, program_context, or_all, design_of, counted_step, instances_chosen, block_members, module_given, most_leaves}
+use Rattle.scad_meaning.specs.Meaning.{Context, inside_scope, with_bindings, with_calls_left, inside_root, inside_extrusion, setting, InstanceDesign, MemberDesigns, first_root, no_design, no_members, as_member, and_members, joined_members, EvaluatesInstance, Evaluator, assigned_value, with_assignment, each_assigned, core_of_instance, each_member, each_in_scope, each_in_body, body_design, turn_after_step, each_step, in_loop, each_iteration, loop_design, leaf_design, unless_refused, with_leaf_of, hull_design, answered_with, module_scope, module_design, each_echo_argument, arguments_for, children_design, chosen_children, turn_after_call, flat_design, effect_design, built_in_design, call_design, core_design, root_design, instance_design, design_within, evaluator_with, program_context, or_all, design_of, counted_step, instances_chosen, block_members, module_given, most_leaves}
 use Rattle.scad_meaning.proofs.Choosing.{all_chosen}
 use Rattle.scad_meaning.proofs.HeldPlaces.{if_keeps, Whatever, Held, first_held, rest_held, ModuleHeld, ScopeHeld, CallHeld, module_found, call_found, variable_held, functions_held, modules_held, entered_held, body_held, AssignedHeld, assignments_held, InstanceHeld, evaluated_held, Keeps, then_keeps, skip_keeps, some_keeps, turn_keeps, call_keeps}
-use Rattle.scad_meaning.proofs.SoundShapes.{HasFlatSides, IsSoundCall, effect_sound, solid_is_shape, extruded_is_shape}
+use Rattle.scad_meaning.proofs.SoundShapes.{HasSides, HasFlatSides, IsSoundCall, effect_sound, solid_is_shape, extruded_is_shape}
 use Rattle.scad_meaning.proofs.ExpressionPlaces.{Sits, value_keeps, arguments_keep, parameters_keep, evaluated_good}
 
-module _ (P : Place → Type 0) where
-  -- a sound design whose parts all stand at places among the given ones
+-- what holds of each shape that a judge lets through, where its sizes are as many as its kind has
+pub record LetsThrough (unit : LengthUnit) (Q : Mesh → Type 0) (judge : Judge) : Type 0 where
+  pub solid : (call : SolidCall) → HasSides call → judge.solid unit call ≡ None → Q (solid_mesh unit call)
+  pub flat : (through : Extrusion) (call : FlatCall) → AreSizes unit through.center (through.height ∷ []) → HasFlatSides call →
+      judge.flat unit call ≡ None → Q (extrusion_mesh unit through call)
+  pub height : (center : Bool) (height : ℤ) → judge.height unit center height ≡ None → AreSizes unit center (height ∷ [])
+  pub hull : (design : DesignTree) → judge.hull design ≡ None → Q (hull_mesh design)
+
+-- a judge that is always right lets shapes alone through
+pub shapes_alone : (unit : LengthUnit) (judge : Judge) → IsRightJudge judge → LetsThrough unit IsShape judge
+shapes_alone unit judge right = record {
+  solid = λ call sides none. solid_is_shape unit call sides (subst (IsSolidVerdict unit call) none (right.solid unit call));
+  flat = λ through call sizes sides none. extruded_is_shape unit through call sizes sides (subst (IsFlatVerdict unit call) none (right.flat unit call));
+  height = λ center height none. subst (IsHeightVerdict unit center height) none (right.height unit center height);
+  hull = λ design none. hull_is_shape (points_of design) (subst (IsHullVerdict design) none (right.hull design)).points;
+}
+
+module _ (P : Place → Type 0) (Q : Mesh → Type 0) where
+  -- a design whose parts all stand at places among the given ones, with such shapes and with steps that are not singular
   abbrev pub DesignHeld : DesignTree → Type 0
   DesignHeld empty = Unit {0}
-  DesignHeld (a_leaf part) = P part.at × IsSound (a_leaf part)
+  DesignHeld (a_leaf part) = P part.at × (Q part.mesh × AreRegular part.steps)
   DesignHeld (joined_designs op left right) = DesignHeld left × DesignHeld right
 
   join_held : (op : Op) (left right : DesignTree) → DesignHeld left → DesignHeld right → DesignHeld (join op left right)
@@ -86,7 +103,7 @@ module _ (P : Place → Type 0) where
   grouped_held Intersection designs h = within_held (length designs) Intersection designs h
   grouped_held Difference [] h = tt
   grouped_held Difference (d ∷ designs) h =
-      join_held Difference d (balanced Union designs) (All-head DesignHeld d designs h)
+      join_held Difference d (balanced_join Union designs) (All-head DesignHeld d designs h)
       (within_held (length designs) Union designs (All-tail DesignHeld d designs h))
 
   moved_held : (steps : List Affine) (design : DesignTree) → AreRegular steps → DesignHeld design → DesignHeld (moved_by steps design)
@@ -118,7 +135,7 @@ module _ (P : Place → Type 0) where
   grouped_members : (op : Op) (ms : MemberDesigns) → MembersHeld ms → DesignsHeld (joined_members op ms)
   grouped_members op ms h = (grouped_held op ms.designs h.0, h.1)
 
-  leaf_keeps : (at : Place) (mesh : Mesh) (turns leaves : ℕ) → P at → IsShape mesh → Keeps P DesignsHeld (leaf_design at mesh turns leaves)
+  leaf_keeps : (at : Place) (mesh : Mesh) (turns leaves : ℕ) → P at → Q mesh → Keeps P DesignsHeld (leaf_design at mesh turns leaves)
   leaf_keeps at mesh turns leaves p shape =
       if_keeps (Keeps P DesignsHeld) (nat_lt leaves most_leaves)
       (Gives turns (record { leaves = leaves + 1; design = a_leaf (record { mesh = mesh; steps = []; at = at }); root = None }))
@@ -128,17 +145,17 @@ module _ (P : Place → Type 0) where
   checked_keeps Q None at out p h = h refl
   checked_keeps Q (Some kind) at out p h = p
 
-  effect_keeps : {A B : Type 0} (R : A → Type 0) (Q : B → Type 0) (answer : Answer A) (at : Place) (go : A → Outcome B)
+  effect_keeps : {A B : Type 0} (R : A → Type 0) (Q : B → Type 0) (answer : AnswerOrFault A) (at : Place) (go : A → Outcome B)
       → P at → IfOk answer R → ((x : A) → R x → Keeps P Q (go x)) → Keeps P Q (answered_with answer at go)
   effect_keeps R Q (Ok x) at go p r g = g x r
   effect_keeps R Q (Err kind) at go p r g = p
 
   after_keeps : (Q : MemberDesigns → Type 0) (at : Place) (designs : List DesignTree) (turns : ℕ) (go : ℕ → Outcome MemberDesigns)
-      → P at → ((n : ℕ) → Keeps P Q (go n)) → Keeps P Q (after_step at designs turns go)
+      → P at → ((n : ℕ) → Keeps P Q (go n)) → Keeps P Q (turn_after_step at designs turns go)
   after_keeps Q at [] turns go p g = turn_keeps P Q at turns go p g
   after_keeps Q at (d ∷ ds) turns go p g = g turns
 
-  idle_keeps : (at : Place) (idle : Bool) (turns : ℕ) (m : InstanceDesign) → P at → DesignsHeld m → Keeps P DesignsHeld (after_call at idle turns m)
+  idle_keeps : (at : Place) (idle : Bool) (turns : ℕ) (m : InstanceDesign) → P at → DesignsHeld m → Keeps P DesignsHeld (turn_after_call at idle turns m)
   idle_keeps at true turns m p k = turn_keeps P DesignsHeld at turns (λ turns. Gives turns m) p (λ turns. k)
   idle_keeps at false turns m p k = k
 
@@ -154,17 +171,17 @@ module _ (P : Place → Type 0) where
     sits : (evaluations : ℕ) (here : Context) → ContextHeld here → Sits P (setting evaluations here)
     sits evaluations here s = (evaluated_good P evaluations, s.0)
 
-    assigned_keeps : (evaluations : ℕ) (here : Context) (a : Assigned) (turns : ℕ) → ContextHeld here → AssignedHeld P a
+    assigned_keeps : (evaluations : ℕ) (here : Context) (a : SourceAssignment) (turns : ℕ) → ContextHeld here → AssignedHeld P a
         → Keeps P Whatever (assigned_value evaluations here a turns)
     assigned_keeps zero here a turns s h = h.0
     assigned_keeps (suc evaluations) here a turns s h = value_keeps P (setting evaluations here) (sits evaluations here s) true a.value turns h.1
 
-    still_held : (a : Assigned) (v : Val) (here : Context) → ContextHeld here → ContextHeld (with_assignment a v here)
+    still_held : (a : SourceAssignment) (v : Val) (here : Context) → ContextHeld here → ContextHeld (with_assignment a v here)
     still_held a v here s =
         if_keeps ContextHeld a.special (with_bindings here ((a.name, v) ∷ here.bindings)) (inside_scope here (with_value a.name v here.env)) s
         (variable_held P a.name v here.env s.0, s.1)
 
-    assignments_keep : (evaluations : ℕ) (here : Context) (as_ : List Assigned) (turns : ℕ) → ContextHeld here → AllByRecursion (AssignedHeld P) as_
+    assignments_keep : (evaluations : ℕ) (here : Context) (as_ : List SourceAssignment) (turns : ℕ) → ContextHeld here → AllByRecursion (AssignedHeld P) as_
         → Keeps P ContextHeld (each_assigned evaluations here as_ turns)
     assignments_keep evaluations here [] turns s h = s
     assignments_keep evaluations here (a ∷ as_) turns s h =
@@ -179,14 +196,14 @@ module _ (P : Place → Type 0) where
         → Keeps P Whatever (each_echo_argument here args given turns)
     said_keeps here s no_args given turns h = tt
     said_keeps here s (and_named at name value rest) given turns h =
-        skip_keeps P Whatever (value_at here true value turns) _ (value_keeps P here s true value turns (first_held P (places_of_term value) (places_of_args rest) h.1)) (λ turns v.
+        skip_keeps P Whatever (deeper_value here true value turns) _ (value_keeps P here s true value turns (first_held P (places_of_term value) (places_of_args rest) h.1)) (λ turns v.
         said_keeps here s rest given turns (rest_held P (places_of_term value) (places_of_args rest) h.1))
     said_keeps here s (and_special at name value rest) given turns h =
         some_keeps P Whatever (destination_of [] 0 given (SpecialArgTerm at name value)) BadArgument at _ h.0 (λ target.
-        skip_keeps P Whatever (value_at here true value turns) _ (value_keeps P here s true value turns (first_held P (places_of_term value) (places_of_args rest) h.1)) (λ turns v.
+        skip_keeps P Whatever (deeper_value here true value turns) _ (value_keeps P here s true value turns (first_held P (places_of_term value) (places_of_args rest) h.1)) (λ turns v.
         said_keeps here s rest (with_argument given target v) turns (rest_held P (places_of_term value) (places_of_args rest) h.1)))
     said_keeps here s (and_positional value rest) given turns h =
-        skip_keeps P Whatever (value_at here true value turns) _ (value_keeps P here s true value turns (first_held P (places_of_term value) (places_of_args rest) h)) (λ turns v.
+        skip_keeps P Whatever (deeper_value here true value turns) _ (value_keeps P here s true value turns (first_held P (places_of_term value) (places_of_args rest) h)) (λ turns v.
         said_keeps here s rest given turns (rest_held P (places_of_term value) (places_of_args rest) h))
 
     given_keeps : (m : BuiltinModule) (here : Setting) → Sits P here → (args : ArgTerms) (turns : ℕ) → Held P (places_of_args args)
@@ -194,7 +211,7 @@ module _ (P : Place → Type 0) where
     given_keeps Echo here s args turns h = said_keeps here s args (no_arguments_of 0) turns h
     given_keeps m here s args turns h = arguments_keep P here s (parameters_of m) 0 args (no_arguments_of (length (parameters_of m))) turns h
 
-    module _ (judge : Judge) (right : IsRight judge) where
+    module _ (judge : Judge) (lets : LetsThrough unit Q judge) where
       module _ (evaluations : ℕ) (at_next_depth : EvaluatesInstance) (good : IsGood at_next_depth) where
         abbrev evaluator : Evaluator
         evaluator = record { unit = unit; judge = judge; evaluations = evaluations; at_next_depth = at_next_depth }
@@ -255,7 +272,7 @@ module _ (P : Place → Type 0) where
             as_member_held true m g))
         turns_keep at (b ∷ bs) body here turns leaves p h k s =
             let first = first_held P (places_of_binder b) (flat_map places_of_binder bs) h in
-            skip_keeps P MembersHeld (value_at (setting evaluations here) true b.values turns) _
+            skip_keeps P MembersHeld (deeper_value (setting evaluations here) true b.values turns) _
             (value_keeps P (setting evaluations here) (sits evaluations here s) true b.values turns first.1) (λ turns v.
             some_keeps P MembersHeld (items_of v) TypeMismatch at _ p (λ items.
             steps_keep at (λ item. each_iteration evaluator at bs body (in_loop here b.name item)) p
@@ -286,7 +303,7 @@ module _ (P : Place → Type 0) where
         flat_keeps (Some through) at call turns leaves p i sides =
             checked_keeps DesignsHeld (judge.flat unit call) at (leaf_design at (extrusion_mesh unit through call) turns leaves) p (λ none.
             leaf_keeps at (extrusion_mesh unit through call) turns leaves p
-            (extruded_is_shape unit through call i sides (subst (IsFlatVerdict unit call) none (right.flat unit call))))
+            (lets.flat through call i sides none))
 
         hull_keeps : (at : Place) (m : InstanceDesign) (turns : ℕ) → P at → DesignsHeld m → Keeps P DesignsHeld (hull_design (judge.hull m.design) at m turns)
         hull_keeps at m turns p k =
@@ -295,16 +312,16 @@ module _ (P : Place → Type 0) where
             (checked_keeps DesignsHeld (judge.hull m.design) at next p (λ none.
             then_keeps P DesignsHeld DesignsHeld (leaf_design at (hull_mesh m.design) turns m.leaves) _
             (leaf_keeps at (hull_mesh m.design) turns m.leaves p
-            (hull_is_shape (points_of m.design) (subst (IsHullVerdict m.design) none (right.hull m.design)).points))
+            (lets.hull m.design none))
             (λ turns leaf g. (g.0, k.1))))
 
         call_effect_keeps : (here : Context) (at : Place) (effect : EffectCall) (body : BodyTerm) (turns leaves : ℕ) → P at
             → Held P (places_of_body body) → ContextHeld here → IsSoundCall effect
             → Keeps P DesignsHeld (effect_design evaluator here at effect body turns leaves)
         call_effect_keeps here at (a_solid call) body turns leaves p h s sound =
-            checked_keeps DesignsHeld (judge.solid unit call) at (leaf_design at (solid_of unit call) turns leaves) p (λ none.
-            leaf_keeps at (solid_of unit call) turns leaves p
-            (solid_is_shape unit call sound (subst (IsSolidVerdict unit call) none (right.solid unit call))))
+            checked_keeps DesignsHeld (judge.solid unit call) at (leaf_design at (solid_mesh unit call) turns leaves) p (λ none.
+            leaf_keeps at (solid_mesh unit call) turns leaves p
+            (lets.solid call sound none))
         call_effect_keeps here at (a_flat call) body turns leaves p h s sound = flat_keeps here.inside at call turns leaves p s.1 sound
         call_effect_keeps here at (a_move steps) body turns leaves p h s sound =
             then_keeps P DesignsHeld DesignsHeld (body_design evaluator Union here body turns leaves) _ (body_keeps Union here body turns leaves s h)
@@ -317,7 +334,7 @@ module _ (P : Place → Type 0) where
             checked_keeps DesignsHeld (judge.height unit center height) at
             (body_design evaluator Union (inside_extrusion here (record { center = center; height = height })) body turns leaves) p (λ none.
             body_keeps Union (inside_extrusion here (record { center = center; height = height })) body turns leaves
-            (s.0, subst (IsHeightVerdict unit center height) none (right.height unit center height)) h)
+            (s.0, lets.height center height none) h)
         call_effect_keeps here at no_geometry body turns leaves p h s sound =
             if_keeps (Keeps P DesignsHeld) (is_bare body) (Gives turns (no_design leaves)) (Faults NotInProfile at) (tt, tt) p
         call_effect_keeps here at (some_children chosen) body turns leaves p h s sound =
@@ -358,21 +375,21 @@ module _ (P : Place → Type 0) where
             → IfSome found (λ f. ModuleHeld P f.0 × ScopeHeld P f.1)
             → Keeps P DesignsHeld (call_design evaluator here at name args body found turns leaves)
         called_keeps here at name args body (Some found) turns leaves p a h s f =
-            skip_keeps P DesignsHeld (each_argument (setting evaluations here) (names_of found.0.params) 0 (args_from args) (no_arguments_of (length found.0.params)) turns) _
-            (arguments_keep P (setting evaluations here) (sits evaluations here s) (names_of found.0.params) 0 (args_from args) (no_arguments_of (length found.0.params)) turns a)
+            skip_keeps P DesignsHeld (each_argument (setting evaluations here) (parameter_names found.0.params) 0 (args_from args) (no_arguments_of (length found.0.params)) turns) _
+            (arguments_keep P (setting evaluations here) (sits evaluations here s) (parameter_names found.0.params) 0 (args_from args) (no_arguments_of (length found.0.params)) turns a)
             (λ turns given. module_keeps here at found given body turns leaves p f.0 f.1 h s)
         called_keeps here at name args body None turns leaves p a h s f = built_in_keeps here at name args body (module_named name) turns leaves p a h s
 
         core_keeps : (here : Context) (core : CoreTerm) (turns leaves : ℕ) → ContextHeld here → Held P (places_of_core core)
             → Keeps P DesignsHeld (core_design evaluator here core turns leaves)
         core_keeps here (IfTerm at test body) turns leaves s h =
-            skip_keeps P DesignsHeld (value_at (setting evaluations here) true test turns) _
+            skip_keeps P DesignsHeld (deeper_value (setting evaluations here) true test turns) _
             (value_keeps P (setting evaluations here) (sits evaluations here s) true test turns (first_held P (places_of_term test) (places_of_body body) h.1)) (λ turns v.
             if_keeps (Keeps P DesignsHeld) (truth_of v) (body_design evaluator Union here body turns leaves) (Gives turns (no_design leaves))
             (body_keeps Union here body turns leaves s (rest_held P (places_of_term test) (places_of_body body) h.1)) (tt, tt))
         core_keeps here (IfElseTerm at test body other) turns leaves s h =
             let both = first_held P (places_of_term test ++ places_of_body body) (places_of_body other) h.1 in
-            skip_keeps P DesignsHeld (value_at (setting evaluations here) true test turns) _
+            skip_keeps P DesignsHeld (deeper_value (setting evaluations here) true test turns) _
             (value_keeps P (setting evaluations here) (sits evaluations here s) true test turns (first_held P (places_of_term test) (places_of_body body) both)) (λ turns v.
             body_keeps Union here (if truth_of v then body else other) turns leaves s
             (if_keeps (λ b. Held P (places_of_body b)) (truth_of v) body other (rest_held P (places_of_term test) (places_of_body body) both)
@@ -400,7 +417,7 @@ module _ (P : Place → Type 0) where
 
         instance_keeps : IsGood (instance_design evaluator)
         instance_keeps here (AnInstance at marks core) turns leaves s h =
-            let inner = rest_held P (flat_map places_of_mark marks) (places_of_core core) h.1 in
+            let inner = rest_held P (flat_map places_of_modifier marks) (places_of_core core) h.1 in
             if_keeps (Keeps P DesignsHeld) (has_root_modifier (AnInstance at marks core)) _ (core_design evaluator here core turns leaves)
             (if_keeps (Keeps P DesignsHeld) (is_some here.inside) (Faults WrongDimension (place_of_core core)) (root_design evaluator here core turns leaves)
             (core_place_held core inner) (marked_keeps here core turns leaves s inner)) (core_keeps here core turns leaves s inner)

@@ -5,47 +5,47 @@ use Rattle.std.proofs.lemmas.List.{get_or_default}
 use Rattle.text_place.specs.declared.fault.FaultKind.{FaultKind}
 use Rattle.text_place.specs.declared.fault.FaultKind.TheVariants.{BadSize, NotOnGrid, TooLarge, OutOfRange, LongList, FewPoints, NotConvex}
 use Rattle.plane_predicate.specs.declared.unit.Unit.{Unit as LengthUnit}
-use Rattle.plane_predicate.specs.Space.{Coefficients, point_at, opposite_of, inner, through}
+use Rattle.plane_predicate.specs.Space.{Coefficients, point_at, opposite_of, inner_product, through}
 use Rattle.primitives.specs.Shapes.{Mesh, corner, value_at, HasTriangle, IsInRange as IsPointInRange, IsOnOnePlane}
-use Rattle.primitives.specs.Sizes.{AreSizes, IsSizeFault, IsLong, IsEven, IsSafe, AreOnGrid, grid_steps}
-use Rattle.primitives.specs.Polygons.{polygon_of, IsPolygon, IsPolygonFault, IsInRange, IsConvex, GoesLeft, GoesRight, HasCorner, orientation, point, after, x_of, y_of}
+use Rattle.primitives.specs.Sizes.{AreSizes, IsSizeFault, IsAtLeastOne, IsEven, IsSafe, AreOnGrid, length_in_grid_steps}
+use Rattle.primitives.specs.Polygons.{polygon_of, IsWrittenPolygon, IsPolygonFault, IsInRange, IsConvex, GoesLeft, GoesRight, HasCorner, orientation, point, next_point, x_of, y_of}
 use Rattle.round_four.specs.Circles.{IsCircleSize, IsCircleFault}
 use Rattle.round_four.specs.Cylinders.{AreCylinderSizes, IsCylinderFault, HasBody, AreNear, IsOnGrid as IsCentredOnGrid, IsInRange as IsCylinderInRange}
 use Rattle.primitives.specs.declared.ways.Way.{Way}
-use Rattle.primitives.specs.Checks.{IsWithinLimits, HasEnoughCorners, AreThere, IsFlat, IsClosed, HasOuterPlane, IsConvex as IsConvexMesh}
-use Rattle.primitives.specs.Ways.{nowhere, turned, all_ways, ways_of, IsMetOnce, HasNoneLeft}
+use Rattle.primitives.specs.Checks.{IsWithinLimits, HasEnoughCorners, AreCornersThere, IsFlatFace, IsClosed, HasOuterPlane, IsConvex as IsConvexMesh}
+use Rattle.primitives.specs.Ways.{missing_way, reversed_way, all_ways, ways_of, IsMetOnce, HasNoneLeft}
 use Rattle.primitives.specs.CornerPlanes.{IsCornerPlane}
-use Rattle.primitives.specs.Bounding.{Bounds, IsBounded}
+use Rattle.primitives.specs.Bounding.{IsOuterPlane, IsFaceOfBody}
 use Rattle.primitives.specs.Polyhedra.{mesh_of, IsPolyhedron, IsFaultOf, IsFirstToFail, checks, faults}
 use Rattle.primitives.proofs.ThroughCorners.{flat_by, flat_on}
 use Rattle.primitives.proofs.OuterPlanes.{one_plane, bounded_spanned, bounded_opposite}
 use Rattle.primitives.proofs.Solids.{convex_by}
 use Rattle.scad_modules.specs.Effects.{SolidCall, cube_call, polyhedron_call, cylinder_call, FlatCall, square_call, polygon_call, circle_call}
 use Rattle.scad_design.specs.Designs.{DesignTree}
-use Rattle.scad_meaning.specs.Verdicts.{Verdict, Judge, IsRight, IsSolidVerdict, IsFlatVerdict, IsHeightVerdict, IsHullVerdict}
+use Rattle.scad_meaning.specs.Verdicts.{Verdict, Judge, IsRightJudge, IsSolidVerdict, IsFlatVerdict, IsHeightVerdict, IsHullVerdict}
 use Rattle.scad_meaning.proofs.HullVerdicts.{hull_verdict, HullVerdict}
 use Rattle.scad_meaning.proofs.Triangles.{decided_point_range, at_place, decided_triangle}
 use Rattle.scad_design.proofs.Deciding.{Decided, decided_by, decided_both, decided_either, decided_not, decided_at_most, decided_same, decided_at_most_ℤ, decided_same_ℤ, decided_same_list, decided_all_below, decided_some_below, all_or_any, decided_all, decided_any, decided_below, decided_less_ℤ, all_or_one_below, at_most_or_more}
 
 -- sides and heights
-long_or_short : (s : ℤ) → IsLong s ⊎ (s <ℤ pos 1)
+long_or_short : (s : ℤ) → IsAtLeastOne s ⊎ (s <ℤ pos 1)
 long_or_short s = by_lt_z s (pos 1) (λ h. inr h) (λ h. inl h)
 
 even_or_odd_number : (n : ℕ) → (n % 2 ≡ 0) ⊎ (n % 2 ≡ 1)
 even_or_odd_number n = ⊎_elim (λ h. inl h) (λ h. inr (omega (arith, h))) (decided_same (n % 2) 0)
 
-even_or_odd : (unit : LengthUnit) (s : ℤ) → IsEven unit s ⊎ (unsigned_abs (grid_steps unit s) % 2 ≡ 1)
-even_or_odd unit s = even_or_odd_number (unsigned_abs (grid_steps unit s))
+even_or_odd : (unit : LengthUnit) (s : ℤ) → IsEven unit s ⊎ (unsigned_abs (length_in_grid_steps unit s) % 2 ≡ 1)
+even_or_odd unit s = even_or_odd_number (unsigned_abs (length_in_grid_steps unit s))
 
 decided_safe : (n : ℤ) → Decided (IsSafe n)
 decided_safe n = decided_by (λ h. record { size = h }) (λ h. h.size) (decided_at_most (unsigned_abs n) 9007199254740991)
 
 -- on the grid, or some odd one of what is centred
 on_grid_or_odd : (unit : LengthUnit) (center : Bool) (sides : List ℤ) → AreOnGrid unit center sides
-    ⊎ ((center ≡ true) × Any (λ s. unsigned_abs (grid_steps unit s) % 2 ≡ 1) sides)
+    ⊎ ((center ≡ true) × Any (λ s. unsigned_abs (length_in_grid_steps unit s) % 2 ≡ 1) sides)
 on_grid_or_odd unit false sides = inl tt
 on_grid_or_odd unit true sides =
-    ⊎_elim (λ h. inl h) (λ h. inr (refl, h)) (all_or_any (IsEven unit) (λ s. unsigned_abs (grid_steps unit s) % 2 ≡ 1) (even_or_odd unit) sides)
+    ⊎_elim (λ h. inl h) (λ h. inr (refl, h)) (all_or_any (IsEven unit) (λ s. unsigned_abs (length_in_grid_steps unit s) % 2 ≡ 1) (even_or_odd unit) sides)
 
 abbrev SizeVerdict : LengthUnit → Bool → List ℤ → Type 0
 SizeVerdict unit center sides = AreSizes unit center sides ⊎ ((kind : FaultKind) × IsSizeFault unit center sides kind)
@@ -56,11 +56,11 @@ size_verdict unit center sides =
     ⊎_elim (λ grid.
     ⊎_elim (λ safe. inl (record { long = long; on_grid = grid; safe = safe }))
     (λ some. inr (TooLarge, (long, grid, some)))
-    (all_or_any (λ s. IsSafe (grid_steps unit s)) (λ s. IsSafe (grid_steps unit s) → ⊥) (λ s. decided_safe (grid_steps unit s)) sides))
+    (all_or_any (λ s. IsSafe (length_in_grid_steps unit s)) (λ s. IsSafe (length_in_grid_steps unit s) → ⊥) (λ s. decided_safe (length_in_grid_steps unit s)) sides))
     (λ odd. inr (NotOnGrid, (long, odd.0, odd.1)))
     (on_grid_or_odd unit center sides))
     (λ some. inr (BadSize, some))
-    (all_or_any IsLong (λ s. s <ℤ pos 1) long_or_short sides)
+    (all_or_any IsAtLeastOne (λ s. s <ℤ pos 1) long_or_short sides)
 
 -- polygons
 decided_in_range : (p : List ℤ) → Decided (IsInRange p)
@@ -70,13 +70,13 @@ decided_in_range p =
 
 decided_left : (points : List (List ℤ)) → Decided (GoesLeft points)
 decided_left points =
-    decided_all_below (length points) (λ i. All (λ r. pos 0 ≤ℤ orientation (point points i) (point points (after (length points) i)) r) points)
-    (λ i h. decided_all (λ r. pos 0 ≤ℤ orientation (point points i) (point points (after (length points) i)) r) (λ r. decided_at_most_ℤ (pos 0) (orientation (point points i) (point points (after (length points) i)) r)) points)
+    decided_all_below (length points) (λ i. All (λ r. pos 0 ≤ℤ orientation (point points i) (point points (next_point (length points) i)) r) points)
+    (λ i h. decided_all (λ r. pos 0 ≤ℤ orientation (point points i) (point points (next_point (length points) i)) r) (λ r. decided_at_most_ℤ (pos 0) (orientation (point points i) (point points (next_point (length points) i)) r)) points)
 
 decided_right : (points : List (List ℤ)) → Decided (GoesRight points)
 decided_right points =
-    decided_all_below (length points) (λ i. All (λ r. pos 0 ≤ℤ orientation (point points (after (length points) i)) (point points i) r) points)
-    (λ i h. decided_all (λ r. pos 0 ≤ℤ orientation (point points (after (length points) i)) (point points i) r) (λ r. decided_at_most_ℤ (pos 0) (orientation (point points (after (length points) i)) (point points i) r)) points)
+    decided_all_below (length points) (λ i. All (λ r. pos 0 ≤ℤ orientation (point points (next_point (length points) i)) (point points i) r) points)
+    (λ i h. decided_all (λ r. pos 0 ≤ℤ orientation (point points (next_point (length points) i)) (point points i) r) (λ r. decided_at_most_ℤ (pos 0) (orientation (point points (next_point (length points) i)) (point points i) r)) points)
 
 abbrev SomeCorner : List (List ℤ) → Type 0
 SomeCorner points = (i : ℕ) × (i < length points) × ((j : ℕ) × (j < length points) × ((k : ℕ) × (k < length points)
@@ -101,7 +101,7 @@ more_than : (m n : ℕ) → (m ≤ n → ⊥) → n < m
 more_than m n h = ⊎_elim (λ k. absurd (h k)) (λ k. k) (at_most_or_more m n)
 
 abbrev PolygonVerdict : LengthUnit → List (List ℤ) → Type 0
-PolygonVerdict unit points = IsPolygon unit points ⊎ ((kind : FaultKind) × IsPolygonFault unit points kind)
+PolygonVerdict unit points = IsWrittenPolygon unit points ⊎ ((kind : FaultKind) × IsPolygonFault unit points kind)
 
 polygon_verdict : (unit : LengthUnit) (points : List (List ℤ)) → PolygonVerdict unit points
 polygon_verdict unit points =
@@ -127,7 +127,7 @@ circle_verdict unit radius =
     ⊎_elim (λ long.
     ⊎_elim (λ range. inl (record { long = long; range = range }))
     (λ h. inr (OutOfRange, (long, h)))
-    (decided_at_most (unsigned_abs (grid_steps unit radius)) 65535))
+    (decided_at_most (unsigned_abs (length_in_grid_steps unit radius)) 65535))
     (λ short. inr (BadSize, short))
     (long_or_short radius)
 
@@ -140,7 +140,7 @@ decided_body height low high =
     (decided_both (decided_at_most_ℤ (pos 0) high)
     (decided_not (decided_both (decided_same_ℤ low (pos 0)) (decided_same_ℤ high (pos 0)))))))
 
-height_on_grid_or_odd : (unit : LengthUnit) (center : Bool) (height : ℤ) → IsCentredOnGrid unit center height ⊎ ((center ≡ true) × (unsigned_abs (grid_steps unit height) % 2 ≡ 1))
+height_on_grid_or_odd : (unit : LengthUnit) (center : Bool) (height : ℤ) → IsCentredOnGrid unit center height ⊎ ((center ≡ true) × (unsigned_abs (length_in_grid_steps unit height) % 2 ≡ 1))
 height_on_grid_or_odd unit false height = inl tt
 height_on_grid_or_odd unit true height = ⊎_elim (λ h. inl h) (λ h. inr (refl, h)) (even_or_odd unit height)
 
@@ -182,7 +182,7 @@ decided_enough faces =
     decided_by (λ h. record { faces_least = h.0; corners_least = h.1 }) (λ h. (h.faces_least, h.corners_least))
     (decided_both (decided_at_most 4 (length faces)) (decided_all (λ f. 3 ≤ length f) (λ f. decided_at_most 3 (length f)) faces))
 
-decided_there : (points : ℕ) (faces : List (List ℕ)) → Decided (AreThere points faces)
+decided_there : (points : ℕ) (faces : List (List ℕ)) → Decided (AreCornersThere points faces)
 decided_there points faces = decided_all (λ f. All (λ i. i < points) f) (λ f. decided_all (λ i. i < points) (λ i. decided_below i points) f) faces
 
 -- a face whose corners don't lie on one line spans a plane
@@ -202,7 +202,7 @@ spans points face t = record {
 }
 
 -- flat exactly where all corners are on that plane
-decided_flat : (points : List (List ℤ)) (face : List ℕ) → Decided (IsFlat points face)
+decided_flat : (points : List (List ℤ)) (face : List ℕ) → Decided (IsFlatFace points face)
 decided_flat points face =
     ⊎_elim (λ t.
     decided_by (λ on. flat_by points face (plane_by points face t) (spans points face t) on)
@@ -229,33 +229,33 @@ only_one P Q (inl p) (inr n) = inr (λ h. n (h p))
 only_one P Q (inr m) (inr n) = inl (λ p. absurd (m p))
 
 abbrev OnceAt : List Way → Way → ℕ → Type 0
-OnceAt ways w i = (get_or ways i nowhere ≡ w) × ((k : ℕ) → k < length ways → get_or ways k nowhere ≡ w → k ≡ i)
+OnceAt ways w i = (get_or ways i missing_way ≡ w) × ((k : ℕ) → k < length ways → get_or ways k missing_way ≡ w → k ≡ i)
 
 decided_once : (ways : List Way) (w : Way) → Decided (IsMetOnce ways w)
 decided_once ways w =
     decided_by {P = (i : ℕ) × (i < length ways) × OnceAt ways w i}
     (λ h. record { at = h.0; at_in = h.1; is = h.2.0; only = h.2.1 }) (λ h. (h.at, h.at_in, (h.is, h.only)))
     (decided_some_below (length ways) (OnceAt ways w)
-    (λ i lt. decided_both (decided_same_way (get_or ways i nowhere) w)
-    (decided_all_below (length ways) (λ k. get_or ways k nowhere ≡ w → k ≡ i)
-    (λ k below. only_one (get_or ways k nowhere ≡ w) (k ≡ i) (decided_same_way (get_or ways k nowhere) w) (decided_same k i)))))
+    (λ i lt. decided_both (decided_same_way (get_or ways i missing_way) w)
+    (decided_all_below (length ways) (λ k. get_or ways k missing_way ≡ w → k ≡ i)
+    (λ k below. only_one (get_or ways k missing_way ≡ w) (k ≡ i) (decided_same_way (get_or ways k missing_way) w) (decided_same k i)))))
 
 decided_closed : (points : List (List ℤ)) (faces : List (List ℕ)) → Decided (IsClosed points faces)
 decided_closed points faces =
-    decided_all (λ w. IsMetOnce (all_ways points faces) w × IsMetOnce (all_ways points faces) (turned w))
-    (λ w. decided_both (decided_once (all_ways points faces) w) (decided_once (all_ways points faces) (turned w))) (all_ways points faces)
+    decided_all (λ w. IsMetOnce (all_ways points faces) w × IsMetOnce (all_ways points faces) (reversed_way w))
+    (λ w. decided_both (decided_once (all_ways points faces) w) (decided_once (all_ways points faces) (reversed_way w))) (all_ways points faces)
 
 -- convex, where all faces are flat: each face bounds the body on one of the two sides of its plane
-decided_bounds : (mesh : Mesh) (face : List ℕ) (m : Coefficients) → Decided (Bounds mesh face m)
+decided_bounds : (mesh : Mesh) (face : List ℕ) (m : Coefficients) → Decided (IsOuterPlane mesh face m)
 decided_bounds mesh face m =
     decided_by (λ h. record { none_ahead = h.0; some_behind = h.1.0; clockwise = h.1.1 }) (λ h. (h.none_ahead, (h.some_behind, h.clockwise)))
     (decided_both (decided_all (λ f. All (λ i. value_at mesh.points m i ≤ℤ pos 0) f) (λ f. decided_all (λ i. value_at mesh.points m i ≤ℤ pos 0) (λ i. decided_at_most_ℤ (value_at mesh.points m i) (pos 0)) f) mesh.faces)
     (decided_both
     (decided_any (λ f. Any (λ i. pos 0 <ℤ value_at mesh.points (opposite_of m) i) f) (λ f. decided_any (λ i. pos 0 <ℤ value_at mesh.points (opposite_of m) i) (λ i. decided_less_ℤ (pos 0) (value_at mesh.points (opposite_of m) i)) f) mesh.faces)
-    (decided_all (HasNoneLeft mesh.points face m) (λ w. decided_all (λ i. inner m (through (point_at w.from) (point_at w.to) (corner mesh.points i)) ≤ℤ pos 0) (λ i. decided_at_most_ℤ (inner m (through (point_at w.from) (point_at w.to) (corner mesh.points i))) (pos 0)) face) (ways_of mesh.points face))))
+    (decided_all (HasNoneLeft mesh.points face m) (λ w. decided_all (λ i. inner_product m (through (point_at w.from) (point_at w.to) (corner mesh.points i)) ≤ℤ pos 0) (λ i. decided_at_most_ℤ (inner_product m (through (point_at w.from) (point_at w.to) (corner mesh.points i))) (pos 0)) face) (ways_of mesh.points face))))
 
 -- a flat face that bounds the body, or one that makes the mesh not convex
-bounded_or_not : (mesh : Mesh) (face : List ℕ) → IsFlat mesh.points face → IsBounded mesh face ⊎ (HasOuterPlane mesh face → IsOnOnePlane mesh)
+bounded_or_not : (mesh : Mesh) (face : List ℕ) → IsFlatFace mesh.points face → IsFaceOfBody mesh face ⊎ (HasOuterPlane mesh face → IsOnOnePlane mesh)
 bounded_or_not mesh face flat =
     ⊎_elim (λ h. inl (bounded_spanned mesh face (plane_by mesh.points face flat.triangle) (spans mesh.points face flat.triangle) flat h))
     (λ not_here. ⊎_elim
@@ -268,14 +268,14 @@ bounded_or_not mesh face flat =
 abbrev Wrong : Mesh → List ℕ → Type 0
 Wrong mesh face = HasOuterPlane mesh face → IsOnOnePlane mesh
 
-all_bounded : (mesh : Mesh) → All (IsFlat mesh.points) mesh.faces → All (IsBounded mesh) mesh.faces
+all_bounded : (mesh : Mesh) → All (IsFlatFace mesh.points) mesh.faces → All (IsFaceOfBody mesh) mesh.faces
     ⊎ ((k : ℕ) × (k < length mesh.faces) × Wrong mesh (get_or mesh.faces k []))
 all_bounded mesh flat =
-    ⊎_elim (λ all. inl (λ k d lt. subst (λ (f : List ℕ). IsBounded mesh f) (get_or_default mesh.faces k [] d lt) (all k lt))) (λ h. inr h)
-    (all_or_one_below (length mesh.faces) (λ k. IsBounded mesh (get_or mesh.faces k [])) (λ k. Wrong mesh (get_or mesh.faces k []))
+    ⊎_elim (λ all. inl (λ k d lt. subst (λ (f : List ℕ). IsFaceOfBody mesh f) (get_or_default mesh.faces k [] d lt) (all k lt))) (λ h. inr h)
+    (all_or_one_below (length mesh.faces) (λ k. IsFaceOfBody mesh (get_or mesh.faces k [])) (λ k. Wrong mesh (get_or mesh.faces k []))
     (λ k lt. bounded_or_not mesh (get_or mesh.faces k []) (flat k [] lt)))
 
-decided_convex_mesh : (mesh : Mesh) → 0 < length mesh.faces → All (IsFlat mesh.points) mesh.faces → Decided (IsConvexMesh mesh)
+decided_convex_mesh : (mesh : Mesh) → 0 < length mesh.faces → All (IsFlatFace mesh.points) mesh.faces → Decided (IsConvexMesh mesh)
 decided_convex_mesh mesh some flat =
     ⊎_elim (λ all. inl (convex_by mesh some flat all)) (λ h. inr (λ convex. convex.solid (h.2 (convex.faces h.0 [] h.1))))
     (all_bounded mesh flat)
@@ -307,7 +307,7 @@ polyhedron_verdict unit points faces =
     (λ h. fails_at unit points faces 5 (limits, (corners, (there, (range, (flat, h))))))
     (decided_closed (mesh_of unit points faces).points faces))
     (λ h. fails_at unit points faces 4 (limits, (corners, (there, (range, h)))))
-    (decided_all (IsFlat (mesh_of unit points faces).points) (decided_flat (mesh_of unit points faces).points) faces))
+    (decided_all (IsFlatFace (mesh_of unit points faces).points) (decided_flat (mesh_of unit points faces).points) faces))
     (λ h. fails_at unit points faces 3 (limits, (corners, (there, h))))
     (decided_all (λ p. IsPointInRange (point_at p)) (λ p. decided_point_range (point_at p)) points))
     (λ h. fails_at unit points faces 2 (limits, (corners, h)))
@@ -384,7 +384,7 @@ the_judge = record {
   hull = λ design. verdict_of (hull_verdict design);
 }
 
-pub some_judge : (judge : Judge) × IsRight judge
+pub some_judge : (judge : Judge) × IsRightJudge judge
 some_judge = (
   the_judge,
   record {

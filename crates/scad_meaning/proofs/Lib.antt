@@ -1,10 +1,10 @@
 mod Assignments
 pub mod Choosing
-mod ExpressionPlaces
-mod HeldPlaces
+pub mod ExpressionPlaces
+pub mod HeldPlaces
 mod HullRows
 mod HullVerdicts
-mod InstancePlaces
+pub mod InstancePlaces
 pub mod Judges
 mod OneMeaning
 mod Parts
@@ -12,6 +12,6 @@ pub mod ProgramPlaces
 mod ProperMeanings
 mod Rows
 mod SomeMeaning
-mod SoundShapes
+pub mod SoundShapes
 mod Triangles
 pub mod Verdicts

@@ -15,24 +15,24 @@ use Rattle.plane_predicate.specs.declared.unit.Unit.{Unit as LengthUnit}
 use Rattle.primitives.specs.Shapes.{Mesh}
 use Rattle.scad_ast.specs.Terms.{BinderTerm, StatementTerms, InstanceTerm, CoreTerm, IfTerm, IfElseTerm, ForTerm, IntersectionForTerm, ModuleCallTerm, BodyTerm, ArgTerm, args_from}
 use Rattle.scad_value.specs.Values.{Val, Vals, no_vals, and_val, truth_of}
-use Rattle.scad_value.specs.Operators.{Answer}
+use Rattle.scad_value.specs.Operators.{AnswerOrFault}
 use Rattle.scad_scope.specs.Names.{Pairs, find_in}
-use Rattle.scad_definitions.specs.Arguments.{names_of, no_arguments_of}
+use Rattle.scad_definitions.specs.Arguments.{parameter_names, no_arguments_of}
 use Rattle.scad_definitions.specs.Blocks.{SourceModule, assignments_of, statements_of_body}
 use Rattle.scad_func.specs.Limits.{most_evaluations, most_turns}
-use Rattle.scad_func.specs.Meaning.{Outcome, Gives, Faults, then_with, or_fault, Env, Activation, no_activation, activation, visible_module, activation_in, entered_scope, turn, one_call_fewer, value_at, Arguments, each_argument, each_parameter}
+use Rattle.scad_func.specs.Meaning.{Outcome, Gives, Faults, then_with, or_fault, Env, Activation, no_activation, activation, visible_module, activation_in, entered_scope, turn, one_call_fewer, deeper_value, Arguments, each_argument, each_parameter}
 use Rattle.scad_modules.specs.declared.table.BuiltinModule.{BuiltinModule}
 use Rattle.scad_modules.specs.Table.{module_named}
 use Rattle.scad_modules.specs.Effects.{EffectCall, a_solid, a_flat, a_move, a_join, a_hull, an_extrusion, no_geometry, some_children, FlatCall, ChosenCall}
 use Rattle.scad_modules.specs.Calls.{effect_of}
-use Rattle.scad_design.specs.Designs.{DesignTree, a_leaf, balanced, join_children, moved_by}
+use Rattle.scad_design.specs.Designs.{DesignTree, a_leaf, balanced_join, join_children, moved_by}
 use Rattle.scad_design.specs.Trees.{leaf_count, pieces_in, IsTrim}
 use Rattle.scad_meaning.specs.declared.extrusion.Extrusion.{Extrusion}
 use Rattle.scad_meaning.specs.Hulls.{is_nothing, hull_mesh}
-use Rattle.scad_meaning.specs.Verdicts.{Judge, Verdict, solid_of, extrusion_mesh}
+use Rattle.scad_meaning.specs.Verdicts.{Judge, Verdict, solid_mesh, extrusion_mesh}
 use Rattle.scad_meaning.specs.Bodies.{has_root_modifier, has_no_geometry, is_bare}
 use Rattle.scad_meaning.specs.Loops.{items_of}
-use Rattle.scad_meaning.specs.Meaning.{Context, inside_scope, with_bindings, with_calls_left, inside_root, inside_extrusion, setting, InstanceDesign, MemberDesigns, first_root, no_design, no_members, as_member, and_members, joined_members, moved_design, EvaluatesInstance, Evaluator, each_assigned, core_of_instance, each_member, each_in_scope, each_in_body, body_design, after_step, each_step, in_loop, each_iteration, loop_design, leaf_design, unless_refused, with_leaf_of, hull_design, answered_with, module_scope, module_design, arguments_for, children_design, chosen_children, after_call, flat_design, effect_design, built_in_design, call_design, core_design, root_design, instance_design, design_within, evaluator_with, program_context, or_all, design_of, counted_step, instances_chosen, block_members, module_given, most_leaves}
+use Rattle.scad_meaning.specs.Meaning.{Context, inside_scope, with_bindings, with_calls_left, inside_root, inside_extrusion, setting, InstanceDesign, MemberDesigns, first_root, no_design, no_members, as_member, and_members, joined_members, moved_design, EvaluatesInstance, Evaluator, each_assigned, core_of_instance, each_member, each_in_scope, each_in_body, body_design, turn_after_step, each_step, in_loop, each_iteration, loop_design, leaf_design, unless_refused, with_leaf_of, hull_design, answered_with, module_scope, module_design, arguments_for, children_design, chosen_children, turn_after_call, flat_design, effect_design, built_in_design, call_design, core_design, root_design, instance_design, design_within, evaluator_with, program_context, or_all, design_of, counted_step, instances_chosen, block_members, module_given, most_leaves}
 
 -- what holds of that which an outcome gives
 abbrev Has : {A : Type 0} → (A → Type 0) → Outcome A → Type 0
@@ -71,17 +71,17 @@ checked_has : {A : Type 0} (Q : A → Type 0) (v : Verdict) (at : Place) (out : 
 checked_has Q None at out h = h
 checked_has Q (Some kind) at out h = tt
 
-answered_has : {A B : Type 0} (Q : B → Type 0) (answer : Answer A) (at : Place) (go : A → Outcome B)
+answered_has : {A B : Type 0} (Q : B → Type 0) (answer : AnswerOrFault A) (at : Place) (go : A → Outcome B)
     → ((x : A) → Has Q (go x)) → Has Q (answered_with answer at go)
 answered_has Q (Ok x) at go g = g x
 answered_has Q (Err kind) at go g = tt
 
 after_has : (Q : MemberDesigns → Type 0) (at : Place) (designs : List DesignTree) (turns : ℕ) (go : ℕ → Outcome MemberDesigns)
-    → ((n : ℕ) → Has Q (go n)) → Has Q (after_step at designs turns go)
+    → ((n : ℕ) → Has Q (go n)) → Has Q (turn_after_step at designs turns go)
 after_has Q at [] turns go g = turn_has Q at turns go g
 after_has Q at (d ∷ ds) turns go g = g turns
 
-idle_has : (Q : InstanceDesign → Type 0) (at : Place) (idle : Bool) (turns : ℕ) (m : InstanceDesign) → Q m → Has Q (after_call at idle turns m)
+idle_has : (Q : InstanceDesign → Type 0) (at : Place) (idle : Bool) (turns : ℕ) (m : InstanceDesign) → Q m → Has Q (turn_after_call at idle turns m)
 idle_has Q at true turns m h = turn_has Q at turns (λ turns. Gives turns m) (λ turns. h)
 idle_has Q at false turns m h = h
 
@@ -246,7 +246,7 @@ module _ (grouped_trim : (op : Op) (designs : List DesignTree) → All IsTrim de
         then_has (IsSmall leaves) (AreSmall leaves) (body_design evaluator Union here body turns leaves) _ (body_small Union here body turns leaves) (λ turns m h.
         as_member_small true leaves m h))
     turns_small at (b ∷ bs) body here turns leaves =
-        skip_has (AreSmall leaves) (value_at (setting evaluations here) true b.values turns) _ (λ turns v.
+        skip_has (AreSmall leaves) (deeper_value (setting evaluations here) true b.values turns) _ (λ turns v.
         option_has (AreSmall leaves) (items_of v) TypeMismatch at _ (λ items.
         steps_small at (λ item. each_iteration evaluator at bs body (in_loop here b.name item))
         (λ item turns leaves. turns_small at bs body (in_loop here b.name item) turns leaves) items turns leaves))
@@ -274,8 +274,8 @@ module _ (grouped_trim : (op : Op) (designs : List DesignTree) → All IsTrim de
     effect_small : (here : Context) (at : Place) (effect : EffectCall) (body : BodyTerm) (turns leaves : ℕ)
         → Has (IsSmall leaves) (effect_design evaluator here at effect body turns leaves)
     effect_small here at (a_solid call) body turns leaves =
-        checked_has (IsSmall leaves) (judge.solid unit call) at (leaf_design at (solid_of unit call) turns leaves)
-        (leaf_small at (solid_of unit call) turns leaves)
+        checked_has (IsSmall leaves) (judge.solid unit call) at (leaf_design at (solid_mesh unit call) turns leaves)
+        (leaf_small at (solid_mesh unit call) turns leaves)
     effect_small here at (a_flat call) body turns leaves = flat_small here.inside at call turns leaves
     effect_small here at (a_move steps) body turns leaves =
         then_has (IsSmall leaves) (IsSmall leaves) (body_design evaluator Union here body turns leaves) _
@@ -318,17 +318,17 @@ module _ (grouped_trim : (op : Op) (designs : List DesignTree) → All IsTrim de
     called_small : (here : Context) (at : Place) (name : List ℕ) (args : List ArgTerm) (body : BodyTerm) (found : Option (SourceModule × Env)) (turns leaves : ℕ)
         → Has (IsSmall leaves) (call_design evaluator here at name args body found turns leaves)
     called_small here at name args body (Some found) turns leaves =
-        skip_has (IsSmall leaves) (each_argument (setting evaluations here) (names_of found.0.params) 0 (args_from args) (no_arguments_of (length found.0.params)) turns) _
+        skip_has (IsSmall leaves) (each_argument (setting evaluations here) (parameter_names found.0.params) 0 (args_from args) (no_arguments_of (length found.0.params)) turns) _
         (λ turns given. module_small here at found given body turns leaves)
     called_small here at name args body None turns leaves = built_in_small here at name args body (module_named name) turns leaves
 
     core_small : (here : Context) (core : CoreTerm) (turns leaves : ℕ) → Has (IsSmall leaves) (core_design evaluator here core turns leaves)
     core_small here (IfTerm at test body) turns leaves =
-        skip_has (IsSmall leaves) (value_at (setting evaluations here) true test turns) _ (λ turns v.
+        skip_has (IsSmall leaves) (deeper_value (setting evaluations here) true test turns) _ (λ turns v.
         if_has (IsSmall leaves) (truth_of v) (body_design evaluator Union here body turns leaves) (Gives turns (no_design leaves))
         (body_small Union here body turns leaves) (nothing_small leaves))
     core_small here (IfElseTerm at test body other) turns leaves =
-        skip_has (IsSmall leaves) (value_at (setting evaluations here) true test turns) _ (λ turns v.
+        skip_has (IsSmall leaves) (deeper_value (setting evaluations here) true test turns) _ (λ turns v.
         body_small Union here (if truth_of v then body else other) turns leaves)
     core_small here (ForTerm at binders body) turns leaves = loop_small Union here at binders body turns leaves
     core_small here (IntersectionForTerm at binders body) turns leaves = loop_small Intersection here at binders body turns leaves
@@ -356,8 +356,8 @@ module _ (grouped_trim : (op : Op) (designs : List DesignTree) → All IsTrim de
   all_small : (root : Option DesignTree) (designs : List DesignTree) (leaves : ℕ) → IsFew 0 leaves root → 0 + sum_by leaf_count designs ≤ leaves
       → All IsTrim designs → leaves ≤ most_leaves → pieces_in (or_all root designs) < 2 ^ 32
   all_small None designs leaves f h trim few =
-      let a : leaf_count (balanced Union designs) ≤ sum_by leaf_count designs = grouped_parts Union designs in
-      let b : pieces_in (balanced Union designs) ≤ 1 + 2 * leaf_count (balanced Union designs) = pieces (join_children Union designs) (grouped_trim Union designs trim) in
+      let a : leaf_count (balanced_join Union designs) ≤ sum_by leaf_count designs = grouped_parts Union designs in
+      let b : pieces_in (balanced_join Union designs) ≤ 1 + 2 * leaf_count (balanced_join Union designs) = pieces (join_children Union designs) (grouped_trim Union designs trim) in
       omega arith
   all_small (Some design) designs leaves f h trim few =
       let a = f.0 in let b = pieces design f.1 in omega arith

@@ -16,55 +16,62 @@ use Rattle.scad_ast.specs.Places.{places_of_program, HoldsPlace}
 use Rattle.scad_scope.specs.Names.{first_bindings}
 use Rattle.scad_func.specs.Meaning.{Outcome, Gives, Faults}
 use Rattle.scad_design.specs.Designs.{DesignTree, empty, a_leaf, joined_designs}
-use Rattle.scad_design.specs.Placing.{Placed, placed, unplaced, joined_placed, PlacesRight, Places}
-use Rattle.scad_meaning.specs.Verdicts.{Judge, IsRight}
+use Rattle.scad_design.specs.Placing.{PlacingOutcome, placed, unplaced, joined_placed, PlacesRight, Places}
+use Rattle.scad_meaning.specs.Verdicts.{Judge, IsRightJudge}
 use Rattle.scad_meaning.specs.Meaning.{design_of}
 use Rattle.scad_meaning.specs.Sources.{Meaning, a_tree, a_fault, IsMeaningOf, IsMeaningOfDesign, IsMeaning, IsMeaningStop, HoldsFault}
 use Rattle.scad_meaning.proofs.Judges.{some_judge}
 use Rattle.scad_meaning.proofs.HeldPlaces.{Keeps}
-use Rattle.scad_meaning.proofs.InstancePlaces.{DesignHeld, design_keeps}
+use Rattle.primitives.specs.Shapes.{Mesh, IsShape}
+use Rattle.scad_meaning.proofs.InstancePlaces.{LetsThrough, shapes_alone, DesignHeld, design_keeps}
 
 module _ (P : Place → Type 0) where
   -- placing
-  abbrev PlacedHeld : Placed → Type 0
+  abbrev PlacedHeld : PlacingOutcome → Type 0
   PlacedHeld (placed tree known) = Unit {0}
   PlacedHeld (unplaced kind at) = P at
 
-  joined_held : (op : Op) (tree : Formula) (next : Placed) → PlacedHeld next → PlacedHeld (joined_placed op tree next)
+  joined_held : (op : Op) (tree : Formula) (next : PlacingOutcome) → PlacedHeld next → PlacedHeld (joined_placed op tree next)
   joined_held op tree (placed right known) h = tt
   joined_held op tree (unplaced kind at) h = h
 
-  right_held : (right : List Coefficients → Placed → Type 0) → ((known : List Coefficients) (out : Placed) → right known out → PlacedHeld out)
-      → (op : Op) (first out : Placed) → PlacedHeld first → PlacesRight right op first out → PlacedHeld out
+  right_held : (right : List Coefficients → PlacingOutcome → Type 0) → ((known : List Coefficients) (out : PlacingOutcome) → right known out → PlacedHeld out)
+      → (op : Op) (first out : PlacingOutcome) → PlacedHeld first → PlacesRight right op first out → PlacedHeld out
   right_held right g op (unplaced kind at) out h r = subst PlacedHeld (sym r) h
   right_held right g op (placed tree known) out h r = subst PlacedHeld (sym r.2) (joined_held op tree r.0 (g known r.0 r.1))
 
-  places_held : (design : DesignTree) (known : List Coefficients) (out : Placed) → DesignHeld P design → Places design known out → PlacedHeld out
-  places_held empty known out d h = subst PlacedHeld (sym h) tt
-  places_held (a_leaf part) known (placed tree now) d h = tt
-  places_held (a_leaf part) known (unplaced kind at) d h = subst P (sym h.1) d.0
-  places_held (joined_designs op left right) known out d h =
-      right_held (Places right) (λ known out r. places_held right known out d.1 r) op h.0 out (places_held left known h.0 d.0 h.1) h.2
+  places_held : (Q : Mesh → Type 0) (design : DesignTree) (known : List Coefficients) (out : PlacingOutcome) → DesignHeld P Q design → Places design known out → PlacedHeld out
+  places_held Q empty known out d h = subst PlacedHeld (sym h) tt
+  places_held Q (a_leaf part) known (placed tree now) d h = tt
+  places_held Q (a_leaf part) known (unplaced kind at) d h = subst P (sym h.1) d.0
+  places_held Q (joined_designs op left right) known out d h =
+      right_held (Places right) (λ known out r. places_held Q right known out d.1 r) op h.0 out (places_held Q left known h.0 d.0 h.1) h.2
 
   -- meanings
   abbrev MeaningHeld : Meaning → Type 0
   MeaningHeld (a_tree tree) = Unit {0}
   MeaningHeld (a_fault kind at) = P at
 
-  placed_means : (out : Placed) (meaning : Meaning) → PlacedHeld out → IsMeaningOf out meaning → MeaningHeld meaning
+  placed_means : (out : PlacingOutcome) (meaning : Meaning) → PlacedHeld out → IsMeaningOf out meaning → MeaningHeld meaning
   placed_means (placed tree known) meaning p h = subst MeaningHeld (sym h) tt
   placed_means (unplaced kind at) meaning p h = subst MeaningHeld (sym h) p
 
-  design_means : (out : Outcome DesignTree) (meaning : Meaning) → Keeps P (DesignHeld P) out → IsMeaningOfDesign out meaning → MeaningHeld meaning
+  design_means : (out : Outcome DesignTree) (meaning : Meaning) → Keeps P (DesignHeld P IsShape) out → IsMeaningOfDesign out meaning → MeaningHeld meaning
   design_means (Faults kind at) meaning k h = subst MeaningHeld (sym h) k
-  design_means (Gives turns design) meaning k h = placed_means h.0 meaning (places_held design [] h.0 k h.1) h.2
+  design_means (Gives turns design) meaning k h = placed_means h.0 meaning (places_held IsShape design [] h.0 k h.1) h.2
 
--- the design of a program is sound, and its parts and its fault stand at places of the program
-pub program_keeps : (unit : LengthUnit) (judge : Judge) → IsRight judge → (program : List StatementTerm)
-    → let P : Place → Type 0 = λ at. HoldsPlace program at in Keeps P (DesignHeld P) (design_of unit judge first_bindings (statements_from program))
-program_keeps unit judge right program =
-    design_keeps (λ at. HoldsPlace program at) unit judge right first_bindings (statements_from program)
+-- the parts and the fault of a program's design stand at places of the program, and what holds of each shape that is let through
+-- holds of its shapes
+pub shapes_keep : (unit : LengthUnit) (Q : Mesh → Type 0) (judge : Judge) → LetsThrough unit Q judge → (program : List StatementTerm)
+    → let P : Place → Type 0 = λ at. HoldsPlace program at in Keeps P (DesignHeld P Q) (design_of unit judge first_bindings (statements_from program))
+shapes_keep unit Q judge lets program =
+    design_keeps (λ at. HoldsPlace program at) Q unit judge lets first_bindings (statements_from program)
     (recursion_from_All (λ at. HoldsPlace program at) (places_of_program program) (All-contains_itself (places_of_program program)))
+
+-- so the design is sound where the judge is right
+pub program_keeps : (unit : LengthUnit) (judge : Judge) → IsRightJudge judge → (program : List StatementTerm)
+    → let P : Place → Type 0 = λ at. HoldsPlace program at in Keeps P (DesignHeld P IsShape) (design_of unit judge first_bindings (statements_from program))
+program_keeps unit judge right program = shapes_keep unit IsShape judge (shapes_alone unit judge right) program
 
 pub fault_held : (unit : LengthUnit) (program : List StatementTerm) (kind : FaultKind) (at : Place)
     → IsMeaning unit program (a_fault kind at) → HoldsPlace program at

@@ -4,13 +4,14 @@ use Rattle.std.proofs.Math.Path.{fun_ext}
 use Rattle.text_place.specs.declared.fault.Place.{Place}
 use Rattle.plane_predicate.specs.declared.unit.Unit.{Unit as LengthUnit}
 use Rattle.plane_predicate.specs.Space.{Coefficients}
+use Rattle.primitives.specs.Shapes.{IsShape}
 use Rattle.scad_ast.specs.Terms.{StatementTerm, statements_from}
 use Rattle.scad_scope.specs.Names.{first_bindings}
 use Rattle.scad_func.specs.Meaning.{Outcome, Gives, Faults}
 use Rattle.scad_design.specs.Designs.{DesignTree, empty, a_leaf, joined_designs}
-use Rattle.scad_design.specs.Placing.{Placed, placed, unplaced, Places}
-use Rattle.scad_design.specs.Trees.{IsSound}
-use Rattle.scad_meaning.specs.Verdicts.{Judge, IsRight}
+use Rattle.scad_design.specs.Placing.{PlacingOutcome, placed, unplaced, Places}
+use Rattle.scad_design.specs.Trees.{IsSoundDesign}
+use Rattle.scad_meaning.specs.Verdicts.{Judge, IsRightJudge}
 use Rattle.scad_meaning.specs.Meaning.{design_of}
 use Rattle.scad_meaning.specs.Sources.{Meaning, a_tree, a_fault, IsMeaning, IsMeaningOf, IsMeaningOfDesign}
 use Rattle.scad_meaning.proofs.HeldPlaces.{Keeps}
@@ -19,7 +20,7 @@ use Rattle.scad_meaning.proofs.ProgramPlaces.{program_keeps}
 use Rattle.scad_meaning.proofs.Verdicts.{one_solid_verdict, one_flat_verdict, one_height_verdict, one_hull_verdict}
 
 -- two judges that are always right are one
-same_judge : (j k : Judge) → IsRight j → IsRight k → j ≡ k
+same_judge : (j k : Judge) → IsRightJudge j → IsRightJudge k → j ≡ k
 same_judge j k right also =
     let solid : j.solid ≡ k.solid = fun_ext (λ unit. fun_ext (λ call. one_solid_verdict unit call (j.solid unit call) (k.solid unit call) (right.solid unit call) (also.solid unit call))) in
     let flat : j.flat ≡ k.flat = fun_ext (λ unit. fun_ext (λ call. one_flat_verdict unit call (j.flat unit call) (k.flat unit call) (right.flat unit call) (also.flat unit call))) in
@@ -29,25 +30,25 @@ same_judge j k right also =
     λ i. record { solid = solid i; flat = flat i; height = height i; hull = hull i }
 
 abbrev pub SomePlacing : Type 0
-SomePlacing = (design : DesignTree) (known : List Coefficients) → IsSound design → (out : Placed) × Places design known out
+SomePlacing = (design : DesignTree) (known : List Coefficients) → IsSoundDesign design → (out : PlacingOutcome) × Places design known out
 
-pub sound : (P : Place → Type 0) (design : DesignTree) → DesignHeld P design → IsSound design
+pub sound : (P : Place → Type 0) (design : DesignTree) → DesignHeld P IsShape design → IsSoundDesign design
 sound P empty h = tt
 sound P (a_leaf part) h = h.1
 sound P (joined_designs op left right) h = (sound P left h.0, sound P right h.1)
 
-some_of_placed : (out : Placed) → (meaning : Meaning) × IsMeaningOf out meaning
+some_of_placed : (out : PlacingOutcome) → (meaning : Meaning) × IsMeaningOf out meaning
 some_of_placed (placed tree known) = (a_tree tree, refl)
 some_of_placed (unplaced kind at) = (a_fault kind at, refl)
 
-some_of_design : SomePlacing → (P : Place → Type 0) (design : Outcome DesignTree) → Keeps P (DesignHeld P) design → (meaning : Meaning) × IsMeaningOfDesign design meaning
+some_of_design : SomePlacing → (P : Place → Type 0) (design : Outcome DesignTree) → Keeps P (DesignHeld P IsShape) design → (meaning : Meaning) × IsMeaningOfDesign design meaning
 some_of_design some P (Faults kind at) h = (a_fault kind at, refl)
 some_of_design some P (Gives turns design) h =
     let out = some design [] (sound P design h) in
     let meaning = some_of_placed out.0 in
     (meaning.0, (out.0, out.1, meaning.1))
 
-pub some_meaning : (judge : Judge) → IsRight judge → SomePlacing → (unit : LengthUnit) (program : List StatementTerm) → (meaning : Meaning) × IsMeaning unit program meaning
+pub some_meaning : (judge : Judge) → IsRightJudge judge → SomePlacing → (unit : LengthUnit) (program : List StatementTerm) → (meaning : Meaning) × IsMeaning unit program meaning
 some_meaning judge right some unit program =
     let statements = statements_from program in
     let meaning = some_of_design some _ (design_of unit judge first_bindings statements) (program_keeps unit judge right program) in

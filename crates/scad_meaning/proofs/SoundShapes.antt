@@ -12,7 +12,7 @@ use Rattle.text_place.specs.declared.fault.FaultKind.TheVariants.{AssertFailed, 
 use Rattle.plane_predicate.specs.declared.unit.Unit.{Unit as LengthUnit}
 use Rattle.plane_predicate.proofs.IntegerRing.{sums}
 use Rattle.int_transform.specs.declared.affine.Affine.{Affine}
-use Rattle.int_transform.specs.Maps.{affine_of, determinant_of, reflection, translation, quarter_turn, power_of, scale_map}
+use Rattle.int_transform.specs.Maps.{affine_of, determinant_of, reflection, translation, quarter_rotation, power_of, scale_map}
 use Rattle.int_transform.proofs.Images.{determinant-composition}
 use Rattle.int_transform.proofs.Ranges.{IsRegular}
 use Rattle.int_transform.proofs.Regular.{determinant-diagonal, no_product}
@@ -20,7 +20,7 @@ use Rattle.plane_predicate.specs.Space.{point_at}
 use Rattle.primitives.specs.Shapes.{Mesh, value_at, HasBodyBehind, IsShape}
 use Rattle.primitives.proofs.FacePlanes.{found}
 use Rattle.primitives.specs.Sizes.{AreSizes, low_end, high_end}
-use Rattle.primitives.specs.Polygons.{IsFlat}
+use Rattle.primitives.specs.Polygons.{IsFlatShape}
 use Rattle.primitives.proofs.BoxBodies.{cube_is_shape}
 use Rattle.primitives.proofs.EndFaces.{ends_of_side}
 use Rattle.primitives.proofs.Grids.{polygon_is_flat}
@@ -32,18 +32,18 @@ use Rattle.primitives.specs.Checks.{HasOuterPlane, IsConvex}
 use Rattle.primitives.specs.Polyhedra.{mesh_of, IsPolyhedron}
 use Rattle.primitives.proofs.Solids.{shape_of}
 use Rattle.scad_value.specs.Values.{Val, NumberVal, truth_of}
-use Rattle.scad_value.specs.Operators.{Answer}
-use Rattle.scad_modules.specs.Reading.{BoundArguments, bound_argument, number_in, truth_in, numbers_in, of_length, sides_in, coordinates_in, angles_in, factors_in, points_in, faces_in, or_default, required_argument, refused_where, of_type}
+use Rattle.scad_value.specs.Operators.{AnswerOrFault}
+use Rattle.scad_modules.specs.Reading.{BoundArguments, bound_argument, number_in_value, truth_in, numbers_in, of_length, sides_in, coordinates_in, angles_in, factors_in, points_in, faces_in, or_default, required_argument, refused_where, of_type}
 use Rattle.scad_modules.specs.declared.table.BuiltinModule.{BuiltinModule}
 use Rattle.scad_modules.specs.declared.table.BuiltinModule.TheVariants.{Cube, Polyhedron, Cylinder, Square, Polygon, Circle, LinearExtrude, Translate, Rotate, Mirror, Scale, Multmatrix, Union, Difference, Intersection, Hull, Color, Render, Echo, Assert, Children}
 use Rattle.scad_modules.specs.Effects.{SolidCall, cube_call, polyhedron_call, cylinder_call, FlatCall, square_call, polygon_call, circle_call, EffectCall, a_solid, a_flat, a_move, a_join, a_hull, an_extrusion, no_geometry, some_children, ChosenCall, all_children}
-use Rattle.scad_modules.specs.Transforms.{component, is_zero, is_past, on_grid, some_component, leaves_plane, is_skew, quarters_of, tilts_plane, quarter_turns, axis_of, for_axis, factors_for, matrix_rows, some_row, is_past_matrix, leaves_plane_by, rows_on_grid, moves_past}
+use Rattle.scad_modules.specs.Transforms.{component, is_zero, is_past, vector_on_grid, some_component, leaves_plane, is_skew, quarters_of, tilts_plane, quarter_turns, axis_of, for_axis, factors_for, matrix_rows, some_row, is_past_matrix, leaves_plane_by, rows_on_grid, moves_past}
 use Rattle.scad_modules.specs.Calls.{chosen_in, effect_of}
 use Rattle.scad_modules.specs.Shapes.{fragments_in, with_four, cylinder_effect}
 use Rattle.scad_design.specs.Trees.{AreRegular}
 use Rattle.scad_design.proofs.Deciding.{all_or_any}
 use Rattle.scad_meaning.specs.declared.extrusion.Extrusion.{Extrusion}
-use Rattle.scad_meaning.specs.Verdicts.{IsSolidVerdict, IsFlatVerdict, solid_of, outline_of, extrusion_mesh}
+use Rattle.scad_meaning.specs.Verdicts.{IsSolidVerdict, IsFlatVerdict, solid_mesh, flat_outline, extrusion_mesh}
 
 -- ---- calls with as many sides as their shapes have, and steps that are not singular
 abbrev pub HasSides : SolidCall → Type 0
@@ -67,11 +67,11 @@ IsSoundCall no_geometry = Unit {0}
 IsSoundCall (some_children chosen) = Unit {0}
 
 -- ---- what stands behind a test
-refused_sound : (b : Bool) (kind : FaultKind) (next : Answer EffectCall) → (b ≡ false → IfOk next IsSoundCall) → IfOk (refused_where b kind next) IsSoundCall
+refused_sound : (b : Bool) (kind : FaultKind) (next : AnswerOrFault EffectCall) → (b ≡ false → IfOk next IsSoundCall) → IfOk (refused_where b kind next) IsSoundCall
 refused_sound true kind next h = tt
 refused_sound false kind next h = h refl
 
-four_sound : (fragments : Option ℤ) (next : Answer EffectCall) → IfOk next IsSoundCall → IfOk (of_type fragments (λ n. refused_where (not (int_eq n (pos 4))) NotInProfile next)) IsSoundCall
+four_sound : (fragments : Option ℤ) (next : AnswerOrFault EffectCall) → IfOk next IsSoundCall → IfOk (of_type fragments (λ n. refused_where (not (int_eq n (pos 4))) NotInProfile next)) IsSoundCall
 four_sound None next h = tt
 four_sound (Some n) next h = refused_sound (not (int_eq n (pos 4))) NotInProfile next (λ _. h)
 
@@ -111,11 +111,11 @@ repeated_regular step h zero e = one_is_some e
 repeated_regular step h (suc n) e =
     no_product (determinant_of step) (determinant_of (power_of step n)) h (repeated_regular step h n) (sym (determinant-composition step (power_of step n)) ∙ e)
 
-turns_regular : (x y z : ℕ) → AreRegular (power_of (quarter_turn 0) x ∷ power_of (quarter_turn 1) y ∷ power_of (quarter_turn 2) z ∷ [])
+turns_regular : (x y z : ℕ) → AreRegular (power_of (quarter_rotation 0) x ∷ power_of (quarter_rotation 1) y ∷ power_of (quarter_rotation 2) z ∷ [])
 turns_regular x y z =
-    All-cons IsRegular (power_of (quarter_turn 0) x) (power_of (quarter_turn 1) y ∷ power_of (quarter_turn 2) z ∷ []) (repeated_regular (quarter_turn 0) one_is_some x)
-    (All-cons IsRegular (power_of (quarter_turn 1) y) (power_of (quarter_turn 2) z ∷ []) (repeated_regular (quarter_turn 1) one_is_some y)
-    (one_step (power_of (quarter_turn 2) z) (repeated_regular (quarter_turn 2) one_is_some z)))
+    All-cons IsRegular (power_of (quarter_rotation 0) x) (power_of (quarter_rotation 1) y ∷ power_of (quarter_rotation 2) z ∷ []) (repeated_regular (quarter_rotation 0) one_is_some x)
+    (All-cons IsRegular (power_of (quarter_rotation 1) y) (power_of (quarter_rotation 2) z ∷ []) (repeated_regular (quarter_rotation 1) one_is_some y)
+    (one_step (power_of (quarter_rotation 2) z) (repeated_regular (quarter_rotation 2) one_is_some z)))
 
 mirror_regular : (axis : ℕ) → IsRegular (reflection axis)
 mirror_regular zero = none_is_some
@@ -210,7 +210,7 @@ cylinder_read inside fragments None radius low high center = tt
 cylinder_read inside fragments (Some height) None low high center = tt
 cylinder_read inside fragments (Some height) (Some radius) low high center = cylinder_sized inside fragments height (low radius) (high radius) center
 
-four_refused : (a b c d : Bool) (next : Answer EffectCall) → IfOk next IsSoundCall →
+four_refused : (a b c d : Bool) (next : AnswerOrFault EffectCall) → IfOk next IsSoundCall →
     IfOk (refused_where a NotInProfile (refused_where b NotInProfile (refused_where c NotInProfile (refused_where d BadArgument next)))) IsSoundCall
 four_refused true b c d next h = tt
 four_refused false true c d next h = tt
@@ -221,14 +221,14 @@ four_refused false false false false next h = h
 cylinder_sound : (inside : Bool) (fragments : Option Val) (bound : BoundArguments) → IfOk (cylinder_effect inside fragments bound) IsSoundCall
 cylinder_sound inside fragments bound =
     four_refused (is_some (bound_argument bound 5)) (is_some (bound_argument bound 6)) (is_some (bound_argument bound 7)) (is_some (bound_argument bound 4) && (is_some (bound_argument bound 1) || is_some (bound_argument bound 2)))
-    (of_type (or_default (pos 1) number_in (bound_argument bound 0)) (λ height.
-    of_type (or_default (pos 1) number_in (bound_argument bound 4)) (λ radius.
-    of_type (or_default radius number_in (bound_argument bound 1)) (λ low.
-    of_type (or_default radius number_in (bound_argument bound 2)) (λ high.
+    (of_type (or_default (pos 1) number_in_value (bound_argument bound 0)) (λ height.
+    of_type (or_default (pos 1) number_in_value (bound_argument bound 4)) (λ radius.
+    of_type (or_default radius number_in_value (bound_argument bound 1)) (λ low.
+    of_type (or_default radius number_in_value (bound_argument bound 2)) (λ high.
     of_type (or_default false truth_in (bound_argument bound 3)) (λ center.
     refused_where inside WrongDimension (with_four fragments (Ok (a_solid (cylinder_call center height low high))))))))))
-    (cylinder_read inside fragments (or_default (pos 1) number_in (bound_argument bound 0)) (or_default (pos 1) number_in (bound_argument bound 4))
-    (λ radius. or_default radius number_in (bound_argument bound 1)) (λ radius. or_default radius number_in (bound_argument bound 2)) (or_default false truth_in (bound_argument bound 3)))
+    (cylinder_read inside fragments (or_default (pos 1) number_in_value (bound_argument bound 0)) (or_default (pos 1) number_in_value (bound_argument bound 4))
+    (λ radius. or_default radius number_in_value (bound_argument bound 1)) (λ radius. or_default radius number_in_value (bound_argument bound 2)) (or_default false truth_in (bound_argument bound 3)))
 
 extrusion_read : (inside : Bool) (height : Option ℤ) (center : Option Bool) →
     IfOk (of_type height (λ height. of_type center (λ center. refused_where inside WrongDimension (Ok (an_extrusion center height))))) IsSoundCall
@@ -239,24 +239,24 @@ extrusion_read false (Some height) (Some center) = tt
 
 extrusion_sound : (inside a b c : Bool) (v : Option Val) (center : Option Bool) →
     IfOk (required_argument v (λ v. refused_where a NotInProfile (refused_where b NotInProfile (refused_where c NotInProfile
-    (of_type (number_in v) (λ height. of_type center (λ center. refused_where inside WrongDimension (Ok (an_extrusion center height))))))))) IsSoundCall
+    (of_type (number_in_value v) (λ height. of_type center (λ center. refused_where inside WrongDimension (Ok (an_extrusion center height))))))))) IsSoundCall
 extrusion_sound inside a b c None center = tt
 extrusion_sound inside true b c (Some v) center = tt
 extrusion_sound inside false true c (Some v) center = tt
 extrusion_sound inside false false true (Some v) center = tt
-extrusion_sound inside false false false (Some v) center = extrusion_read inside (number_in v) center
+extrusion_sound inside false false false (Some v) center = extrusion_read inside (number_in_value v) center
 
 translate_read : (unit : LengthUnit) (inside : Bool) (by : Option (List ℤ)) →
-    IfOk (of_type by (λ by. refused_where (leaves_plane inside by) WrongDimension (refused_where (some_component is_past (on_grid unit by)) TooLarge (Ok (a_move (translation (point_at (on_grid unit by)) ∷ [])))))) IsSoundCall
+    IfOk (of_type by (λ by. refused_where (leaves_plane inside by) WrongDimension (refused_where (some_component is_past (vector_on_grid unit by)) TooLarge (Ok (a_move (translation (point_at (vector_on_grid unit by)) ∷ [])))))) IsSoundCall
 translate_read unit inside None = tt
 translate_read unit inside (Some by) =
-    refused_sound (leaves_plane inside by) WrongDimension (refused_where (some_component is_past (on_grid unit by)) TooLarge (Ok (a_move (translation (point_at (on_grid unit by)) ∷ [])))) (λ _.
-    refused_sound (some_component is_past (on_grid unit by)) TooLarge (Ok (a_move (translation (point_at (on_grid unit by)) ∷ []))) (λ _.
-    one_step (translation (point_at (on_grid unit by))) one_is_some))
+    refused_sound (leaves_plane inside by) WrongDimension (refused_where (some_component is_past (vector_on_grid unit by)) TooLarge (Ok (a_move (translation (point_at (vector_on_grid unit by)) ∷ [])))) (λ _.
+    refused_sound (some_component is_past (vector_on_grid unit by)) TooLarge (Ok (a_move (translation (point_at (vector_on_grid unit by)) ∷ []))) (λ _.
+    one_step (translation (point_at (vector_on_grid unit by))) one_is_some))
 
 translate_sound : (unit : LengthUnit) (inside : Bool) (v : Option Val) →
     IfOk (required_argument v (λ v. of_type (coordinates_in (pos 0) v) (λ by. refused_where (leaves_plane inside by) WrongDimension
-    (refused_where (some_component is_past (on_grid unit by)) TooLarge (Ok (a_move (translation (point_at (on_grid unit by)) ∷ []))))))) IsSoundCall
+    (refused_where (some_component is_past (vector_on_grid unit by)) TooLarge (Ok (a_move (translation (point_at (vector_on_grid unit by)) ∷ []))))))) IsSoundCall
 translate_sound unit inside None = tt
 translate_sound unit inside (Some v) = translate_read unit inside (coordinates_in (pos 0) v)
 
@@ -308,9 +308,9 @@ matrix_read : (unit : LengthUnit) (inside : Bool) (rows : Option (List (List ℤ
     (refused_where (leaves_plane_by inside rows) WrongDimension (refused_where (some_row (moves_past unit) rows) TooLarge (Ok (a_move (affine_of (rows_on_grid unit rows) ∷ [])))))))) IsSoundCall
 matrix_read unit inside None = tt
 matrix_read unit inside (Some rows) =
-    let moved : Answer EffectCall = Ok (a_move (affine_of (rows_on_grid unit rows) ∷ [])) in
-    let near : Answer EffectCall = refused_where (some_row (moves_past unit) rows) TooLarge moved in
-    let flat : Answer EffectCall = refused_where (leaves_plane_by inside rows) WrongDimension near in
+    let moved : AnswerOrFault EffectCall = Ok (a_move (affine_of (rows_on_grid unit rows) ∷ [])) in
+    let near : AnswerOrFault EffectCall = refused_where (some_row (moves_past unit) rows) TooLarge moved in
+    let flat : AnswerOrFault EffectCall = refused_where (leaves_plane_by inside rows) WrongDimension near in
     refused_sound (some_row (some_component is_past_matrix) rows) TooLarge (refused_where (is_zero (determinant_of (affine_of rows))) Singular flat) (λ _.
     refused_sound (is_zero (determinant_of (affine_of rows))) Singular flat (λ regular.
     refused_sound (leaves_plane_by inside rows) WrongDimension near (λ _.
@@ -343,7 +343,7 @@ effect_sound unit inside fragments Square bound =
     square_sound inside (or_default one (sides_in 2) (bound_argument bound 0)) (or_default false truth_in (bound_argument bound 1))
     (sides_or_default (λ xs. length xs ≡ 2) one (sides_in 2) (bound_argument bound 0) refl two_sides)
 effect_sound unit inside fragments Polygon bound = polygon_sound inside (is_some (bound_argument bound 1)) (bound_argument bound 0)
-effect_sound unit inside fragments Circle bound = circle_sound inside (is_some (bound_argument bound 1)) fragments (or_default (pos 1) number_in (bound_argument bound 0))
+effect_sound unit inside fragments Circle bound = circle_sound inside (is_some (bound_argument bound 1)) fragments (or_default (pos 1) number_in_value (bound_argument bound 0))
 effect_sound unit inside fragments LinearExtrude bound =
     extrusion_sound inside (is_some (bound_argument bound 3)) (is_some (bound_argument bound 4)) (is_some (bound_argument bound 5)) (bound_argument bound 0) (or_default false truth_in (bound_argument bound 1))
 effect_sound unit inside fragments Translate bound = translate_sound unit inside (bound_argument bound 0)
@@ -384,18 +384,18 @@ polyhedron_is_shape : (unit : LengthUnit) (points : List (List ℤ)) (faces : Li
 polyhedron_is_shape unit points faces h =
     shape_of unit points faces h (λ k d lt. body_behind (mesh_of unit points faces) h.surface.convex (get_or faces k d) (h.surface.convex.faces k d lt))
 
-pub solid_is_shape : (unit : LengthUnit) (call : SolidCall) → HasSides call → IsSolidVerdict unit call None → IsShape (solid_of unit call)
+pub solid_is_shape : (unit : LengthUnit) (call : SolidCall) → HasSides call → IsSolidVerdict unit call None → IsShape (solid_mesh unit call)
 solid_is_shape unit (cube_call center size) sides h = cube_is_shape unit center size (omega (arith, sides)) h
 solid_is_shape unit (polyhedron_call points faces) sides h = polyhedron_is_shape unit points faces h
 solid_is_shape unit (cylinder_call center height low high) sides h = cylinder_is_shape unit center height low high h
 
-outline_is_flat : (unit : LengthUnit) (call : FlatCall) → HasFlatSides call → IsFlatVerdict unit call None → IsFlat (outline_of unit call)
+pub outline_is_flat : (unit : LengthUnit) (call : FlatCall) → HasFlatSides call → IsFlatVerdict unit call None → IsFlatShape (flat_outline unit call)
 outline_is_flat unit (square_call center size) sides h = square_is_flat unit center size (omega (arith, sides)) h
 outline_is_flat unit (polygon_call points) sides h = polygon_is_flat unit points h
 outline_is_flat unit (circle_call radius) sides h = sized_circle_is_flat unit radius h
 
 pub extruded_is_shape : (unit : LengthUnit) (through : Extrusion) (call : FlatCall) → AreSizes unit through.center (through.height ∷ []) → HasFlatSides call → IsFlatVerdict unit call None → IsShape (extrusion_mesh unit through call)
 extruded_is_shape unit through call sizes sides h =
-    prism_is_shape (outline_of unit call) (low_end unit through.center through.height) (high_end unit through.center through.height)
+    prism_is_shape (flat_outline unit call) (low_end unit through.center through.height) (high_end unit through.center through.height)
     (ends_of_side unit through.center through.height (sizes.long 0 (pos 0) (omega arith)) (sizes.safe 0 (pos 0) (omega arith)))
     (outline_is_flat unit call sides h)

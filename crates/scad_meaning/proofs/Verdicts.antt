@@ -6,14 +6,14 @@ use Rattle.std.proofs.lemmas.Bool.{false≢true, true≢false}
 use Rattle.text_place.specs.declared.fault.FaultKind.{FaultKind}
 use Rattle.text_place.specs.declared.fault.FaultKind.TheVariants.{BadSize, NotOnGrid, TooLarge, OutOfRange, LongList, FewPoints, NotConvex, NotInProfile}
 use Rattle.plane_predicate.specs.declared.unit.Unit.{Unit as LengthUnit}
-use Rattle.primitives.specs.Sizes.{AreSizes, IsSizeFault, IsLong, IsEven, IsSafe, AreOnGrid, grid_steps}
+use Rattle.primitives.specs.Sizes.{AreSizes, IsSizeFault, IsAtLeastOne, IsEven, IsSafe, AreOnGrid, length_in_grid_steps}
 use Rattle.primitives.specs.Polygons.{polygon_of, IsPolygonFault, IsInRange, IsConvex}
 use Rattle.round_four.specs.Circles.{IsCircleFault}
 use Rattle.round_four.specs.Cylinders.{IsCylinderFault, HasBody, IsOnGrid as IsCentredOnGrid, IsInRange as IsCylinderInRange}
 use Rattle.primitives.specs.Polyhedra.{IsPolyhedron, IsFaultOf, IsFirstToFail, checks, faults}
 use Rattle.scad_modules.specs.Effects.{SolidCall, cube_call, polyhedron_call, cylinder_call, FlatCall, square_call, polygon_call, circle_call}
 use Rattle.scad_hull.specs.Hulls.{points_in_order, AreOnOnePlane}
-use Rattle.scad_hull.specs.Refusals.{AreInRange}
+use Rattle.scad_hull.specs.Refusals.{ArePointsInRange}
 use Rattle.scad_design.specs.Designs.{DesignTree}
 use Rattle.scad_meaning.specs.Hulls.{is_union, points_of, StaySafe, IsHullFault}
 use Rattle.scad_meaning.specs.Verdicts.{Verdict, IsSolidVerdict, IsFlatVerdict, IsHeightVerdict, IsHullVerdict}
@@ -57,19 +57,19 @@ below_one n h k = clash_ℤ h k
 
 -- sides and heights
 abbrev size_checks : LengthUnit → Bool → List ℤ → List (Type 0)
-size_checks unit center sides = All IsLong sides ∷ AreOnGrid unit center sides ∷ All (λ s. IsSafe (grid_steps unit s)) sides ∷ []
+size_checks unit center sides = All IsAtLeastOne sides ∷ AreOnGrid unit center sides ∷ All (λ s. IsSafe (length_in_grid_steps unit s)) sides ∷ []
 
 abbrev size_faults : List FaultKind
 size_faults = BadSize ∷ NotOnGrid ∷ TooLarge ∷ []
 
-odd_grid : (unit : LengthUnit) (center : Bool) (sides : List ℤ) → center ≡ true → Any (λ s. unsigned_abs (grid_steps unit s) % 2 ≡ 1) sides → AreOnGrid unit center sides → ⊥
-odd_grid unit true sides e some all = disagree (λ s. unsigned_abs (grid_steps unit s) % 2 ≡ 1) (IsEven unit) (λ s h k. omega (arith, h, k)) sides some all
+odd_grid : (unit : LengthUnit) (center : Bool) (sides : List ℤ) → center ≡ true → Any (λ s. unsigned_abs (length_in_grid_steps unit s) % 2 ≡ 1) sides → AreOnGrid unit center sides → ⊥
+odd_grid unit true sides e some all = disagree (λ s. unsigned_abs (length_in_grid_steps unit s) % 2 ≡ 1) (IsEven unit) (λ s h k. omega (arith, h, k)) sides some all
 odd_grid unit false sides e some all = absurd (false≢true e)
 
 size_fault : (unit : LengthUnit) (center : Bool) (sides : List ℤ) (kind : FaultKind) → IsSizeFault unit center sides kind → IsFaultOf (size_checks unit center sides) size_faults kind
-size_fault unit center sides BadSize h = record { number = 0; is = refl; fails = λ all. disagree (λ s. s <ℤ pos 1) IsLong below_one sides h all }
+size_fault unit center sides BadSize h = record { number = 0; is = refl; fails = λ all. disagree (λ s. s <ℤ pos 1) IsAtLeastOne below_one sides h all }
 size_fault unit center sides NotOnGrid h = record { number = 1; is = refl; fails = (h.0, odd_grid unit center sides h.1 h.2) }
-size_fault unit center sides TooLarge h = record { number = 2; is = refl; fails = (h.0, (h.1, λ all. disagree (λ s. IsSafe (grid_steps unit s) → ⊥) (λ s. IsSafe (grid_steps unit s)) (λ s a b. a b) sides h.2 all)) }
+size_fault unit center sides TooLarge h = record { number = 2; is = refl; fails = (h.0, (h.1, λ all. disagree (λ s. IsSafe (length_in_grid_steps unit s) → ⊥) (λ s. IsSafe (length_in_grid_steps unit s)) (λ s a b. a b) sides h.2 all)) }
 size_fault unit center sides kind h = absurd h
 
 size_verdict : (unit : LengthUnit) (center : Bool) (sides : List ℤ) → AreSizes unit center sides → AllHold (size_checks unit center sides)
@@ -101,7 +101,7 @@ polygon_fault unit points kind h = absurd h
 
 -- the radius of a circle
 abbrev circle_checks : LengthUnit → ℤ → List (Type 0)
-circle_checks unit radius = (pos 1 ≤ℤ radius) ∷ (unsigned_abs (grid_steps unit radius) ≤ 65535) ∷ []
+circle_checks unit radius = (pos 1 ≤ℤ radius) ∷ (unsigned_abs (length_in_grid_steps unit radius) ≤ 65535) ∷ []
 
 abbrev circle_faults : List FaultKind
 circle_faults = BadSize ∷ OutOfRange ∷ []
@@ -118,7 +118,7 @@ cylinder_checks unit center height low high = HasBody height low high ∷ IsCent
 abbrev cylinder_faults : List FaultKind
 cylinder_faults = BadSize ∷ NotOnGrid ∷ OutOfRange ∷ []
 
-odd_height : (unit : LengthUnit) (center : Bool) (height : ℤ) → center ≡ true → unsigned_abs (grid_steps unit height) % 2 ≡ 1 → IsCentredOnGrid unit center height → ⊥
+odd_height : (unit : LengthUnit) (center : Bool) (height : ℤ) → center ≡ true → unsigned_abs (length_in_grid_steps unit height) % 2 ≡ 1 → IsCentredOnGrid unit center height → ⊥
 odd_height unit true height e h k = omega (arith, h, k)
 odd_height unit false height e h k = absurd (false≢true e)
 
@@ -185,7 +185,7 @@ one_height_verdict unit center height v w h k =
 -- the design and the points of a hull
 abbrev hull_checks : DesignTree → List (Type 0)
 hull_checks design =
-    (is_union design ≡ true) ∷ StaySafe design ∷ AreInRange (points_of design) ∷ (length (points_in_order (points_of design)) ≤ 128)
+    (is_union design ≡ true) ∷ StaySafe design ∷ ArePointsInRange (points_of design) ∷ (length (points_in_order (points_of design)) ≤ 128)
     ∷ (AreOnOnePlane (points_in_order (points_of design)) → ⊥) ∷ []
 
 abbrev hull_faults : List FaultKind

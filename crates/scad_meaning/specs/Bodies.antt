@@ -5,35 +5,35 @@ use Rattle.std.specs.Str.{bytes_eq}
 use Rattle.scad_ast.specs.declared.operator.Modifier.{Modifier}
 use Rattle.scad_ast.specs.declared.operator.Modifier.TheVariants.{Disable, Background, Highlight, Root}
 use Rattle.scad_ast.specs.Terms.{StatementTerm, EmptyStatement, BlockStatement, AssignmentTerm, SpecialAssignmentTerm, ModuleTerm, FunctionTerm, InstanceStatement, StatementTerms, no_statements, and_statement, InstanceTerm, AnInstance, CoreTerm, ModuleCallTerm, BodyTerm, EmptyBody, BlockBody, InstanceBody}
-use Rattle.scad_definitions.specs.Blocks.{Assigned, same_name}
+use Rattle.scad_definitions.specs.Blocks.{SourceAssignment, same_assigned_name}
 use Rattle.scad_func.specs.Meaning.{Env, visible_module}
 
 -- whether an assignment's name is among those of others
-abbrev pub is_named_in : List Assigned → Assigned → Bool
-is_named_in others assignment = list_any (same_name assignment) others
+abbrev pub is_named_in : List SourceAssignment → SourceAssignment → Bool
+is_named_in others assignment = list_any (same_assigned_name assignment) others
 
 -- the first of these assignments that has the name of another one
-abbrev pub first_of_its_name : Assigned → List Assigned → Option Assigned
+abbrev pub first_of_its_name : SourceAssignment → List SourceAssignment → Option SourceAssignment
 first_of_its_name named [] = None
-first_of_its_name named (assignment ∷ rest) = if same_name named assignment then Some assignment else first_of_its_name named rest
+first_of_its_name named (assignment ∷ rest) = if same_assigned_name named assignment then Some assignment else first_of_its_name named rest
 
 -- the later of two assignments, where there is one
-abbrev pub or_later : Option Assigned → Option Assigned → Option Assigned
+abbrev pub or_later : Option SourceAssignment → Option SourceAssignment → Option SourceAssignment
 or_later earlier None = earlier
 or_later earlier (Some later) = Some later
 
 -- the last of these assignments that has the name of another one
-abbrev pub last_of : Assigned → List Assigned → Option Assigned
+abbrev pub last_of : SourceAssignment → List SourceAssignment → Option SourceAssignment
 last_of named [] = None
-last_of named (assignment ∷ rest) = or_later (if same_name named assignment then Some assignment else None) (last_of named rest)
+last_of named (assignment ∷ rest) = or_later (if same_assigned_name named assignment then Some assignment else None) (last_of named rest)
 
 -- an assignment that stands for all of its name: it has the value of the last one, at the place of the first one
-pub record StandsForAll (assignments : List Assigned) (assignment : Assigned) : Type 0 where
+pub record StandsForAll (assignments : List SourceAssignment) (assignment : SourceAssignment) : Type 0 where
   pub last : option_map (λ found. found.value) (last_of assignment assignments) ≡ Some assignment.value
   pub first : option_map (λ found. found.at) (first_of_its_name assignment assignments) ≡ Some assignment.at
 
 -- assignments to different names
-abbrev pub HaveDistinctNames : List Assigned → Type 0
+abbrev pub HaveDistinctNames : List SourceAssignment → Type 0
 HaveDistinctNames [] = ⊤
 HaveDistinctNames (assignment ∷ rest) = (is_named_in rest assignment ≡ false) × HaveDistinctNames rest
 

@@ -9,26 +9,26 @@ use Rattle.plane_predicate.specs.declared.unit.Unit.{Unit as LengthUnit}
 use Rattle.primitives.specs.Shapes.{Mesh}
 use Rattle.scad_ast.specs.Terms.{BinderTerm, StatementTerms, InstanceTerm, AnInstance, CoreTerm, IfTerm, IfElseTerm, ForTerm, IntersectionForTerm, ModuleCallTerm, BodyTerm, ArgTerm, ArgTerms, no_args, and_named, and_special, and_positional, SpecialArgTerm, args_from, place_of_instance, place_of_core}
 use Rattle.scad_value.specs.Values.{Val, NumberVal, Vals, no_vals, and_val, truth_of}
-use Rattle.scad_value.specs.Operators.{Answer}
+use Rattle.scad_value.specs.Operators.{AnswerOrFault}
 use Rattle.scad_scope.specs.Names.{Pairs, find_in}
-use Rattle.scad_definitions.specs.Arguments.{names_of, no_arguments_of, destination_of, with_argument}
-use Rattle.scad_definitions.specs.Blocks.{SourceModule, Assigned, assignments_of, statements_of_body}
+use Rattle.scad_definitions.specs.Arguments.{parameter_names, no_arguments_of, destination_of, with_argument}
+use Rattle.scad_definitions.specs.Blocks.{SourceModule, SourceAssignment, assignments_of, statements_of_body}
 use Rattle.scad_func.specs.Limits.{most_calls, most_evaluations}
-use Rattle.scad_func.specs.Meaning.{Outcome, Gives, Faults, then_with, or_fault, Env, Outermost, Within, Activation, no_activation, activation, visible_module, activation_in, functions_standing_in, modules_standing_in, entered_scope, with_value, turn, Setting, value_at, one_call_fewer, Arguments, each_argument, each_parameter, with_pairs, value_within}
+use Rattle.scad_func.specs.Meaning.{Outcome, Gives, Faults, then_with, or_fault, Env, Outermost, Within, Activation, no_activation, activation, visible_module, activation_in, functions_standing_in, modules_standing_in, entered_scope, with_value, turn, Setting, deeper_value, one_call_fewer, Arguments, each_argument, each_parameter, with_pairs, value_within}
 use Rattle.scad_modules.specs.declared.table.BuiltinModule.{BuiltinModule}
 use Rattle.scad_modules.specs.declared.table.BuiltinModule.TheVariants.{Echo}
 use Rattle.scad_modules.specs.Table.{module_named, is_left_out_module, parameters_of}
 use Rattle.scad_modules.specs.Effects.{EffectCall, a_solid, a_flat, a_move, a_join, a_hull, an_extrusion, no_geometry, some_children, FlatCall, ChosenCall}
 use Rattle.scad_modules.specs.Calls.{effect_of}
-use Rattle.scad_design.specs.Designs.{DesignTree, empty, a_leaf, balanced, join_children, moved_by}
+use Rattle.scad_design.specs.Designs.{DesignTree, empty, a_leaf, balanced_join, join_children, moved_by}
 use Rattle.scad_meaning.specs.declared.extrusion.Extrusion.{Extrusion}
 use Rattle.scad_meaning.specs.Hulls.{is_nothing, hull_mesh}
-use Rattle.scad_meaning.specs.Verdicts.{Judge, Verdict, solid_of, extrusion_mesh}
+use Rattle.scad_meaning.specs.Verdicts.{Judge, Verdict, solid_mesh, extrusion_mesh}
 use Rattle.scad_meaning.specs.Bodies.{evaluated_in, children_in, has_root_modifier, has_no_geometry, is_bare}
 use Rattle.scad_meaning.specs.Loops.{items_of, chosen_among}
 
--- the context of an instance: the calls that are left, the scope, the dynamic bindings of special names, the extrusion that it is inside
--- of, and whether it is inside an instance that is marked `!`
+-- the context of an instance: the calls that are left, the scope, the dynamic bindings of special names, the extrusion that
+-- it is inside of, and whether it is inside an instance that is marked `!`
 pub record Context : Type 0 where
   pub calls_left : ℕ
   pub env : Env
@@ -118,18 +118,18 @@ pub record Evaluator : Type 0 where
   pub at_next_depth : EvaluatesInstance
 
 -- the value of an assignment: its statement is one evaluation deeper, and its expression one more
-abbrev pub assigned_value : ℕ → Context → Assigned → ℕ → Outcome Val
+abbrev pub assigned_value : ℕ → Context → SourceAssignment → ℕ → Outcome Val
 assigned_value zero here assignment turns = Faults TooDeep assignment.at
-assigned_value (suc evaluations) here assignment turns = value_at (setting evaluations here) true assignment.value turns
+assigned_value (suc evaluations) here assignment turns = deeper_value (setting evaluations here) true assignment.value turns
 
 -- the context with one more assignment: a special name goes among the dynamic bindings, a variable into the scope
-abbrev pub with_assignment : Assigned → Val → Context → Context
+abbrev pub with_assignment : SourceAssignment → Val → Context → Context
 with_assignment assignment value here =
     if assignment.special then with_bindings here ((assignment.name, value) ∷ here.bindings)
     else inside_scope here (with_value assignment.name value here.env)
 
 -- the scope with its assignments, from the first on
-abbrev pub each_assigned : ℕ → Context → List Assigned → ℕ → Outcome Context
+abbrev pub each_assigned : ℕ → Context → List SourceAssignment → ℕ → Outcome Context
 each_assigned evaluations here [] turns = Gives turns here
 each_assigned evaluations here (assignment ∷ rest) turns =
     then_with (assigned_value evaluations here assignment turns) (λ turns value.
@@ -173,13 +173,13 @@ body_design evaluator op here body turns leaves =
     then_with (each_in_body evaluator here body turns leaves) (λ turns members. Gives turns (joined_members op members))
 
 -- a step of a loop that gave no member counts one turn when it ends
-abbrev pub after_step : Place → List DesignTree → ℕ → (ℕ → Outcome MemberDesigns) → Outcome MemberDesigns
-after_step at [] turns go = turn at turns go
-after_step at (design ∷ designs) turns go = go turns
+abbrev pub turn_after_step : Place → List DesignTree → ℕ → (ℕ → Outcome MemberDesigns) → Outcome MemberDesigns
+turn_after_step at [] turns go = turn at turns go
+turn_after_step at (design ∷ designs) turns go = go turns
 
 -- a step of a loop with the turn that it counts when it ends
 abbrev pub counted_step : Place → Outcome MemberDesigns → Outcome MemberDesigns
-counted_step at step = then_with step (λ turns members. after_step at members.designs turns (λ turns. Gives turns members))
+counted_step at step = then_with step (λ turns members. turn_after_step at members.designs turns (λ turns. Gives turns members))
 
 -- for each item of a list the members that its step gives
 abbrev pub each_step : Place → (Val → ℕ → ℕ → Outcome MemberDesigns) → Vals → ℕ → ℕ → Outcome MemberDesigns
@@ -200,7 +200,7 @@ each_iteration evaluator at [] body here turns leaves =
     then_with (body_design evaluator Union here body turns leaves) (λ turns result.
     Gives turns (as_member true result)))
 each_iteration evaluator at (binder ∷ binders) body here turns leaves =
-    then_with (value_at (setting evaluator.evaluations here) true binder.values turns) (λ turns value.
+    then_with (deeper_value (setting evaluator.evaluations here) true binder.values turns) (λ turns value.
     or_fault (items_of value) TypeMismatch at (λ items.
     each_step at (λ item. each_iteration evaluator at binders body (in_loop here binder.name item)) items turns leaves))
 
@@ -237,7 +237,7 @@ hull_design verdict at result turns =
     (then_with (leaf_design at (hull_mesh result.design) turns result.leaves) (λ turns leaf. Gives turns (with_leaf_of result leaf)))
 
 -- what follows from an answer, or its fault at a place
-abbrev pub answered_with : {A B : Type 0} → Answer A → Place → (A → Outcome B) → Outcome B
+abbrev pub answered_with : {A B : Type 0} → AnswerOrFault A → Place → (A → Outcome B) → Outcome B
 answered_with (Ok x) at go = go x
 answered_with (Err kind) at go = Faults kind at
 
@@ -249,7 +249,7 @@ children_count caller children =
 -- the scope of a module's body
 abbrev pub module_scope : Env → SourceModule → Vals → StatementTerms → Env → Env
 module_scope defining_scope defined values children caller =
-    Within (children_count caller children ∷ with_pairs (names_of defined.params) values [])
+    Within (children_count caller children ∷ with_pairs (parameter_names defined.params) values [])
     (functions_standing_in (statements_of_body defined.body)) (modules_standing_in (statements_of_body defined.body))
     (activation children caller) defining_scope
 
@@ -260,7 +260,8 @@ module_filled evaluator found values body here turns leaves =
     (statements_of_body found.0.body) turns leaves) (λ turns members.
     Gives turns (joined_members Union members))
 
--- a module with its arguments: its special arguments stand among the dynamic bindings, and its defaults are evaluated in the scope of its definition
+-- a module with its arguments: its special arguments stand among the dynamic bindings, and its defaults are evaluated in the
+-- scope of its definition
 abbrev pub module_given : Evaluator → SourceModule × Env → Arguments → BodyTerm → Context → ℕ → ℕ → Outcome InstanceDesign
 module_given evaluator found given body here turns leaves =
     let there = with_bindings here (given.dynamic ++ here.bindings) in
@@ -278,12 +279,12 @@ module_design evaluator here at found given body turns leaves =
 abbrev pub each_echo_argument : Setting → ArgTerms → Arguments → ℕ → Outcome Arguments
 each_echo_argument here no_args given turns = Gives turns given
 each_echo_argument here (and_named at name expression rest) given turns =
-    then_with (value_at here true expression turns) (λ turns value. each_echo_argument here rest given turns)
+    then_with (deeper_value here true expression turns) (λ turns value. each_echo_argument here rest given turns)
 each_echo_argument here (and_special at name expression rest) given turns =
     or_fault (destination_of [] 0 given (SpecialArgTerm at name expression)) BadArgument at (λ target.
-    then_with (value_at here true expression turns) (λ turns value. each_echo_argument here rest (with_argument given target value) turns))
+    then_with (deeper_value here true expression turns) (λ turns value. each_echo_argument here rest (with_argument given target value) turns))
 each_echo_argument here (and_positional expression rest) given turns =
-    then_with (value_at here true expression turns) (λ turns value. each_echo_argument here rest given turns)
+    then_with (deeper_value here true expression turns) (λ turns value. each_echo_argument here rest given turns)
 
 -- the arguments of a built-in module
 abbrev pub arguments_for : BuiltinModule → Setting → ArgTerms → ℕ → Outcome Arguments
@@ -304,14 +305,14 @@ chosen_children evaluator at chosen here turns leaves =
     one_call_fewer here.calls_left at (λ calls. children_design evaluator (with_calls_left here calls) (activation_in here.env) chosen turns leaves)
 
 -- what a call gives, and one turn more at its name where it was idle
-abbrev pub after_call : Place → Bool → ℕ → InstanceDesign → Outcome InstanceDesign
-after_call at idle turns result = if idle then turn at turns (λ turns. Gives turns result) else Gives turns result
+abbrev pub turn_after_call : Place → Bool → ℕ → InstanceDesign → Outcome InstanceDesign
+turn_after_call at idle turns result = if idle then turn at turns (λ turns. Gives turns result) else Gives turns result
 
--- A call that began after so many turns and leaves, with the turn that it counts when it ends: one where nothing was counted and
--- no leaf was evaluated since, so that no way through calls alone goes on uncounted
+-- A call that began after so many turns and leaves, with the turn that it counts when it ends: one where nothing was counted
+-- and no leaf was evaluated since, so that no way through calls alone goes on uncounted
 abbrev pub counted_call : Place → ℕ → ℕ → Outcome InstanceDesign → Outcome InstanceDesign
 counted_call at turns leaves call =
-    then_with call (λ after result. after_call at (nat_eq after turns && nat_eq result.leaves leaves) after result)
+    then_with call (λ after result. turn_after_call at (nat_eq after turns && nat_eq result.leaves leaves) after result)
 
 -- a call of `children`, whose arguments were evaluated before it began
 abbrev pub counted_children : Evaluator → Place → ChosenCall → Context → ℕ → ℕ → Outcome InstanceDesign
@@ -330,7 +331,7 @@ program_context bindings statements = record {
 
 -- the design of a program: the first one marked `!`, or else all
 abbrev pub or_all : Option DesignTree → List DesignTree → DesignTree
-or_all None designs = balanced Union designs
+or_all None designs = balanced_join Union designs
 or_all (Some design) designs = design
 
 -- a shape in the plane stands inside an extrusion
@@ -342,7 +343,7 @@ flat_design evaluator (Some through) at call turns leaves =
 -- what a call of a built-in module does, with its special arguments among the dynamic bindings
 abbrev pub effect_design : Evaluator → Context → Place → EffectCall → BodyTerm → ℕ → ℕ → Outcome InstanceDesign
 effect_design evaluator here at (a_solid call) body turns leaves =
-    unless_refused (evaluator.judge.solid evaluator.unit call) at (leaf_design at (solid_of evaluator.unit call) turns leaves)
+    unless_refused (evaluator.judge.solid evaluator.unit call) at (leaf_design at (solid_mesh evaluator.unit call) turns leaves)
 effect_design evaluator here at (a_flat call) body turns leaves = flat_design evaluator here.inside at call turns leaves
 effect_design evaluator here at (a_move steps) body turns leaves =
     then_with (body_design evaluator Union here body turns leaves) (λ turns result. Gives turns (moved_design (moved_by steps) result))
@@ -374,7 +375,7 @@ built_in_design evaluator here at name args body (Some builtin) turns leaves =
 -- a call of a module: the source's go before built-in ones
 abbrev pub call_design : Evaluator → Context → Place → List ℕ → List ArgTerm → BodyTerm → Option (SourceModule × Env) → ℕ → ℕ → Outcome InstanceDesign
 call_design evaluator here at name args body (Some found) turns leaves =
-    then_with (each_argument (setting evaluator.evaluations here) (names_of found.0.params) 0 (args_from args) (no_arguments_of (length found.0.params)) turns) (λ turns given.
+    then_with (each_argument (setting evaluator.evaluations here) (parameter_names found.0.params) 0 (args_from args) (no_arguments_of (length found.0.params)) turns) (λ turns given.
     module_design evaluator here at found given body turns leaves)
 call_design evaluator here at name args body None turns leaves =
     built_in_design evaluator here at name args body (module_named name) turns leaves
@@ -382,10 +383,10 @@ call_design evaluator here at name args body None turns leaves =
 -- what an instance without its modifiers gives
 abbrev pub core_design : Evaluator → Context → CoreTerm → ℕ → ℕ → Outcome InstanceDesign
 core_design evaluator here (IfTerm at test body) turns leaves =
-    then_with (value_at (setting evaluator.evaluations here) true test turns) (λ turns value.
+    then_with (deeper_value (setting evaluator.evaluations here) true test turns) (λ turns value.
     if truth_of value then body_design evaluator Union here body turns leaves else Gives turns (no_design leaves))
 core_design evaluator here (IfElseTerm at test body other) turns leaves =
-    then_with (value_at (setting evaluator.evaluations here) true test turns) (λ turns value.
+    then_with (deeper_value (setting evaluator.evaluations here) true test turns) (λ turns value.
     body_design evaluator Union here (if truth_of value then body else other) turns leaves)
 core_design evaluator here (ForTerm at binders body) turns leaves =
     loop_design evaluator Union here at binders body turns leaves
@@ -394,7 +395,8 @@ core_design evaluator here (IntersectionForTerm at binders body) turns leaves =
 core_design evaluator here (ModuleCallTerm at name args body) turns leaves =
     call_design evaluator here at name args body (visible_module here.env name) turns leaves
 
--- What an instance gives that is marked `!`: its design is the root, and a member of what stands around it as if there were no mark
+-- What an instance gives that is marked `!`: its design is the root, and a member of what stands around it as if there were
+-- no mark
 abbrev pub as_root : InstanceDesign → InstanceDesign
 as_root result = record { leaves = result.leaves; design = result.design; root = Some result.design }
 

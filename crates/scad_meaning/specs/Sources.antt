@@ -11,9 +11,9 @@ use Rattle.text_place.specs.declared.fault.Stop.TheVariants.{Fault, NoMemory}
 use Rattle.scad_scope.specs.Names.{first_bindings}
 use Rattle.scad_func.specs.Meaning.{Outcome, Gives, Faults}
 use Rattle.scad_design.specs.Designs.{DesignTree}
-use Rattle.scad_meaning.specs.Verdicts.{Judge, IsRight}
+use Rattle.scad_meaning.specs.Verdicts.{Judge, IsRightJudge}
 use Rattle.scad_meaning.specs.Meaning.{design_of}
-use Rattle.scad_design.specs.Placing.{Placed, placed, unplaced, Places}
+use Rattle.scad_design.specs.Placing.{PlacingOutcome, placed, unplaced, Places}
 
 -- a program means a tree, or has a first fault
 pub data Meaning : Type 0 where
@@ -21,19 +21,19 @@ pub data Meaning : Type 0 where
   a_fault : (kind : FaultKind) → (at : Place) → Meaning
 
 -- this is what the placing of a design means
-abbrev pub IsMeaningOf : Placed → Meaning → Type 0
+abbrev pub IsMeaningOf : PlacingOutcome → Meaning → Type 0
 IsMeaningOf (placed tree known) meaning = meaning ≡ a_tree tree
 IsMeaningOf (unplaced kind at) meaning = meaning ≡ a_fault kind at
 
 -- a fault of evaluation comes before those of placing
 abbrev pub IsMeaningOfDesign : Outcome DesignTree → Meaning → Type 0
 IsMeaningOfDesign (Faults kind at) meaning = meaning ≡ a_fault kind at
-IsMeaningOfDesign (Gives turns design) meaning = (out : Placed) × Places design [] out × IsMeaningOf out meaning
+IsMeaningOfDesign (Gives turns design) meaning = (out : PlacingOutcome) × Places design [] out × IsMeaningOf out meaning
 
 -- the meaning of a program in units, by whatever is right about shapes
 abbrev pub IsMeaning : LengthUnit → List StatementTerm → Meaning → Type 0
 IsMeaning unit program meaning =
-    (judge : Judge) → IsRight judge → IsMeaningOfDesign (design_of unit judge first_bindings (statements_from program)) meaning
+    (judge : Judge) → IsRightJudge judge → IsMeaningOfDesign (design_of unit judge first_bindings (statements_from program)) meaning
 
 -- a stop of evaluation: the program's first fault, or want of memory
 abbrev pub IsMeaningStop : LengthUnit → List StatementTerm → Stop → Type 0

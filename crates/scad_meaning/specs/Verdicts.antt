@@ -5,7 +5,7 @@ use Rattle.plane_predicate.specs.declared.unit.Unit.{Unit as LengthUnit}
 use Rattle.primitives.specs.Shapes.{Mesh}
 use Rattle.primitives.specs.Sizes.{AreSizes, IsSizeFault}
 use Rattle.primitives.specs.Boxes.{cube_of}
-use Rattle.primitives.specs.Polygons.{square_of, polygon_of, IsPolygon, IsPolygonFault}
+use Rattle.primitives.specs.Polygons.{square_of, polygon_of, IsWrittenPolygon, IsPolygonFault}
 use Rattle.primitives.specs.Prisms.{extrusion_of}
 use Rattle.round_four.specs.Circles.{circle_of, IsCircleSize, IsCircleFault}
 use Rattle.round_four.specs.Cylinders.{cylinder_of, AreCylinderSizes, IsCylinderFault}
@@ -40,7 +40,7 @@ IsSolidVerdict unit (cylinder_call center height low high) (Some kind) = IsCylin
 abbrev pub IsFlatVerdict : LengthUnit → FlatCall → Verdict → Type 0
 IsFlatVerdict unit (square_call center size) None = AreSizes unit center size
 IsFlatVerdict unit (square_call center size) (Some kind) = IsSizeFault unit center size kind
-IsFlatVerdict unit (polygon_call points) None = IsPolygon unit points
+IsFlatVerdict unit (polygon_call points) None = IsWrittenPolygon unit points
 IsFlatVerdict unit (polygon_call points) (Some kind) = IsPolygonFault unit points kind
 IsFlatVerdict unit (circle_call radius) None = IsCircleSize unit radius
 IsFlatVerdict unit (circle_call radius) (Some kind) = IsCircleFault unit radius kind
@@ -56,24 +56,24 @@ IsHullVerdict design None = HasHull design
 IsHullVerdict design (Some kind) = IsHullFault design kind
 
 -- a judge that is always right
-pub record IsRight (judge : Judge) : Type 0 where
+pub record IsRightJudge (judge : Judge) : Type 0 where
   pub solid : (unit : LengthUnit) (call : SolidCall) → IsSolidVerdict unit call (judge.solid unit call)
   pub flat : (unit : LengthUnit) (call : FlatCall) → IsFlatVerdict unit call (judge.flat unit call)
   pub height : (unit : LengthUnit) (center : Bool) (height : ℤ) → IsHeightVerdict unit center height (judge.height unit center height)
   pub hull : (design : DesignTree) → IsHullVerdict design (judge.hull design)
 
 -- the shape with nothing wrong, in grid steps
-abbrev pub solid_of : LengthUnit → SolidCall → Mesh
-solid_of unit (cube_call center size) = cube_of unit center size
-solid_of unit (polyhedron_call points faces) = mesh_of unit points faces
-solid_of unit (cylinder_call center height low high) = cylinder_of unit center height low high
+abbrev pub solid_mesh : LengthUnit → SolidCall → Mesh
+solid_mesh unit (cube_call center size) = cube_of unit center size
+solid_mesh unit (polyhedron_call points faces) = mesh_of unit points faces
+solid_mesh unit (cylinder_call center height low high) = cylinder_of unit center height low high
 
 -- the outline of a flat shape with nothing wrong, in grid steps
-abbrev pub outline_of : LengthUnit → FlatCall → List (List ℤ)
-outline_of unit (square_call center size) = square_of unit center size
-outline_of unit (polygon_call points) = polygon_of unit points
-outline_of unit (circle_call radius) = circle_of unit radius
+abbrev pub flat_outline : LengthUnit → FlatCall → List (List ℤ)
+flat_outline unit (square_call center size) = square_of unit center size
+flat_outline unit (polygon_call points) = polygon_of unit points
+flat_outline unit (circle_call radius) = circle_of unit radius
 
 -- the extrusion of a flat shape, in grid steps
 abbrev pub extrusion_mesh : LengthUnit → Extrusion → FlatCall → Mesh
-extrusion_mesh unit through call = extrusion_of unit through.center (outline_of unit call) through.height
+extrusion_mesh unit through call = extrusion_of unit through.center (flat_outline unit call) through.height

@@ -18,7 +18,7 @@ ghost use Rattle.scad_modules.specs.Effects.{SolidCall, FlatCall};
 ghost use Rattle.csg_tree.specs.Formulas.{Formula};
 ghost use Rattle.csg_tree.specs.ProperTrees.{IsProper};
 ghost use Rattle.scad_design.specs.Designs.{DesignTree};
-ghost use Rattle.scad_meaning.specs.Verdicts.{Verdict, Judge, IsRight, IsSolidVerdict, IsFlatVerdict, IsHeightVerdict, IsHullVerdict};
+ghost use Rattle.scad_meaning.specs.Verdicts.{Verdict, Judge, IsRightJudge, IsSolidVerdict, IsFlatVerdict, IsHeightVerdict, IsHullVerdict};
 ghost use Rattle.scad_meaning.specs.Sources.{Meaning, a_fault, a_tree, IsMeaning};
 
 use scad_design::{designs_stay_trim, one_placing, placed_trees_are_proper, some_placing};
@@ -40,7 +40,7 @@ pub fn last_assignments_count()
 /// What is wrong with a shape, with the height of an extrusion or with a hull is one thing: some judge is always right, and
 /// no two verdicts are.
 pub fn shapes_have_one_verdict()
-    ensures some { (judge : Judge) × IsRight judge }
+    ensures some { (judge : Judge) × IsRightJudge judge }
     ensures solids { (unit : LengthUnit) (call : SolidCall) (v w : Verdict) →
         IsSolidVerdict unit call v → IsSolidVerdict unit call w → v ≡ w }
     ensures flats { (unit : LengthUnit) (call : FlatCall) (v w : Verdict) →
@@ -54,7 +54,7 @@ pub fn shapes_have_one_verdict()
 /// Where nothing is wrong with the hull of what children give, a point is strictly behind all of its faces exactly where it is
 /// a combination, with weights above 0, of the points of their leaves, each moved by its leaf's steps.
 pub fn hulls_in_programs_hold_inner_combinations()
-    ensures { (judge : Judge) → IsRight judge → (design : DesignTree) → judge.hull design ≡ None →
+    ensures { (judge : Judge) → IsRightJudge judge → (design : DesignTree) → judge.hull design ≡ None →
         (q : Coordinates) →
         pos 0 <ℤ q.w →
         IsInside (hull_mesh design) q ↔ IsInnerCombination (points_in_order (points_of design)) q }

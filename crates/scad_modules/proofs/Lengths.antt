@@ -4,7 +4,7 @@ use Rattle.std.proofs.lemmas.Bool.{eqb-true}
 use Rattle.scad_value.specs.declared.value.Value.{Value}
 use Rattle.scad_value.specs.Values.{Val, vals_from}
 use Rattle.scad_value.specs.View.{val_of, vals_in}
-use Rattle.scad_modules.specs.Reading.{number_in, with_first, each_in, of_length, with_third_from}
+use Rattle.scad_modules.specs.Reading.{number_in_value, with_first, each_in, of_length, with_third_from}
 
 -- what is read has so many items
 abbrev pub IsAsLong : {A : Type 0} → ℕ → Option (List A) → Type 0
@@ -44,5 +44,5 @@ none_filled third m (Some (x ∷ y ∷ z ∷ [])) a h k = absurd (k (sym a))
 none_filled third m (Some (x ∷ y ∷ z ∷ w ∷ xs)) a h k = refl
 
 pub no_coordinates : (third : ℤ) (vs : List Value) → (length vs ≡ 2 → ⊥) → (length vs ≡ 3 → ⊥)
-    → None ≡ with_third_from third (each_in number_in (vals_from (vals_in vs)))
-no_coordinates third vs h k = none_filled third (length vs) _ (as_long number_in vs) h k
+    → None ≡ with_third_from third (each_in number_in_value (vals_from (vals_in vs)))
+no_coordinates third vs h k = none_filled third (length vs) _ (as_long number_in_value vs) h k

@@ -5,9 +5,9 @@ use Rattle.text_place.specs.declared.fault.FaultKind.TheVariants.{BadArgument, T
 use Rattle.csg_tree.specs.declared.op.Op.TheVariants as ops
 use Rattle.plane_predicate.specs.declared.unit.Unit.TheVariants.{Whole, Half}
 use Rattle.plane_predicate.specs.Space.{point_at}
-use Rattle.int_transform.specs.Maps.{identity, translation, scale_map, reflection, quarter_turn, affine_of}
+use Rattle.int_transform.specs.Maps.{identity, translation, scale_map, reflection, quarter_rotation, affine_of}
 use Rattle.scad_value.specs.Values.{Val, NumberVal, TruthVal, TextVal, ListVal, RangeVal, UndefVal, vals_from}
-use Rattle.scad_value.specs.Operators.{Answer}
+use Rattle.scad_value.specs.Operators.{AnswerOrFault}
 use Rattle.scad_modules.specs.declared.table.BuiltinModule.{BuiltinModule}
 use Rattle.scad_modules.specs.declared.table.BuiltinModule.TheVariants.{Cube, Polyhedron, Cylinder, Square, Polygon, Circle, LinearExtrude, Translate, Rotate, Mirror, Scale, Multmatrix, Union, Hull, Color, Echo, Assert, Children}
 use Rattle.scad_modules.specs.Effects.{EffectCall, a_solid, a_flat, a_move, a_join, a_hull, an_extrusion, no_geometry, some_children, cube_call, polyhedron_call, cylinder_call, square_call, polygon_call, circle_call, all_children, numbered_children, ranged_children}
@@ -27,18 +27,18 @@ abbrev listed : List Val → Option Val
 listed vs = Some (ListVal (vals_from vs))
 
 -- a call outside an extrusion and one inside it, with 4 fragments, in whole units
-abbrev outside : BuiltinModule → List (Option Val) → Answer EffectCall
+abbrev outside : BuiltinModule → List (Option Val) → AnswerOrFault EffectCall
 outside = effect_of Whole false (given 4)
 
-abbrev inside : BuiltinModule → List (Option Val) → Answer EffectCall
+abbrev inside : BuiltinModule → List (Option Val) → AnswerOrFault EffectCall
 inside = effect_of Whole true (given 4)
 
 -- rotate([90,0,90]), rotate(90), rotate([0,0,-90]), rotate(45), rotate([360,0,0]) inside an extrusion
 quarter_turns_about : outside Rotate (Some (vector (pos 90 ∷ pos 0 ∷ pos 90 ∷ [])) ∷ None ∷ [])
-    ≡ Ok (a_move (quarter_turn 0 ∷ identity ∷ quarter_turn 2 ∷ []))
+    ≡ Ok (a_move (quarter_rotation 0 ∷ identity ∷ quarter_rotation 2 ∷ []))
 quarter_turns_about = refl
 
-turned_about_z : inside Rotate (given 90 ∷ None ∷ []) ≡ Ok (a_move (identity ∷ identity ∷ quarter_turn 2 ∷ []))
+turned_about_z : inside Rotate (given 90 ∷ None ∷ []) ≡ Ok (a_move (identity ∷ identity ∷ quarter_rotation 2 ∷ []))
 turned_about_z = refl
 
 turned_back : outside Rotate (Some (vector (pos 0 ∷ pos 0 ∷ pos 270 ∷ [])) ∷ [])

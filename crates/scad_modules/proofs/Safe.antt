@@ -10,8 +10,8 @@ use Rattle.primitives.specs.Sizes.{IsSafe}
 use Rattle.scad_value.specs.declared.bounded_value.BoundedValue.{BoundedValue}
 use Rattle.scad_value.specs.BoundedView.{bounded_val}
 use Rattle.scad_value.specs.Values.{Val, NumberVal, ListVal, RangeVal, Vals, no_vals, and_val, is_small, has_small_numbers, have_small_numbers}
-use Rattle.scad_modules.specs.Reading.{bound_argument, number_in, with_first, each_in, of_length, sides_in, with_third_from, factors_in, or_default}
-use Rattle.scad_modules.specs.ArgumentView.{bound_arguments_in, Reads}
+use Rattle.scad_modules.specs.Reading.{bound_argument, number_in_value, with_first, each_in, of_length, sides_in, with_third_from, factors_in, or_default}
+use Rattle.scad_modules.specs.ArgumentView.{bound_arguments_in, ReadsArgument}
 use Rattle.scad_modules.specs.Bounds.{IsSafeChoice}
 use Rattle.scad_modules.specs.Effects.{ChosenCall, all_children, numbered_children}
 use Rattle.scad_modules.specs.Transforms.{component, factors_for}
@@ -42,7 +42,7 @@ slot_small (Some v ∷ bound) zero = small_val v
 slot_small (given ∷ bound) (suc k) = slot_small bound k
 
 -- numbers and lists of numbers
-number_safe : (v : Val) → IsSmallVal v → OnRead IsSafe (number_in v)
+number_safe : (v : Val) → IsSmallVal v → OnRead IsSafe (number_in_value v)
 number_safe (NumberVal n) s = safe_number n s
 number_safe v s = tt
 
@@ -52,10 +52,10 @@ first_safe None xs p q = tt
 first_safe (Some x) None p q = tt
 first_safe (Some x) (Some xs) p q = All-cons IsSafe x xs p q
 
-each_safe : (vs : Vals) → IsTrue (have_small_numbers vs) → OnRead AreSafe (each_in number_in vs)
+each_safe : (vs : Vals) → IsTrue (have_small_numbers vs) → OnRead AreSafe (each_in number_in_value vs)
 each_safe no_vals s = All-nil IsSafe
 each_safe (and_val v vs) s = let p = and_parts _ _ s in
-    first_safe (number_in v) (each_in number_in vs) (number_safe v p.0) (each_safe vs p.1)
+    first_safe (number_in_value v) (each_in number_in_value vs) (number_safe v p.0) (each_safe vs p.1)
 
 length_safe : (n : ℕ) (xs : Option (List ℤ)) → OnRead AreSafe xs → OnRead AreSafe (of_length n xs)
 length_safe n None p = tt
@@ -71,7 +71,7 @@ copies_safe (suc n) x p = All-cons IsSafe x (replicate n x) p (copies_safe n x p
 
 sides_safe : (n : ℕ) (v : Val) → IsSmallVal v → OnRead AreSafe (sides_in n v)
 sides_safe n (NumberVal side) s = copies_safe n side (safe_number side s)
-sides_safe n (ListVal items) s = length_safe n (each_in number_in items) (each_safe items s)
+sides_safe n (ListVal items) s = length_safe n (each_in number_in_value items) (each_safe items s)
 sides_safe n v s = tt
 
 part_safe : (by : List ℤ) (k : ℕ) → All IsSafe by → unsigned_abs (component by k) ≤ 9007199254740991
@@ -94,7 +94,7 @@ one_safe = record { size = omega arith }
 
 factors_safe : (v : Val) → IsSmallVal v → OnRead AreSafe (factors_in v)
 factors_safe (NumberVal n) s = copies_safe 3 n (safe_number n s)
-factors_safe (ListVal items) s = filled_safe (pos 1) (each_in number_in items) one_safe (each_safe items s)
+factors_safe (ListVal items) s = filled_safe (pos 1) (each_in number_in_value items) one_safe (each_safe items s)
 factors_safe v s = tt
 
 -- the factors of a scaling
@@ -114,9 +114,9 @@ default_safe P default read None p h s = p
 default_safe P default read (Some v) p h s = h v s
 
 pub number_or_safe : (bound : List (Option BoundedValue)) (k : ℕ) (default : ℤ) → IsSafe default
-    → OnRead IsSafe (or_default default number_in (bound_argument (bound_arguments_in bound) k))
+    → OnRead IsSafe (or_default default number_in_value (bound_argument (bound_arguments_in bound) k))
 number_or_safe bound k default p =
-    default_safe IsSafe default number_in (bound_argument (bound_arguments_in bound) k) p number_safe (slot_small bound k)
+    default_safe IsSafe default number_in_value (bound_argument (bound_arguments_in bound) k) p number_safe (slot_small bound k)
 
 pub three_safe : (bound : List (Option BoundedValue))
     → OnRead AreSafe (or_default (pos 1 ∷ pos 1 ∷ pos 1 ∷ []) (sides_in 3) (bound_argument (bound_arguments_in bound) 0))
@@ -134,7 +134,7 @@ chosen_safe : (v : Val) → IsSmallVal v → OnRead IsSafeChoice (chosen_in v)
 chosen_safe (NumberVal n) s = All-cons IsSafe n [] (safe_number n s) (All-nil IsSafe)
 chosen_safe (RangeVal from by upto) s = let p = and_parts _ _ s in let q = and_parts _ _ p.1 in
     (safe_number from p.0, safe_number by q.0, safe_number upto q.1)
-chosen_safe (ListVal items) s = some_numbered (each_in number_in items) (each_safe items s)
+chosen_safe (ListVal items) s = some_numbered (each_in number_in_value items) (each_safe items s)
   where
     some_numbered : (ns : Option (List ℤ)) → OnRead AreSafe ns → OnRead IsSafeChoice (option_map numbered_children ns)
     some_numbered None p = tt
@@ -148,7 +148,7 @@ choice_safe bound choice e =
     (default_safe IsSafeChoice all_children chosen_in (bound_argument (bound_arguments_in bound) 0) tt chosen_safe (slot_small bound 0))
 
 -- what the code has read
-pub reads_safe : {A : Type 0} (P : A → Type 0) (r : Result A FaultKind) (read : Option A) → Reads r read
+pub reads_safe : {A : Type 0} (P : A → Type 0) (r : Result A FaultKind) (read : Option A) → ReadsArgument r read
     → OnRead P read → IfOk r P
 reads_safe P (Ok x) read e p = subst (OnRead P) e p
 reads_safe P (Err kind) read e p = tt

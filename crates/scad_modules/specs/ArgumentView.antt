@@ -10,12 +10,12 @@ use Rattle.scad_value.specs.BoundedView.{bounded_val}
 pub use Rattle.scad_value.specs.BoundedView.{bound_argument_of, bound_arguments_in}
 
 -- what was read, or TypeMismatch where there is none
-abbrev pub Reads : {A : Type 0} → Result A FaultKind → Option A → Type 0
-Reads (Ok x) read = read ≡ Some x
-Reads (Err kind) read = (read ≡ None) × (kind ≡ TypeMismatch)
+abbrev pub ReadsArgument : {A : Type 0} → Result A FaultKind → Option A → Type 0
+ReadsArgument (Ok x) read = read ≡ Some x
+ReadsArgument (Err kind) read = (read ≡ None) × (kind ≡ TypeMismatch)
 
 -- the same for what is seen in some way, unless memory ran out
-abbrev pub ReadsAs : {A B : Type 0} → (A → B) → Result A ValueStop → Option B → Type 0
-ReadsAs seen (Ok x) read = read ≡ Some (seen x)
-ReadsAs seen (Err (Kind kind)) read = (read ≡ None) × (kind ≡ TypeMismatch)
-ReadsAs seen (Err NoMemory) read = Unit {0}
+abbrev pub ReadsArgumentAs : {A B : Type 0} → (A → B) → Result A ValueStop → Option B → Type 0
+ReadsArgumentAs seen (Ok x) read = read ≡ Some (seen x)
+ReadsArgumentAs seen (Err (Kind kind)) read = (read ≡ None) × (kind ≡ TypeMismatch)
+ReadsArgumentAs seen (Err NoMemory) read = Unit {0}

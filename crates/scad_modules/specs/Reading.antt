@@ -3,7 +3,7 @@ use Rattle.std.specs.Prelude.{ℕ, ℤ, pos, negsuc, Bool, true, false, List, []
 use Rattle.text_place.specs.declared.fault.FaultKind.{FaultKind}
 use Rattle.text_place.specs.declared.fault.FaultKind.TheVariants.{BadArgument, NotInProfile, TypeMismatch}
 use Rattle.scad_value.specs.Values.{Val, NumberVal, TruthVal, ListVal, Vals, no_vals, and_val}
-use Rattle.scad_value.specs.Operators.{Answer}
+use Rattle.scad_value.specs.Operators.{AnswerOrFault}
 pub use Rattle.scad_value.specs.BoundedView.{BoundArguments}
 
 -- the value that a call gives for a parameter, by its number from 0
@@ -11,9 +11,9 @@ abbrev pub bound_argument : BoundArguments → ℕ → Option Val
 bound_argument bound number = slice_index_or bound number None
 
 -- a number, where a value is one
-abbrev pub number_in : Val → Option ℤ
-number_in (NumberVal n) = Some n
-number_in v = None
+abbrev pub number_in_value : Val → Option ℤ
+number_in_value (NumberVal n) = Some n
+number_in_value v = None
 
 -- a truth, where a value is one
 abbrev pub truth_in : Val → Option Bool
@@ -43,7 +43,7 @@ of_length n (Some xs) = if nat_eq (length xs) n then Some xs else None
 
 -- a list of numbers
 abbrev pub numbers_in : Val → Option (List ℤ)
-numbers_in = list_in number_in
+numbers_in = list_in number_in_value
 
 -- a list of so many numbers
 abbrev pub vector_in : ℕ → Val → Option (List ℤ)
@@ -94,7 +94,7 @@ corner_number (negsuc n) = no_corner
 
 -- a value as the number of a corner
 abbrev pub corner_in : Val → Option ℕ
-corner_in v = option_map corner_number (number_in v)
+corner_in v = option_map corner_number (number_in_value v)
 
 -- the corners of a face
 abbrev pub face_in : Val → Option (List ℕ)
@@ -110,20 +110,20 @@ or_default default read None = Some default
 or_default default read (Some v) = read v
 
 -- an argument that must be given
-abbrev pub required_argument : {A : Type 0} → Option Val → (Val → Answer A) → Answer A
+abbrev pub required_argument : {A : Type 0} → Option Val → (Val → AnswerOrFault A) → AnswerOrFault A
 required_argument None go = Err BadArgument
 required_argument (Some v) go = go v
 
 -- a fault where something is so
-abbrev pub refused_where : {A : Type 0} → Bool → FaultKind → Answer A → Answer A
+abbrev pub refused_where : {A : Type 0} → Bool → FaultKind → AnswerOrFault A → AnswerOrFault A
 refused_where true kind next = Err kind
 refused_where false kind next = next
 
 -- an argument that the profile leaves out
-abbrev pub unless_left_out : {A : Type 0} → Option Val → Answer A → Answer A
+abbrev pub unless_left_out : {A : Type 0} → Option Val → AnswerOrFault A → AnswerOrFault A
 unless_left_out given next = refused_where (is_some given) NotInProfile next
 
 -- an argument of the wanted type
-abbrev pub of_type : {A B : Type 0} → Option A → (A → Answer B) → Answer B
+abbrev pub of_type : {A B : Type 0} → Option A → (A → AnswerOrFault B) → AnswerOrFault B
 of_type None go = Err TypeMismatch
 of_type (Some x) go = go x

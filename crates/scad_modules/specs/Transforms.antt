@@ -6,9 +6,9 @@ use Rattle.plane_predicate.specs.declared.unit.Unit.{Unit as LengthUnit}
 use Rattle.plane_predicate.specs.Units.{steps_of}
 use Rattle.plane_predicate.specs.Space.{point_at}
 use Rattle.int_transform.specs.declared.affine.Affine.{Affine}
-use Rattle.int_transform.specs.Maps.{translation, scale_map, reflection, quarter_turn, power_of, affine_of, determinant_of}
+use Rattle.int_transform.specs.Maps.{translation, scale_map, reflection, quarter_rotation, power_of, affine_of, determinant_of}
 use Rattle.scad_value.specs.Values.{Val, is_small}
-use Rattle.scad_value.specs.Operators.{Answer}
+use Rattle.scad_value.specs.Operators.{AnswerOrFault}
 use Rattle.scad_modules.specs.Reading.{BoundArguments, bound_argument, coordinates_in, angles_in, factors_in, points_in, required_argument, unless_left_out, of_type, refused_where}
 use Rattle.scad_modules.specs.Effects.{EffectCall, a_move}
 
@@ -25,12 +25,12 @@ abbrev pub is_past : ℤ → Bool
 is_past n = not (is_small n)
 
 -- a length in units, in grid steps
-abbrev pub in_steps : LengthUnit → ℤ → ℤ
-in_steps unit length = steps_of unit *ℤ length
+abbrev pub length_in_steps : LengthUnit → ℤ → ℤ
+length_in_steps unit length = steps_of unit *ℤ length
 
 -- a vector in units, in grid steps
-abbrev pub on_grid : LengthUnit → List ℤ → List ℤ
-on_grid unit by = in_steps unit (component by 0) ∷ in_steps unit (component by 1) ∷ in_steps unit (component by 2) ∷ []
+abbrev pub vector_on_grid : LengthUnit → List ℤ → List ℤ
+vector_on_grid unit by = length_in_steps unit (component by 0) ∷ length_in_steps unit (component by 1) ∷ length_in_steps unit (component by 2) ∷ []
 
 -- something is so of one of three numbers
 abbrev pub some_component : (ℤ → Bool) → List ℤ → Bool
@@ -41,13 +41,13 @@ abbrev pub leaves_plane : Bool → List ℤ → Bool
 leaves_plane inside by = inside && not (is_zero (component by 2))
 
 -- translate(v): 2 or 3 numbers
-abbrev pub translate_call : LengthUnit → Bool → BoundArguments → Answer EffectCall
-translate_call unit inside bound =
+abbrev pub translate_effect : LengthUnit → Bool → BoundArguments → AnswerOrFault EffectCall
+translate_effect unit inside bound =
     required_argument (bound_argument bound 0) (λ v.
     of_type (coordinates_in (pos 0) v) (λ by.
     refused_where (leaves_plane inside by) WrongDimension
-    (refused_where (some_component is_past (on_grid unit by)) TooLarge
-    (Ok (a_move (translation (point_at (on_grid unit by)) ∷ []))))))
+    (refused_where (some_component is_past (vector_on_grid unit by)) TooLarge
+    (Ok (a_move (translation (point_at (vector_on_grid unit by)) ∷ []))))))
 
 -- an angle that is no number of quarter turns
 abbrev pub is_skew : ℤ → Bool
@@ -61,7 +61,7 @@ quarters_of angle =
 
 -- the rotation about an axis by so many quarter turns as an angle is
 abbrev pub quarter_turns_about : ℕ → ℤ → Affine
-quarter_turns_about axis angle = power_of (quarter_turn axis) (quarters_of angle)
+quarter_turns_about axis angle = power_of (quarter_rotation axis) (quarters_of angle)
 
 -- inside an extrusion, a rotation about x or y
 abbrev pub tilts_plane : Bool → List ℤ → Bool
@@ -72,8 +72,8 @@ abbrev pub quarter_turns : List ℤ → List Affine
 quarter_turns angles = quarter_turns_about 0 (component angles 0) ∷ quarter_turns_about 1 (component angles 1) ∷ quarter_turns_about 2 (component angles 2) ∷ []
 
 -- rotate(a): about x, then y, then z
-abbrev pub rotate_call : Bool → BoundArguments → Answer EffectCall
-rotate_call inside bound =
+abbrev pub rotate_effect : Bool → BoundArguments → AnswerOrFault EffectCall
+rotate_effect inside bound =
     required_argument (bound_argument bound 0) (λ v.
     unless_left_out (bound_argument bound 1)
     (of_type (angles_in v) (λ angles.
@@ -93,13 +93,13 @@ axis_of by =
     else (if is_alone (component by 2) (component by 0) (component by 1) then Some 2 else None))
 
 -- goes on with the axis, or leaves out a vector that has none
-abbrev pub for_axis : Option ℕ → (ℕ → Answer EffectCall) → Answer EffectCall
+abbrev pub for_axis : Option ℕ → (ℕ → AnswerOrFault EffectCall) → AnswerOrFault EffectCall
 for_axis None go = Err NotInProfile
 for_axis (Some axis) go = go axis
 
 -- mirror(v): 2 or 3 numbers, of which exactly one isn't 0
-abbrev pub mirror_call : Bool → BoundArguments → Answer EffectCall
-mirror_call inside bound =
+abbrev pub mirror_effect : Bool → BoundArguments → AnswerOrFault EffectCall
+mirror_effect inside bound =
     required_argument (bound_argument bound 0) (λ v.
     of_type (coordinates_in (pos 0) v) (λ by.
     for_axis (axis_of by) (λ axis.
@@ -111,8 +111,8 @@ abbrev pub factors_for : Bool → List ℤ → List ℤ
 factors_for inside by = if inside then component by 0 ∷ component by 1 ∷ pos 1 ∷ [] else by
 
 -- scale(v)
-abbrev pub scale_call : Bool → BoundArguments → Answer EffectCall
-scale_call inside bound =
+abbrev pub scale_effect : Bool → BoundArguments → AnswerOrFault EffectCall
+scale_effect inside bound =
     required_argument (bound_argument bound 0) (λ v.
     of_type (factors_in v) (λ by.
     refused_where (some_component is_zero by) Singular
@@ -139,12 +139,12 @@ abbrev pub matrix_rows : Val → Option (List (List ℤ))
 matrix_rows v = three_rows_from (points_in 4 v)
 
 -- a row by its place from 0
-abbrev pub row_at : List (List ℤ) → ℕ → List ℤ
-row_at rows place = get_or rows place []
+abbrev pub row_numbered : List (List ℤ) → ℕ → List ℤ
+row_numbered rows place = get_or rows place []
 
 -- something is so of one of three rows
 abbrev pub some_row : (List ℤ → Bool) → List (List ℤ) → Bool
-some_row test rows = test (row_at rows 0) || (test (row_at rows 1) || test (row_at rows 2))
+some_row test rows = test (row_numbered rows 0) || (test (row_numbered rows 1) || test (row_numbered rows 2))
 
 -- the largest size of an entry of the linear part; a row's linear part is its first three numbers, and its move the fourth
 abbrev pub most_linear : ℕ
@@ -157,7 +157,7 @@ is_past_matrix n = nat_lt most_linear (unsigned_abs n)
 -- a matrix that leaves z as it is: its third row and its third column are those of the identity
 abbrev pub keeps_plane : List (List ℤ) → Bool
 keeps_plane rows =
-    let x = row_at rows 0 in let y = row_at rows 1 in let z = row_at rows 2 in
+    let x = row_numbered rows 0 in let y = row_numbered rows 1 in let z = row_numbered rows 2 in
     is_zero (component x 2) && (is_zero (component y 2) && (is_zero (component z 0) && (is_zero (component z 1)
     && (int_eq (component z 2) (pos 1) && is_zero (component z 3)))))
 
@@ -167,20 +167,20 @@ leaves_plane_by inside rows = inside && not (keeps_plane rows)
 
 -- a row with its move in grid steps
 abbrev pub row_on_grid : LengthUnit → List ℤ → List ℤ
-row_on_grid unit row = component row 0 ∷ component row 1 ∷ component row 2 ∷ in_steps unit (component row 3) ∷ []
+row_on_grid unit row = component row 0 ∷ component row 1 ∷ component row 2 ∷ length_in_steps unit (component row 3) ∷ []
 
 -- the rows with their moves in grid steps
 abbrev pub rows_on_grid : LengthUnit → List (List ℤ) → List (List ℤ)
 rows_on_grid unit rows =
-    row_on_grid unit (row_at rows 0) ∷ row_on_grid unit (row_at rows 1) ∷ row_on_grid unit (row_at rows 2) ∷ []
+    row_on_grid unit (row_numbered rows 0) ∷ row_on_grid unit (row_numbered rows 1) ∷ row_on_grid unit (row_numbered rows 2) ∷ []
 
 -- whether the move of a row is past 2^53 - 1 grid steps
 abbrev pub moves_past : LengthUnit → List ℤ → Bool
-moves_past unit row = is_past (in_steps unit (component row 3))
+moves_past unit row = is_past (length_in_steps unit (component row 3))
 
 -- multmatrix(m)
-abbrev pub multmatrix_call : LengthUnit → Bool → BoundArguments → Answer EffectCall
-multmatrix_call unit inside bound =
+abbrev pub multmatrix_effect : LengthUnit → Bool → BoundArguments → AnswerOrFault EffectCall
+multmatrix_effect unit inside bound =
     required_argument (bound_argument bound 0) (λ v.
     of_type (matrix_rows v) (λ rows.
     refused_where (some_row (some_component is_past_matrix) rows) TooLarge

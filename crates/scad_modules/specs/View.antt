@@ -5,7 +5,7 @@ use Rattle.scad_value.specs.declared.value.Value.{Value}
 use Rattle.scad_value.specs.declared.stop.ValueStop.{ValueStop}
 use Rattle.scad_value.specs.declared.stop.ValueStop.TheVariants.{Kind, NoMemory}
 use Rattle.scad_value.specs.Values.{Val}
-use Rattle.scad_value.specs.Operators.{Answer}
+use Rattle.scad_value.specs.Operators.{AnswerOrFault}
 use Rattle.scad_value.specs.View.{val_of}
 use Rattle.scad_modules.specs.declared.effects.SolidShape.{SolidShape}
 use Rattle.scad_modules.specs.declared.effects.SolidShape.TheVariants.{Cube, Polyhedron, Cylinder}
@@ -52,7 +52,7 @@ call_of Nothing = no_geometry
 call_of (Children chosen) = some_children (chosen_of chosen)
 
 -- what was given is the effect or the fault, unless memory ran out
-abbrev pub MeetsEffect : Result Effect ValueStop → Answer EffectCall → Type 0
+abbrev pub MeetsEffect : Result Effect ValueStop → AnswerOrFault EffectCall → Type 0
 MeetsEffect (Ok effect) answer = answer ≡ Ok (call_of effect)
 MeetsEffect (Err (Kind kind)) answer = answer ≡ Err kind
 MeetsEffect (Err NoMemory) answer = Unit {0}

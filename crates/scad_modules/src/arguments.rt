@@ -3,8 +3,8 @@
 ghost use Rattle.std.specs.Prelude.{◌≡◌, None, Some, is_some, MatchOption, MatchResult, false};
 ghost use Rattle.text_place.specs.declared.fault.FaultKind.TheVariants.{BadArgument};
 ghost use Rattle.scad_value.specs.BoundedView.{bounded_val};
-ghost use Rattle.scad_modules.specs.Reading.{bound_argument, number_in, truth_in, or_default};
-ghost use Rattle.scad_modules.specs.ArgumentView.{bound_arguments_in, Reads};
+ghost use Rattle.scad_modules.specs.Reading.{bound_argument, number_in_value, truth_in, or_default};
+ghost use Rattle.scad_modules.specs.ArgumentView.{bound_arguments_in, ReadsArgument};
 
 use crate::vectors::{number, truth_value};
 use scad_value::BoundedValue;
@@ -51,7 +51,7 @@ pub(crate) fn found_number(
     parameter: usize,
     default: i64,
 ) -> Result<i64, FaultKind>
-    ensures { Reads result (or_default default number_in (bound_argument (bound_arguments_in bound.now) parameter)) }
+    ensures { ReadsArgument result (or_default default number_in_value (bound_argument (bound_arguments_in bound.now) parameter)) }
 {
     match bound_argument(bound, parameter) {
         Some(value) => number(&value.value).ok_or(FaultKind::TypeMismatch),
@@ -65,7 +65,7 @@ pub(crate) fn is_centered(
     bound: &[Option<BoundedValue>],
     parameter: usize,
 ) -> Result<bool, FaultKind>
-    ensures { Reads result (or_default false truth_in (bound_argument (bound_arguments_in bound.now) parameter)) }
+    ensures { ReadsArgument result (or_default false truth_in (bound_argument (bound_arguments_in bound.now) parameter)) }
 {
     match bound_argument(bound, parameter) {
         Some(value) => truth_value(&value.value).ok_or(FaultKind::TypeMismatch),

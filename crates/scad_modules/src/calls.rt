@@ -3,7 +3,7 @@
 ghost use Rattle.std.specs.Prelude.{◌≡◌};
 ghost use Rattle.scad_value.specs.View.{val_of};
 ghost use Rattle.scad_modules.specs.Reading.{bound_argument, or_default};
-ghost use Rattle.scad_modules.specs.ArgumentView.{bound_arguments_in, ReadsAs};
+ghost use Rattle.scad_modules.specs.ArgumentView.{bound_arguments_in, ReadsArgumentAs};
 ghost use Rattle.scad_modules.specs.Calls.{chosen_in, assert_effect, children_effect, effect_of, hull_effect};
 ghost use Rattle.scad_modules.specs.Effects.{all_children};
 ghost use Rattle.scad_modules.specs.View.{fragments_of, chosen_of, MeetsEffect, GivesSafe};
@@ -99,7 +99,7 @@ fn children(alloc: Global, bound: &[Option<BoundedValue>]) -> Result<Effect, Val
 
 // Which children are wanted: all, where no index is given.
 fn chosen(alloc: Global, bound: &[Option<BoundedValue>]) -> Result<Chosen, ValueStop>
-    ensures { ReadsAs chosen_of result (or_default all_children chosen_in (bound_argument (bound_arguments_in bound.now) 0)) }
+    ensures { ReadsArgumentAs chosen_of result (or_default all_children chosen_in (bound_argument (bound_arguments_in bound.now) 0)) }
 {
     match bound_argument(bound, 0) {
         Some(value) => chosen_by(alloc, &value.value),
@@ -109,7 +109,7 @@ fn chosen(alloc: Global, bound: &[Option<BoundedValue>]) -> Result<Chosen, Value
 
 // Children by one number, by a range, or by a list of numbers.
 fn chosen_by(alloc: Global, value: &Value) -> Result<Chosen, ValueStop>
-    ensures { ReadsAs chosen_of result (chosen_in (val_of value.now)) }
+    ensures { ReadsArgumentAs chosen_of result (chosen_in (val_of value.now)) }
 {
     match value {
         Value::Number(n) => Ok(Chosen::Numbered(vec![in alloc; *n]?)),

@@ -7,11 +7,11 @@ ghost use Rattle.scad_value.specs.Values.{vals_from};
 ghost use Rattle.scad_value.specs.View.{val_of, vals_in};
 ghost use Rattle.scad_modules.specs.Reading.{each_in, vector_in};
 ghost use Rattle.scad_modules.specs.ArgumentView.{bound_arguments_in};
-ghost use Rattle.scad_modules.specs.Transforms.{component, row_at, is_zero, some_component, some_row, is_last_row, three_rows_from, matrix_rows, is_past_matrix, keeps_plane, leaves_plane_by, moves_past, row_on_grid, rows_on_grid, multmatrix_call};
+ghost use Rattle.scad_modules.specs.Transforms.{component, row_numbered, is_zero, some_component, some_row, is_last_row, three_rows_from, matrix_rows, is_past_matrix, keeps_plane, leaves_plane_by, moves_past, row_on_grid, rows_on_grid, multmatrix_effect};
 ghost use Rattle.scad_modules.specs.View.{MeetsEffect, GivesSafe};
 
 use crate::effects::Effect;
-use crate::transforms::{in_steps, moved};
+use crate::transforms::{length_in_steps, moved};
 use crate::{quadruple, required_argument};
 use int_transform::Step;
 use plane_predicate::Unit;
@@ -30,7 +30,7 @@ pub(crate) fn multmatrix(
     inside: bool,
     bound: &[Option<BoundedValue>],
 ) -> Result<Effect, ValueStop>
-    ensures effect { MeetsEffect result (multmatrix_call unit inside (bound_arguments_in bound.now)) }
+    ensures effect { MeetsEffect result (multmatrix_effect unit inside (bound_arguments_in bound.now)) }
     ensures safe { GivesSafe result }
 {
     let rows = rows(&required_argument(bound, 0)?.value).ok_or(FaultKind::TypeMismatch)?;
@@ -43,7 +43,7 @@ pub(crate) fn multmatrix(
     if leaves_plane(inside, rows) {
         return Err(ValueStop::Kind(FaultKind::WrongDimension));
     }
-    match Step::matrix(on_grid(unit, rows)?) {
+    match Step::matrix(rows_on_grid(unit, rows)?) {
         Some(step) => moved(alloc, step),
         None => Err(ValueStop::Kind(FaultKind::Singular)),
     }
@@ -137,12 +137,12 @@ fn keeps_plane(rows: [[i64; 4]; 3]) -> bool
 }
 
 // The rows with their moves in grid steps, or TooLarge where one is past 2^53 - 1 in size.
-fn on_grid(unit: Unit, rows: [[i64; 4]; 3]) -> Result<[[i64; 4]; 3], FaultKind>
+fn rows_on_grid(unit: Unit, rows: [[i64; 4]; 3]) -> Result<[[i64; 4]; 3], FaultKind>
     ensures value { MatchResult result (λ moved. (moved ≡ rows_on_grid unit rows) × (some_row (moves_past unit) rows ≡ false))
         (λ kind. (kind ≡ TooLarge) × (some_row (moves_past unit) rows ≡ true)) }
-    ensures safe { IfOk result (λ moved. (unsigned_abs (component (row_at moved 0) 3) ≤ 9007199254740991)
-        × (unsigned_abs (component (row_at moved 1) 3) ≤ 9007199254740991)
-        × (unsigned_abs (component (row_at moved 2) 3) ≤ 9007199254740991)) }
+    ensures safe { IfOk result (λ moved. (unsigned_abs (component (row_numbered moved 0) 3) ≤ 9007199254740991)
+        × (unsigned_abs (component (row_numbered moved 1) 3) ≤ 9007199254740991)
+        × (unsigned_abs (component (row_numbered moved 2) 3) ≤ 9007199254740991)) }
 {
     let x = row_on_grid(unit, rows[0])?;
     let y = row_on_grid(unit, rows[1])?;
@@ -156,6 +156,6 @@ fn row_on_grid(unit: Unit, row: [i64; 4]) -> Result<[i64; 4], FaultKind>
         (λ kind. (kind ≡ TooLarge) × (moves_past unit row ≡ true)) }
     ensures safe { IfOk result (λ moved. unsigned_abs (component moved 3) ≤ 9007199254740991) }
 {
-    let by = in_steps(unit, row[3])?;
+    let by = length_in_steps(unit, row[3])?;
     Ok([row[0], row[1], row[2], by])
 }

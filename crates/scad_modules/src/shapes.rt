@@ -3,8 +3,8 @@
 ghost use Rattle.std.specs.Prelude.{◌≡◌, ◌&&◌, ◌||◌, [], ◌∷◌, pos, not, is_some, All, IfOk};
 ghost use Rattle.std.specs.Ordering.{int_eq};
 ghost use Rattle.primitives.specs.Sizes.{IsSafe};
-ghost use Rattle.scad_modules.specs.Reading.{bound_argument, number_in, or_default, sides_in};
-ghost use Rattle.scad_modules.specs.ArgumentView.{bound_arguments_in, Reads};
+ghost use Rattle.scad_modules.specs.Reading.{bound_argument, number_in_value, or_default, sides_in};
+ghost use Rattle.scad_modules.specs.ArgumentView.{bound_arguments_in, ReadsArgument};
 ghost use Rattle.scad_modules.specs.Shapes.{fragments_in, cube_effect, polyhedron_effect, square_effect, polygon_effect, circle_effect, cylinder_effect, extrude_effect};
 ghost use Rattle.scad_modules.specs.View.{fragments_of, MeetsEffect, GivesSafe};
 
@@ -233,7 +233,7 @@ pub(crate) fn linear_extrude(
 
 // The sizes of a cube, or TypeMismatch.
 fn cube_size(bound: &[Option<BoundedValue>]) -> Result<[i64; 3], FaultKind>
-    ensures value { Reads result (or_default (pos 1 ∷ pos 1 ∷ pos 1 ∷ []) (sides_in 3)
+    ensures value { ReadsArgument result (or_default (pos 1 ∷ pos 1 ∷ pos 1 ∷ []) (sides_in 3)
         (bound_argument (bound_arguments_in bound.now) 0)) }
     ensures safe { IfOk result (All IsSafe) }
 {
@@ -242,7 +242,7 @@ fn cube_size(bound: &[Option<BoundedValue>]) -> Result<[i64; 3], FaultKind>
 
 // The sizes of a cube: 1, where they are missing.
 fn found_cube_size(bound: &[Option<BoundedValue>]) -> Result<[i64; 3], FaultKind>
-    ensures { Reads result (or_default (pos 1 ∷ pos 1 ∷ pos 1 ∷ []) (sides_in 3)
+    ensures { ReadsArgument result (or_default (pos 1 ∷ pos 1 ∷ pos 1 ∷ []) (sides_in 3)
         (bound_argument (bound_arguments_in bound.now) 0)) }
 {
     match bound_argument(bound, SIZE) {
@@ -253,7 +253,7 @@ fn found_cube_size(bound: &[Option<BoundedValue>]) -> Result<[i64; 3], FaultKind
 
 // The sizes of a square, or TypeMismatch.
 fn square_size(bound: &[Option<BoundedValue>]) -> Result<[i64; 2], FaultKind>
-    ensures value { Reads result (or_default (pos 1 ∷ pos 1 ∷ []) (sides_in 2)
+    ensures value { ReadsArgument result (or_default (pos 1 ∷ pos 1 ∷ []) (sides_in 2)
         (bound_argument (bound_arguments_in bound.now) 0)) }
     ensures safe { IfOk result (All IsSafe) }
 {
@@ -262,7 +262,7 @@ fn square_size(bound: &[Option<BoundedValue>]) -> Result<[i64; 2], FaultKind>
 
 // The sizes of a square: 1, where they are missing.
 fn found_square_size(bound: &[Option<BoundedValue>]) -> Result<[i64; 2], FaultKind>
-    ensures { Reads result (or_default (pos 1 ∷ pos 1 ∷ []) (sides_in 2) (bound_argument (bound_arguments_in bound.now) 0)) }
+    ensures { ReadsArgument result (or_default (pos 1 ∷ pos 1 ∷ []) (sides_in 2) (bound_argument (bound_arguments_in bound.now) 0)) }
 {
     match bound_argument(bound, SIZE) {
         Some(value) => two_sides(&value.value).ok_or(FaultKind::TypeMismatch),
@@ -277,7 +277,7 @@ fn number_or(
     default: i64,
 ) -> Result<i64, FaultKind>
     requires { IsSafe default }
-    ensures value { Reads result (or_default default number_in (bound_argument (bound_arguments_in bound.now) parameter)) }
+    ensures value { ReadsArgument result (or_default default number_in_value (bound_argument (bound_arguments_in bound.now) parameter)) }
     ensures safe { IfOk result IsSafe }
 {
     found_number(bound, parameter, default)
@@ -295,7 +295,7 @@ fn has_two_radii(bound: &[Option<BoundedValue>]) -> bool
 
 // The number of fragments, or TypeMismatch.
 fn fragment_count(fragments: Option<&Value>) -> Result<i64, FaultKind>
-    ensures { Reads result (fragments_in (fragments_of fragments.entry)) }
+    ensures { ReadsArgument result (fragments_in (fragments_of fragments.entry)) }
 {
     match fragments {
         Some(value) => number(value).ok_or(FaultKind::TypeMismatch),

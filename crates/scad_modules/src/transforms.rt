@@ -6,7 +6,7 @@ ghost use Rattle.plane_predicate.specs.Space.{point_at};
 ghost use Rattle.int_transform.specs.Maps.{HasSafeCoordinates};
 ghost use Rattle.scad_modules.specs.ArgumentView.{bound_arguments_in};
 ghost use Rattle.scad_modules.specs.Effects.{a_move};
-ghost use Rattle.scad_modules.specs.Transforms.{is_zero, is_past, in_steps, on_grid, some_component, leaves_plane, tilts_plane, translate_call, is_skew, quarters_of, quarter_turns_about, quarter_turns, rotate_call, is_alone, axis_of, mirror_call, factors_for, scale_call};
+ghost use Rattle.scad_modules.specs.Transforms.{is_zero, is_past, length_in_steps, vector_on_grid, some_component, leaves_plane, tilts_plane, translate_effect, is_skew, quarters_of, quarter_turns_about, quarter_turns, rotate_effect, is_alone, axis_of, mirror_effect, factors_for, scale_effect};
 ghost use Rattle.scad_modules.specs.View.{MeetsEffect, GivesSafe};
 
 use crate::effects::Effect;
@@ -25,14 +25,14 @@ pub(crate) fn translate(
     inside: bool,
     bound: &[Option<BoundedValue>],
 ) -> Result<Effect, ValueStop>
-    ensures effect { MeetsEffect result (translate_call unit inside (bound_arguments_in bound.now)) }
+    ensures effect { MeetsEffect result (translate_effect unit inside (bound_arguments_in bound.now)) }
     ensures safe { GivesSafe result }
 {
     let by = coordinates(&required_argument(bound, 0)?.value, 0).ok_or(FaultKind::TypeMismatch)?;
     if leaves_plane(inside, by) {
         return Err(ValueStop::Kind(FaultKind::WrongDimension));
     }
-    let by = on_grid(unit, by)?;
+    let by = vector_on_grid(unit, by)?;
     moved(alloc, Step::move_by(by))
 }
 
@@ -43,7 +43,7 @@ pub(crate) fn rotate(
     inside: bool,
     bound: &[Option<BoundedValue>],
 ) -> Result<Effect, ValueStop>
-    ensures effect { MeetsEffect result (rotate_call inside (bound_arguments_in bound.now)) }
+    ensures effect { MeetsEffect result (rotate_effect inside (bound_arguments_in bound.now)) }
     ensures safe { GivesSafe result }
 {
     let angle = required_argument(bound, 0)?;
@@ -67,7 +67,7 @@ pub(crate) fn mirror(
     inside: bool,
     bound: &[Option<BoundedValue>],
 ) -> Result<Effect, ValueStop>
-    ensures effect { MeetsEffect result (mirror_call inside (bound_arguments_in bound.now)) }
+    ensures effect { MeetsEffect result (mirror_effect inside (bound_arguments_in bound.now)) }
     ensures safe { GivesSafe result }
 {
     let by = coordinates(&required_argument(bound, 0)?.value, 0).ok_or(FaultKind::TypeMismatch)?;
@@ -84,7 +84,7 @@ pub(crate) fn scale(
     inside: bool,
     bound: &[Option<BoundedValue>],
 ) -> Result<Effect, ValueStop>
-    ensures effect { MeetsEffect result (scale_call inside (bound_arguments_in bound.now)) }
+    ensures effect { MeetsEffect result (scale_effect inside (bound_arguments_in bound.now)) }
     ensures safe { GivesSafe result }
 {
     let by = factors(&required_argument(bound, 0)?.value).ok_or(FaultKind::TypeMismatch)?;
@@ -106,24 +106,24 @@ pub(crate) fn moved(alloc: Global, step: Step) -> Result<Effect, ValueStop>
 }
 
 /// A length in grid steps, or TooLarge where these are past 2^53 - 1 in size.
-pub(crate) fn in_steps(unit: Unit, length: i64) -> Result<i64, FaultKind>
-    ensures value { MatchResult result (λ steps. (steps ≡ in_steps unit length) × (is_past (in_steps unit length) ≡ false))
-        (λ kind. (kind ≡ TooLarge) × (is_past (in_steps unit length) ≡ true)) }
+pub(crate) fn length_in_steps(unit: Unit, length: i64) -> Result<i64, FaultKind>
+    ensures value { MatchResult result (λ steps. (steps ≡ length_in_steps unit length) × (is_past (length_in_steps unit length) ≡ false))
+        (λ kind. (kind ≡ TooLarge) × (is_past (length_in_steps unit length) ≡ true)) }
     ensures safe { IfOk result (λ steps. unsigned_abs steps ≤ 9007199254740991) }
 {
     product_of_two(unit.per(), length)
 }
 
 // A vector in grid steps, or TooLarge where a number of it is past 2^53 - 1 in size.
-fn on_grid(unit: Unit, by: [i64; 3]) -> Result<[i64; 3], FaultKind>
-    ensures value { MatchResult result (λ vector. (vector ≡ on_grid unit by)
-        × (some_component is_past (on_grid unit by) ≡ false))
-        (λ kind. (kind ≡ TooLarge) × (some_component is_past (on_grid unit by) ≡ true)) }
+fn vector_on_grid(unit: Unit, by: [i64; 3]) -> Result<[i64; 3], FaultKind>
+    ensures value { MatchResult result (λ vector. (vector ≡ vector_on_grid unit by)
+        × (some_component is_past (vector_on_grid unit by) ≡ false))
+        (λ kind. (kind ≡ TooLarge) × (some_component is_past (vector_on_grid unit by) ≡ true)) }
     ensures safe { IfOk result (λ vector. HasSafeCoordinates (point_at vector)) }
 {
-    let x = in_steps(unit, by[0])?;
-    let y = in_steps(unit, by[1])?;
-    let z = in_steps(unit, by[2])?;
+    let x = length_in_steps(unit, by[0])?;
+    let y = length_in_steps(unit, by[1])?;
+    let z = length_in_steps(unit, by[2])?;
     Ok([x, y, z])
 }
 

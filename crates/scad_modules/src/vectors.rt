@@ -3,7 +3,7 @@
 ghost use Rattle.std.specs.Prelude.{◌≡◌};
 ghost use Rattle.scad_value.specs.Values.{vals_from};
 ghost use Rattle.scad_value.specs.View.{val_of, vals_in};
-ghost use Rattle.scad_modules.specs.Reading.{number_in, truth_in, corner_number, each_in, of_length, vector_in, with_third_from, coordinates_in, sides_in, angles_in, factors_in};
+ghost use Rattle.scad_modules.specs.Reading.{number_in_value, truth_in, corner_number, each_in, of_length, vector_in, with_third_from, coordinates_in, sides_in, angles_in, factors_in};
 
 use scad_value::Value;
 
@@ -12,7 +12,7 @@ const NO_CORNER: u32 = 4_294_967_295;
 
 /// The number that a value is.
 pub(crate) fn number(value: &Value) -> Option<i64>
-    ensures { result ≡ number_in (val_of value.now) }
+    ensures { result ≡ number_in_value (val_of value.now) }
 {
     match value {
         Value::Number(n) => Some(*n),
@@ -126,7 +126,7 @@ pub(crate) fn factors(value: &Value) -> Option<[i64; 3]>
 
 // The numbers of two values.
 fn two_numbers(values: &[Value]) -> Option<[i64; 2]>
-    ensures { result ≡ of_length 2 (each_in number_in (vals_from (vals_in values.now))) }
+    ensures { result ≡ of_length 2 (each_in number_in_value (vals_from (vals_in values.now))) }
 {
     match values {
         [x, y] => Some([number(x)?, number(y)?]),
@@ -136,7 +136,7 @@ fn two_numbers(values: &[Value]) -> Option<[i64; 2]>
 
 // The numbers of three values.
 fn three_numbers(values: &[Value]) -> Option<[i64; 3]>
-    ensures { result ≡ of_length 3 (each_in number_in (vals_from (vals_in values.now))) }
+    ensures { result ≡ of_length 3 (each_in number_in_value (vals_from (vals_in values.now))) }
 {
     match values {
         [x, y, z] => Some([number(x)?, number(y)?, number(z)?]),
@@ -146,7 +146,7 @@ fn three_numbers(values: &[Value]) -> Option<[i64; 3]>
 
 // The numbers of four values.
 fn four_numbers(values: &[Value]) -> Option<[i64; 4]>
-    ensures { result ≡ of_length 4 (each_in number_in (vals_from (vals_in values.now))) }
+    ensures { result ≡ of_length 4 (each_in number_in_value (vals_from (vals_in values.now))) }
 {
     match values {
         [a, b, c, d] => Some([number(a)?, number(b)?, number(c)?, number(d)?]),
@@ -156,7 +156,7 @@ fn four_numbers(values: &[Value]) -> Option<[i64; 4]>
 
 // The numbers of three values, or of two with one that stands for the missing third.
 fn coordinates_of(values: &[Value], third: i64) -> Option<[i64; 3]>
-    ensures { result ≡ with_third_from third (each_in number_in (vals_from (vals_in values.now))) }
+    ensures { result ≡ with_third_from third (each_in number_in_value (vals_from (vals_in values.now))) }
 {
     match values {
         [x, y] => Some([number(x)?, number(y)?, third]),

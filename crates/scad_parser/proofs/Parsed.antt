@@ -12,11 +12,11 @@ use Rattle.scad_ast.specs.ProgramView.{program_of}
 use Rattle.scad_grammar.specs.declared.SyntaxFault.{SyntaxFault}
 use Rattle.scad_grammar.specs.FirstFault.{IsFirstFault}
 use Rattle.scad_grammar.specs.Grammar.{WholeProgram}
-use Rattle.scad_grammar.specs.Reading.{after}
+use Rattle.scad_grammar.specs.Reading.{then_read}
 use Rattle.scad_grammar.proofs.Counts.{few_begun}
 use Rattle.scad_grammar.proofs.FirstFaults.{no_fault}
 use Rattle.scad_grammar.proofs.Programs.{complete_at}
-use Rattle.scad_parser.specs.Parsing.{ends, nothing_behind, whole_read, kind_of, place_at, IsSyntaxStop, StandsAtToken, AnswersProgram, AnswersFault, IsRead}
+use Rattle.scad_parser.specs.Parsing.{ends_with_end, nothing_behind, whole_read, kind_of, place_of_first, IsSyntaxStop, StandsAtToken, AnswersProgram, AnswersFault, IsRead}
 use Rattle.scad_parser.proofs.Whole.{ReadProgram, verdict, whole_found, only_whole}
 
 module _ (d : ℕ) (ts : List Token) where
@@ -34,12 +34,12 @@ module _ (d : ℕ) (ts : List Token) where
 
   pub program : (r : Result Program Stop) → IsRead r (whole_read d ts) → (x : List StatementTerm) → WholeProgram d x ts → AnswersProgram r x
   program (Ok p) h x g =
-      let read = ap (λ (q : ReadProgram). after q nothing_behind) (complete_at d x ts g) in
+      let read = ap (λ (q : ReadProgram). then_read q nothing_behind) (complete_at d x ts g) in
       let both : ◌≡◌ {A = ReadProgram} (Ok (program_of p, h.0)) (Ok (x, [])) = sym h.1 ∙ read in
       let pair : ◌≡◌ {A = List StatementTerm × List Token} (program_of p, h.0) (x, []) = cc in
       ap (λ (p : List StatementTerm × List Token). p.0) pair
   program (Err (Fault f)) h x g =
-      let read = ap (λ (q : ReadProgram). after q nothing_behind) (complete_at d x ts g) in
+      let read = ap (λ (q : ReadProgram). then_read q nothing_behind) (complete_at d x ts g) in
       absurd (let both : ◌≡◌ {A = ReadProgram} (Err (h.0, h.1)) (Ok (x, [])) = sym h.2 ∙ read in cc)
   program (Err NoMemory) h x g = tt
 
@@ -48,10 +48,10 @@ module _ (d : ℕ) (ts : List Token) where
   only (Err (Fault f)) h k at g =
       let both : ◌≡◌ {A = ReadProgram} (Err (h.0, h.1)) (Err (k, at)) = sym h.2 ∙ only_whole d ts k at g in
       let pair : ◌≡◌ {A = SyntaxFault × List Token} (h.0, h.1) (k, at) = cc in
-      (h.3 ∙ ap (λ (p : SyntaxFault × List Token). kind_of p.0) pair, h.4 ∙ ap (λ (p : SyntaxFault × List Token). place_at p.1) pair)
+      (h.3 ∙ ap (λ (p : SyntaxFault × List Token). kind_of p.0) pair, h.4 ∙ ap (λ (p : SyntaxFault × List Token). place_of_first p.1) pair)
   only (Err NoMemory) h k at g = tt
 
-  pub fault : (r : Result Program Stop) → ends ts ≡ true → IsRead r (whole_read d ts) → IfErr r (λ stop. IsSyntaxStop d ts stop)
+  pub fault : (r : Result Program Stop) → ends_with_end ts ≡ true → IsRead r (whole_read d ts) → IfErr r (λ stop. IsSyntaxStop d ts stop)
   fault (Ok p) e h = tt
   fault (Err (Fault f)) e h = elim (verdict d ts e) [
     | inl p ↦ absurd (let both : ◌≡◌ {A = ReadProgram} (Err (h.0, h.1)) (Ok (p.0, [])) = sym h.2 ∙ p.2 in cc)
@@ -66,6 +66,6 @@ module _ (d : ℕ) (ts : List Token) where
       let whole : ts ≡ first.0 ++ first.1 ∷ first.2 = first.3 ∙ ap (λ l. first.0 ++ l) first.4 in (
         first.1,
         subst (λ l. Contains l first.1) (sym whole) (Contains-append_right first.0 (first.1 ∷ first.2) first.1 (0, omega arith, refl)),
-        h.4 ∙ ap place_at first.4,
+        h.4 ∙ ap place_of_first first.4,
       )
   stands (Err NoMemory) h = tt

@@ -5,16 +5,16 @@ use Rattle.text_place.specs.declared.fault.Stop.TheVariants.{Fault, NoMemory}
 use Rattle.scad_lexer.specs.declared.token.Token.{Token}
 use Rattle.scad_lexer.specs.Tokens.{Lexes, GivesTokens}
 use Rattle.scad_ast.specs.declared.program.Program.{Program}
-use Rattle.scad_grammar.specs.Grammar.{too_deep}
-use Rattle.scad_parser.specs.Parsing.{ends, IsSyntaxStop}
+use Rattle.scad_grammar.specs.Grammar.{least_too_deep}
+use Rattle.scad_parser.specs.Parsing.{ends_with_end, IsSyntaxStop}
 use Rattle.scad_parser.specs.Sources.{RefusesText, IsMadeOfTokens, IsMadeOf}
 
-refused : (source : List ℕ) (tokens : List Token) (why : Stop) → Lexes source (GivesTokens tokens) → IsSyntaxStop too_deep tokens why → RefusesText source why
+refused : (source : List ℕ) (tokens : List Token) (why : Stop) → Lexes source (GivesTokens tokens) → IsSyntaxStop least_too_deep tokens why → RefusesText source why
 refused source tokens (Fault fault) lexes stops = inr (tokens, lexes, stops)
 refused source tokens NoMemory lexes stops = tt
 
 pub made : {T : Type 0} (makes : Program → Result T Stop → Type 0) (source : List ℕ) (tokens : List Token) (r : Result T Stop) → Lexes source (GivesTokens tokens)
-    → ends tokens ≡ true → IsMadeOfTokens makes tokens r → IsMadeOf makes source r
+    → ends_with_end tokens ≡ true → IsMadeOfTokens makes tokens r → IsMadeOf makes source r
 made makes source tokens r lexes end of =
     ⊎_elim
     (λ m. inl (m.0, (tokens, lexes, m.1), m.2))

@@ -7,24 +7,24 @@ use Rattle.scad_lexer.specs.Tokens.{is_end, ends_once}
 use Rattle.scad_ast.specs.Terms.{StatementTerm}
 use Rattle.scad_grammar.specs.declared.SyntaxFault.{SyntaxFault}
 use Rattle.scad_grammar.specs.declared.SyntaxFault.TheVariants.{Expected, NotInProfile}
-use Rattle.scad_grammar.specs.Classes.{among}
+use Rattle.scad_grammar.specs.Classes.{has_class_in}
 use Rattle.scad_grammar.specs.Faults.{fault_of, left_out_classes}
 use Rattle.scad_grammar.specs.FirstFault.{BeginsSome, IsFault, IsFirstFault}
 use Rattle.scad_grammar.specs.Grammar.{WholeProgram}
-use Rattle.scad_grammar.specs.Reading.{Read, after, starts}
+use Rattle.scad_grammar.specs.Reading.{Read, then_read, next_is}
 use Rattle.scad_grammar.specs.StatementReads.{program_read}
 use Rattle.scad_grammar.proofs.FirstFaults.{only_fault, one_fault, no_fault, program_or_fault}
 use Rattle.scad_grammar.proofs.Programs.{complete_at}
 use Rattle.scad_grammar.proofs.Readers.{Told, SameHead}
 use Rattle.scad_grammar.proofs.Statements.{program_reads}
 use Rattle.scad_grammar.proofs.Wider.{lift, is_outline}
-use Rattle.scad_parser.specs.Parsing.{ends, nothing_behind, whole_read}
+use Rattle.scad_parser.specs.Parsing.{ends_with_end, nothing_behind, whole_read}
 
 abbrev pub ReadProgram : Type 0
 ReadProgram = Read Token SyntaxFault (List StatementTerm)
 
 -- tokens with one end end
-pub once_ends : (ts : List Token) → ends_once ts ≡ true → ends ts ≡ true
+pub once_ends : (ts : List Token) → ends_once ts ≡ true → ends_with_end ts ≡ true
 once_ends [] e = absurd (cc)
 once_ends (t ∷ []) e = e
 once_ends (t ∷ u ∷ us) e = once_ends (u ∷ us) (later (is_end t.kind) (ends_once (u ∷ us)) e)
@@ -45,13 +45,13 @@ cut_behind : (t u : Token) (us : List Token) (b : Bool) → is_end t.kind ≡ b 
 cut_behind t u us true k c = (t ∷ [], u ∷ us, refl, k)
 cut_behind t u us false k c = (t ∷ c.0, c.1, ap (λ l. t ∷ l) c.2, once_more t c.0 k c.3)
 
-cut : (ts : List Token) → ends ts ≡ true → Cut ts
+cut : (ts : List Token) → ends_with_end ts ≡ true → Cut ts
 cut [] e = absurd (cc)
 cut (t ∷ []) e = (t ∷ [], [], refl, e)
 cut (t ∷ u ∷ us) e = cut_behind t u us (is_end t.kind) refl (cut (u ∷ us) e)
 
 -- a program is read whatever stands behind it
-never : (r : List Token) → starts (λ t. false) r ≡ false
+never : (r : List Token) → next_is (λ t. false) r ≡ false
 never [] = refl
 never (t ∷ r) = refl
 
@@ -73,7 +73,7 @@ dead d x s t h b =
 
 -- and the next token is the first fault
 fault_behind : (d : ℕ) (x : List StatementTerm) (s : List Token) (t : Token) → WholeProgram d x s
-    → (b : Bool) → among left_out_classes t ≡ b → IsFault d (cond b NotInProfile Expected) s t
+    → (b : Bool) → has_class_in left_out_classes t ≡ b → IsFault d (cond b NotInProfile Expected) s t
 fault_behind d x s t h true e = (dead d x s t h, inl e)
 fault_behind d x s t h false e =
     (dead d x s t h, λ l. elim l [ inl a ↦ absurd (let f : true ≡ false = sym a ∙ e in cc) | inr a ↦ dead d x s a.1.0 h a.1.2 ])
@@ -82,7 +82,7 @@ behind : (d : ℕ) (x : List StatementTerm) (s : List Token) (t : Token) (more :
     → IsFirstFault d (s ++ t ∷ more) (fault_of left_out_classes (Some t)) (t ∷ more)
 behind d x s t more h =
     let all : WholeProgram d x (s ++ []) = subst (WholeProgram d x) (sym (append-nil s)) h in
-    (s, t, more, refl, refl, ((d, x, [], all), x, [], is_outline d x (s ++ []) all), fault_behind d x s t h (among left_out_classes t) refl)
+    (s, t, more, refl, refl, ((d, x, [], all), x, [], is_outline d x (s ++ []) all), fault_behind d x s t h (has_class_in left_out_classes t) refl)
 
 -- a fault before the first end is the same whatever stands behind that end
 same_front : (at r : List Token) (t : Token) (more : List Token) → at ≡ t ∷ more → SameHead at (at ++ r)
@@ -108,13 +108,13 @@ Verdict d ts =
 
 of_program : (d : ℕ) (x : List StatementTerm) (s r : List Token) → WholeProgram d x s → Verdict d (s ++ r)
 of_program d x s [] h =
-    inl (x, subst (WholeProgram d x) (sym (append-nil s)) h, ap (λ (q : ReadProgram). after q nothing_behind) (complete_over d x s [] h))
+    inl (x, subst (WholeProgram d x) (sym (append-nil s)) h, ap (λ (q : ReadProgram). then_read q nothing_behind) (complete_over d x s [] h))
 of_program d x s (t ∷ more) h =
     inr (
       fault_of left_out_classes (Some t),
       t ∷ more,
       behind d x s t more h,
-      ap (λ (q : ReadProgram). after q nothing_behind) (complete_over d x s (t ∷ more) h),
+      ap (λ (q : ReadProgram). then_read q nothing_behind) (complete_over d x s (t ∷ more) h),
     )
 
 verdict_over : (d : ℕ) (s r : List Token) → ends_once s ≡ true → Verdict d (s ++ r)
@@ -124,18 +124,18 @@ verdict_over d s r n = elim (program_or_fault d s n) [
     f.0,
     f.1 ++ r,
     first_over d s r f.0 f.1 f.2,
-    ap (λ (q : ReadProgram). after q nothing_behind) (fault_over d s r f.0 f.1 n f.2),
+    ap (λ (q : ReadProgram). then_read q nothing_behind) (fault_over d s r f.0 f.1 n f.2),
   )
 ]
 
-pub verdict : (d : ℕ) (ts : List Token) → ends ts ≡ true → Verdict d ts
+pub verdict : (d : ℕ) (ts : List Token) → ends_with_end ts ≡ true → Verdict d ts
 verdict d ts e = let c = cut ts e in subst (Verdict d) (sym c.2) (verdict_over d c.0 c.1 c.3)
 
 -- what was read is a program that the tokens write
 pub whole_found : (d : ℕ) (ts : List Token) (x : List StatementTerm) (rest : List Token) → whole_read d ts ≡ Ok (x, rest) → WholeProgram d x ts
 whole_found d ts x rest e = go (program_read d ts) e ((program_reads d).told ts)
   where
-    go : (q : ReadProgram) → after q nothing_behind ≡ Ok (x, rest) → Told (program_read d) (WholeProgram d) (WholeProgram (suc (suc d))) ts q → WholeProgram d x ts
+    go : (q : ReadProgram) → then_read q nothing_behind ≡ Ok (x, rest) → Told (program_read d) (WholeProgram d) (WholeProgram (suc (suc d))) ts q → WholeProgram d x ts
     go (Ok (y, [])) e t =
         let g : ◌≡◌ {A = ReadProgram} (Ok (y, [])) (Ok (x, rest)) = e in
         let pair : ◌≡◌ {A = List StatementTerm × List Token} (y, []) (x, rest) = cc in
@@ -155,7 +155,7 @@ looks_ahead d k s t us vs e = go (program_read d (s ++ t ∷ us)) e ((program_re
     same [] e = absurd (cc)
     same (u ∷ ws) e = let pair : ◌≡◌ {A = Token × List Token} (u, ws) (t, us) = cc in ap (λ (p : Token × List Token). p.0) pair
 
-    go : (q : ReadProgram) → after q nothing_behind ≡ Err (k, t ∷ us) → Told (program_read d) (WholeProgram d) (WholeProgram (suc (suc d))) (s ++ t ∷ us) q
+    go : (q : ReadProgram) → then_read q nothing_behind ≡ Err (k, t ∷ us) → Told (program_read d) (WholeProgram d) (WholeProgram (suc (suc d))) (s ++ t ∷ us) q
         → whole_read d (s ++ t ∷ vs) ≡ Err (k, t ∷ vs)
     go (Ok (y, [])) e h = absurd (cc)
     go (Ok (y, u ∷ ws)) e h =
@@ -164,21 +164,21 @@ looks_ahead d k s t us vs e = go (program_read d (s ++ t ∷ us)) e ((program_re
         let tail : u ∷ ws ≡ t ∷ us = ap (λ (p : SyntaxFault × List Token). p.1) pair in
         let head = same (u ∷ ws) tail in
         ap (λ l. whole_read d (l ++ t ∷ vs)) (sym (front h.0 (u ∷ ws) h.1 tail))
-        ∙ ap (λ (q : ReadProgram). after q nothing_behind) (h.3 (t ∷ vs) head)
+        ∙ ap (λ (q : ReadProgram). then_read q nothing_behind) (h.3 (t ∷ vs) head)
         ∙ ap (λ k. Err (k, t ∷ vs)) (ap (λ u. fault_of left_out_classes (Some u)) (sym head) ∙ ap (λ (p : SyntaxFault × List Token). p.0) pair)
     go (Err y) e h =
         let g : ◌≡◌ {A = ReadProgram} (Err y) (Err (k, t ∷ us)) = e in
         let pair : ◌≡◌ {A = SyntaxFault × List Token} y (k, t ∷ us) = cc in
         let tail : y.1 ≡ t ∷ us = ap (λ (p : SyntaxFault × List Token). p.1) pair in
         ap (λ l. whole_read d (l ++ t ∷ vs)) (sym (front h.0 y.1 h.1 tail))
-        ∙ ap (λ (q : ReadProgram). after q nothing_behind) (h.3 (t ∷ vs) (same y.1 tail))
+        ∙ ap (λ (q : ReadProgram). then_read q nothing_behind) (h.3 (t ∷ vs) (same y.1 tail))
         ∙ ap (λ k. Err (k, t ∷ vs)) (ap (λ (p : SyntaxFault × List Token). p.0) pair)
 
 -- an end behind a token ends
 abbrev stops : Token → Token
 stops t = record { kind = End; place = t.place }
 
-stopped_ends : (s : List Token) (t : Token) → ends (s ++ t ∷ stops t ∷ []) ≡ true
+stopped_ends : (s : List Token) (t : Token) → ends_with_end (s ++ t ∷ stops t ∷ []) ≡ true
 stopped_ends [] t = refl
 stopped_ends (x ∷ []) t = refl
 stopped_ends (x ∷ y ∷ s) t = stopped_ends (y ∷ s) t

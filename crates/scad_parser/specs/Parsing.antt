@@ -15,23 +15,23 @@ use Rattle.scad_grammar.specs.declared.SyntaxFault.{SyntaxFault}
 use Rattle.scad_grammar.specs.declared.SyntaxFault.TheVariants.{Expected, Nested, NotInProfile}
 use Rattle.scad_grammar.specs.FirstFault.{IsFirstFault}
 use Rattle.scad_grammar.specs.Faults.{TokenReader, fault_of, left_out_classes}
-use Rattle.scad_grammar.specs.Reading.{Read, after}
+use Rattle.scad_grammar.specs.Reading.{Read, then_read}
 use Rattle.scad_grammar.specs.StatementReads.{program_read}
 
--- the fault's word
+-- the kind of fault that a reader's fault is answered as; its place is told apart
 abbrev pub kind_of : SyntaxFault → FaultKind
 kind_of Expected = ExpectedKind
 kind_of Nested = NestedKind
 kind_of NotInProfile = NotInProfileKind
 
 -- the place of the first token
-abbrev pub place_at : List Token → Place
-place_at [] = record { line = 1; column = 1 }
-place_at (token ∷ tokens) = token.place
+abbrev pub place_of_first : List Token → Place
+place_of_first [] = record { line = 1; column = 1 }
+place_of_first (token ∷ tokens) = token.place
 
 -- the first fault of these tokens, no token of which may be as deep as the number, with the place of its token
 abbrev pub HasSyntaxFault : ℕ → List Token → FaultIn → Type 0
-HasSyntaxFault depth tokens found = (fault : SyntaxFault) × (at : List Token) × IsFirstFault depth tokens fault at × (found.kind ≡ kind_of fault) × (found.place ≡ place_at at)
+HasSyntaxFault depth tokens found = (fault : SyntaxFault) × (at : List Token) × IsFirstFault depth tokens fault at × (found.kind ≡ kind_of fault) × (found.place ≡ place_of_first at)
 
 -- the stop is that fault, unless memory ran out
 abbrev pub IsSyntaxStop : ℕ → List Token → Stop → Type 0
@@ -52,14 +52,14 @@ AnswersProgram (Err NoMemory) wanted = Unit {0}
 -- the answer is this fault at the first of these tokens, unless memory ran out
 abbrev pub AnswersFault : Result Program Stop → SyntaxFault → List Token → Type 0
 AnswersFault (Ok program) fault at = ⊥
-AnswersFault (Err (Fault found)) fault at = (found.kind ≡ kind_of fault) × (found.place ≡ place_at at)
+AnswersFault (Err (Fault found)) fault at = (found.kind ≡ kind_of fault) × (found.place ≡ place_of_first at)
 AnswersFault (Err NoMemory) fault at = Unit {0}
 
 -- the last token is an end
-abbrev pub ends : List Token → Bool
-ends [] = false
-ends (token ∷ []) = is_end token.kind
-ends (token ∷ next ∷ tokens) = ends (next ∷ tokens)
+abbrev pub ends_with_end : List Token → Bool
+ends_with_end [] = false
+ends_with_end (token ∷ []) = is_end token.kind
+ends_with_end (token ∷ next ∷ tokens) = ends_with_end (next ∷ tokens)
 
 -- nothing stands behind what was read
 abbrev pub nothing_behind : {A : Type 0} → A → TokenReader A
@@ -68,10 +68,10 @@ nothing_behind x (token ∷ tokens) = Err (fault_of left_out_classes (Some token
 
 -- a program and its end, and nothing behind it
 abbrev pub whole_read : ℕ → TokenReader (List StatementTerm)
-whole_read depth tokens = after (program_read depth tokens) nothing_behind
+whole_read depth tokens = then_read (program_read depth tokens) nothing_behind
 
 -- the answer is what a reader of the grammar reads, unless memory ran out
 abbrev pub IsRead : Result Program Stop → Read Token SyntaxFault (List StatementTerm) → Type 0
 IsRead (Ok program) read = (rest : List Token) × (read ≡ Ok (program_of program, rest))
-IsRead (Err (Fault found)) read = (fault : SyntaxFault) × (at : List Token) × (read ≡ Err (fault, at)) × (found.kind ≡ kind_of fault) × (found.place ≡ place_at at)
+IsRead (Err (Fault found)) read = (fault : SyntaxFault) × (at : List Token) × (read ≡ Err (fault, at)) × (found.kind ≡ kind_of fault) × (found.place ≡ place_of_first at)
 IsRead (Err NoMemory) read = Unit {0}

@@ -1,7 +1,7 @@
 ghost use Rattle.scad_ast.specs.ExprView.{term_of};
 ghost use Rattle.scad_ast.specs.StatementView.{statement_of};
 ghost use Rattle.scad_grammar.specs.Grammar.{assignment_term};
-ghost use Rattle.scad_grammar.specs.Reading.{mapped};
+ghost use Rattle.scad_grammar.specs.Reading.{image_read};
 ghost use Rattle.scad_grammar.specs.Reads.{expr_read};
 ghost use Rattle.scad_grammar.specs.StatementReads.{ended_read, special_read};
 ghost use Rattle.scad_expressions.specs.Views.{GivesRead};
@@ -20,7 +20,7 @@ pub(crate) fn assignment<'a>(
     depth: u32,
 ) -> Parsed<'a, Statement>
     ensures value { GivesRead (λ p. (statement_of p.0, p.1.now)) result
-        (mapped (assignment_term name.now) (ended_read (expr_read depth)) tokens.now) }
+        (image_read (assignment_term name.now) (ended_read (expr_read depth)) tokens.now) }
 {
     let bytes = bytes(alloc, &name.kind)?;
     let (value, rest) = ended(alloc, tokens, depth)?;

@@ -1,9 +1,9 @@
 ghost use Rattle.std.specs.Prelude.{◌≡◌};
 ghost use Rattle.scad_ast.specs.ExprView.{term_of};
-ghost use Rattle.scad_ast.specs.StatementView.{instance_of, core_of, mark_of, marks_of};
-ghost use Rattle.scad_grammar.specs.Grammar.{mark_term, instance_term};
+ghost use Rattle.scad_ast.specs.StatementView.{instance_of, core_of, modifier_of, modifiers_of};
+ghost use Rattle.scad_grammar.specs.Grammar.{modifier_term, instance_term};
 ghost use Rattle.scad_grammar.specs.Reads.{expr_read, in_parentheses};
-ghost use Rattle.scad_grammar.specs.StatementReads.{marks_read};
+ghost use Rattle.scad_grammar.specs.StatementReads.{modifiers_read};
 ghost use Rattle.scad_expressions.specs.Views.{GivesRead};
 
 use scad_ast::{Core, Expr, Instance, PlacedModifier, PlacedModifiers};
@@ -13,7 +13,7 @@ use std::alloc::Global;
 
 /// The modifiers that stand here, which may be none.
 pub(crate) fn marks<'a>(alloc: Global, tokens: &'a [Token]) -> Parsed<'a, PlacedModifiers>
-    ensures value { GivesRead (λ p. (marks_of p.0, p.1.now)) result (marks_read tokens.now) }
+    ensures value { GivesRead (λ p. (modifiers_of p.0, p.1.now)) result (modifiers_read tokens.now) }
 {
     let mut items = Vec::new(alloc);
     let mut rest = tokens;
@@ -26,7 +26,7 @@ pub(crate) fn marks<'a>(alloc: Global, tokens: &'a [Token]) -> Parsed<'a, Placed
 
 // A modifier.
 fn mark(token: &Token) -> PlacedModifier
-    ensures { mark_of result ≡ mark_term token.now }
+    ensures { modifier_of result ≡ modifier_term token.now }
 {
     PlacedModifier {
         place: token.place,
@@ -36,7 +36,7 @@ fn mark(token: &Token) -> PlacedModifier
 
 /// An instance, by its modifiers and its core.
 pub(crate) fn instance_from(marks: PlacedModifiers, core: Core) -> Instance
-    ensures { instance_of result ≡ instance_term (marks_of marks) (core_of core) }
+    ensures { instance_of result ≡ instance_term (modifiers_of marks) (core_of core) }
 {
     let place = match marks.items.first() {
         Some(mark) => mark.place,

@@ -1,7 +1,7 @@
 ghost use Rattle.std.specs.Prelude.{map};
 ghost use Rattle.scad_ast.specs.StatementView.{binder_of, binders_of};
-ghost use Rattle.scad_grammar.specs.Classes.{is, name, comma_sign};
-ghost use Rattle.scad_grammar.specs.Reading.{trailing, in_front};
+ghost use Rattle.scad_grammar.specs.Classes.{has_class, name_class, comma_sign};
+ghost use Rattle.scad_grammar.specs.Reading.{trailing_items, in_front};
 ghost use Rattle.scad_grammar.specs.Reads.{expr_read, in_parentheses};
 ghost use Rattle.scad_grammar.specs.StatementReads.{binder_in, binders_read};
 ghost use Rattle.scad_expressions.specs.Views.{GivesRead};
@@ -41,7 +41,7 @@ fn more_binders<'a>(
     depth: u32,
 ) -> Parsed<'a, Binders>
     ensures value { GivesRead (λ p. (binders_of p.0, p.1.now)) result
-        (in_front (map binder_of items.items) (trailing (is comma_sign) (is name)
+        (in_front (map binder_of items.items) (trailing_items (has_class comma_sign) (has_class name_class)
         (binder_in depth (expr_read depth)) tokens.now)) }
 {
     let mut rest = tokens;

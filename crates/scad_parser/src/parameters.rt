@@ -1,7 +1,7 @@
 ghost use Rattle.std.specs.Prelude.{◌≡◌, [], map};
 ghost use Rattle.scad_ast.specs.StatementView.{param_of, params_of};
-ghost use Rattle.scad_grammar.specs.Classes.{is, name, comma_sign};
-ghost use Rattle.scad_grammar.specs.Reading.{trailing, in_front};
+ghost use Rattle.scad_grammar.specs.Classes.{has_class, name_class, comma_sign};
+ghost use Rattle.scad_grammar.specs.Reading.{trailing_items, in_front};
 ghost use Rattle.scad_grammar.specs.Reads.{expr_read, in_parentheses};
 ghost use Rattle.scad_grammar.specs.StatementReads.{param_in, params_read};
 ghost use Rattle.scad_expressions.specs.Views.{GivesRead};
@@ -53,7 +53,7 @@ fn more_params<'a>(
     depth: u32,
 ) -> Parsed<'a, Params>
     ensures value { GivesRead (λ p. (params_of p.0, p.1.now)) result
-        (in_front (map param_of items.items) (trailing (is comma_sign) (is name)
+        (in_front (map param_of items.items) (trailing_items (has_class comma_sign) (has_class name_class)
         (param_in depth (expr_read depth)) tokens.now)) }
 {
     let mut rest = tokens;

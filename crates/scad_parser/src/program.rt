@@ -6,9 +6,9 @@ ghost use Rattle.scad_ast.specs.Counts.{begun_by_program};
 ghost use Rattle.scad_ast.specs.ProgramView.{program_of};
 ghost use Rattle.scad_ast.specs.StatementView.{statements_of};
 ghost use Rattle.scad_grammar.specs.declared.SyntaxFault.{SyntaxFault};
-ghost use Rattle.scad_grammar.specs.Grammar.{too_deep, WholeProgram};
+ghost use Rattle.scad_grammar.specs.Grammar.{least_too_deep, WholeProgram};
 ghost use Rattle.scad_grammar.specs.FirstFault.{IsFirstFault};
-ghost use Rattle.scad_parser.specs.Parsing.{ends, whole_read, IsSyntaxStop, StandsAtToken, AnswersProgram, AnswersFault, IsRead, kind_of, place_at};
+ghost use Rattle.scad_parser.specs.Parsing.{ends_with_end, whole_read, IsSyntaxStop, StandsAtToken, AnswersProgram, AnswersFault, IsRead, kind_of, place_of_first};
 ghost use Rattle.scad_expressions.specs.Views.{GivesRead};
 
 use crate::statement::statements;
@@ -27,18 +27,18 @@ const TOO_DEEP: u32 = 65;
 pub fn parse(alloc: Global, tokens: &[Token]) -> Result<Program, Stop>
     requires { length tokens.now < 2 ^ 32 }
     // What is given is a program that the tokens write.
-    ensures found { IfOk result (λ p. WholeProgram too_deep (program_of p) tokens.now) }
+    ensures found { IfOk result (λ p. WholeProgram least_too_deep (program_of p) tokens.now) }
     // The program that the tokens write is given, unless memory runs out.
-    ensures program { (x : List StatementTerm) → WholeProgram too_deep x tokens.now →
+    ensures program { (x : List StatementTerm) → WholeProgram least_too_deep x tokens.now →
         AnswersProgram result x }
     // A fault of tokens that end with an end is their first one, at its token's place.
-    ensures fault { ends tokens.now ≡ true →
-        IfErr result (λ stop. IsSyntaxStop too_deep tokens.now stop) }
+    ensures fault { ends_with_end tokens.now ≡ true →
+        IfErr result (λ stop. IsSyntaxStop least_too_deep tokens.now stop) }
     // The place of such a fault is that of one of the tokens, which may be the end.
-    ensures place { ends tokens.now ≡ true → IfErr result (λ stop. StandsAtToken tokens.now stop) }
+    ensures place { ends_with_end tokens.now ≡ true → IfErr result (λ stop. StandsAtToken tokens.now stop) }
     // The tokens' first fault is given, unless memory runs out.
     ensures only { (fault : SyntaxFault) (at : List Token) →
-        IsFirstFault too_deep tokens.now fault at → AnswersFault result fault at }
+        IsFirstFault least_too_deep tokens.now fault at → AnswersFault result fault at }
     // A program has no more blocks, functions and modules than tokens.
     ensures few { IfOk result (λ p. begun_by_program (program_of p) ≤ length tokens.now) }
 {
@@ -47,13 +47,13 @@ pub fn parse(alloc: Global, tokens: &[Token]) -> Result<Program, Stop>
 
 /// Tokens whose only end is the last of them end with an end.
 pub fn an_only_end_is_last()
-    ensures { (ts : List Token) → ends_once ts ≡ true → ends ts ≡ true }
+    ensures { (ts : List Token) → ends_once ts ≡ true → ends_with_end ts ≡ true }
 {}
 
 #[tactic(auto, using(crate::proofs::Parsed::few_read))]
 fn read_program(alloc: Global, tokens: &[Token]) -> Result<Program, Stop>
     requires { length tokens.now < 2 ^ 32 }
-    ensures { IsRead result (whole_read too_deep tokens.now) }
+    ensures { IsRead result (whole_read least_too_deep tokens.now) }
 {
     match program(alloc, tokens) {
         Ok((statements, _)) => Ok(Program { statements }),
@@ -65,7 +65,7 @@ fn read_program(alloc: Global, tokens: &[Token]) -> Result<Program, Stop>
 // A program's statements and its end, behind which nothing stands.
 fn program<'a>(alloc: Global, tokens: &'a [Token]) -> Parsed<'a, Statements>
     ensures { GivesRead (λ p. (statements_of p.0, p.1.now)) result
-        (whole_read too_deep tokens.now) }
+        (whole_read least_too_deep tokens.now) }
 {
     let (statements, rest) = statements(alloc, tokens, TOO_DEEP)?;
     let (_, rest) = take(TokenClass::End, rest)?;
@@ -77,7 +77,7 @@ fn program<'a>(alloc: Global, tokens: &'a [Token]) -> Parsed<'a, Statements>
 
 // The place of the first token.
 fn place_of(tokens: &[Token]) -> Place
-    ensures { result ≡ place_at tokens.now }
+    ensures { result ≡ place_of_first tokens.now }
 {
     match tokens {
         [] => Place { line: 1, column: 1 },

@@ -1,5 +1,5 @@
 ghost use Rattle.scad_ast.specs.StatementView.{statement_of, statements_of, instance_of, core_of, body_of};
-ghost use Rattle.scad_grammar.specs.Classes.{among, is, else_word};
+ghost use Rattle.scad_grammar.specs.Classes.{has_class_in, has_class, else_word};
 ghost use Rattle.scad_grammar.specs.Languages.{second_of};
 ghost use Rattle.scad_grammar.specs.Faults.{one};
 ghost use Rattle.scad_grammar.specs.Reading.{both, many};
@@ -71,7 +71,7 @@ fn braces<'a>(alloc: Global, tokens: &'a [Token], depth: u32) -> Parsed<'a, Stat
 #[cycle(statement)]
 pub fn statements<'a>(alloc: Global, tokens: &'a [Token], depth: u32) -> Parsed<'a, Statements>
     ensures value { GivesRead (λ p. (statements_of p.0, p.1.now)) result
-        (many (among firsts_of_statement) (statement_read depth) tokens.now) }
+        (many (has_class_in firsts_of_statement) (statement_read depth) tokens.now) }
 {
     let mut items = Vec::new(alloc);
     let mut rest = tokens;
@@ -173,7 +173,7 @@ fn branch<'a>(alloc: Global, tokens: &'a [Token], depth: u32) -> Parsed<'a, Core
 #[inline(always)]
 fn otherwise<'a>(alloc: Global, tokens: &'a [Token], depth: u32) -> Parsed<'a, Box<Body>>
     ensures value { GivesRead (λ p. (body_of p.0.value, p.1.now)) result
-        (both second_of (one (is else_word)) (body_read depth) tokens.now) }
+        (both second_of (one (has_class else_word)) (body_read depth) tokens.now) }
 {
     let (_, rest) = take(TokenClass::Word(Reserved::Else), tokens)?;
     boxed_body(alloc, rest, depth)

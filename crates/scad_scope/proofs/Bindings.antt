@@ -8,8 +8,8 @@ use Rattle.scad_value.specs.declared.bounded_value.BoundedValue.{BoundedValue}
 use Rattle.scad_value.specs.Values.{Val}
 use Rattle.scad_value.specs.View.{val_of}
 use Rattle.scad_definitions.specs.Expected.{newest_place}
-use Rattle.scad_scope.specs.Names.{Pairs, find_in, or_else}
-use Rattle.scad_scope.specs.Known.{with_names, IsAt, IsNextName}
+use Rattle.scad_scope.specs.Names.{Pairs, find_in, or_found_outside}
+use Rattle.scad_scope.specs.Known.{with_names, IsNameAt, IsNextName}
 use Rattle.scad_scope.specs.View.{variable_seen}
 
 -- a list without items
@@ -17,7 +17,7 @@ pub none_left : {A : Type 0} (xs : List A) → length xs ≡ 0 → xs ≡ []
 none_left [] e = refl
 none_left (x ∷ xs) e = absurd (omega (arith, e))
 
-named_more : (vs : List BoundedValue) (v : BoundedValue) (names : List (List ℕ)) (name : List ℕ) → IsAt names (length vs) name
+named_more : (vs : List BoundedValue) (v : BoundedValue) (names : List (List ℕ)) (name : List ℕ) → IsNameAt names (length vs) name
     → with_names (vs ++ v ∷ []) names ≡ with_names vs names ++ (name, val_of v.value) ∷ []
 named_more [] v [] name h = absurd (omega (arith, h.there))
 named_more [] v (n ∷ ns) name h = ap (λ m. (m, val_of v.value) ∷ []) (sym h.same)
@@ -38,7 +38,7 @@ next_bound later earlier vs ws v names name h e =
     ∙ ap (λ (l : Pairs Val). (name, val_of v.value) ∷ (l ++ (reverse (with_names vs names) ++ earlier))) (sym h.newest)
 
 pub fits_more : (vs ws : List BoundedValue) (v : BoundedValue) (names : List (List ℕ)) (name : List ℕ)
-    → IsAt names (length vs) name → ws ≡ vs ++ v ∷ [] → length ws ≤ length names
+    → IsNameAt names (length vs) name → ws ≡ vs ++ v ∷ [] → length ws ≤ length names
 fits_more vs ws v names name h e = omega (arith, ap length e, length-append vs (v ∷ []), h.there)
 
 -- another name gets a value, before the table's names or behind them
@@ -71,20 +71,20 @@ module _ {A E : Type 0} (ps qs : Pairs BoundedValue) (name : List ℕ) (v : Boun
   later_refused rest (Err x) e = ap (λ us. map variable_seen us ++ rest) e
 
 -- what is found among pairs that stand one behind the other
-joined_found : (ps qs : Pairs Val) (name : List ℕ) → find_in (ps ++ qs) name ≡ or_else (find_in ps name) (find_in qs name)
+joined_found : (ps qs : Pairs Val) (name : List ℕ) → find_in (ps ++ qs) name ≡ or_found_outside (find_in ps name) (find_in qs name)
 joined_found [] qs name = refl
 joined_found (p ∷ ps) qs name = by_test (bytes_eq p.0 name) (joined_found ps qs name)
   where
-    by_test : (t : Bool) → find_in (ps ++ qs) name ≡ or_else (find_in ps name) (find_in qs name)
-        → cond t (Some p.1) (find_in (ps ++ qs) name) ≡ or_else (cond t (Some p.1) (find_in ps name)) (find_in qs name)
+    by_test : (t : Bool) → find_in (ps ++ qs) name ≡ or_found_outside (find_in ps name) (find_in qs name)
+        → cond t (Some p.1) (find_in (ps ++ qs) name) ≡ or_found_outside (cond t (Some p.1) (find_in ps name)) (find_in qs name)
     by_test true e = refl
     by_test false e = e
 
 pub found_first : (ps qs : Pairs Val) (name : List ℕ) (v : Val) → find_in ps name ≡ Some v → find_in (ps ++ qs) name ≡ Some v
-found_first ps qs name v e = joined_found ps qs name ∙ ap (λ o. or_else o (find_in qs name)) e
+found_first ps qs name v e = joined_found ps qs name ∙ ap (λ o. or_found_outside o (find_in qs name)) e
 
 pub found_behind : (ps qs : Pairs Val) (name : List ℕ) → find_in ps name ≡ None → find_in (ps ++ qs) name ≡ find_in qs name
-found_behind ps qs name e = joined_found ps qs name ∙ ap (λ o. or_else o (find_in qs name)) e
+found_behind ps qs name e = joined_found ps qs name ∙ ap (λ o. or_found_outside o (find_in qs name)) e
 
 -- a name of the table has the value at its place
 module _ (vs : List BoundedValue) (names : List (List ℕ)) (fit : length vs ≤ length names) (name : List ℕ) (d : BoundedValue) where
@@ -104,7 +104,7 @@ module _ (vs : List BoundedValue) (names : List (List ℕ)) (fit : length vs ≤
       let next : suc k ≡ k + 1 = omega arith in
       let n = get_or names k [] in
       let v = get_or vs k d in
-      let at : IsAt names (length (take k vs)) n = record {
+      let at : IsNameAt names (length (take k vs)) n = record {
         there = omega (arith, length-take-le k vs (omega (arith, h)), fit, h);
         same = ap (λ i. get_or names i []) (sym (length-take-le k vs (omega (arith, h))));
       } in

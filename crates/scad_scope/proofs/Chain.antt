@@ -7,11 +7,11 @@ use Rattle.std.proofs.Math.Seq.{drop-append_seam}
 use Rattle.scad_value.specs.Values.{Val}
 use Rattle.scad_value.specs.View.{val_of}
 use Rattle.scad_value.specs.declared.bounded_value.BoundedValue.{BoundedValue}
-use Rattle.scad_scope.specs.Names.{Pairs, find_in, oldest}
+use Rattle.scad_scope.specs.Names.{Pairs, find_in, oldest_pairs}
 use Rattle.scad_scope.specs.View.{variable_seen, IsValueFound}
 
 -- the oldest part of dynamic bindings is as long as it is said to be
-pub oldest_part : {A : Type 0} (n : ℕ) (newer older : List A) → length older ≡ n → oldest n (newer ++ older) ≡ older
+pub oldest_part : {A : Type 0} (n : ℕ) (newer older : List A) → length older ≡ n → oldest_pairs n (newer ++ older) ≡ older
 oldest_part n newer older h =
     let len : length (newer ++ older) - n ≡ length newer = omega (arith, length-append newer older, h) in
     ap (λ k. drop k (newer ++ older)) len ∙ drop-append_seam newer older
@@ -26,7 +26,7 @@ mapped_rest f (suc n) [] = refl
 mapped_rest f (suc n) (x ∷ xs) = mapped_rest f n xs
 
 -- what is left of the pairs is left of the variables
-pub oldest_seen : (n : ℕ) (ps : Pairs BoundedValue) → map variable_seen (oldest n ps) ≡ oldest n (map variable_seen ps)
+pub oldest_seen : (n : ℕ) (ps : Pairs BoundedValue) → map variable_seen (oldest_pairs n ps) ≡ oldest_pairs n (map variable_seen ps)
 oldest_seen n ps = mapped_rest variable_seen (length ps - n) ps
     ∙ ap (λ k. drop (k - n) (map variable_seen ps)) (sym (mapped_length variable_seen ps))
 

@@ -10,7 +10,7 @@ use Rattle.scad_scope.specs.declared.table.NameSpace.TheVariants.{Functions, Mod
 use Rattle.scad_scope.specs.Names.{with_variable, with_pair, bound_in}
 use Rattle.std.specs.Prelude.{IfOk, OnOk, OnErr}
 use Rattle.std.proofs.Common.{Result, Ok, Err}
-use Rattle.scad_scope.specs.Names.{Row, NumberedEnv, NumberedOutermost, NumberedWithin, NumberedActivation, no_numbered_activation, numbered_activation, activation_from, env_behind, or_outer_numbered, enclosing_activation, envs_from, env_of, find_in, or_else, standing_in, variable_in}
+use Rattle.scad_scope.specs.Names.{Row, NumberedEnv, NumberedOutermost, NumberedWithin, NumberedActivation, no_numbered_activation, numbered_activation, activation_from, env_behind, or_outer_numbered, enclosing_activation, envs_from, env_of, find_in, or_found_outside, standing_in, variable_in}
 use Rattle.scad_scope.specs.declared.table.ModuleActivation.{ModuleActivation}
 use Rattle.scad_scope.specs.Table.{numbered_activation_of}
 use Rattle.scad_scope.specs.View.{row_of_scope, rows_in, pairs_of, definition_in}
@@ -126,45 +126,45 @@ module _ (ss : List Scope) (k : ℕ) (s : Scope) (name : List ℕ) (h : k < leng
     unfolding outside
     an_outer l = ap (λ b. cond b (env_of (rows_in ss) s.outer) NumberedOutermost) (lt-ltb s.outer k l)
 
-    here : variable_in (env_of (rows_in ss) k) name ≡ or_else (find_in (row_of_scope s).variables name)
+    here : variable_in (env_of (rows_in ss) k) name ≡ or_found_outside (find_in (row_of_scope s).variables name)
         (variable_in outside name)
     unfolding outside
     here = ap (λ x. variable_in x name) (env_at ss k s h e)
 
     pub variable_found : (x : Val) → find_in (row_of_scope s).variables name ≡ Some x →
         variable_in (env_of (rows_in ss) k) name ≡ Some x
-    variable_found x f = here ∙ ap (λ o. or_else o (variable_in outside name)) f
+    variable_found x f = here ∙ ap (λ o. or_found_outside o (variable_in outside name)) f
 
     pub variable_none : find_in (row_of_scope s).variables name ≡ None → k ≤ s.outer →
         variable_in (env_of (rows_in ss) k) name ≡ None
-    variable_none f l = here ∙ ap (λ o. or_else o (variable_in outside name)) f ∙ ap (λ x. variable_in x name)
+    variable_none f l = here ∙ ap (λ o. or_found_outside o (variable_in outside name)) f ∙ ap (λ x. variable_in x name)
         (no_outer l)
 
     pub variable_outer : find_in (row_of_scope s).variables name ≡ None → s.outer < k
         → variable_in (env_of (rows_in ss) k) name ≡ variable_in (env_of (rows_in ss) s.outer) name
-    variable_outer f l = here ∙ ap (λ o. or_else o (variable_in outside name)) f
+    variable_outer f l = here ∙ ap (λ o. or_found_outside o (variable_in outside name)) f
         ∙ ap (λ x. variable_in x name)
         (an_outer l)
 
     within : (name_space : NameSpace) (call : NumberedActivation) (env : NumberedEnv) → definition_in name_space (NumberedWithin k (row_of_scope s) call env) name
-        ≡ or_else (standing_in (NumberedWithin k (row_of_scope s) call env) (find_in (pairs_of name_space (row_of_scope s)) name))
+        ≡ or_found_outside (standing_in (NumberedWithin k (row_of_scope s) call env) (find_in (pairs_of name_space (row_of_scope s)) name))
         (definition_in name_space env name)
     within Functions call env = refl
     within Modules call env = refl
 
     standing : (name_space : NameSpace) → definition_in name_space (env_of (rows_in ss) k) name
-        ≡ or_else (standing_in (env_of (rows_in ss) k) (find_in (pairs_of name_space (row_of_scope s)) name))
+        ≡ or_found_outside (standing_in (env_of (rows_in ss) k) (find_in (pairs_of name_space (row_of_scope s)) name))
         (definition_in name_space outside name)
     unfolding outside
     standing name_space = subst
         (λ x. definition_in name_space x name
-        ≡ or_else (standing_in x (find_in (pairs_of name_space (row_of_scope s)) name))
+        ≡ or_found_outside (standing_in x (find_in (pairs_of name_space (row_of_scope s)) name))
         (definition_in name_space outside name))
         (sym (env_at ss k s h e)) (within name_space (activation_from (env_of (rows_in ss)) k (row_of_scope s).call) outside)
 
     pub definition_found : (name_space : NameSpace) (d : ℕ) → find_in (pairs_of name_space (row_of_scope s)) name ≡ Some d
         → definition_in name_space (env_of (rows_in ss) k) name ≡ Some (env_of (rows_in ss) k, d)
-    definition_found name_space d f = standing name_space ∙ ap (λ o. or_else (standing_in (env_of (rows_in ss) k) o)
+    definition_found name_space d f = standing name_space ∙ ap (λ o. or_found_outside (standing_in (env_of (rows_in ss) k) o)
         (definition_in name_space outside name)) f
 
     enclosing_here : enclosing_activation (env_of (rows_in ss) k)
@@ -190,7 +190,7 @@ module _ (ss : List Scope) (k : ℕ) (s : Scope) (name : List ℕ) (h : k < leng
 
     passed : (name_space : NameSpace) → find_in (pairs_of name_space (row_of_scope s)) name ≡ None
         → definition_in name_space (env_of (rows_in ss) k) name ≡ definition_in name_space outside name
-    passed name_space f = standing name_space ∙ ap (λ o. or_else (standing_in (env_of (rows_in ss) k) o)
+    passed name_space f = standing name_space ∙ ap (λ o. or_found_outside (standing_in (env_of (rows_in ss) k) o)
         (definition_in name_space outside name)) f
 
     pub definition_none : (name_space : NameSpace) → find_in (pairs_of name_space (row_of_scope s)) name ≡ None → k ≤ s.outer

@@ -19,7 +19,7 @@ with_names (value ∷ values) [] = []
 with_names (value ∷ values) (name ∷ names) = (name, val_of value.value) ∷ with_names values names
 
 -- that a name stands at a place
-pub record IsAt (names : List (List ℕ)) (place : ℕ) (name : List ℕ) : Type 0 where
+pub record IsNameAt (names : List (List ℕ)) (place : ℕ) (name : List ℕ) : Type 0 where
   pub there : place < length names
   pub same : name ≡ slice_index_or names place []
 
@@ -27,4 +27,4 @@ pub record IsAt (names : List (List ℕ)) (place : ℕ) (name : List ℕ) : Type
 pub record IsNextName (later : Pairs Val) (names : List (List ℕ)) (count : ℕ)
     (name : List ℕ) : Type 0 where
   pub newest : later ≡ []
-  pub at : IsAt names count name
+  pub at : IsNameAt names count name

@@ -1,7 +1,7 @@
 -- Scopes as lists of pairs of a name and what it stands for, searched from the newest.
 use Rattle.std.specs.Prelude.{ℕ, zero, suc, ◌-◌, ◌^◌, pos, List, [], ◌∷◌, ◌++◌, length, Option, Some, None, slice_index_or, if◌then◌else◌, nat_lt, codes}
 use Rattle.scad_value.specs.Values.{Val, NumberVal}
-pub use Rattle.scad_definitions.specs.Newest.{Pairs, find_in, oldest}
+pub use Rattle.scad_definitions.specs.Newest.{Pairs, find_in, oldest_pairs}
 
 -- a scope in the table of scopes: its pairs, and the number of the scope outside it
 pub record Row : Type 0 where
@@ -61,15 +61,15 @@ enclosing_activation (NumberedWithin number row call outer) =
     or_outer_numbered call (enclosing_activation outer)
 
 -- what was found, or else what is found further out
-abbrev pub or_else : {A : Type 0} → Option A → Option A → Option A
-or_else (Some x) other = Some x
-or_else None other = other
+abbrev pub or_found_outside : {A : Type 0} → Option A → Option A → Option A
+or_found_outside (Some x) other = Some x
+or_found_outside None other = other
 
 -- a variable, from the inner scope outward
 abbrev pub variable_in : NumberedEnv → List ℕ → Option Val
 variable_in NumberedOutermost name = None
 variable_in (NumberedWithin number row call outer) name =
-    or_else (find_in row.variables name) (variable_in outer name)
+    or_found_outside (find_in row.variables name) (variable_in outer name)
 
 -- a definition that was found, with the scope that it stands in
 abbrev pub standing_in : NumberedEnv → Option ℕ → Option (NumberedEnv × ℕ)
@@ -80,14 +80,14 @@ standing_in env None = None
 abbrev pub function_in : NumberedEnv → List ℕ → Option (NumberedEnv × ℕ)
 function_in NumberedOutermost name = None
 function_in (NumberedWithin number row call outer) name =
-    or_else (standing_in (NumberedWithin number row call outer) (find_in row.functions name))
+    or_found_outside (standing_in (NumberedWithin number row call outer) (find_in row.functions name))
     (function_in outer name)
 
 -- a module with the scope that it stands in, from the inner scope outward
 abbrev pub module_in : NumberedEnv → List ℕ → Option (NumberedEnv × ℕ)
 module_in NumberedOutermost name = None
 module_in (NumberedWithin number row call outer) name =
-    or_else (standing_in (NumberedWithin number row call outer) (find_in row.modules name))
+    or_found_outside (standing_in (NumberedWithin number row call outer) (find_in row.modules name))
     (module_in outer name)
 
 -- the number that stands for no scope outside

@@ -21,7 +21,7 @@ abbrev pub bindings_of : Scopes → Pairs Val
 bindings_of scopes = variables_of scopes.bindings
 
 -- the number of a scope that is there, and of a definition that stands in it
-pub record IsFound (rows : List Row) (wanted : Option (NumberedEnv × ℕ))
+pub record IsDefinitionFound (rows : List Row) (wanted : Option (NumberedEnv × ℕ))
     (found : Found) : Type 0 where
   pub there : found.scope < length rows
   pub same : wanted ≡ Some (env_of rows found.scope, found.definition)

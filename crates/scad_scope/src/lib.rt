@@ -9,7 +9,7 @@ mod variables;
 
 pub use scad_definitions::{
     ArgumentsSoFar, Assignment, BlockText, Blocks, CallArguments, Function, Matching, Module,
-    Names, SpecialArgument, arguments, name_of, positional_after,
+    Names, SpecialArgument, arguments, parameter_name, positional_after,
 };
 pub use scopes::Scopes;
 pub use table::{Found, ModuleActivation};

@@ -24,12 +24,12 @@ impl Scopes {
     ghost use Rattle.text_place.specs.declared.fault.FaultKind.TheVariants.{UnknownName, UnknownFunction, UnknownModule};
     ghost use Rattle.scad_value.specs.Values.{Val, is_bounded};
     ghost use Rattle.scad_value.specs.View.{val_of};
-    ghost use Rattle.scad_scope.specs.Names.{Pairs, find_in, env_of, variable_in, function_in, module_in, first_row, empty_row, bound_in, with_pair, NumberedWithin, no_numbered_activation, numbered_activation, enclosing_activation, activation_row, first_bindings, oldest, Row};
+    ghost use Rattle.scad_scope.specs.Names.{Pairs, find_in, env_of, variable_in, function_in, module_in, first_row, empty_row, bound_in, with_pair, NumberedWithin, no_numbered_activation, numbered_activation, enclosing_activation, activation_row, first_bindings, oldest_pairs, Row};
     ghost use Rattle.scad_scope.specs.Rows.{row_of_block};
     ghost use Rattle.scad_definitions.specs.Tables.{table_held, functions_held, modules_held};
     ghost use Rattle.scad_scope.specs.Numbered.{functions_below, modules_below, StaysBelow, StaysNumbered};
     ghost use Rattle.scad_scope.specs.View.{definition_in, row_of_scope};
-    ghost use Rattle.scad_scope.specs.Table.{rows_of, bindings_of, numbered_activation_of, IsFound, IsMissing, IsVariable, KeepsScopes};
+    ghost use Rattle.scad_scope.specs.Table.{rows_of, bindings_of, numbered_activation_of, IsDefinitionFound, IsMissing, IsVariable, KeepsScopes};
 
     /// One empty scope, number 0, outside all others, and the dynamic bindings with `$fn` 0, `$fa` 12 and `$fs` 2.
     pub fn new(alloc: Global) -> Result<Scopes, NoMemory>
@@ -290,7 +290,7 @@ impl Scopes {
     /// Cuts the dynamic bindings to the oldest ones, so many of them.
     pub fn unwind(&mut self, to: u32)
         requires { to ≤ length (bindings_of self.old) }
-        ensures bindings { bindings_of self.new ≡ oldest to (bindings_of self.old) }
+        ensures bindings { bindings_of self.new ≡ oldest_pairs to (bindings_of self.old) }
         ensures back { (newer older : Pairs Val) → bindings_of self.old ≡ newer ++ older
             → length older ≡ to → bindings_of self.new ≡ older }
         ensures rows { rows_of self.new ≡ rows_of self.old }
@@ -303,7 +303,7 @@ impl Scopes {
     pub fn function(&self, scope: u32, name: &[u8], place: Place) -> Result<Found, Fault>
         requires { scope < length (rows_of self.now) }
         ensures { MatchResult result
-            (IsFound (rows_of self.now) (function_in (env_of (rows_of self.now) scope) name.now))
+            (IsDefinitionFound (rows_of self.now) (function_in (env_of (rows_of self.now) scope) name.now))
             (IsMissing UnknownFunction place
             (function_in (env_of (rows_of self.now) scope) name.now)) }
     {
@@ -318,7 +318,7 @@ impl Scopes {
     pub fn module(&self, scope: u32, name: &[u8], place: Place) -> Result<Found, Fault>
         requires { scope < length (rows_of self.now) }
         ensures { MatchResult result
-            (IsFound (rows_of self.now) (module_in (env_of (rows_of self.now) scope) name.now))
+            (IsDefinitionFound (rows_of self.now) (module_in (env_of (rows_of self.now) scope) name.now))
             (IsMissing UnknownModule place (module_in (env_of (rows_of self.now) scope) name.now)) }
     {
         match self.definition(NameSpace::Modules, scope, name) {
@@ -332,7 +332,7 @@ impl Scopes {
         requires { scope < length (rows_of self.now) }
         ensures { MatchOption result
             (definition_in name_space (env_of (rows_of self.now) scope) name.now ≡ None)
-            (IsFound (rows_of self.now)
+            (IsDefinitionFound (rows_of self.now)
             (definition_in name_space (env_of (rows_of self.now) scope) name.now)) }
     {
         let mut at = scope;

@@ -1,6 +1,6 @@
 ghost use Rattle.std.specs.Prelude.{◌≡◌, ◌≤◌, length, option_map, IsTrue};
 ghost use Rattle.scad_definitions.specs.ExpectedView.{names_expected};
-ghost use Rattle.scad_scope.specs.Known.{names_known, IsAt};
+ghost use Rattle.scad_scope.specs.Known.{names_known, IsNameAt};
 
 use crate::table::find_variable;
 use scad_definitions::{NameList, NameTable};
@@ -136,7 +136,7 @@ impl Variables {
 
 // Whether the name at a place of a table is this one.
 fn is_at(table: &NameTable, place: usize, name: &[u8]) -> bool
-    ensures { IsTrue result → IsAt (names_expected table.now) place name.now }
+    ensures { IsTrue result → IsNameAt (names_expected table.now) place name.now }
 {
     place < table.count() && table.name(place) == name
 }

@@ -10,28 +10,28 @@ use Rattle.scad_ast.specs.declared.operator.UnaryOp.{UnaryOp}
 use Rattle.scad_ast.specs.declared.operator.UnaryOp.TheVariants.{Negate, Keep, Not}
 use Rattle.scad_value.specs.declared.value.Value.{Value}
 use Rattle.scad_value.specs.declared.stop.ValueStop.{ValueStop}
-use Rattle.scad_value.specs.Values.{Val, NumberVal, TextVal, ListVal, Vals, no_vals, and_val, vals_from, count_of, parts_of, parts_in, is_long, is_small, has_small_numbers, have_small_numbers, is_bounded}
-use Rattle.scad_value.specs.Operators.{Answer, and_then, number_or_too_large, number, value_or_long_list, list_or_fault, values_in_front, if_equal, by_parts, pairs_by_parts, each_part, each_of_parts, sum_row, difference_row, product_row, unless_zero, exact, quotient_row, remainder_row, dot_of, dot_row, product_of, quotient_of, remainder_of, order_of, truth_by_order, binary_of, unary_of, item_at, byte_at, index_of}
+use Rattle.scad_value.specs.Values.{Val, NumberVal, TextVal, ListVal, Vals, no_vals, and_val, vals_from, count_of, parts_of, parts_in, is_too_long_or_deep, is_small, has_small_numbers, have_small_numbers, is_bounded}
+use Rattle.scad_value.specs.Operators.{AnswerOrFault, and_then, number_or_too_large, number_answer, value_or_long_list, list_or_fault, values_in_front, if_equal, by_parts, pairs_by_parts, each_part, each_of_parts, sum_row, difference_row, product_row, unless_zero, whole_quotient, quotient_row, remainder_row, dot_of, dot_row, product_of, quotient_of, remainder_of, order_of, truth_by_order, binary_of, unary_of, item_at, byte_at, index_of}
 use Rattle.scad_value.specs.View.{MeetsAnswer, GivesBounded}
 
-abbrev pub IsBoundedAnswer : Answer Val → Type 0
+abbrev pub IsBoundedAnswer : AnswerOrFault Val → Type 0
 IsBoundedAnswer (Ok v) = IsTrue (is_bounded v)
 IsBoundedAnswer (Err kind) = Unit {0}
 
-abbrev HasSmall : Answer Val → Type 0
+abbrev HasSmall : AnswerOrFault Val → Type 0
 HasSmall (Ok v) = IsTrue (has_small_numbers v)
 HasSmall (Err kind) = Unit {0}
 
-abbrev AllSmall : Answer (List Val) → Type 0
+abbrev AllSmall : AnswerOrFault (List Val) → Type 0
 AllSmall (Ok vs) = IsTrue (have_small_numbers (vals_from vs))
 AllSmall (Err kind) = Unit {0}
 
-abbrev IsSmallAnswer : Answer ℤ → Type 0
+abbrev IsSmallAnswer : AnswerOrFault ℤ → Type 0
 IsSmallAnswer (Ok n) = IsTrue (is_small n)
 IsSmallAnswer (Err kind) = Unit {0}
 
 -- what was told of a bounded answer
-pub bounded_told : (r : Result Value ValueStop) (answer : Answer Val) → MeetsAnswer r answer
+pub bounded_told : (r : Result Value ValueStop) (answer : AnswerOrFault Val) → MeetsAnswer r answer
     → IsBoundedAnswer answer → GivesBounded r
 bounded_told (Ok v) answer t b = subst IsBoundedAnswer t b
 bounded_told (Err stop) answer t b = tt
@@ -40,22 +40,22 @@ or_first : (x y : Bool) → (x || y) ≡ false → x ≡ false
 or_first true y h = h
 or_first false y h = refl
 
-few_parts : (v : Val) → is_long v ≡ false → ltb (parts_of v) (2 ^ 20) ≡ true
+few_parts : (v : Val) → is_too_long_or_deep v ≡ false → ltb (parts_of v) (2 ^ 20) ≡ true
 few_parts v h = lt-ltb (parts_of v) (2 ^ 20) (omega (arith, ltb-false 4096 (parts_of v) (or_first _ _ h)))
 
-made_bounded : (answer : Answer Val) → HasSmall answer → IsBoundedAnswer (value_or_long_list answer)
+made_bounded : (answer : AnswerOrFault Val) → HasSmall answer → IsBoundedAnswer (value_or_long_list answer)
 made_bounded (Err kind) s = tt
-made_bounded (Ok v) s = by_length (is_long v) refl
+made_bounded (Ok v) s = by_length (is_too_long_or_deep v) refl
   where
-    by_length : (b : Bool) → is_long v ≡ b → IsBoundedAnswer (cond b (Err LongList) (Ok v))
+    by_length : (b : Bool) → is_too_long_or_deep v ≡ b → IsBoundedAnswer (cond b (Err LongList) (Ok v))
     by_length true e = tt
     by_length false e = and_from _ _ s (few_parts v e)
 
-number_small : (answer : Answer ℤ) → IsSmallAnswer answer → HasSmall (number answer)
+number_small : (answer : AnswerOrFault ℤ) → IsSmallAnswer answer → HasSmall (number_answer answer)
 number_small (Ok n) s = s
 number_small (Err kind) s = tt
 
-number_bounded : (answer : Answer ℤ) → IsSmallAnswer answer → IsBoundedAnswer (number answer)
+number_bounded : (answer : AnswerOrFault ℤ) → IsSmallAnswer answer → IsBoundedAnswer (number_answer answer)
 number_bounded (Ok n) s = and_from _ _ s refl
 number_bounded (Err kind) s = tt
 
@@ -66,42 +66,42 @@ sized_small n = by_size (is_small n) refl
     by_size true e = e
     by_size false e = tt
 
-unless_zero_small : (d : ℤ) (answer : Answer ℤ) → IsSmallAnswer answer
+unless_zero_small : (d : ℤ) (answer : AnswerOrFault ℤ) → IsSmallAnswer answer
     → IsSmallAnswer (unless_zero d answer)
 unless_zero_small (pos zero) answer s = tt
 unless_zero_small (pos (suc n)) answer s = s
 unless_zero_small (negsuc n) answer s = s
 
-exact_small : (r q : ℤ) → IsSmallAnswer (exact r q)
+exact_small : (r q : ℤ) → IsSmallAnswer (whole_quotient r q)
 exact_small (pos zero) q = sized_small q
 exact_small (pos (suc n)) q = tt
 exact_small (negsuc n) q = tt
 
 quotient_small : (a b : ℤ) → IsSmallAnswer (quotient_row a b)
-quotient_small a b = unless_zero_small b (exact (int_rem a b) (int_div a b)) (exact_small (int_rem a b)
+quotient_small a b = unless_zero_small b (whole_quotient (int_rem a b) (int_div a b)) (exact_small (int_rem a b)
     (int_div a b))
 
 remainder_small : (a b : ℤ) → IsSmallAnswer (remainder_row a b)
 remainder_small a b = unless_zero_small b (number_or_too_large (int_rem a b)) (sized_small (int_rem a b))
 
-listed_small : (answer : Answer (List Val)) → AllSmall answer → HasSmall (list_or_fault answer)
+listed_small : (answer : AnswerOrFault (List Val)) → AllSmall answer → HasSmall (list_or_fault answer)
 listed_small (Ok vs) s = s
 listed_small (Err kind) s = tt
 
-front_small : (answer : Answer Val) (rest : Answer (List Val)) → HasSmall answer → AllSmall rest
+front_small : (answer : AnswerOrFault Val) (rest : AnswerOrFault (List Val)) → HasSmall answer → AllSmall rest
     → AllSmall (and_then answer (λ x. values_in_front (x ∷ []) rest))
 front_small (Ok x) (Ok xs) s t = and_from _ _ s t
 front_small (Ok x) (Err kind) s t = tt
 front_small (Err kind) rest s t = tt
 
-if_equal_small : (m n : ℕ) (answer : Answer (List Val)) → AllSmall answer → AllSmall (if_equal m n answer)
+if_equal_small : (m n : ℕ) (answer : AnswerOrFault (List Val)) → AllSmall answer → AllSmall (if_equal m n answer)
 if_equal_small m n answer s = by_test (eqb m n)
   where
     by_test : (b : Bool) → AllSmall (cond b answer (Err TypeMismatch))
     by_test true = s
     by_test false = tt
 
-module _ (row : ℤ → ℤ → Answer ℤ) (small : (a b : ℤ) → IsSmallAnswer (row a b)) where
+module _ (row : ℤ → ℤ → AnswerOrFault ℤ) (small : (a b : ℤ) → IsSmallAnswer (row a b)) where
   mutual
     by_parts_small : (v w : Val) → HasSmall (by_parts row v w)
     by_parts_small (NumberVal a) (NumberVal b) = number_small (row a b) (small a b)
@@ -116,7 +116,7 @@ module _ (row : ℤ → ℤ → Answer ℤ) (small : (a b : ℤ) → IsSmallAnsw
     pairs_small no_vals ws = refl
     pairs_small (and_val v vs) no_vals = refl
 
-module _ (row : ℤ → Answer ℤ) (small : (a : ℤ) → IsSmallAnswer (row a)) where
+module _ (row : ℤ → AnswerOrFault ℤ) (small : (a : ℤ) → IsSmallAnswer (row a)) where
   mutual
     each_part_small : (v : Val) → HasSmall (each_part row v)
     each_part_small (NumberVal a) = number_small (row a) (small a)
@@ -128,7 +128,7 @@ module _ (row : ℤ → Answer ℤ) (small : (a : ℤ) → IsSmallAnswer (row a)
     each_of_small (and_val v vs) =
         front_small (each_part row v) (each_of_parts row vs) (each_part_small v) (each_of_small vs)
 
-dot_small : (answer : Answer ℤ) → HasSmall (number (and_then answer number_or_too_large))
+dot_small : (answer : AnswerOrFault ℤ) → HasSmall (number_answer (and_then answer number_or_too_large))
 dot_small (Ok n) = number_small (number_or_too_large n) (sized_small n)
 dot_small (Err kind) = tt
 
@@ -136,7 +136,7 @@ dot_row_small : (vs ws : Vals) → HasSmall (dot_row vs ws)
 dot_row_small no_vals ws = tt
 dot_row_small (and_val v vs) ws = by_test (eqb (count_of (and_val v vs)) (count_of ws))
   where
-    by_test : (b : Bool) → HasSmall (cond b (number (and_then (dot_of (and_val v vs) ws) number_or_too_large))
+    by_test : (b : Bool) → HasSmall (cond b (number_answer (and_then (dot_of (and_val v vs) ws) number_or_too_large))
         (Err TypeMismatch))
     by_test true = dot_small (dot_of (and_val v vs) ws)
     by_test false = tt
@@ -158,7 +158,7 @@ remainder_bounded : (v w : Val) → IsBoundedAnswer (remainder_of v w)
 remainder_bounded (NumberVal a) (NumberVal b) = number_bounded (remainder_row a b) (remainder_small a b)
 remainder_bounded v w = tt
 
-tested_bounded : (test : Ordering → Bool) (answer : Answer Ordering) → IsBoundedAnswer (truth_by_order test answer)
+tested_bounded : (test : Ordering → Bool) (answer : AnswerOrFault Ordering) → IsBoundedAnswer (truth_by_order test answer)
 tested_bounded test (Ok order) = refl
 tested_bounded test (Err kind) = tt
 

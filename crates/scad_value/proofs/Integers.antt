@@ -9,7 +9,7 @@ use mir.Val.{SFits}
 use lib.Signed.{mag_rem}
 use Rattle.text_place.specs.declared.fault.FaultKind.TheVariants.{NotWhole, ZeroDivisor}
 use Rattle.scad_value.specs.Values.{is_small}
-use Rattle.scad_value.specs.Operators.{Answer, number_or_too_large, unless_zero, exact, quotient_row, remainder_row, plus}
+use Rattle.scad_value.specs.Operators.{AnswerOrFault, number_or_too_large, unless_zero, whole_quotient, quotient_row, remainder_row, plus_answer}
 
 abs_neg : (n : ℕ) → unsigned_abs (neg_ℤ (pos n)) ≡ n
 abs_neg zero = refl
@@ -51,7 +51,7 @@ pub remainder_is : (a d A D : ℤ) → A ≡ a → D ≡ d → SFits w64 a → t
 remainder_is a d A D p q h = ap (λ x. to_z w128 (of_z w128 (int_rem x D))) p
     ∙ ap (λ x. to_z w128 (of_z w128 (int_rem a x))) q ∙ to_z-of_z w128 (int_rem a d) (remainder_fits a d h)
 
-nonzero : (d : ℤ) (answer : Answer ℤ) → (of_z w64 d ≡ 0 → ⊥) → unless_zero d answer ≡ answer
+nonzero : (d : ℤ) (answer : AnswerOrFault ℤ) → (of_z w64 d ≡ 0 → ⊥) → unless_zero d answer ≡ answer
 nonzero (pos zero) answer h = absurd (h refl)
 nonzero (pos (suc n)) answer h = refl
 nonzero (negsuc n) answer h = refl
@@ -60,7 +60,7 @@ zero_from : (z : ℤ) → SFits w128 z → of_z w128 z ≡ 0 → z ≡ pos 0
 zero_from z f h = sym (to_z-of_z w128 z f) ∙ ap (to_z w128) h
 
 -- a divisor that is 0, and one that isn't, as the code widens it
-pub by_zero : (d : ℤ) (answer : Answer ℤ) → SFits w64 d → of_z w64 d ≡ 0 → Err ZeroDivisor ≡ unless_zero d answer
+pub by_zero : (d : ℤ) (answer : AnswerOrFault ℤ) → SFits w64 d → of_z w64 d ≡ 0 → Err ZeroDivisor ≡ unless_zero d answer
 by_zero d answer g z = sym (ap (λ x. unless_zero x answer) (sym (to_z-of_z w64 d g) ∙ ap (to_z w64) z))
 
 not_zero : (n : ℕ) → (n ≡ 0 → ⊥) → 0 < n
@@ -89,10 +89,10 @@ exact_quotient a d n f g r =
     let whole : int_rem a d ≡ pos 0 = sym (remainder_is a d _ _ (widened a f) (widened d g) f)
     ∙ ap (to_z w128) r in
     ap number_or_too_large (quotient_is a d _ _ (widened a f) (widened d g) f)
-    ∙ ap (λ x. exact x (int_div a d)) (sym whole)
-    ∙ sym (nonzero d (exact (int_rem a d) (int_div a d)) n)
+    ∙ ap (λ x. whole_quotient x (int_div a d)) (sym whole)
+    ∙ sym (nonzero d (whole_quotient (int_rem a d) (int_div a d)) n)
 
-inexact : (r : ℤ) (q : ℤ) → (of_z w128 r ≡ 0 → ⊥) → exact r q ≡ Err NotWhole
+inexact : (r : ℤ) (q : ℤ) → (of_z w128 r ≡ 0 → ⊥) → whole_quotient r q ≡ Err NotWhole
 inexact (pos zero) q h = absurd (h refl)
 inexact (pos (suc n)) q h = refl
 inexact (negsuc n) q h = refl
@@ -107,7 +107,7 @@ inexact_quotient a d n f g r =
     (of_z w64 d)))) ≡ int_rem a d =
     ap (λ x. int_rem x (to_z w128 (of_z w128 (to_z w64 (of_z w64 d))))) (widened a f)
     ∙ ap (int_rem a) (widened d g) in
-    sym (nonzero d (exact (int_rem a d) (int_div a d)) n
+    sym (nonzero d (whole_quotient (int_rem a d) (int_div a d)) n
     ∙ inexact (int_rem a d) (int_div a d) (λ z. r (ap (of_z w128) e ∙ z)))
 
 pub remainder_told : (a d : ℤ) → (of_z w64 d ≡ 0 → ⊥) → SFits w64 a → SFits w64 d
@@ -117,7 +117,7 @@ remainder_told a d n f g = ap number_or_too_large (remainder_is a d _ _ (widened
     ∙ sym (nonzero d (number_or_too_large (int_rem a d)) n)
 
 -- numbers added to an answer one after another
-pub plus_plus : (a b : ℤ) (answer : Answer ℤ) → plus a (plus b answer) ≡ plus (a +ℤ b) answer
+pub plus_plus : (a b : ℤ) (answer : AnswerOrFault ℤ) → plus_answer a (plus_answer b answer) ≡ plus_answer (a +ℤ b) answer
 plus_plus a b (Ok n) = ap (λ x. Ok x) (omega (arith, ints))
 plus_plus a b (Err kind) = refl
 

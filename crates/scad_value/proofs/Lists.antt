@@ -11,7 +11,7 @@ use Rattle.scad_value.specs.declared.value.Values.{Values}
 use Rattle.scad_value.specs.declared.value.Value.TheFolds.{fold_out-Values}
 use Rattle.scad_value.specs.Values.{Val, NumberVal, TruthVal, TextVal, ListVal, RangeVal, UndefVal, Vals, no_vals, and_val, vals_from, count_of, parts_in, parts_of, truth_of, are_same, all_same, has_small_numbers, have_small_numbers}
 use Rattle.text_place.specs.declared.fault.FaultKind.TheVariants.{TypeMismatch}
-use Rattle.scad_value.specs.Operators.{Answer, values_in_front, if_equal, by_parts, pairs_by_parts, each_part, each_of_parts, and_then, dot_of, product_at, plus, dot_row, number, number_or_too_large, item_at, byte_at}
+use Rattle.scad_value.specs.Operators.{AnswerOrFault, values_in_front, if_equal, by_parts, pairs_by_parts, each_part, each_of_parts, and_then, dot_of, product_at, plus_answer, dot_row, number_answer, number_or_too_large, item_at, byte_at}
 use Rattle.scad_value.specs.View.{val_of, vals_of, vals_in, value_step, values_step, MeetsAnswer, MeetsAnswers}
 
 -- what a list in memory stands for
@@ -73,7 +73,7 @@ from_end [] (suc i) h = refl
 from_end (v ∷ vs) zero h = absurd (omega arith)
 from_end (v ∷ vs) (suc i) h = from_end vs i (omega arith)
 
-front_of_front : (xs : List Val) (y : Val) (answer : Answer (List Val))
+front_of_front : (xs : List Val) (y : Val) (answer : AnswerOrFault (List Val))
     → values_in_front xs (values_in_front (y ∷ []) answer) ≡ values_in_front (xs ++ y ∷ []) answer
 front_of_front xs y (Ok ys) = ap (λ l. Ok l) (sym (append_assoc xs (y ∷ []) ys))
 front_of_front xs y (Err kind) = refl
@@ -93,7 +93,7 @@ pairs_more row vs ws items i v w x h k e f g =
     (from_here vs i v h e)
     ∙ ap (λ (l : Vals). values_in_front (vals_in items) (pairs_by_parts row (and_val (val_of v) (vals_from
     (vals_in (drop (i + 1) vs)))) l)) (from_here ws i w k f)
-    ∙ ap (λ (a : Answer Val). values_in_front (vals_in items) (and_then a (λ y. values_in_front (y ∷ []) tail))) g
+    ∙ ap (λ (a : AnswerOrFault Val). values_in_front (vals_in items) (and_then a (λ y. values_in_front (y ∷ []) tail))) g
     ∙ front_of_front (vals_in items) (val_of x) tail
     ∙ ap (λ l. values_in_front l tail) (sym (map-append val_of items (x ∷ [])))
 
@@ -105,7 +105,7 @@ pairs_end row vs items ws i h =
     ∙ ap (λ l. Ok l) (append-nil (vals_in items))
 
 -- each part of a list: at the start, one more, a fault, and at the end
-none_in_front : (answer : Answer (List Val)) → answer ≡ values_in_front [] answer
+none_in_front : (answer : AnswerOrFault (List Val)) → answer ≡ values_in_front [] answer
 none_in_front (Ok vs) = refl
 none_in_front (Err kind) = refl
 
@@ -117,14 +117,14 @@ parts_begin row of items e =
     ∙ none_in_front (each_of_parts row (vals_from (vals_in of.items.items)))
     ∙ ap (λ (l : List Value). values_in_front (vals_in l) (each_of_parts row (vals_from (vals_in of.items.items)))) (sym e)
 
-part_here : (row : _) (vs items : List Value) (i : ℕ) (v : Value) (answer : Answer Val) → i < length vs
+part_here : (row : _) (vs items : List Value) (i : ℕ) (v : Value) (answer : AnswerOrFault Val) → i < length vs
     → v ≡ get_or vs i v → each_part row (val_of v) ≡ answer
     → values_in_front (vals_in items) (each_of_parts row (vals_from (vals_in (drop i vs))))
     ≡ values_in_front (vals_in items) (and_then answer (λ x. values_in_front (x ∷ []) (each_of_parts row (vals_from (vals_in
     (drop (i + 1) vs))))))
 part_here row vs items i v answer h e g =
     ap (λ (l : Vals). values_in_front (vals_in items) (each_of_parts row l)) (from_here vs i v h e)
-    ∙ ap (λ (a : Answer Val). values_in_front (vals_in items) (and_then a (λ x. values_in_front (x ∷ []) (each_of_parts row
+    ∙ ap (λ (a : AnswerOrFault Val). values_in_front (vals_in items) (and_then a (λ x. values_in_front (x ∷ []) (each_of_parts row
     (vals_from (vals_in (drop (i + 1) vs))))))) g
 
 pub parts_more : (row : _) (vs items : List Value) (i : ℕ) (v x : Value) → i < length vs
@@ -152,13 +152,13 @@ parts_end row vs items i h =
     ∙ ap (λ l. Ok l) (append-nil (vals_in items))
 
 -- lists of one length, and of two
-pub equal_counts : {A : Type 0} (vs ws : Values) (answer : Answer A) → length vs.items.items
+pub equal_counts : {A : Type 0} (vs ws : Values) (answer : AnswerOrFault A) → length vs.items.items
     ≡ length ws.items.items
     → if_equal (count_of (vals_from (vals_of vs))) (count_of (vals_from (vals_of ws))) answer ≡ answer
 equal_counts vs ws answer h = ap (λ b. cond b answer (Err TypeMismatch)) (eq-eqb _ _ (count_out vs ∙ h
     ∙ sym (count_out ws)))
 
-pub unequal_counts : {A : Type 0} (vs ws : Values) (answer : Answer A) → (length vs.items.items
+pub unequal_counts : {A : Type 0} (vs ws : Values) (answer : AnswerOrFault A) → (length vs.items.items
     ≡ length ws.items.items → ⊥)
     → if_equal (count_of (vals_from (vals_of vs))) (count_of (vals_from (vals_of ws))) answer
     ≡ Err TypeMismatch
@@ -170,13 +170,13 @@ pub dot_more : (vs ws : List Value) (i : ℕ) (v w : Value) (n : ℤ) → i < le
     ≡ get_or vs i v → w ≡ get_or ws i w
     → Ok n ≡ product_at (val_of v) (val_of w)
     → dot_of (vals_from (vals_in (drop i vs))) (vals_from (vals_in (drop i ws)))
-    ≡ plus n (dot_of (vals_from (vals_in (drop (i + 1) vs))) (vals_from (vals_in (drop (i + 1) ws))))
+    ≡ plus_answer n (dot_of (vals_from (vals_in (drop (i + 1) vs))) (vals_from (vals_in (drop (i + 1) ws))))
 dot_more vs ws i v w n h k e f g =
     let tail = dot_of (vals_from (vals_in (drop (i + 1) vs))) (vals_from (vals_in (drop (i + 1) ws))) in
     ap (λ (l : Vals). dot_of l (vals_from (vals_in (drop i ws)))) (from_here vs i v h e)
     ∙ ap (λ (l : Vals). dot_of (and_val (val_of v) (vals_from (vals_in (drop (i + 1) vs)))) l)
     (from_here ws i w k f)
-    ∙ ap (λ (a : Answer ℤ). and_then a (λ n. plus n tail)) (sym g)
+    ∙ ap (λ (a : AnswerOrFault ℤ). and_then a (λ n. plus_answer n tail)) (sym g)
 
 pub length-le_parts : (vs : List Value) → length vs ≤ parts_in (vals_from (vals_in vs))
 length-le_parts [] = omega arith
@@ -202,12 +202,12 @@ small_here vs i v h e small =
 pub dot_row_is : (vs ws : Values) → (length vs.items.items ≡ 0 → ⊥) → length vs.items.items
     ≡ length ws.items.items
     → dot_row (vals_from (vals_of vs)) (vals_from (vals_of ws))
-    ≡ number (and_then (dot_of (vals_from (vals_of vs)) (vals_from (vals_of ws))) number_or_too_large)
+    ≡ number_answer (and_then (dot_of (vals_from (vals_of vs)) (vals_from (vals_of ws))) number_or_too_large)
 dot_row_is vs ws n e = filled (vals_from (vals_of vs)) (λ z. n (sym (count_out vs) ∙ z))
     ∙ equal_counts vs ws _ e
   where
     filled : (l : Vals) → (count_of l ≡ 0 → ⊥) → dot_row l (vals_from (vals_of ws))
-        ≡ if_equal (count_of l) (count_of (vals_from (vals_of ws))) (number (and_then (dot_of l (vals_from
+        ≡ if_equal (count_of l) (count_of (vals_from (vals_of ws))) (number_answer (and_then (dot_of l (vals_from
         (vals_of ws))) number_or_too_large))
     filled no_vals h = absurd (h refl)
     filled (and_val v l) h = refl
@@ -220,7 +220,7 @@ dot_row_apart vs ws n = by_count (vals_from (vals_of vs)) (λ e. n (sym (count_o
         → dot_row l (vals_from (vals_of ws)) ≡ Err TypeMismatch
     by_count no_vals h = refl
     by_count (and_val v l) h =
-        ap (λ b. cond b (number (and_then (dot_of (and_val v l) (vals_from (vals_of ws))) number_or_too_large))
+        ap (λ b. cond b (number_answer (and_then (dot_of (and_val v l) (vals_from (vals_of ws))) number_or_too_large))
         (Err TypeMismatch)) (ne_eqb _ _ h)
 
 -- the item at a place

@@ -9,10 +9,10 @@ use Rattle.scad_value.specs.declared.value.Value.{Value}
 use Rattle.scad_value.specs.declared.bounded_value.BoundedValue.{BoundedValue}
 use Rattle.scad_value.specs.BoundedView.{bounded_val}
 use Rattle.scad_value.specs.Values.{Val}
-use Rattle.scad_value.specs.Operators.{Answer}
+use Rattle.scad_value.specs.Operators.{AnswerOrFault}
 
 -- an operator's answer, with its faults at a place
-abbrev pub MeetsAnswerAt : Result BoundedValue Stop → Answer Val → Place → Type 0
+abbrev pub MeetsAnswerAt : Result BoundedValue Stop → AnswerOrFault Val → Place → Type 0
 MeetsAnswerAt (Ok v) answer at = answer ≡ Ok (bounded_val v)
 MeetsAnswerAt (Err (Fault fault)) answer at = (answer ≡ Err fault.kind) × (fault.place ≡ at)
 MeetsAnswerAt (Err NoMemory) answer at = Unit {0}
@@ -25,8 +25,8 @@ IsAlone (Err fault) (Ok v) = ⊥
 IsAlone (Err fault) (Err stop) = stop ≡ fault
 
 -- a list with one item more, unless memory ran out or there is none
-abbrev pub IsLonger : {A : Type 0} → List A → Result A Stop → Result (Vec A Global) Stop → Type 0
-IsLonger items (Ok x) (Ok longer) = longer.items ≡ items ++ x ∷ []
-IsLonger items (Ok x) (Err stop) = stop ≡ NoMemory
-IsLonger items (Err fault) (Ok longer) = ⊥
-IsLonger items (Err fault) (Err stop) = stop ≡ fault
+abbrev pub IsOneItemLonger : {A : Type 0} → List A → Result A Stop → Result (Vec A Global) Stop → Type 0
+IsOneItemLonger items (Ok x) (Ok longer) = longer.items ≡ items ++ x ∷ []
+IsOneItemLonger items (Ok x) (Err stop) = stop ≡ NoMemory
+IsOneItemLonger items (Err fault) (Ok longer) = ⊥
+IsOneItemLonger items (Err fault) (Err stop) = stop ≡ fault

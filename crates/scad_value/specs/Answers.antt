@@ -6,20 +6,20 @@ use Rattle.text_place.specs.declared.fault.FaultKind.TheVariants.{TypeMismatch, 
 use Rattle.scad_ast.specs.declared.operator.BinaryOp.{BinaryOp}
 use Rattle.scad_ast.specs.declared.operator.BinaryOp.TheVariants.{Or, And}
 use Rattle.scad_value.specs.Values.{Val, NumberVal, RangeVal, truth_of}
-use Rattle.scad_value.specs.Operators.{Answer}
+use Rattle.scad_value.specs.Operators.{AnswerOrFault}
 
 -- the range of two values, by a step of 1
-abbrev pub range_of : Val → Val → Answer Val
+abbrev pub range_of : Val → Val → AnswerOrFault Val
 range_of (NumberVal from) (NumberVal to) = if int_lt to from then Err RangeOrder else Ok (RangeVal from (pos 1) to)
 range_of v w = Err TypeMismatch
 
 -- a range by a step, which must not be 0
-abbrev pub range_by_step : ℤ → ℤ → ℤ → Answer Val
+abbrev pub range_by_step : ℤ → ℤ → ℤ → AnswerOrFault Val
 range_by_step from (pos zero) to = Err RangeOrder
 range_by_step from step to = Ok (RangeVal from step to)
 
 -- the range of three values, of which the second is the step
-abbrev pub stepped_range_of : Val → Val → Val → Answer Val
+abbrev pub stepped_range_of : Val → Val → Val → AnswerOrFault Val
 stepped_range_of (NumberVal from) (NumberVal step) (NumberVal to) = range_by_step from step to
 stepped_range_of u v w = Err TypeMismatch
 

@@ -59,16 +59,16 @@ abbrev pub most_nesting : ℕ
 most_nesting = 64
 
 -- a list that none of them may make: of more parts, or deeper
-abbrev pub is_long : Val → Bool
-is_long v = nat_lt most_parts (parts_of v) || nat_lt most_nesting (nesting_of v)
+abbrev pub is_too_long_or_deep : Val → Bool
+is_too_long_or_deep v = nat_lt most_parts (parts_of v) || nat_lt most_nesting (nesting_of v)
 
 -- the least size of a number that is too large
-abbrev pub too_large : ℕ
-too_large = 2 ^ 53
+abbrev pub least_too_large : ℕ
+least_too_large = 2 ^ 53
 
 -- a number of the profile: one that isn't too large
 abbrev pub is_small : ℤ → Bool
-is_small n = nat_lt (unsigned_abs n) too_large
+is_small n = nat_lt (unsigned_abs n) least_too_large
 
 -- each number in it is one of the profile
 abbrev mutual
@@ -84,12 +84,12 @@ abbrev mutual
   have_small_numbers (and_val v vs) = has_small_numbers v && have_small_numbers vs
 
 -- the least number of parts that is too many for what an operator is given
-abbrev pub too_many_parts : ℕ
-too_many_parts = 2 ^ 20
+abbrev pub least_too_many_parts : ℕ
+least_too_many_parts = 2 ^ 20
 
 -- numbers of the profile, and not too many parts
 abbrev pub is_bounded : Val → Bool
-is_bounded v = has_small_numbers v && nat_lt (parts_of v) too_many_parts
+is_bounded v = has_small_numbers v && nat_lt (parts_of v) least_too_many_parts
 
 -- what counts as true: all but false, 0, the empty text, the empty list and undef
 abbrev pub truth_of : Val → Bool

@@ -8,7 +8,7 @@ use Rattle.scad_value.specs.declared.value.Value.TheFolds.{fold-Value, fold-Valu
 use Rattle.scad_value.specs.declared.stop.ValueStop.{ValueStop}
 use Rattle.scad_value.specs.declared.stop.ValueStop.TheVariants.{Kind, NoMemory}
 use Rattle.scad_value.specs.Values.{Val, NumberVal, TruthVal, TextVal, ListVal, RangeVal, UndefVal, vals_from, is_bounded}
-use Rattle.scad_value.specs.Operators.{Answer}
+use Rattle.scad_value.specs.Operators.{AnswerOrFault}
 
 -- one layer, with its parts seen already
 abbrev pub value_step : Value-F Val (List Val) → Val
@@ -36,18 +36,18 @@ abbrev pub vals_in : List Value → List Val
 vals_in vs = map val_of vs
 
 -- what was given is the answer
-abbrev pub Answers : Result Value FaultKind → Answer Val → Type 0
-Answers (Ok v) answer = answer ≡ Ok (val_of v)
-Answers (Err kind) answer = answer ≡ Err kind
+abbrev pub GivesAnswer : Result Value FaultKind → AnswerOrFault Val → Type 0
+GivesAnswer (Ok v) answer = answer ≡ Ok (val_of v)
+GivesAnswer (Err kind) answer = answer ≡ Err kind
 
 -- what was given is the answer, unless memory ran out
-abbrev pub MeetsAnswer : Result Value ValueStop → Answer Val → Type 0
+abbrev pub MeetsAnswer : Result Value ValueStop → AnswerOrFault Val → Type 0
 MeetsAnswer (Ok v) answer = answer ≡ Ok (val_of v)
 MeetsAnswer (Err (Kind kind)) answer = answer ≡ Err kind
 MeetsAnswer (Err NoMemory) answer = Unit {0}
 
 -- the same for the items of a list
-abbrev pub MeetsAnswers : Result Values ValueStop → Answer (List Val) → Type 0
+abbrev pub MeetsAnswers : Result Values ValueStop → AnswerOrFault (List Val) → Type 0
 MeetsAnswers (Ok vs) answer = answer ≡ Ok (vals_of vs)
 MeetsAnswers (Err (Kind kind)) answer = answer ≡ Err kind
 MeetsAnswers (Err NoMemory) answer = Unit {0}

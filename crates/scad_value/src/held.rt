@@ -2,7 +2,7 @@
 //! and not in each function that holds something.
 
 ghost use Rattle.std.specs.Prelude.{◌≡◌, Ok, Err, IfOk, IfErr};
-ghost use Rattle.scad_value.specs.AnswerView.{IsLonger, IsAlone};
+ghost use Rattle.scad_value.specs.AnswerView.{IsOneItemLonger, IsAlone};
 
 use crate::{BoundedValue, Value};
 use text_place::Stop;
@@ -20,7 +20,7 @@ pub fn with<A: Drop, B>(before: A, next: Result<B, Stop>) -> Result<(A, B), Stop
 
 /// A list with one item more.
 pub fn with_next<T: Drop>(items: Vec<T>, next: Result<T, Stop>) -> Result<Vec<T>, Stop>
-    ensures { IsLonger items.items next result }
+    ensures { IsOneItemLonger items.items next result }
 {
     match next {
         Ok(item) => {

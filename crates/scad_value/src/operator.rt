@@ -1,7 +1,7 @@
 ghost use Rattle.std.specs.Prelude.{◌≡◌, ◌<◌, ◌^◌, IsTrue, IfOk, Ok, length};
 ghost use Rattle.scad_value.specs.Values.{Val, is_bounded, vals_from, has_small_numbers, have_small_numbers, parts_in, NumberVal, TextVal, ListVal, UndefVal};
-ghost use Rattle.scad_value.specs.Operators.{Answer, binary_of, unary_of, index_of, value_or_long_list, product_of, quotient_of, remainder_of, dot_row, dot_of, and_then, number_or_too_large, number, order_of, item_at, byte_at};
-ghost use Rattle.scad_value.specs.View.{val_of, vals_of, Answers, MeetsAnswer, GivesBounded};
+ghost use Rattle.scad_value.specs.Operators.{AnswerOrFault, binary_of, unary_of, index_of, value_or_long_list, product_of, quotient_of, remainder_of, dot_row, dot_of, and_then, number_or_too_large, number_answer, order_of, item_at, byte_at};
+ghost use Rattle.scad_value.specs.View.{val_of, vals_of, GivesAnswer, MeetsAnswer, GivesBounded};
 
 use crate::arithmetic::{
     PairRow, PartRow, by_parts, dot, each_part, number_or_too_large, product_of_two, remainder,
@@ -149,7 +149,7 @@ fn text(bytes: Vec<u8>) -> Value
 /// A value that an operator, a function or a bracket makes, unless it is LongList: it has more than
 /// 4,096 parts, or lists that are more than 64 deep in one another.
 pub fn value_or_long_list(value: Value) -> Result<Value, FaultKind>
-    ensures value { Answers result (value_or_long_list (Ok (val_of value))) }
+    ensures value { GivesAnswer result (value_or_long_list (Ok (val_of value))) }
     ensures bounded { IsTrue (has_small_numbers (val_of value)) → IfOk result (λ v. IsTrue (is_bounded (val_of v))) }
 {
     if value.parts() > MOST_PARTS || value.nesting() > MOST_NESTING {
@@ -160,7 +160,7 @@ pub fn value_or_long_list(value: Value) -> Result<Value, FaultKind>
 
 // The value that was given, unless it is LongList, or why none was.
 fn made_of(given: Result<Value, ValueStop>) -> Result<Value, ValueStop>
-    ensures { (answer : Answer Val) → MeetsAnswer given answer → MeetsAnswer result (value_or_long_list answer) }
+    ensures { (answer : AnswerOrFault Val) → MeetsAnswer given answer → MeetsAnswer result (value_or_long_list answer) }
 {
     Ok(value_or_long_list(given?)?)
 }
@@ -219,7 +219,7 @@ fn sized_dot(left: &Values, right: &Values) -> Result<i64, FaultKind>
 
 // The value of a number, or its fault.
 fn number(answer: Result<i64, FaultKind>) -> Result<Value, ValueStop>
-    ensures { MeetsAnswer result (number answer) }
+    ensures { MeetsAnswer result (number_answer answer) }
 {
     Ok(Value::Number(answer?))
 }

@@ -1,6 +1,6 @@
 ghost use Rattle.std.specs.Prelude.{◌≡◌};
 ghost use Rattle.scad_value.specs.Values.{Val, truth_of};
-ghost use Rattle.scad_value.specs.Operators.{Answer, binary_of, unary_of};
+ghost use Rattle.scad_value.specs.Operators.{AnswerOrFault, binary_of, unary_of};
 ghost use Rattle.scad_value.specs.View.{MeetsAnswer, GivesBounded};
 ghost use Rattle.scad_value.specs.BoundedView.{bounded_val};
 ghost use Rattle.scad_value.specs.Answers.{wants_right};
@@ -17,7 +17,7 @@ use text_place::{Place, Stop};
 /// An operator's answer, with its faults at a place.
 pub fn answer_placed(answer: Result<Value, ValueStop>, place: Place) -> Result<BoundedValue, Stop>
     requires { GivesBounded answer }
-    ensures { (wanted : Answer Val) → MeetsAnswer answer wanted → MeetsAnswerAt result wanted place }
+    ensures { (wanted : AnswerOrFault Val) → MeetsAnswer answer wanted → MeetsAnswerAt result wanted place }
 {
     match answer {
         Ok(value) => Ok(BoundedValue { value }),

@@ -6,8 +6,8 @@ use Rattle.std.proofs.lemmas.Str.Parse.{digit_at}
 use Rattle.std.proofs.lemmas.List.Elements.{All-head, All-tail, All-weaker, All-from_get_or}
 use Rattle.text_place.specs.Decimals.{IsShortNumeral}
 use Rattle.script_reader.specs.Lines.{space}
-use Rattle.script_reader.specs.Spelling.{IsNameByte, IsName, IsTail, Writes, IsNamed}
-use Rattle.script_reader.specs.Reading.{IsCut, IsEditOf, IsRange}
+use Rattle.script_reader.specs.Spelling.{IsNameByte, IsName, IsTail, WritesNumber, BeginsWithName}
+use Rattle.script_reader.specs.Reading.{IsCutAtSpace, IsEditOf, IsRange}
 
 -- a list has one cut at the first place of an item
 pub one_cut : (a : ℕ) (f g r s : List ℕ) → All (λ b. b ≢ a) f → All (λ b. b ≢ a) g → f ++ a ∷ r ≡ g ++ a ∷ s → (f ≡ g) × (r ≡ s)
@@ -59,44 +59,44 @@ name_plain name named = All-weaker IsNameByte (λ b. b ≢ 32) name_byte_plain n
 digit_plain : (b : ℕ) → IsInRange 48 57 b → b ≢ 32
 digit_plain b h e = absurd (omega (arith, h))
 
-pub digits_plain : (digits : List ℕ) (n : ℕ) → Writes digits n → All (λ b. b ≢ 32) digits
+pub digits_plain : (digits : List ℕ) (n : ℕ) → WritesNumber digits n → All (λ b. b ≢ 32) digits
 digits_plain digits n w = All-from_get_or (λ b. b ≢ 32) digits 0 (λ i below. digit_plain (get_or digits i 0) (digit_at digits i w.0.digits below))
 
 pub tail_ends : (tail text : List ℕ) → IsTail tail text → Ends tail
 tail_ends tail text h = ⊎_elim (λ e. inr (text, e)) (λ e. inl e.0) h
 
 -- the name of a line is what stands before its first space
-pub name_is : (line front behind name tail : List ℕ) → IsCut line front behind → IsNamed line name tail → (name ≡ front) × (tail ≡ behind)
+pub name_is : (line front behind name tail : List ℕ) → IsCutAtSpace line front behind → BeginsWithName line name tail → (name ≡ front) × (tail ≡ behind)
 name_is line front behind name tail cut h =
     one_space name front tail behind (name_plain name h.named) cut.plain h.ended cut.ended (sym h.spelled ∙ cut.spelled)
 
-pub no_name : (line front behind : List ℕ) → IsCut line front behind → (IsName front → ⊥) → (name tail : List ℕ) → IsNamed line name tail → ⊥
+pub no_name : (line front behind : List ℕ) → IsCutAtSpace line front behind → (IsName front → ⊥) → (name tail : List ℕ) → BeginsWithName line name tail → ⊥
 no_name line front behind cut none name tail h = none (subst IsName (name_is line front behind name tail cut h).0 h.named)
 
-pub edit_is : (bytes front behind digits tail text : List ℕ) (line : ℕ) → IsCut bytes front behind → bytes ≡ digits ++ tail → Writes digits line → IsTail tail text → (digits ≡ front) × (tail ≡ behind)
+pub edit_is : (bytes front behind digits tail text : List ℕ) (line : ℕ) → IsCutAtSpace bytes front behind → bytes ≡ digits ++ tail → WritesNumber digits line → IsTail tail text → (digits ≡ front) × (tail ≡ behind)
 edit_is bytes front behind digits tail text line cut e w t =
     one_space digits front tail behind (digits_plain digits line w) cut.plain (tail_ends tail text t) cut.ended (sym e ∙ cut.spelled)
 
-pub no_edit : (bytes front behind : List ℕ) → IsCut bytes front behind → (IsShortNumeral front → ⊥) → (line : ℕ) (text : List ℕ) → IsEditOf bytes line text → ⊥
+pub no_edit : (bytes front behind : List ℕ) → IsCutAtSpace bytes front behind → (IsShortNumeral front → ⊥) → (line : ℕ) (text : List ℕ) → IsEditOf bytes line text → ⊥
 no_edit bytes front behind cut none line text h =
     none (subst IsShortNumeral (edit_is bytes front behind h.0 h.1 text line cut h.2 h.3 h.4).0 h.3.0)
 
-pub range_is : (bytes front behind digits digits' : List ℕ) (from : ℕ) → IsCut bytes front behind → bytes ≡ digits ++ space ++ digits' → Writes digits from → (digits ≡ front) × (space ++ digits' ≡ behind)
+pub range_is : (bytes front behind digits digits' : List ℕ) (from : ℕ) → IsCutAtSpace bytes front behind → bytes ≡ digits ++ space ++ digits' → WritesNumber digits from → (digits ≡ front) × (space ++ digits' ≡ behind)
 range_is bytes front behind digits digits' from cut e w =
     one_space digits front (space ++ digits') behind (digits_plain digits from w) cut.plain (inr (digits', refl)) cut.ended
     (sym (append_assoc digits space digits') ∙ sym e ∙ cut.spelled)
 
-pub no_first : (bytes front behind : List ℕ) → IsCut bytes front behind → (IsShortNumeral front → ⊥) → (from upto : ℕ) → IsRange bytes from upto → ⊥
+pub no_first : (bytes front behind : List ℕ) → IsCutAtSpace bytes front behind → (IsShortNumeral front → ⊥) → (from upto : ℕ) → IsRange bytes from upto → ⊥
 no_first bytes front behind cut none from upto h =
     none (subst IsShortNumeral (range_is bytes front behind h.0 h.1 from cut h.2 h.3).0 h.3.0)
 
-pub no_second : (bytes front behind second : List ℕ) (b : ℕ) → IsCut bytes front behind → behind ≡ b ∷ second → (IsShortNumeral second → ⊥) → (from upto : ℕ) → IsRange bytes from upto → ⊥
+pub no_second : (bytes front behind second : List ℕ) (b : ℕ) → IsCutAtSpace bytes front behind → behind ≡ b ∷ second → (IsShortNumeral second → ⊥) → (from upto : ℕ) → IsRange bytes from upto → ⊥
 no_second bytes front behind second b cut e none from upto h =
     let both : 32 ∷ h.1 ≡ b ∷ second = (range_is bytes front behind h.0 h.1 from cut h.2 h.3).1 ∙ e in
     let same : h.1 ≡ second = cc in
     none (subst IsShortNumeral same h.4.0)
 
-pub no_space : (bytes front behind : List ℕ) → IsCut bytes front behind → behind ≡ [] → (from upto : ℕ) → IsRange bytes from upto → ⊥
+pub no_space : (bytes front behind : List ℕ) → IsCutAtSpace bytes front behind → behind ≡ [] → (from upto : ℕ) → IsRange bytes from upto → ⊥
 no_space bytes front behind cut e from upto h =
     let both : 32 ∷ h.1 ≡ [] = (range_is bytes front behind h.0 h.1 from cut h.2 h.3).1 ∙ e in
     cc both

@@ -6,7 +6,7 @@ use Rattle.std.proofs.lemmas.Slice.Eq.{bytes_eq-Decides}
 use Rattle.std.proofs.lemmas.Bool.{false≢true}
 use Rattle.script_reader.specs.declared.script.Command.{Command}
 use Rattle.script_reader.specs.declared.script.ClientScript.{ClientScript}
-use Rattle.script_reader.specs.Scripts.{Entry, commands_of, clients_of, has_client}
+use Rattle.script_reader.specs.Scripts.{ClientLine, commands_of, clients_of, has_client}
 use Rattle.script_reader.specs.Reading.{with_command, with_entry, place_in, commands_in}
 
 abbrev others : List ℕ → ClientScript → Bool
@@ -34,11 +34,11 @@ append_step : (b : Bool) (k : Command) (x y z : List Command) → x ≡ y ++ z �
 append_step true k x y z h = ap (λ (l : List Command). k ∷ l) h
 append_step false k x y z h = h
 
-pub commands_append : (name : List ℕ) (es ys : List Entry) → commands_of name (es ++ ys) ≡ commands_of name es ++ commands_of name ys
+pub commands_append : (name : List ℕ) (es ys : List ClientLine) → commands_of name (es ++ ys) ≡ commands_of name es ++ commands_of name ys
 commands_append name [] ys = refl
 commands_append name (e ∷ es) ys = append_step (bytes_eq name e.name) e.command (commands_of name (es ++ ys)) (commands_of name es) (commands_of name ys) (commands_append name es ys)
 
-one_command : (name : List ℕ) (x : Entry) (b : Bool) → bytes_eq name x.name ≡ b → commands_of name (x ∷ []) ≡ cond b (x.command ∷ []) []
+one_command : (name : List ℕ) (x : ClientLine) (b : Bool) → bytes_eq name x.name ≡ b → commands_of name (x ∷ []) ≡ cond b (x.command ∷ []) []
 one_command name x b e = ap (λ (t : Bool). cond t (x.command ∷ []) []) e
 
 drop_step : (name : List ℕ) (c d : ClientScript) (cs ds : List ClientScript) → d.name ≡ c.name → filter (others name) ds ≡ filter (others name) cs → bytes_eq name c.name ≡ true →
@@ -48,7 +48,7 @@ drop_step name c d cs ds same h t =
     ap (λ (b : Bool). cond (not b) (d ∷ filter (others name) ds) (filter (others name) ds)) t' ∙ h ∙ sym (ap (λ (b : Bool). cond (not b) (c ∷ filter (others name) cs) (filter (others name) cs)) t)
 
 -- a line of a client leaves the others as they are
-drop_same : (name : List ℕ) (x : Entry) → x.name ≡ name → (cs : List ClientScript) → filter (others name) (with_entry cs x) ≡ filter (others name) cs
+drop_same : (name : List ℕ) (x : ClientLine) → x.name ≡ name → (cs : List ClientScript) → filter (others name) (with_entry cs x) ≡ filter (others name) cs
 drop_same name x e [] = ap (λ (b : Bool). cond (not b) (record { name = x.name; commands = x.command ∷ [] } ∷ []) []) (same_names name x.name (sym e))
 drop_same name x e (c ∷ cs) =
     ⊎_elim
@@ -59,7 +59,7 @@ drop_same name x e (c ∷ cs) =
     (name_cases x.name c.name)
 
 -- among the other clients a line of one of them acts as among all
-keep_others : (name : List ℕ) (x : Entry) → x.name ≢ name → (cs : List ClientScript) → filter (others name) (with_entry cs x) ≡ with_entry (filter (others name) cs) x
+keep_others : (name : List ℕ) (x : ClientLine) → x.name ≢ name → (cs : List ClientScript) → filter (others name) (with_entry cs x) ≡ with_entry (filter (others name) cs) x
 keep_others name x n [] = ap (λ (b : Bool). cond (not b) (record { name = x.name; commands = x.command ∷ [] } ∷ []) []) (other_names name x.name (λ e. n (sym e)))
 keep_others name x n (c ∷ cs) =
     ⊎_elim
@@ -84,7 +84,7 @@ abbrev client_of : List ℕ → List Command → ClientScript
 client_of name commands = record { name = name; commands = commands }
 
 -- the clients of all lines are those of the lines before, with the last line
-pub clients_more : (es : List Entry) (x : Entry) → clients_of (es ++ x ∷ []) ≡ with_entry (clients_of es) x
+pub clients_more : (es : List ClientLine) (x : ClientLine) → clients_of (es ++ x ∷ []) ≡ with_entry (clients_of es) x
 clients_more [] x = refl
 clients_more (e ∷ es) x =
     ap (λ (l : List ClientScript). client_of e.name (e.command ∷ commands_of e.name (es ++ x ∷ [])) ∷ filter (others e.name) l) (clients_more es x)
@@ -111,7 +111,7 @@ in_others name other n (c ∷ cs) =
     (name_cases other c.name)
 
 -- a client's commands among the clients are those of its lines
-pub commands_among : (name : List ℕ) (es : List Entry) → commands_in name (clients_of es) ≡ commands_of name es
+pub commands_among : (name : List ℕ) (es : List ClientLine) → commands_in name (clients_of es) ≡ commands_of name es
 commands_among name [] = refl
 commands_among name (e ∷ es) =
     ⊎_elim

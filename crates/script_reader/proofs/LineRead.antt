@@ -5,9 +5,9 @@ use Rattle.std.specs.Str.{bytes_eq}
 use Rattle.script_reader.specs.declared.script.Command.{Command}
 use Rattle.script_reader.specs.declared.script.ClientScript.{ClientScript}
 use Rattle.script_reader.specs.declared.script.ScriptFault.TheVariants.{TooManyCommands}
-use Rattle.script_reader.specs.Spelling.{IsNamed, IsCommand}
-use Rattle.script_reader.specs.Scripts.{Entry}
-use Rattle.script_reader.specs.Reading.{with_command, place_in, commands_in, AtPlace, Adds, IsFaultBehind}
+use Rattle.script_reader.specs.Spelling.{BeginsWithName, IsCommand}
+use Rattle.script_reader.specs.Scripts.{ClientLine}
+use Rattle.script_reader.specs.Reading.{with_command, place_in, commands_in, AtPlace, AddsLine, IsFaultBehind}
 use Rattle.script_reader.proofs.Places.{known_entry, new_entry, known_commands, no_commands, position_found, position_none}
 
 commands_are : (clients : List ClientScript) (name : List ℕ) (i : ℕ) (client : ClientScript) → position (λ (c : ClientScript). bytes_eq name c.name) clients ≡ Some i →
@@ -16,17 +16,17 @@ commands_are clients name i client e read =
     let at = position_found name clients i e in
     known_commands clients name client at.1 ∙ ap (λ (n : ℕ). (get_or clients n client).commands) at.0 ∙ ap (λ (c : ClientScript). c.commands) (sym read)
 
-pub too_many_commands : (clients : List ClientScript) (line name tail : List ℕ) (number i : ℕ) (client : ClientScript) → length line ≤ 1024 → IsNamed line name tail →
+pub too_many_commands : (clients : List ClientScript) (line name tail : List ℕ) (number i : ℕ) (client : ClientScript) → length line ≤ 1024 → BeginsWithName line name tail →
     position (λ (c : ClientScript). bytes_eq name c.name) clients ≡ Some i → client ≡ get_or clients i client → 8192 ≤ length client.commands →
     IsFaultBehind clients line number (TooManyCommands number)
 too_many_commands clients line name tail number i client short named e read many =
     (refl, short, name, tail, named, omega (arith, ap length (commands_are clients name i client e read)))
 
-pub adds_known : (old new : List ClientScript) (line name tail : List ℕ) (command : Command) (i : ℕ) (client : ClientScript) → length line ≤ 1024 → IsNamed line name tail → IsCommand tail command →
-    position (λ (c : ClientScript). bytes_eq name c.name) old ≡ Some i → client ≡ get_or old i client → length client.commands < 8192 → AtPlace old i command new → Adds old line new
+pub adds_known : (old new : List ClientScript) (line name tail : List ℕ) (command : Command) (i : ℕ) (client : ClientScript) → length line ≤ 1024 → BeginsWithName line name tail → IsCommand tail command →
+    position (λ (c : ClientScript). bytes_eq name c.name) old ≡ Some i → client ≡ get_or old i client → length client.commands < 8192 → AtPlace old i command new → AddsLine old line new
 adds_known old new line name tail command i client short named spelled e read few h =
     let at = position_found name old i e in
-    let entry : Entry = record { name = name; command = command } in (
+    let entry : ClientLine = record { name = name; command = command } in (
       entry,
       short,
       (tail, named, spelled),
@@ -34,11 +34,11 @@ adds_known old new line name tail command i client short named spelled e read fe
       h.2 ∙ sym (known_entry old entry h.0 at.1 ∙ ap (λ (n : ℕ). set old n (with_command (get_or old n h.0) command)) at.0 ∙ ap (λ (c : ClientScript). set old i (with_command c command)) (sym h.1)),
     )
 
-pub adds_new : (old new : List ClientScript) (line name tail : List ℕ) (command : Command) → length line ≤ 1024 → IsNamed line name tail → IsCommand tail command →
-    position (λ (c : ClientScript). bytes_eq name c.name) old ≡ None → length old < 16 → new ≡ old ++ record { name = name; commands = command ∷ [] } ∷ [] → Adds old line new
+pub adds_new : (old new : List ClientScript) (line name tail : List ℕ) (command : Command) → length line ≤ 1024 → BeginsWithName line name tail → IsCommand tail command →
+    position (λ (c : ClientScript). bytes_eq name c.name) old ≡ None → length old < 16 → new ≡ old ++ record { name = name; commands = command ∷ [] } ∷ [] → AddsLine old line new
 adds_new old new line name tail command short named spelled e few h =
     let past : length old ≤ place_in name old = position_none (λ (c : ClientScript). bytes_eq name c.name) old e in
-    let entry : Entry = record { name = name; command = command } in (
+    let entry : ClientLine = record { name = name; command = command } in (
       entry,
       short,
       (tail, named, spelled),

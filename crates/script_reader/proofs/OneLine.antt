@@ -7,8 +7,8 @@ use Rattle.std.proofs.lemmas.List.Elements.{All-same}
 use Rattle.script_reader.specs.declared.script.Command.{Command}
 use Rattle.script_reader.specs.declared.script.Command.TheVariants.{Put, Set, Cut, Show, Export, Bad}
 use Rattle.script_reader.specs.Lines.{space, newline, IsTrimmed, IsFirstLine}
-use Rattle.script_reader.specs.Spelling.{IsTail, Writes, IsEdit, IsKnown, IsCommand, IsNamed}
-use Rattle.script_reader.specs.Scripts.{Entry, IsEntry}
+use Rattle.script_reader.specs.Spelling.{IsTail, WritesNumber, IsEditWords, IsKnownCommand, IsCommand, BeginsWithName}
+use Rattle.script_reader.specs.Scripts.{ClientLine, IsEntry}
 use Rattle.script_reader.proofs.CutLaws.{one_cut, no_cut, one_space, name_plain, digits_plain, tail_ends}
 
 some_bytes : (bytes rest : List ℕ) → bytes ≢ [] → rest ≡ [] → length rest < length bytes
@@ -55,7 +55,7 @@ one_first bytes line line' rest rest' h g =
     let raws = one_raw bytes h.raw g.raw rest rest' h.plain g.plain h.ended g.ended in
     (one_trimmed g.raw line line' (subst (λ (r : List ℕ). IsTrimmed r line) raws.0 h.trimmed) g.trimmed, raws.1)
 
-pub one_name : (line name name' tail tail' : List ℕ) → IsNamed line name tail → IsNamed line name' tail' → (name ≡ name') × (tail ≡ tail')
+pub one_name : (line name name' tail tail' : List ℕ) → BeginsWithName line name tail → BeginsWithName line name' tail' → (name ≡ name') × (tail ≡ tail')
 one_name line name name' tail tail' h g =
     one_space name name' tail tail' (name_plain name h.named) (name_plain name' g.named) h.ended g.ended (sym h.spelled ∙ g.spelled)
 
@@ -66,10 +66,10 @@ one_text tail text text' h g =
     (λ e. ⊎_elim (λ f. (let both : 32 ∷ text' ≡ [] = sym f ∙ e.0 in cc)) (λ f. e.1 ∙ sym f.1) g)
     h
 
-same_value : (digits digits' : List ℕ) (m n : ℕ) → digits ≡ digits' → Writes digits m → Writes digits' n → m ≡ n
+same_value : (digits digits' : List ℕ) (m n : ℕ) → digits ≡ digits' → WritesNumber digits m → WritesNumber digits' n → m ≡ n
 same_value digits digits' m n e h g = h.1 ∙ ap (digits_value 10) e ∙ sym g.1
 
-one_edit : (word words : List ℕ) (m n : ℕ) (text text' : List ℕ) → IsEdit word words m text → IsEdit word words n text' → (m ≡ n) × (text ≡ text')
+one_edit : (word words : List ℕ) (m n : ℕ) (text text' : List ℕ) → IsEditWords word words m text → IsEditWords word words n text' → (m ≡ n) × (text ≡ text')
 one_edit word words m n text text' h g =
     let behind : h.0 ++ h.1 ≡ g.0 ++ g.1 = append_cancel_left word (h.0 ++ h.1) (g.0 ++ g.1) (sym (append_assoc word h.0 h.1) ∙ sym h.2 ∙ g.2 ∙ append_assoc word g.0 g.1) in
     let cut = one_space h.0 g.0 h.1 g.1 (digits_plain h.0 m h.3) (digits_plain g.0 n g.3) (tail_ends h.1 text h.4) (tail_ends g.1 text' g.4) behind in
@@ -78,7 +78,7 @@ one_edit word words m n text text' h g =
 regrouped : (word a b : List ℕ) → word ++ a ++ space ++ b ≡ word ++ (a ++ 32 ∷ b)
 regrouped word a b = simp append_assoc
 
-one_range : (words : List ℕ) (from upto from' upto' : ℕ) → IsKnown words (Cut from upto) → IsKnown words (Cut from' upto') → (from ≡ from') × (upto ≡ upto')
+one_range : (words : List ℕ) (from upto from' upto' : ℕ) → IsKnownCommand words (Cut from upto) → IsKnownCommand words (Cut from' upto') → (from ≡ from') × (upto ≡ upto')
 one_range words from upto from' upto' h g =
     let behind : h.0 ++ 32 ∷ h.1 ≡ g.0 ++ 32 ∷ g.1 = append_cancel_left (codes "cut ") (h.0 ++ 32 ∷ h.1) (g.0 ++ 32 ∷ g.1) (sym (regrouped (codes "cut ") h.0 h.1) ∙ sym h.2 ∙ g.2 ∙ regrouped (codes "cut ") g.0 g.1) in
     let cut = one_cut 32 h.0 g.0 h.1 g.1 (digits_plain h.0 from h.3) (digits_plain g.0 from' g.3) behind in
@@ -93,7 +93,7 @@ letter_of Show = 115
 letter_of Export = 101
 letter_of Bad = 0
 
-first_is : (words : List ℕ) (c : Command) → IsKnown words c → get_or words 0 0 ≡ letter_of c
+first_is : (words : List ℕ) (c : Command) → IsKnownCommand words c → get_or words 0 0 ≡ letter_of c
 first_is words (Put line text) h = ap (λ (l : List ℕ). get_or l 0 0) h.2
 first_is words (Set line text) h = ap (λ (l : List ℕ). get_or l 0 0) h.2
 first_is words (Cut from upto) h = ap (λ (l : List ℕ). get_or l 0 0) h.2
@@ -101,13 +101,13 @@ first_is words Show h = ap (λ (l : List ℕ). get_or l 0 0) h
 first_is words Export h = ap (λ (l : List ℕ). get_or l 0 0) h
 first_is words Bad h = absurd h
 
-set_is_not_show : (words : List ℕ) (line : ℕ) (text : List ℕ) → IsKnown words (Set line text) → IsKnown words Show → ⊥
+set_is_not_show : (words : List ℕ) (line : ℕ) (text : List ℕ) → IsKnownCommand words (Set line text) → IsKnownCommand words Show → ⊥
 set_is_not_show words line text h g = let letter : 101 ≡ 104 = ap (λ (l : List ℕ). get_or l 1 0) (sym h.2 ∙ g) in absurd (omega (arith, letter))
 
-letters : (words : List ℕ) (c d : Command) → IsKnown words c → IsKnown words d → letter_of c ≡ letter_of d
+letters : (words : List ℕ) (c d : Command) → IsKnownCommand words c → IsKnownCommand words d → letter_of c ≡ letter_of d
 letters words c d h g = sym (first_is words c h) ∙ first_is words d g
 
-pub one_known : (words : List ℕ) (c d : Command) → IsKnown words c → IsKnown words d → c ≡ d
+pub one_known : (words : List ℕ) (c d : Command) → IsKnownCommand words c → IsKnownCommand words d → c ≡ d
 one_known words (Put m t) (Put n u) h g = let e = one_edit (codes "put ") words m n t u h g in ap₂ Put e.0 e.1
 one_known words (Set m t) (Set n u) h g = let e = one_edit (codes "set ") words m n t u h g in ap₂ Set e.0 e.1
 one_known words (Cut a b) (Cut a' b') h g = let e = one_range words a b a' b' h g in ap₂ Cut e.0 e.1
@@ -146,7 +146,7 @@ one_command tail c d h g =
     (λ a. ⊎_elim
     (λ b. (let both : 32 ∷ a.0 ≡ 32 ∷ b.0 = sym a.1 ∙ b.1 in
     let same : a.0 ≡ b.0 = cc in
-    one_known b.0 c d (subst (λ (w : List ℕ). IsKnown w c) same a.2) b.2))
+    one_known b.0 c d (subst (λ (w : List ℕ). IsKnownCommand w c) same a.2) b.2))
     (λ b. absurd (b.1 a.0 c a.1 a.2))
     g)
     (λ a. ⊎_elim
@@ -155,8 +155,8 @@ one_command tail c d h g =
     g)
     h
 
-pub one_entry : (line : List ℕ) (e f : Entry) → IsEntry line e → IsEntry line f → e ≡ f
+pub one_entry : (line : List ℕ) (e f : ClientLine) → IsEntry line e → IsEntry line f → e ≡ f
 one_entry line e f h g =
     let names = one_name line e.name f.name h.0 g.0 h.1 g.1 in
-    ap₂ (λ (name : List ℕ) (command : Command). let made : Entry = record { name = name; command = command } in made) names.0
+    ap₂ (λ (name : List ℕ) (command : Command). let made : ClientLine = record { name = name; command = command } in made) names.0
     (one_command g.0 e.command f.command (subst (λ (t : List ℕ). IsCommand t e.command) names.1 h.2) g.2)

@@ -7,8 +7,8 @@ use Rattle.script_reader.specs.declared.script.Command.{Command}
 use Rattle.script_reader.specs.declared.script.Command.TheVariants.{Put, Set, Cut, Show, Export, Bad}
 use Rattle.script_reader.specs.declared.script.ScriptFault.TheVariants.{NoName}
 use Rattle.script_reader.specs.Lines.{space, AreLines}
-use Rattle.script_reader.specs.Spelling.{IsNameByte, IsName, Writes, IsKnown, IsCommand, IsNamed}
-use Rattle.script_reader.specs.Scripts.{Entry, IsSound, IsScript, IsScriptFault}
+use Rattle.script_reader.specs.Spelling.{IsNameByte, IsName, WritesNumber, IsKnownCommand, IsCommand, BeginsWithName}
+use Rattle.script_reader.specs.Scripts.{ClientLine, IsSoundLine, IsScript, IsScriptFault}
 use Rattle.script_reader.specs.Reading.{IsEditOf}
 use Rattle.script_reader.proofs.CutLaws.{no_cut, one_space, digits_plain, tail_ends}
 use Rattle.script_reader.proofs.KnownCommands.{put_known}
@@ -47,14 +47,14 @@ lines_are = (
 )
 
 -- ---- commands
-one : Writes (codes "1") 1
+one : WritesNumber (codes "1") 1
 one = (record { some = omega arith; short = omega arith; digits = (omega arith, tt) }, refl)
 
-two : Writes (codes "2") 2
+two : WritesNumber (codes "2") 2
 two = (record { some = omega arith; short = omega arith; digits = (omega arith, tt) }, refl)
 
 -- leading zeros are allowed
-seven : Writes (codes "0000007") 7
+seven : WritesNumber (codes "0000007") 7
 seven = (record { some = omega arith; short = omega arith; digits = (omega arith, (omega arith, (omega arith, (omega arith, (omega arith, (omega arith, (omega arith, tt))))))) }, refl)
 
 puts : IsCommand (codes " put 1 cube(1);") (Put 1 (codes "cube(1);"))
@@ -89,8 +89,8 @@ name_alone = inr (refl, λ words known e h. cc)
 behind_space : (words words' : List ℕ) → 32 ∷ words ≡ 32 ∷ words' → words ≡ words'
 behind_space words words' e = cc
 
-bad_by : (words : List ℕ) → ((known : Command) → IsKnown words known → ⊥) → IsCommand (space ++ words) Bad
-bad_by words none = inr (refl, λ words' known e h. none known (subst (λ (w : List ℕ). IsKnown w known) (sym (behind_space words words' e)) h))
+bad_by : (words : List ℕ) → ((known : Command) → IsKnownCommand words known → ⊥) → IsCommand (space ++ words) Bad
+bad_by words none = inr (refl, λ words' known e h. none known (subst (λ (w : List ℕ). IsKnownCommand w known) (sym (behind_space words words' e)) h))
 
 put_bad_by : (edit : List ℕ) → ((line : ℕ) (text : List ℕ) → IsEditOf edit line text → ⊥) → IsCommand (codes " put " ++ edit) Bad
 put_bad_by edit none =
@@ -119,7 +119,7 @@ eight_digits_are_bad : IsCommand (codes " put 00000007 x") Bad
 eight_digits_are_bad = put_bad_by (codes "00000007 x") too_many_digits
 
 -- a space behind a whole command
-no_show : (known : Command) → IsKnown (codes "show ") known → ⊥
+no_show : (known : Command) → IsKnownCommand (codes "show ") known → ⊥
 no_show (Put line text) h = let letter : 115 ≡ 112 = ap (λ (l : List ℕ). get_or l 0 0) h.2 in absurd (omega (arith, letter))
 no_show (Set line text) h = let letter : 104 ≡ 101 = ap (λ (l : List ℕ). get_or l 1 0) h.2 in absurd (omega (arith, letter))
 no_show (Cut from upto) h = let letter : 115 ≡ 99 = ap (λ (l : List ℕ). get_or l 0 0) h.2 in absurd (omega (arith, letter))
@@ -134,10 +134,10 @@ space_behind_is_bad = bad_by (codes "show ") no_show
 letter : (b : ℕ) → 97 ≤ b → b ≤ 122 → IsName (b ∷ [])
 letter b l h = record { some = omega arith; short = omega arith; bytes = All-cons IsNameByte b [] (inl (l, h)) (All-nil IsNameByte) }
 
-abbrev show_line : Entry
+abbrev show_line : ClientLine
 show_line = record { name = codes "a"; command = Show }
 
-show_is : IsSound [] (codes "a show") show_line
+show_is : IsSoundLine [] (codes "a show") show_line
 show_is = record {
   short = omega arith;
   entry = (codes " show", record { spelled = refl; named = letter 97 (omega arith) (omega arith); ended = inr (codes "show", refl) }, shows);
@@ -145,7 +145,7 @@ show_is = record {
   commands = omega arith;
 }
 
-nameless : (name tail : List ℕ) → IsNamed [] name tail → ⊥
+nameless : (name tail : List ℕ) → BeginsWithName [] name tail → ⊥
 nameless name tail h = absurd (omega (arith, h.named.some, ap length h.spelled, length-append name tail))
 
 -- the second of three lines is empty

@@ -8,10 +8,10 @@ use Rattle.script_reader.specs.declared.script.Command.{Command}
 use Rattle.script_reader.specs.declared.script.Command.TheVariants.{Put, Set, Cut, Show, Export, Bad}
 use Rattle.script_reader.specs.declared.script.ClientScript.{ClientScript}
 use Rattle.script_reader.specs.Lines.{space, IsFirstLine}
-use Rattle.script_reader.specs.Spelling.{IsTail, IsEdit, IsKnown}
-use Rattle.script_reader.specs.Scripts.{Entry, IsEntry}
-use Rattle.script_reader.specs.Limits.{IsText, HasText, IsClientWithin, AreWithin}
-use Rattle.script_reader.specs.Reading.{with_command, with_entry, place_in, commands_in, Adds}
+use Rattle.script_reader.specs.Spelling.{IsTail, IsEditWords, IsKnownCommand}
+use Rattle.script_reader.specs.Scripts.{ClientLine, IsEntry}
+use Rattle.script_reader.specs.Limits.{IsText, HasText, IsClientWithin, AreClientsWithin}
+use Rattle.script_reader.specs.Reading.{with_command, with_entry, place_in, commands_in, AddsLine}
 use Rattle.script_reader.proofs.Places.{known_entry, new_entry, known_commands}
 
 behind_plain : (a b : List ℕ) → All (λ c. c ≢ 10) (a ++ b) → All (λ c. c ≢ 10) b
@@ -35,10 +35,10 @@ no_text = record { short = omega arith; plain = All-nil (λ c. c ≢ 10) }
 tail_text : (tail text : List ℕ) → IsTail tail text → IsText tail → IsText text
 tail_text tail text t h = ⊎_elim (λ a. end_text tail space text a h) (λ a. subst IsText (sym a.1) no_text) t
 
-edit_text : (word words text : List ℕ) (line : ℕ) → IsEdit word words line text → IsText words → IsText text
+edit_text : (word words text : List ℕ) (line : ℕ) → IsEditWords word words line text → IsText words → IsText text
 edit_text word words text line k h = tail_text k.1 text k.4 (end_text words (word ++ k.0) k.1 k.2 h)
 
-known_text : (words : List ℕ) (c : Command) → IsKnown words c → IsText words → HasText c
+known_text : (words : List ℕ) (c : Command) → IsKnownCommand words c → IsText words → HasText c
 known_text words (Put line text) k h = edit_text (codes "put ") words text line k h
 known_text words (Set line text) k h = edit_text (codes "set ") words text line k h
 known_text words (Cut from upto) k h = tt
@@ -46,7 +46,7 @@ known_text words Show k h = tt
 known_text words Export k h = tt
 known_text words Bad k h = tt
 
-entry_text : (line : List ℕ) (e : Entry) → IsEntry line e → IsText line → HasText e.command
+entry_text : (line : List ℕ) (e : ClientLine) → IsEntry line e → IsText line → HasText e.command
 entry_text line e k h =
     let tail : IsText k.0 = end_text line e.name k.0 k.1.spelled h in
     ⊎_elim
@@ -73,31 +73,31 @@ some_client = record { name = []; commands = [] }
 one_line : (name : List ℕ) (command : Command) → HasText command → IsClientWithin (record { name = name; commands = command ∷ [] })
 one_line name command text = record { few = omega arith; texts = All-cons HasText command [] text (All-nil HasText) }
 
-entry_within : (old : List ClientScript) (e : Entry) → AreWithin old → (place_in e.name old < length old) ⊎ (length old < 16) → length (commands_in e.name old) < 8192 → HasText e.command → AreWithin (with_entry old e)
+entry_within : (old : List ClientScript) (e : ClientLine) → AreClientsWithin old → (place_in e.name old < length old) ⊎ (length old < 16) → length (commands_in e.name old) < 8192 → HasText e.command → AreClientsWithin (with_entry old e)
 entry_within old e h place count text =
     ⊎_elim
     (λ known. (let at : ℕ = place_in e.name old in
     let client : ClientScript = get_or old at some_client in
     let few : length client.commands < 8192 = omega (arith, count, ap length (known_commands old e.name some_client known)) in
-    let within : AreWithin (set old at (with_command client e.command)) = record {
+    let within : AreClientsWithin (set old at (with_command client e.command)) = record {
       few = omega (arith, h.few, length-set old at (with_command client e.command));
       each = All-set IsClientWithin old at (with_command client e.command) (more_commands client e.command (All-get_or IsClientWithin old at some_client known h.each) few text) h.each;
     } in
-    subst AreWithin (sym (known_entry old e some_client known)) within))
+    subst AreClientsWithin (sym (known_entry old e some_client known)) within))
     (λ past. (let client : ClientScript = record { name = e.name; commands = e.command ∷ [] } in
     let few : length old < 16 = ⊎_elim (λ known. absurd (omega (arith, known, past))) (λ room. room) place in
-    let within : AreWithin (old ++ client ∷ []) = record {
+    let within : AreClientsWithin (old ++ client ∷ []) = record {
       few = omega (arith, few, length_push old client);
       each = All-push IsClientWithin old client h.each (one_line e.name e.command text);
     } in
-    subst AreWithin (sym (new_entry old e past)) within))
+    subst AreClientsWithin (sym (new_entry old e past)) within))
     (cases_lt (place_in e.name old) (length old))
 
 -- a line that adds to clients within the limits leaves them there
-pub within_more : (bytes line rest : List ℕ) (old new : List ClientScript) → IsFirstLine bytes line rest → Adds old line new → AreWithin old → AreWithin new
+pub within_more : (bytes line rest : List ℕ) (old new : List ClientScript) → IsFirstLine bytes line rest → AddsLine old line new → AreClientsWithin old → AreClientsWithin new
 within_more bytes line rest old new first h within =
-    subst AreWithin (sym h.4)
+    subst AreClientsWithin (sym h.4)
     (entry_within old h.0 within h.3.place h.3.count (entry_text line h.0 h.2 (record { short = h.1; plain = first_plain bytes line rest first })))
 
-pub within_none : AreWithin []
+pub within_none : AreClientsWithin []
 within_none = record { few = omega arith; each = All-nil IsClientWithin }

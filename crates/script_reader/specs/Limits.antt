@@ -20,6 +20,6 @@ pub record IsClientWithin (client : ClientScript) : Type 0 where
   pub texts : All HasText client.commands
 
 -- at most 16 clients with at most 8,192 commands each
-pub record AreWithin (clients : List ClientScript) : Type 0 where
+pub record AreClientsWithin (clients : List ClientScript) : Type 0 where
   pub few : length clients ≤ 16
   pub each : All IsClientWithin clients

@@ -8,22 +8,22 @@ use Rattle.script_reader.specs.declared.script.Command.{Command}
 use Rattle.script_reader.specs.declared.script.Command.TheVariants.{Put, Set, Cut, Show, Export, Bad}
 use Rattle.script_reader.specs.declared.script.ClientScript.{ClientScript}
 use Rattle.script_reader.specs.Lines.{space}
-use Rattle.script_reader.specs.Spelling.{Writes, IsTail, IsKnown, IsNamed}
-use Rattle.script_reader.specs.Scripts.{Entry, IsEntry}
+use Rattle.script_reader.specs.Spelling.{WritesNumber, IsTail, IsKnownCommand, BeginsWithName}
+use Rattle.script_reader.specs.Scripts.{ClientLine, IsEntry}
 
 -- the bytes are cut before their first space, or at their end where they have none
-pub record IsCut (bytes front tail : List ℕ) : Type 0 where
+pub record IsCutAtSpace (bytes front tail : List ℕ) : Type 0 where
   pub spelled : bytes ≡ front ++ tail
   pub plain : All (λ b. b ≢ 32) front
   pub ended : (tail ≡ []) ⊎ ((words : List ℕ) × (tail ≡ space ++ words))
 
 -- a number and a text
 abbrev pub IsEditOf : List ℕ → ℕ → List ℕ → Type 0
-IsEditOf bytes line text = (digits : List ℕ) × (tail : List ℕ) × (bytes ≡ digits ++ tail) × Writes digits line × IsTail tail text
+IsEditOf bytes line text = (digits : List ℕ) × (tail : List ℕ) × (bytes ≡ digits ++ tail) × WritesNumber digits line × IsTail tail text
 
 -- two numbers
 abbrev pub IsRange : List ℕ → ℕ → ℕ → Type 0
-IsRange bytes from upto = (digits : List ℕ) × (digits' : List ℕ) × (bytes ≡ digits ++ space ++ digits') × Writes digits from × Writes digits' upto
+IsRange bytes from upto = (digits : List ℕ) × (digits' : List ℕ) × (bytes ≡ digits ++ space ++ digits') × WritesNumber digits from × WritesNumber digits' upto
 
 abbrev pub IsPutOrBad : List ℕ → Command → Type 0
 IsPutOrBad bytes command =
@@ -48,14 +48,14 @@ IsWordOrBad words command =
 
 -- one of the commands, or a bad one where it is none of them
 abbrev pub IsKnownOrBad : List ℕ → Command → Type 0
-IsKnownOrBad words command = IsKnown words command ⊎ ((command ≡ Bad) × ((known : Command) → IsKnown words known → ⊥))
+IsKnownOrBad words command = IsKnownCommand words command ⊎ ((command ≡ Bad) × ((known : Command) → IsKnownCommand words known → ⊥))
 
 -- a client with one command more
 abbrev pub with_command : ClientScript → Command → ClientScript
 with_command client command = record client { commands = client.commands ++ command ∷ [] }
 
 -- the clients once one more line was read
-abbrev pub with_entry : List ClientScript → Entry → List ClientScript
+abbrev pub with_entry : List ClientScript → ClientLine → List ClientScript
 with_entry [] e = record { name = e.name; commands = e.command ∷ [] } ∷ []
 with_entry (client ∷ clients) e =
     if bytes_eq e.name client.name then with_command client e.command ∷ clients else client ∷ with_entry clients e
@@ -70,7 +70,7 @@ commands_in name [] = []
 commands_in name (client ∷ clients) = if bytes_eq name client.name then client.commands else commands_in name clients
 
 -- where the next line of a client with this name has room
-pub record HasRoom (name : List ℕ) (clients : List ClientScript) : Type 0 where
+pub record HasRoomForLine (name : List ℕ) (clients : List ClientScript) : Type 0 where
   pub place : (place_in name clients < length clients) ⊎ (length clients < 16)
   pub count : length (commands_in name clients) < 8192
 
@@ -78,21 +78,21 @@ pub record HasRoom (name : List ℕ) (clients : List ClientScript) : Type 0 wher
 abbrev pub IsFaultBehind : List ClientScript → List ℕ → ℕ → ScriptFault → Type 0
 IsFaultBehind clients line number (TooLong at) = (at ≡ number) × (1024 < length line)
 IsFaultBehind clients line number (NoName at) =
-    (at ≡ number) × (length line ≤ 1024) × ((name tail : List ℕ) → IsNamed line name tail → ⊥)
+    (at ≡ number) × (length line ≤ 1024) × ((name tail : List ℕ) → BeginsWithName line name tail → ⊥)
 IsFaultBehind clients line number (TooManyClients at) =
     (at ≡ number) × (length line ≤ 1024)
-    × (name : List ℕ) × (tail : List ℕ) × IsNamed line name tail
+    × (name : List ℕ) × (tail : List ℕ) × BeginsWithName line name tail
     × (length clients ≤ place_in name clients) × (16 ≤ length clients)
 IsFaultBehind clients line number (TooManyCommands at) =
     (at ≡ number) × (length line ≤ 1024)
-    × (name : List ℕ) × (tail : List ℕ) × IsNamed line name tail × (8192 ≤ length (commands_in name clients))
+    × (name : List ℕ) × (tail : List ℕ) × BeginsWithName line name tail × (8192 ≤ length (commands_in name clients))
 IsFaultBehind clients line number TooLarge = ⊥
 IsFaultBehind clients line number NoMemory = Unit {0}
 
 -- a line without a fault was read, and its client has one command more
-abbrev pub Adds : List ClientScript → List ℕ → List ClientScript → Type 0
-Adds old line new =
-    (e : Entry) × (length line ≤ 1024) × IsEntry line e × HasRoom e.name old × (new ≡ with_entry old e)
+abbrev pub AddsLine : List ClientScript → List ℕ → List ClientScript → Type 0
+AddsLine old line new =
+    (e : ClientLine) × (length line ≤ 1024) × IsEntry line e × HasRoomForLine e.name old × (new ≡ with_entry old e)
 
 -- the client at this place has one command more
 abbrev pub AtPlace : List ClientScript → ℕ → Command → List ClientScript → Type 0

@@ -21,33 +21,33 @@ abbrev pub IsTail : List ℕ → List ℕ → Type 0
 IsTail tail text = (tail ≡ space ++ text) ⊎ ((tail ≡ []) × (text ≡ []))
 
 -- 1 to 7 digits that write this number
-abbrev pub Writes : List ℕ → ℕ → Type 0
-Writes digits n = IsShortNumeral digits × (n ≡ digits_value 10 digits)
+abbrev pub WritesNumber : List ℕ → ℕ → Type 0
+WritesNumber digits n = IsShortNumeral digits × (n ≡ digits_value 10 digits)
 
 -- `WORD N` with a tail
-abbrev pub IsEdit : List ℕ → List ℕ → ℕ → List ℕ → Type 0
-IsEdit word words line text =
-    (digits : List ℕ) × (tail : List ℕ) × (words ≡ word ++ digits ++ tail) × Writes digits line × IsTail tail text
+abbrev pub IsEditWords : List ℕ → List ℕ → ℕ → List ℕ → Type 0
+IsEditWords word words line text =
+    (digits : List ℕ) × (tail : List ℕ) × (words ≡ word ++ digits ++ tail) × WritesNumber digits line × IsTail tail text
 
 -- what stands behind a name and its space, where it is one of the five commands
-abbrev pub IsKnown : List ℕ → Command → Type 0
-IsKnown words (Put line text) = IsEdit (codes "put ") words line text
-IsKnown words (Set line text) = IsEdit (codes "set ") words line text
-IsKnown words (Cut from upto) =
+abbrev pub IsKnownCommand : List ℕ → Command → Type 0
+IsKnownCommand words (Put line text) = IsEditWords (codes "put ") words line text
+IsKnownCommand words (Set line text) = IsEditWords (codes "set ") words line text
+IsKnownCommand words (Cut from upto) =
     (digits : List ℕ) × (digits' : List ℕ)
-    × (words ≡ codes "cut " ++ digits ++ space ++ digits') × Writes digits from × Writes digits' upto
-IsKnown words Show = words ≡ codes "show"
-IsKnown words Export = words ≡ codes "export"
-IsKnown words Bad = ⊥
+    × (words ≡ codes "cut " ++ digits ++ space ++ digits') × WritesNumber digits from × WritesNumber digits' upto
+IsKnownCommand words Show = words ≡ codes "show"
+IsKnownCommand words Export = words ≡ codes "export"
+IsKnownCommand words Bad = ⊥
 
 -- what stands behind a name: a space and one of the commands, or else it is a bad command
 abbrev pub IsCommand : List ℕ → Command → Type 0
 IsCommand tail command =
-    ((words : List ℕ) × (tail ≡ space ++ words) × IsKnown words command)
-    ⊎ ((command ≡ Bad) × ((words : List ℕ) (known : Command) → tail ≡ space ++ words → IsKnown words known → ⊥))
+    ((words : List ℕ) × (tail ≡ space ++ words) × IsKnownCommand words command)
+    ⊎ ((command ≡ Bad) × ((words : List ℕ) (known : Command) → tail ≡ space ++ words → IsKnownCommand words known → ⊥))
 
 -- the line begins with a name, which a space or the line's end follows
-pub record IsNamed (line name tail : List ℕ) : Type 0 where
+pub record BeginsWithName (line name tail : List ℕ) : Type 0 where
   pub spelled : line ≡ name ++ tail
   pub named : IsName name
   pub ended : (tail ≡ []) ⊎ ((words : List ℕ) × (tail ≡ space ++ words))

@@ -3,7 +3,7 @@
 ghost use Rattle.std.specs.Prelude.{◌≡◌, ◌<◌, ◌++◌, ◌∷◌, [], ℕ, List, map, length, None, OnOk, IfErr};
 ghost use Rattle.std.specs.List.{position};
 ghost use Rattle.std.specs.Str.{bytes_eq};
-ghost use Rattle.script_reader.specs.Reading.{with_entry, AtPlace, Adds, IsFaultBehind};
+ghost use Rattle.script_reader.specs.Reading.{with_entry, AtPlace, AddsLine, IsFaultBehind};
 
 use crate::cuts::{command_of, split_name};
 use crate::script::{ClientScript, Command, Commands, ScriptFault};
@@ -87,7 +87,7 @@ pub fn read_line(
     ensures known { OnOk result
         (map (λ k. k.items) clients.new.numbers.keys
         ≡ map (λ c. c.name) clients.new.scripts.items) }
-    ensures ok { OnOk result (Adds clients.old.scripts.items line.now clients.new.scripts.items) }
+    ensures ok { OnOk result (AddsLine clients.old.scripts.items line.now clients.new.scripts.items) }
     ensures err { IfErr result (λ fault.
         IsFaultBehind clients.old.scripts.items line.now number fault) }
 {

@@ -2,8 +2,8 @@
 
 ghost use Rattle.std.specs.Prelude.{◌≡◌, ◌≢◌, ◌↔◌, ◌∷◌, ◌++◌, ℕ, List, [], All, IsTrue, IfSome, IfNone, IfOk, MatchOption};
 ghost use Rattle.script_reader.specs.Lines.{IsTrimmed, IsFirstLine};
-ghost use Rattle.script_reader.specs.Spelling.{IsName, IsNamed, IsKnown, IsCommand};
-ghost use Rattle.script_reader.specs.Reading.{IsCut, IsEditOf, IsRange, IsPutOrBad, IsSetOrBad, IsCutOrBad, IsWordOrBad, IsKnownOrBad};
+ghost use Rattle.script_reader.specs.Spelling.{IsName, BeginsWithName, IsKnownCommand, IsCommand};
+ghost use Rattle.script_reader.specs.Reading.{IsCutAtSpace, IsEditOf, IsRange, IsPutOrBad, IsSetOrBad, IsCutOrBad, IsWordOrBad, IsKnownOrBad};
 
 use crate::script::Command;
 use std::alloc::Global;
@@ -42,7 +42,7 @@ pub fn first_line(bytes: &[u8]) -> (&[u8], &[u8])
 
 // What stands before the first space, and the rest from that space on.
 fn split_space(bytes: &[u8]) -> (&[u8], &[u8])
-    ensures { IsCut bytes.now result.0.now result.1.now }
+    ensures { IsCutAtSpace bytes.now result.0.now result.1.now }
 {
     match bytes.iter().position(|b| *b == b' ') {
         Some(place) => (&bytes[..place], &bytes[place..]),
@@ -62,8 +62,8 @@ fn is_name(bytes: &[u8]) -> bool
 
 /// The name at the front of a line, and what stands behind it.
 pub fn split_name(line: &[u8]) -> Option<(&[u8], &[u8])>
-    ensures found { IfSome result (λ cut. IsNamed line.now cut.0.now cut.1.now) }
-    ensures none { IfNone result ((name tail : List ℕ) → IsNamed line.now name tail → ⊥) }
+    ensures found { IfSome result (λ cut. BeginsWithName line.now cut.0.now cut.1.now) }
+    ensures none { IfNone result ((name tail : List ℕ) → BeginsWithName line.now name tail → ⊥) }
 {
     let (name, tail) = split_space(line);
     if !is_name(name) {

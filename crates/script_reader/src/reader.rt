@@ -4,8 +4,8 @@ ghost use Rattle.std.specs.Prelude.{◌≡◌, ◌≤◌, ◌⊎◌, [], length,
 ghost use Rattle.script_reader.specs.declared.script.Script.{Script};
 ghost use Rattle.script_reader.specs.declared.script.ScriptFault.{ScriptFault};
 ghost use Rattle.script_reader.specs.declared.script.ScriptFault.TheVariants.{NoMemory};
-ghost use Rattle.script_reader.specs.Limits.{AreWithin};
-ghost use Rattle.script_reader.specs.Scripts.{EndsScript, HasFault, IsScript, IsScriptFault};
+ghost use Rattle.script_reader.specs.Limits.{AreClientsWithin};
+ghost use Rattle.script_reader.specs.Scripts.{EndsScript, HasFirstLineFault, IsScript, IsScriptFault};
 
 use crate::clients::{Clients, read_line};
 use crate::cuts::first_line;
@@ -20,8 +20,8 @@ fn read_lines(alloc: Global, bytes: &[u8]) -> Result<Vec<ClientScript>, ScriptFa
     requires { length bytes.now ≤ 1048576 }
     ensures found { IfOk result (λ clients.
         EndsScript [] bytes.now (record { clients = clients.items })) }
-    ensures within { IfOk result (λ clients. AreWithin clients.items) }
-    ensures fault { IfErr result (λ fault. (fault ≡ NoMemory) ⊎ HasFault [] 0 bytes.now fault) }
+    ensures within { IfOk result (λ clients. AreClientsWithin clients.items) }
+    ensures fault { IfErr result (λ fault. (fault ≡ NoMemory) ⊎ HasFirstLineFault [] 0 bytes.now fault) }
 {
     let mut clients = Clients {
         numbers: IndexSet::new(alloc),
@@ -42,7 +42,7 @@ fn read_lines(alloc: Global, bytes: &[u8]) -> Result<Vec<ClientScript>, ScriptFa
 /// `ScriptFault`. Names are numbered by first appearance.
 pub fn read_script(alloc: Global, bytes: &[u8]) -> Result<Script, ScriptFault>
     ensures found { IfOk result (λ script. IsScript bytes.now script) }
-    ensures within { IfOk result (λ script. AreWithin script.clients) }
+    ensures within { IfOk result (λ script. AreClientsWithin script.clients) }
     ensures fault { IfErr result (λ fault. (fault ≡ NoMemory) ⊎ IsScriptFault bytes.now fault) }
 
     // Nothing else: a script is read and a fault answered, unless memory runs out.
@@ -55,7 +55,7 @@ pub fn read_script(alloc: Global, bytes: &[u8]) -> Result<Script, ScriptFault>
 }
 
 fn read_bytes(alloc: Global, bytes: &[u8]) -> Result<Script, ScriptFault>
-    ensures within { IfOk result (λ script. AreWithin script.clients) }
+    ensures within { IfOk result (λ script. AreClientsWithin script.clients) }
     ensures outcome { MatchResult result (IsScript bytes.now)
         (λ fault. (fault ≡ NoMemory) ⊎ IsScriptFault bytes.now fault) }
 {

@@ -4,8 +4,8 @@ use Rattle.script_reader.specs.declared.script.Command.{Command}
 use Rattle.script_reader.specs.declared.script.Command.TheVariants.{Put, Show, Export, Bad}
 use Rattle.script_reader.specs.declared.script.ClientScript.{ClientScript}
 use Rattle.edit_session.specs.declared.fault.SessionFault.TheVariants.{NoSuchLine, TooManyExports, BadCommand}
-use Rattle.edit_session.specs.Sessions.{State, start}
-use Rattle.reply_text.specs.declared.reply.Complex.TheVariants as limit
+use Rattle.edit_session.specs.Sessions.{State, start_state}
+use Rattle.reply_text.specs.declared.reply.PassedLimit.TheVariants as limit
 use Rattle.reply_text.specs.declared.reply.Reply.{Reply}
 use Rattle.reply_text.specs.declared.reply.Reply.TheVariants as reply
 use Rattle.script_run.specs.Moves.{MovesAlong, AllMove}
@@ -17,10 +17,10 @@ abbrev commands : List Command
 commands = Put 2 (codes "x") ∷ Put 1 (codes "x") ∷ Export ∷ Show ∷ Bad ∷ Export ∷ []
 
 abbrev replies : List Reply
-replies = reply.Refused NoSuchLine ∷ reply.Lines 1 ∷ reply.Solid [] ∷ reply.Text (codes "x" ∷ []) ∷ reply.Refused BadCommand ∷ reply.Complex limit.Facets ∷ []
+replies = reply.Refused NoSuchLine ∷ reply.Lines 1 ∷ reply.Solid [] ∷ reply.Text (codes "x" ∷ []) ∷ reply.Refused BadCommand ∷ reply.PassedLimit limit.Facets ∷ []
 
 -- exports move it, and nothing else does
-two_exports : MovesAlong IsCounted start commands replies 5 7
+two_exports : MovesAlong IsCounted start_state commands replies 5 7
 two_exports = (5, refl, (5, refl, (6, inl refl, (6, refl, (6, refl, (7, inl refl, refl))))))
 
 abbrev nearly_exported : State
@@ -31,7 +31,7 @@ one_is_refused : MovesAlong IsCounted nearly_exported (Export ∷ Export ∷ [])
 one_is_refused = (1, inl refl, (1, refl, refl))
 
 -- where memory runs out, the exporter was asked before that or not
-want_is_asked_or_not : MovesAlong IsCounted start (Export ∷ Export ∷ []) (reply.NoMem ∷ reply.NoMem ∷ []) 3 4
+want_is_asked_or_not : MovesAlong IsCounted start_state (Export ∷ Export ∷ []) (reply.NoMem ∷ reply.NoMem ∷ []) 3 4
 want_is_asked_or_not = (3, inr (refl, refl), (4, inl refl, refl))
 
 abbrev client : ClientScript

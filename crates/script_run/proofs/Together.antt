@@ -6,11 +6,11 @@ use Rattle.script_reader.specs.declared.script.ClientScript.{ClientScript}
 use Rattle.script_reader.specs.Limits.{IsClientWithin}
 use Rattle.reply_text.specs.declared.reply.Reply.{Reply}
 use Rattle.reply_text.specs.Answers.{Fits, AllFit}
-use Rattle.edit_session.specs.Sessions.{start}
+use Rattle.edit_session.specs.Sessions.{start_state}
 use Rattle.pair_work.specs.Pairs.{EachReady, EachWorked}
 use Rattle.script_run.specs.declared.served.ServedClient.{ServedClient}
 use Rattle.script_run.specs.Moves.{MovesAlong, AllMove}
-use Rattle.script_run.specs.Serving.{IsReady, IsServed, AreWaiting, replies_of}
+use Rattle.script_run.specs.Serving.{HasRoomForReplies, IsServed, AreWaiting, replies_of}
 
 -- as many wait as there are clients
 pub waiting_many : (clients : List ClientScript) (all : List ServedClient) → AreWaiting clients all → length all ≡ length clients
@@ -26,14 +26,14 @@ IsFresh asked CanExport e = (asked e ≡ 0) × CanExport e
 module _ {E : Type 0} (Fresh : E → Type 0) where
   -- each of them may be served by such an exporter
   pub waiting_ready : (clients : List ClientScript) (all : List ServedClient) (es : List E) → AreWaiting clients all → All IsClientWithin clients →
-      All Fresh es → length es ≡ length all → EachReady (λ (s : ServedClient) (e : E). IsReady s × Fresh e) all es
+      All Fresh es → length es ≡ length all → EachReady (λ (s : ServedClient) (e : E). HasRoomForReplies s × Fresh e) all es
   waiting_ready [] [] [] w within fresh same = tt
   waiting_ready (client ∷ clients) (served ∷ all) (e ∷ es) w within fresh same =
       let limits = All-head IsClientWithin client clients within in
       let own = w.0 in
       let few = limits.few in
       let room = w.2 in
-      let ready : IsReady served = record {
+      let ready : HasRoomForReplies served = record {
         empty = w.1;
         room = omega (arith, ap length own, room);
         few = omega (arith, ap length own, few);
@@ -61,7 +61,7 @@ module _ {E : Type 0} (Exports : List ℕ → Reply → Type 0) (Moves : List �
   served_fit [] [] [] [] [] w h = tt
   served_fit (client ∷ clients) [] [] [] [] w h = absurd w
   served_fit (client ∷ clients) (served ∷ all) (e ∷ es) (served' ∷ all') (e' ∷ es') w h =
-      (subst (λ cs. Fits Exports start cs served'.replies.items) w.0 h.0.fits, served_fit clients all es all' es' w.3 h.1)
+      (subst (λ cs. Fits Exports start_state cs served'.replies.items) w.0 h.0.fits, served_fit clients all es all' es' w.3 h.1)
   served_fit [] (served ∷ all) (e ∷ es) (served' ∷ all') (e' ∷ es') w h = absurd w
   served_fit clients all es all' es' w h = absurd h
 
@@ -71,7 +71,7 @@ module _ {E : Type 0} (Exports : List ℕ → Reply → Type 0) (Moves : List �
   served_move [] [] [] idle [] [] w h = refl
   served_move (client ∷ clients) [] [] idle [] [] w h = absurd w
   served_move (client ∷ clients) (served ∷ all) (e ∷ es) idle (served' ∷ all') (e' ∷ es') w h =
-      (subst (λ cs. MovesAlong Moves start cs served'.replies.items e e') w.0 h.0.moved, served_move clients all es idle all' es' w.3 h.1)
+      (subst (λ cs. MovesAlong Moves start_state cs served'.replies.items e e') w.0 h.0.moved, served_move clients all es idle all' es' w.3 h.1)
   served_move [] (served ∷ all) (e ∷ es) idle (served' ∷ all') (e' ∷ es') w h = absurd w
   served_move clients all es idle all' es' w h = absurd h
 

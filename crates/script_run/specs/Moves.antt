@@ -4,7 +4,7 @@ use Rattle.text_place.specs.declared.memory.NoMemory.{NoMemory}
 use Rattle.script_reader.specs.declared.script.Command.{Command}
 use Rattle.script_reader.specs.declared.script.Command.TheVariants.{Export}
 use Rattle.script_reader.specs.declared.script.ClientScript.{ClientScript}
-use Rattle.edit_session.specs.Sessions.{State, start, source_of, refusal}
+use Rattle.edit_session.specs.Sessions.{State, start_state, source_of, refusal}
 use Rattle.reply_text.specs.declared.reply.Reply.{Reply}
 use Rattle.reply_text.specs.declared.reply.Reply.TheVariants as reply
 use Rattle.reply_text.specs.Answers.{state_after}
@@ -38,5 +38,5 @@ module _ {E : Type 0} (Moves : List ℕ → Reply → E → E → Type 0) where
   abbrev pub AllMove : List ClientScript → List (List Reply) → List E → List E → Type 0
   AllMove [] [] olds news = news ≡ olds
   AllMove (client ∷ clients) (replies ∷ more) (old ∷ olds) (new ∷ news) =
-      MovesAlong start client.commands replies old new × AllMove clients more olds news
+      MovesAlong start_state client.commands replies old new × AllMove clients more olds news
   AllMove _ _ _ _ = ⊥

@@ -2,14 +2,14 @@
 use Rattle.std.specs.Prelude.{◌≡◌, ℕ, ◌≤◌, List, [], ◌∷◌, map, length, All, vec_capacity}
 use Rattle.script_reader.specs.declared.script.ClientScript.{ClientScript}
 use Rattle.script_reader.specs.Limits.{HasText}
-use Rattle.edit_session.specs.Sessions.{start}
+use Rattle.edit_session.specs.Sessions.{start_state}
 use Rattle.reply_text.specs.declared.reply.Reply.{Reply}
 use Rattle.reply_text.specs.Answers.{Fits}
 use Rattle.script_run.specs.declared.served.ServedClient.{ServedClient}
 use Rattle.script_run.specs.Moves.{MovesAlong}
 
 -- no reply, and room for one reply a command, which are at most 8,192
-pub record IsReady (client : ServedClient) : Type 0 where
+pub record HasRoomForReplies (client : ServedClient) : Type 0 where
   pub empty : client.replies.items ≡ []
   pub room : length client.commands.now ≤ vec_capacity client.replies
   pub few : length client.commands.now ≤ 8192
@@ -18,9 +18,9 @@ pub record IsReady (client : ServedClient) : Type 0 where
 -- the replies fit the client's commands, one each, and the exporter is what they make of it
 pub record IsServed {E : Type 0} (Exports : List ℕ → Reply → Type 0) (Moves : List ℕ → Reply → E → E → Type 0)
     (old : ServedClient) (before : E) (new : ServedClient) (after : E) : Type 0 where
-  pub fits : Fits Exports start old.commands.now new.replies.items
+  pub fits : Fits Exports start_state old.commands.now new.replies.items
   pub count : length new.replies.items ≡ length old.commands.now
-  pub moved : MovesAlong Moves start old.commands.now new.replies.items before after
+  pub moved : MovesAlong Moves start_state old.commands.now new.replies.items before after
 
 -- each client has no reply, and room for one reply a command
 abbrev pub AreWaiting : List ClientScript → List ServedClient → Type 0

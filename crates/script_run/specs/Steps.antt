@@ -3,7 +3,7 @@ use Rattle.std.specs.Prelude.{◌≡◌, ℕ, ◌⊎◌, List, None, Result, Ok,
 use Rattle.script_reader.specs.declared.script.Command.{Command}
 use Rattle.edit_session.specs.declared.fault.SessionFault.{SessionFault}
 use Rattle.edit_session.specs.declared.fault.SessionFault.TheVariants as fault
-use Rattle.edit_session.specs.Sessions.{State, refusal, after_accepted, next}
+use Rattle.edit_session.specs.Sessions.{State, refusal, after_accepted, state_after_command}
 use Rattle.edit_session.specs.Asking.{MayWantMemory}
 use Rattle.reply_text.specs.declared.reply.Reply.{Reply}
 use Rattle.reply_text.specs.declared.reply.Reply.TheVariants as reply
@@ -18,7 +18,7 @@ pub record Obeys (Exports : List ℕ → Reply → Type 0) (old : State) (c : Co
 -- a command was answered, or memory ran out where it may, and nothing changed
 abbrev pub Steps : (List ℕ → Reply → Type 0) → State → Command → State → Reply → Type 0
 Steps Exports old c new r =
-    ((r ≡ reply.NoMem) × MayWantMemory old c × (new ≡ old)) ⊎ (Answers Exports old c r × (new ≡ next old c))
+    ((r ≡ reply.NoMem) × MayWantMemory old c × (new ≡ old)) ⊎ (Answers Exports old c r × (new ≡ state_after_command old c))
 
 -- the reply that tells what came of a command
 abbrev pub reply_in : Result Reply SessionFault → Reply

@@ -3,9 +3,9 @@
 ghost use Rattle.std.specs.Prelude.{◌≡◌, ◌≢◌, ◌+◌, ◌<◌, ◌≤◌, [], length, All, None, IfOk, IfErr, OnErr, vec_capacity};
 ghost use Rattle.script_reader.specs.declared.script.Command.TheVariants.{Show, Export};
 ghost use Rattle.script_reader.specs.Limits.{HasText};
-ghost use Rattle.edit_session.specs.Sessions.{start, source_of, refusal, after_accepted};
+ghost use Rattle.edit_session.specs.Sessions.{start_state, source_of, refusal, after_accepted};
 ghost use Rattle.reply_text.specs.Answers.{Fits, state_after};
-ghost use Rattle.edit_session.specs.Asking.{Refuses};
+ghost use Rattle.edit_session.specs.Asking.{RefusesCommand};
 ghost use Rattle.reply_text.specs.declared.reply.Reply.TheVariants as replies;
 ghost use Rattle.script_run.specs.Steps.{Obeys, Steps, reply_in};
 ghost use Rattle.script_run.specs.Moves.{GoesOn, reply_or_want, MovesAt, MovesAlong};
@@ -67,7 +67,7 @@ fn obey<E: Exporter>(
     requires can_export { E.can_export exporter.old }
     ensures done { IfOk result (λ reply.
         Obeys (E.exports unit) session.old command.now session.new reply) }
-    ensures refused { IfErr result (λ why. Refuses session.old command.now session.new why) }
+    ensures refused { IfErr result (λ why. RefusesCommand session.old command.now session.new why) }
     ensures state { session.new ≡ state_after session.old command.now (reply_in result) }
     ensures moved { MovesAt (E.moves unit) session.old command.now (reply_in result)
         exporter.old exporter.new }
@@ -118,9 +118,9 @@ pub fn serve_client<E: Exporter>(
     requires texts { All HasText commands.now }
     requires asked { E.asked exporter.old + length commands.now ≤ 8192 }
     requires can_export { E.can_export exporter.old }
-    ensures fits { Fits (E.exports unit) start commands.now replies.new.items }
+    ensures fits { Fits (E.exports unit) start_state commands.now replies.new.items }
     ensures count { length replies.new.items ≡ length commands.now }
-    ensures moved { MovesAlong (E.moves unit) start commands.now replies.new.items
+    ensures moved { MovesAlong (E.moves unit) start_state commands.now replies.new.items
         exporter.old exporter.new }
 {
     let mut session = Session::new(alloc);

@@ -1,7 +1,7 @@
 //! The clients of a script.
 
 ghost use Rattle.std.specs.Prelude.{◌≡◌, ◌≤◌, [], length, All, IfOk, vec_capacity};
-ghost use Rattle.script_reader.specs.Limits.{AreWithin};
+ghost use Rattle.script_reader.specs.Limits.{AreClientsWithin};
 ghost use Rattle.reply_text.specs.Answers.{AllFit};
 ghost use Rattle.script_run.specs.Moves.{AllMove};
 ghost use Rattle.script_run.specs.Serving.{AreWaiting, replies_of};
@@ -54,7 +54,7 @@ pub fn run_script<E: Exporter + Send, R: Threads + Sync>(
     unit: Unit,
     script: &Script,
 ) -> Result<Vec<Replies>, NoMemory>
-    requires within { AreWithin script.now.clients }
+    requires within { AreClientsWithin script.now.clients }
     requires many { length script.now.clients ≤ length exporters.old }
     requires fresh { All (λ e. (E.asked e ≡ 0) × E.can_export e) exporters.old }
     ensures fits { IfOk result (λ replies.

@@ -1,7 +1,7 @@
 //! The clients of a script with their replies, and the serving of one.
 
 ghost use Rattle.std.specs.Prelude.{◌≡◌};
-ghost use Rattle.script_run.specs.Serving.{IsReady, IsServed};
+ghost use Rattle.script_run.specs.Serving.{HasRoomForReplies, IsServed};
 
 use crate::client::serve_client;
 use crate::exporter::Exporter;
@@ -27,7 +27,7 @@ pub struct ClientService {
 
 impl<'a, E: Exporter> PairWork<ServedClient<'a>, E> for ClientService {
     ghost ready = { λ w client exporter.
-        IsReady client × ((E.asked exporter ≡ 0) × E.can_export exporter) };
+        HasRoomForReplies client × ((E.asked exporter ≡ 0) × E.can_export exporter) };
 
     ghost worked = { λ w old before new after.
         IsServed (E.exports w.unit) (E.moves w.unit) old before new after };

@@ -8,24 +8,24 @@ use Rattle.reply_text.specs.declared.reply.Reply.TheVariants as reply
 use Rattle.reply_text.specs.Answers.{IsExport}
 use Rattle.tree_export.specs.declared.export.TreeExport.{TreeExport}
 use Rattle.tree_export.specs.declared.export.TreeExport.TheVariants as exported
-use Rattle.tree_export.specs.Exports.{IsText, IsExported, PassesNoLimit}
-use Rattle.script_server.specs.Meaning.Sources.{Means, HasFault}
-use Rattle.script_server.specs.Meaning.Exports.{reply_of, Exports, AnswersExport}
+use Rattle.tree_export.specs.Exports.{IsTextExport, IsExported, PassesNoLimit}
+use Rattle.script_server.specs.Meaning.Sources.{Means, HasSourceFault}
+use Rattle.script_server.specs.Meaning.Exports.{export_reply, Exports, AnswersExport}
 
 abbrev pub OneTree : Type 0
 OneTree = (unit : LengthUnit) (source : List ℕ) (f g : Formula) → Means unit source f → Means unit source g → f ≡ g
 
 abbrev pub OneFault : Type 0
-OneFault = (unit : LengthUnit) (source : List ℕ) (f g : Fault) → HasFault unit source f → HasFault unit source g → f ≡ g
+OneFault = (unit : LengthUnit) (source : List ℕ) (f g : Fault) → HasSourceFault unit source f → HasSourceFault unit source g → f ≡ g
 
 abbrev pub NotBoth : Type 0
-NotBoth = (unit : LengthUnit) (source : List ℕ) (f : Formula) (fault : Fault) → Means unit source f → HasFault unit source fault → ⊥
+NotBoth = (unit : LengthUnit) (source : List ℕ) (f : Formula) (fault : Fault) → Means unit source f → HasSourceFault unit source fault → ⊥
 
 abbrev pub OneExport : Type 0
 OneExport = (unit : LengthUnit) (tree : Formula) (out other : TreeExport) → IsExported unit tree out → IsExported unit tree other → out ≡ other
 
 abbrev pub Texts : Type 0
-Texts = (unit : LengthUnit) (tree : Formula) (out : TreeExport) → IsExported unit tree out → IsText out ↔ PassesNoLimit unit tree
+Texts = (unit : LengthUnit) (tree : Formula) (out : TreeExport) → IsExported unit tree out → IsTextExport out ↔ PassesNoLimit unit tree
 
 pub one_reply : OneTree → OneFault → NotBoth → OneExport →
     (unit : LengthUnit) (source : List ℕ) (r q : Reply) → Exports unit source r → Exports unit source q → r ≡ q
@@ -34,12 +34,12 @@ one_reply trees faults either one unit source r q (inl a) (inr b) = absurd (eith
 one_reply trees faults either one unit source r q (inr a) (inl b) = absurd (either unit source a.0 b.0 a.1 b.1)
 one_reply trees faults either one unit source r q (inr (f, m, (out, is, e))) (inr (g, n, (other, is', e'))) =
     let same = trees unit source g f n m in
-    e ∙ ap reply_of (one unit f out other is (subst (λ (t : Formula). IsExported unit t other) same is')) ∙ sym e'
+    e ∙ ap export_reply (one unit f out other is (subst (λ (t : Formula). IsExported unit t other) same is')) ∙ sym e'
 
 -- memory did not run out
-tree_has_memory : (out : TreeExport) (r : Reply) → r ≡ reply_of out → r ≢ reply.NoMem
+tree_has_memory : (out : TreeExport) (r : Reply) → r ≡ export_reply out → r ≢ reply.NoMem
 tree_has_memory (exported.Text bytes) r e none = let wrong : reply.Solid bytes ≡ reply.NoMem = sym e ∙ none in cc
-tree_has_memory (exported.Complex passed) r e none = let wrong : reply.Complex passed ≡ reply.NoMem = sym e ∙ none in cc
+tree_has_memory (exported.PassedLimit passed) r e none = let wrong : reply.PassedLimit passed ≡ reply.NoMem = sym e ∙ none in cc
 
 has_memory : (unit : LengthUnit) (source : List ℕ) (r : Reply) → Exports unit source r → r ≢ reply.NoMem
 has_memory unit source r (inl a) none = let wrong : reply.Faulted a.0 ≡ reply.NoMem = sym a.2 ∙ none in cc
@@ -55,9 +55,9 @@ exports_are one unit = record {
 }
 
 -- a solid is a text
-solid_text : (out : TreeExport) (bytes : List ℕ) → reply.Solid bytes ≡ reply_of out → IsText out
+solid_text : (out : TreeExport) (bytes : List ℕ) → reply.Solid bytes ≡ export_reply out → IsTextExport out
 solid_text (exported.Text text) bytes e = (text, refl)
-solid_text (exported.Complex passed) bytes e = absurd (cc e)
+solid_text (exported.PassedLimit passed) bytes e = absurd (cc e)
 
 solid_within : Texts → (unit : LengthUnit) (source : List ℕ) (r : Reply) (bytes : List ℕ) → Exports unit source r → r ≡ reply.Solid bytes →
     (f : Formula) × Means unit source f × PassesNoLimit unit f
@@ -69,7 +69,7 @@ within_solid : OneTree → NotBoth → Texts → (unit : LengthUnit) (source : L
 within_solid trees either texts unit source r f (inl a) m none = absurd (either unit source f a.0 m a.1)
 within_solid trees either texts unit source r f (inr (g, n, (out, is, e))) m none =
     let text = (texts unit g out is).1 (subst (PassesNoLimit unit) (trees unit source f g m n) none) in
-    (text.0, e ∙ ap reply_of text.1)
+    (text.0, e ∙ ap export_reply text.1)
 
 pub solids : OneTree → NotBoth → Texts → (unit : LengthUnit) (source : List ℕ) (r : Reply) → Exports unit source r →
     ((bytes : List ℕ) × (r ≡ reply.Solid bytes)) ↔ ((f : Formula) × Means unit source f × PassesNoLimit unit f)

@@ -9,12 +9,12 @@ use Rattle.scad_ast.specs.Terms.{StatementTerm}
 use Rattle.scad_grammar.specs.Grammar.{WholeProgram}
 use Rattle.scad_grammar.specs.declared.SyntaxFault.{SyntaxFault}
 use Rattle.scad_grammar.specs.FirstFault.{IsFirstFault}
-use Rattle.scad_parser.specs.Parsing.{kind_of, place_at, HasSyntaxFault}
+use Rattle.scad_parser.specs.Parsing.{kind_of, place_of_first, HasSyntaxFault}
 use Rattle.plane_predicate.specs.declared.unit.Unit.{Unit as LengthUnit}
 use Rattle.csg_tree.specs.Formulas.{Formula}
 use Rattle.scad_meaning.specs.Sources.{Meaning, a_tree, a_fault, IsMeaning}
-use Rattle.scad_parser.specs.Sources.{Writes, HasTextFault}
-use Rattle.script_server.specs.Meaning.Sources.{Means, HasFault}
+use Rattle.scad_parser.specs.Sources.{WritesProgram, HasTextFault}
+use Rattle.script_server.specs.Meaning.Sources.{Means, HasSourceFault}
 
 -- what the layers below say of texts: bytes have one outcome, and tokens one program or one first fault
 pub record OneText : Type 0 where
@@ -44,13 +44,13 @@ module _ (text : OneText) where
   one_syntax_fault : (ts : List Token) (f g : Fault) → HasSyntaxFault 65 ts f → HasSyntaxFault 65 ts g → f ≡ g
   one_syntax_fault ts f g h i =
       let same = text.faults 65 ts h.0 i.0 h.1 i.1 h.2 i.2 in
-      same_fault f g (h.3 ∙ ap kind_of same.0 ∙ sym i.3) (h.4 ∙ ap place_at same.1 ∙ sym i.4)
+      same_fault f g (h.3 ∙ ap kind_of same.0 ∙ sym i.3) (h.4 ∙ ap place_of_first same.1 ∙ sym i.4)
 
-  one_program : (source : List ℕ) (x y : List StatementTerm) → Writes source x → Writes source y → x ≡ y
+  one_program : (source : List ℕ) (x y : List StatementTerm) → WritesProgram source x → WritesProgram source y → x ≡ y
   one_program source x y h g =
       text.programs 65 65 x y h.0 h.2 (subst (λ (ts : List Token). WholeProgram 65 y ts) (one_list source g.0 h.0 g.1 h.1) g.2)
 
-  no_program : (source : List ℕ) (fault : Fault) (x : List StatementTerm) → HasTextFault source fault → Writes source x → ⊥
+  no_program : (source : List ℕ) (fault : Fault) (x : List StatementTerm) → HasTextFault source fault → WritesProgram source x → ⊥
   no_program source fault x h g =
       ⊎_elim
       (λ a. no_list source g.0 fault.kind fault.place g.1 a)
@@ -72,7 +72,7 @@ module _ (text : OneText) where
       h
 
   one_of_source : OneMeaning → (unit : LengthUnit) (source : List ℕ) (x y : List StatementTerm) (m n : Meaning) →
-      Writes source x → Writes source y → IsMeaning unit x m → IsMeaning unit y n → m ≡ n
+      WritesProgram source x → WritesProgram source y → IsMeaning unit x m → IsMeaning unit y n → m ≡ n
   one_of_source one unit source x y m n w v h g =
       one unit x m n h (subst (λ (p : List StatementTerm). IsMeaning unit p n) (sym (one_program source x y w v)) g)
 
@@ -80,14 +80,14 @@ module _ (text : OneText) where
   one_tree one unit source f g h i =
       let both : a_tree f ≡ a_tree g = one_of_source one unit source h.0 i.0 (a_tree f) (a_tree g) h.1 i.1 h.2 i.2 in cc
 
-  pub not_both : OneMeaning → (unit : LengthUnit) (source : List ℕ) (f : Formula) (fault : Fault) → Means unit source f → HasFault unit source fault → ⊥
+  pub not_both : OneMeaning → (unit : LengthUnit) (source : List ℕ) (f : Formula) (fault : Fault) → Means unit source f → HasSourceFault unit source fault → ⊥
   not_both one unit source f fault h (inl i) = no_program source fault h.0 i h.1
   not_both one unit source f fault h (inr i) =
       let both : a_tree f ≡ a_fault fault.kind fault.place =
       one_of_source one unit source h.0 i.0 (a_tree f) (a_fault fault.kind fault.place) h.1 i.1 h.2 i.2 in
       absurd (cc both)
 
-  pub one_fault : OneMeaning → (unit : LengthUnit) (source : List ℕ) (f g : Fault) → HasFault unit source f → HasFault unit source g → f ≡ g
+  pub one_fault : OneMeaning → (unit : LengthUnit) (source : List ℕ) (f g : Fault) → HasSourceFault unit source f → HasSourceFault unit source g → f ≡ g
   one_fault one unit source f g (inl h) (inl i) = one_text_fault source f g h i
   one_fault one unit source f g (inl h) (inr i) = absurd (no_program source f i.0 h i.1)
   one_fault one unit source f g (inr h) (inl i) = absurd (no_program source g h.0 i h.1)

@@ -4,12 +4,12 @@ use Rattle.std.specs.Prelude.{IsOk}
 use Rattle.std.specs.declared.sync.Arc.{Arc}
 use Rattle.text_place.specs.declared.memory.NoMemory.{NoMemory}
 use Rattle.subtree_memo.specs.Shares.{View, probes_of, offered_of}
-use Rattle.reply_text.specs.declared.reply.Complex.{Complex as Limit}
+use Rattle.reply_text.specs.declared.reply.PassedLimit.{PassedLimit as Limit}
 use Rattle.reply_text.specs.Sums.{IsSizeLimit, LacksNoSolid}
 use Rattle.tree_export.specs.declared.export.TreeExport.{TreeExport}
 use Rattle.tree_export.specs.declared.export.TreeExport.TheVariants as exported
 use Rattle.parallel_eval.specs.Joins.{AreAsked}
-use Rattle.script_server.specs.Meaning.Exports.{reply_of}
+use Rattle.script_server.specs.Meaning.Exports.{export_reply}
 use Rattle.script_server.specs.Clients.{AreAllProbed, AreProbed, IsSolved}
 
 -- an export without joins asks for nothing
@@ -40,12 +40,12 @@ asked_of_memo done n share share' count count' asked few =
 
 -- what is told of an export whose solid passed a limit of size
 abbrev pub Stopped : {T E : Type 0} → Result T E → Result TreeExport NoMemory → Type 0
-Stopped made out = OnErr made (IfOk out (λ o. (passed : Limit) × IsSizeLimit passed × (o ≡ exported.Complex passed)))
+Stopped made out = OnErr made (IfOk out (λ o. (passed : Limit) × IsSizeLimit passed × (o ≡ exported.PassedLimit passed)))
 
 -- an export that lacks no solid has made it
 solved_made : {T E : Type 0} (made : Result T E) (out : Result TreeExport NoMemory) → Stopped made out → IsSolved out → IsOk made
 solved_made {T} {E} (Ok solid) out stopped solved = refl
-solved_made {T} {E} (Err why) (Ok o) (passed, limit, e) solved = absurd (subst (λ (x : TreeExport). LacksNoSolid (reply_of x)) e solved limit)
+solved_made {T} {E} (Err why) (Ok o) (passed, limit, e) solved = absurd (subst (λ (x : TreeExport). LacksNoSolid (export_reply x)) e solved limit)
 solved_made {T} {E} (Err why) (Err none) stopped solved = absurd solved
 
 pub export_probed : {T E : Type 0} (made : Result T E) (out : Result TreeExport NoMemory) (n : ℕ) (old new : View) → Stopped made out → AreProbed (IsOk made) n old new → AreProbed (IsSolved out) n old new

@@ -8,12 +8,12 @@ use Rattle.csg_tree.specs.Numberings.{nodes_of}
 use Rattle.bsp_boolean.specs.TreeSolids.{joins}
 use Rattle.reply_text.specs.declared.reply.Reply.TheVariants as reply
 use Rattle.script_server.specs.Books.{HasJoins}
-use Rattle.script_server.specs.Meaning.Sources.{Means, HasFault}
+use Rattle.script_server.specs.Meaning.Sources.{Means, HasSourceFault}
 use Rattle.script_server.specs.Clients.{ClientBooks, AreProbed, ExportsFor}
 use Rattle.script_server.proofs.SomeReply.{MeansSome}
 use Rattle.script_server.proofs.Probed.{none_asked, unasked}
 
-pub fault_answered : (unit : LengthUnit) (source : List ℕ) (fault : Fault) (books : ClientBooks) → HasFault unit source fault
+pub fault_answered : (unit : LengthUnit) (source : List ℕ) (fault : Fault) (books : ClientBooks) → HasSourceFault unit source fault
     → ExportsFor unit source (Ok (reply.Faulted fault)) books books
 fault_answered unit source fault books h = record {
   reply = (inl (fault, h, refl), tt);

@@ -5,20 +5,20 @@ use Rattle.text_place.specs.declared.fault.Stop.TheVariants.{Fault, NoMemory}
 use Rattle.scad_ast.specs.declared.program.Program.{Program}
 use Rattle.scad_ast.specs.ProgramView.{program_of}
 use Rattle.scad_ast.specs.Terms.{StatementTerm}
-use Rattle.scad_parser.specs.Sources.{Writes, RefusesText}
+use Rattle.scad_parser.specs.Sources.{WritesProgram, RefusesText}
 use Rattle.plane_predicate.specs.declared.unit.Unit.{Unit as LengthUnit}
 use Rattle.csg_tree.specs.declared.tree.CsgTree.{CsgTree}
 use Rattle.csg_tree.specs.ProperTrees.{IsProper}
 use Rattle.csg_tree.specs.Trees.{formula_of}
-use Rattle.script_server.specs.Meaning.Sources.{Means, Refuses, GivesTree}
+use Rattle.script_server.specs.Meaning.Sources.{Means, RefusesSource, GivesTree}
 
 -- what a source's tree is, or why it has none
 pub record GivesTreeOf (unit : LengthUnit) (source : List ℕ) (r : Result CsgTree Stop) : Type 0 where
   pub tree : IfOk r (λ tree. Means unit source (formula_of tree))
   pub proper : IfOk r (λ tree. IsProper (formula_of tree))
-  pub fault : IfErr r (Refuses unit source)
+  pub fault : IfErr r (RefusesSource unit source)
 
-program_gives : (unit : LengthUnit) (source : List ℕ) (program : List StatementTerm) (r : Result CsgTree Stop) → Writes source program
+program_gives : (unit : LengthUnit) (source : List ℕ) (program : List StatementTerm) (r : Result CsgTree Stop) → WritesProgram source program
     → GivesTree unit program r → GivesTreeOf unit source r
 program_gives unit source program (Ok tree) w h = record { tree = (program, w, h.0); proper = h.1; fault = tt }
 program_gives unit source program (Err (Fault fault)) w h = record { tree = tt; proper = tt; fault = inr (program, w, h) }
@@ -28,7 +28,7 @@ text_refused : (unit : LengthUnit) (source : List ℕ) (why : Stop) → RefusesT
 text_refused unit source (Fault fault) h = record { tree = tt; proper = tt; fault = inl h }
 text_refused unit source NoMemory h = record { tree = tt; proper = tt; fault = tt }
 
-pub source_gives : (unit : LengthUnit) (source : List ℕ) (program lent : Program) (r : Result CsgTree Stop) → Writes source (program_of program)
+pub source_gives : (unit : LengthUnit) (source : List ℕ) (program lent : Program) (r : Result CsgTree Stop) → WritesProgram source (program_of program)
     → lent ≡ program → GivesTree unit (program_of lent) r → GivesTreeOf unit source r
 source_gives unit source program lent r writes same gives =
     program_gives unit source (program_of program) r writes (subst (λ (p : Program). GivesTree unit (program_of p) r) same gives)

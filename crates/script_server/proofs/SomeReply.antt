@@ -12,16 +12,16 @@ use Rattle.scad_ast.specs.Terms.{StatementTerm}
 use Rattle.scad_grammar.specs.declared.SyntaxFault.{SyntaxFault}
 use Rattle.scad_grammar.specs.Grammar.{WholeProgram}
 use Rattle.scad_grammar.specs.FirstFault.{IsFirstFault}
-use Rattle.scad_parser.specs.Parsing.{kind_of, place_at}
+use Rattle.scad_parser.specs.Parsing.{kind_of, place_of_first}
 use Rattle.scad_meaning.specs.Sources.{Meaning, a_tree, a_fault, IsMeaning}
 use Rattle.reply_text.specs.declared.reply.Reply.{Reply}
 use Rattle.reply_text.specs.declared.reply.Reply.TheVariants as reply
 use Rattle.tree_export.specs.declared.export.TreeExport.{TreeExport}
 use Rattle.tree_export.specs.declared.export.TreeExport.TheVariants as exported
-use Rattle.tree_export.specs.Exports.{IsExported, Bounds}
-use Rattle.scad_parser.specs.Sources.{Writes}
-use Rattle.script_server.specs.Meaning.Sources.{Means, HasFault}
-use Rattle.script_server.specs.Meaning.Exports.{reply_of, IsBounded, AnswersExport}
+use Rattle.tree_export.specs.Exports.{IsExported, IsBoundaryText}
+use Rattle.scad_parser.specs.Sources.{WritesProgram}
+use Rattle.script_server.specs.Meaning.Sources.{Means, HasSourceFault}
+use Rattle.script_server.specs.Meaning.Exports.{export_reply, IsBoundaryOfSource, AnswersExport}
 
 -- what is known of the texts, the programs and the trees of sources
 pub record SomeText : Type 0 where
@@ -30,9 +30,9 @@ pub record SomeText : Type 0 where
   pub meaning : (unit : LengthUnit) (program : List StatementTerm) → (m : Meaning) × IsMeaning unit program m
 
 abbrev pub MeansSome : LengthUnit → List ℕ → Type 0
-MeansSome unit source = ((tree : Formula) × Means unit source tree) ⊎ ((fault : Fault) × HasFault unit source fault)
+MeansSome unit source = ((tree : Formula) × Means unit source tree) ⊎ ((fault : Fault) × HasSourceFault unit source fault)
 
-of_program : (unit : LengthUnit) (source : List ℕ) (program : List StatementTerm) (m : Meaning) → Writes source program → IsMeaning unit program m → MeansSome unit source
+of_program : (unit : LengthUnit) (source : List ℕ) (program : List StatementTerm) (m : Meaning) → WritesProgram source program → IsMeaning unit program m → MeansSome unit source
 of_program unit source program (a_tree tree) writes means = inl (tree, (program, writes, means))
 of_program unit source program (a_fault kind at) writes means = inr (record { kind = kind; place = at }, inr (program, writes, means))
 
@@ -41,19 +41,19 @@ some_meaning text unit source = go (text.outcome source)
   where
     with_tokens : (tokens : List Token) → Lexes source (GivesTokens tokens) → ((x : List StatementTerm) × WholeProgram 65 x tokens) ⊎ ((fault : SyntaxFault) × (at : List Token) × IsFirstFault 65 tokens fault at) → MeansSome unit source
     with_tokens tokens lexes (inl (program, is)) = let m = text.meaning unit program in of_program unit source program m.0 (tokens, lexes, is) m.1
-    with_tokens tokens lexes (inr (fault, at, first)) = inr (record { kind = kind_of fault; place = place_at at }, inl (inr (tokens, lexes, (fault, at, first, refl, refl))))
+    with_tokens tokens lexes (inr (fault, at, first)) = inr (record { kind = kind_of fault; place = place_of_first at }, inl (inr (tokens, lexes, (fault, at, first, refl, refl))))
 
     go : ((tokens : List Token) × Lexes source (GivesTokens tokens) × (ends_once tokens ≡ true)) ⊎ ((kind : FaultKind) × (at : Place) × Lexes source (FaultAt kind at)) → MeansSome unit source
     go (inl (tokens, lexes, ends)) = with_tokens tokens lexes (text.program 65 tokens ends)
     go (inr (kind, at, lexes)) = inr (record { kind = kind; place = at }, inl (inl lexes))
 
 -- the reply of what the export of a tree gives
-tree_bounded : (unit : LengthUnit) (source : List ℕ) (tree : Formula) (out : TreeExport) → Means unit source tree → Bounds unit tree out → IsBounded unit source (reply_of out)
+tree_bounded : (unit : LengthUnit) (source : List ℕ) (tree : Formula) (out : TreeExport) → Means unit source tree → IsBoundaryText unit tree out → IsBoundaryOfSource unit source (export_reply out)
 tree_bounded unit source tree (exported.Text bytes) means bounds = (tree, means, bounds)
-tree_bounded unit source tree (exported.Complex passed) means bounds = tt
+tree_bounded unit source tree (exported.PassedLimit passed) means bounds = tt
 
 abbrev pub SomeExport : Type 0
-SomeExport = (unit : LengthUnit) (tree : Formula) → IsProper tree → (out : TreeExport) × IsExported unit tree out × Bounds unit tree out
+SomeExport = (unit : LengthUnit) (tree : Formula) → IsProper tree → (out : TreeExport) × IsExported unit tree out × IsBoundaryText unit tree out
 
 abbrev pub ProperTrees : Type 0
 ProperTrees = (unit : LengthUnit) (program : List StatementTerm) (tree : Formula) → IsMeaning unit program (a_tree tree) → IsProper tree
@@ -61,5 +61,5 @@ ProperTrees = (unit : LengthUnit) (program : List StatementTerm) (tree : Formula
 pub some_answer : SomeExport → ProperTrees → (unit : LengthUnit) (source : List ℕ) → MeansSome unit source → (r : Reply) × AnswersExport unit source r
 some_answer some proper unit source (inl (tree, means)) =
     let (out, is, bounds) = some unit tree (proper unit means.0 tree means.2) in
-    (reply_of out, (inr (tree, means, (out, is, refl)), tree_bounded unit source tree out means bounds))
+    (export_reply out, (inr (tree, means, (out, is, refl)), tree_bounded unit source tree out means bounds))
 some_answer some proper unit source (inr (fault, has)) = (reply.Faulted fault, (inl (fault, has, refl), tt))

@@ -5,7 +5,7 @@ use Rattle.std.proofs.Math.Nat.{min-le_left}
 use Rattle.std.proofs.lemmas.List.Sums.{sum_by-cons, sum_by_push}
 use Rattle.std.proofs.lemmas.List.Elements.{All-head, All-tail}
 use Rattle.plane_predicate.specs.declared.unit.Unit.{Unit as LengthUnit}
-use Rattle.memo_core.specs.Memo.{Item, count_in, hit_by, missed_by, kept_by, heavy_by}
+use Rattle.memo_core.specs.Memo.{Item, count_in, hit_by, missed_by, kept_by, not_kept_by}
 use Rattle.subtree_memo.specs.declared.tally.Tally.{Tally}
 use Rattle.subtree_memo.specs.Tallies.{tally_of, AreSums}
 use Rattle.subtree_memo.specs.Shares.{View, fresh_share, opened_shares, parts_each, dropped_max, probes_of, offered_of}
@@ -14,39 +14,39 @@ use Rattle.script_reader.specs.declared.script.Command.TheVariants.{Put, Set, Cu
 use Rattle.script_reader.specs.declared.script.ClientScript.{ClientScript}
 use Rattle.edit_session.specs.declared.fault.SessionFault.{SessionFault}
 use Rattle.edit_session.specs.declared.fault.SessionFault.TheVariants.{TooManyExports}
-use Rattle.edit_session.specs.Sessions.{State, start, source_of, refusal, after_accepted, next}
-use Rattle.reply_text.specs.declared.reply.Complex.{Complex}
-use Rattle.reply_text.specs.declared.reply.Complex.TheVariants as limit
+use Rattle.edit_session.specs.Sessions.{State, start_state, source_of, refusal, after_accepted, state_after_command}
+use Rattle.reply_text.specs.declared.reply.PassedLimit.{PassedLimit}
+use Rattle.reply_text.specs.declared.reply.PassedLimit.TheVariants as limit
 use Rattle.reply_text.specs.declared.reply.Reply.{Reply}
 use Rattle.reply_text.specs.declared.reply.Reply.TheVariants as reply
 use Rattle.reply_text.specs.Answers.{state_after}
 use Rattle.reply_text.specs.Sums.{IsSizeLimit, LacksNoSolid, LackNoSolid, AllLackNoSolid, ComesTo, SumTo, AllSumTo}
 use Rattle.script_run.specs.Moves.{MovesAlong, AllMove}
-use Rattle.script_server.specs.Books.{HasJoins, HasJoinsAsked, HasJoinsSolved, AddsUp}
+use Rattle.script_server.specs.Books.{HasJoins, HasJoinsAsked, HasJoinsSolved, TallyAddsUp}
 use Rattle.script_server.specs.Clients.{ClientBooks, Probes}
 
--- an export that lacks no solid is followed by the next state
-next_state : (s : State) (r : Reply) → LacksNoSolid r → state_after s Export r ≡ next s Export
+-- an export that lacks no solid is followed by the state that its command gives
+next_state : (s : State) (r : Reply) → LacksNoSolid r → state_after s Export r ≡ state_after_command s Export
 next_state s (reply.Lines count) has = refl
 next_state s (reply.Refused why) has = refl
 next_state s (reply.Faulted at) has = refl
-next_state s (reply.Complex passed) has = refl
+next_state s (reply.PassedLimit passed) has = refl
 next_state s reply.NoMem has = absurd has
 next_state s (reply.Text lines) has = refl
 next_state s (reply.Solid bytes) has = refl
 
--- each export is followed by the same state or the next one
-same_or_next : (s : State) (r : Reply) → (state_after s Export r ≡ s) ⊎ (state_after s Export r ≡ next s Export)
+-- each export is followed by the same state or by that of its command
+same_or_next : (s : State) (r : Reply) → (state_after s Export r ≡ s) ⊎ (state_after s Export r ≡ state_after_command s Export)
 same_or_next s (reply.Lines count) = inr refl
 same_or_next s (reply.Refused why) = inr refl
 same_or_next s (reply.Faulted at) = inr refl
-same_or_next s (reply.Complex passed) = inr refl
+same_or_next s (reply.PassedLimit passed) = inr refl
 same_or_next s reply.NoMem = inl refl
 same_or_next s (reply.Text lines) = inr refl
 same_or_next s (reply.Solid bytes) = inr refl
 
 -- a limit of size is one or not
-of_size : (passed : Complex) → (IsSizeLimit passed → ⊥) ⊎ ((IsSizeLimit passed → ⊥) → ⊥)
+of_size : (passed : PassedLimit) → (IsSizeLimit passed → ⊥) ⊎ ((IsSizeLimit passed → ⊥) → ⊥)
 of_size (limit.Solid number) = inr (λ no. no tt)
 of_size (limit.Sum number) = inr (λ no. no tt)
 of_size limit.Facets = inl (λ no. no)
@@ -58,7 +58,7 @@ lacks_or_not : (r : Reply) → LacksNoSolid r ⊎ (LacksNoSolid r → ⊥)
 lacks_or_not (reply.Lines count) = inl tt
 lacks_or_not (reply.Refused why) = inl tt
 lacks_or_not (reply.Faulted at) = inl tt
-lacks_or_not (reply.Complex passed) = of_size passed
+lacks_or_not (reply.PassedLimit passed) = of_size passed
 lacks_or_not reply.NoMem = inr (λ no. no)
 lacks_or_not (reply.Text lines) = inl tt
 lacks_or_not (reply.Solid bytes) = inl tt
@@ -80,7 +80,7 @@ kept_if : (found : Option SessionFault) (s t : State) → t.exports ≡ s.export
 kept_if None s t e = e
 kept_if (Some why) s t e = refl
 
-next_kept : (s : State) (c : Command) → c ≢ Export → (next s c).exports ≡ s.exports
+next_kept : (s : State) (c : Command) → c ≢ Export → (state_after_command s c).exports ≡ s.exports
 next_kept s (Put line text) other = kept_if (refusal s (Put line text)) s (after_accepted s (Put line text)) refl
 next_kept s (Set line text) other = kept_if (refusal s (Set line text)) s (after_accepted s (Set line text)) refl
 next_kept s (Cut from upto) other = kept_if (refusal s (Cut from upto)) s (after_accepted s (Cut from upto)) refl
@@ -93,7 +93,7 @@ exports_kept : (s : State) (c : Command) (r : Reply) → c ≢ Export → (state
 exports_kept s c (reply.Lines count) other = next_kept s c other
 exports_kept s c (reply.Refused why) other = next_kept s c other
 exports_kept s c (reply.Faulted at) other = next_kept s c other
-exports_kept s c (reply.Complex passed) other = next_kept s c other
+exports_kept s c (reply.PassedLimit passed) other = next_kept s c other
 exports_kept s c reply.NoMem other = refl
 exports_kept s c (reply.Text lines) other = next_kept s c other
 exports_kept s c (reply.Solid bytes) other = next_kept s c other
@@ -211,7 +211,7 @@ module _ {X : Type 0} (books : X → ClientBooks) (unit : LengthUnit) (every : (
   after_export s r allowed left =
       ⊎_elim
       (λ (e : state_after s Export r ≡ s). (let same : (state_after s Export r).exports ≡ s.exports = ap (λ (t : State). t.exports) e in (omega (arith, same), omega (arith, same, left))))
-      (λ (e : state_after s Export r ≡ next s Export). (let grown : state_after s Export r ≡ after_accepted s Export = e ∙ rw allowed refl in
+      (λ (e : state_after s Export r ≡ state_after_command s Export). (let grown : state_after s Export r ≡ after_accepted s Export = e ∙ rw allowed refl in
       let more : (state_after s Export r).exports ≡ s.exports + 1 = ap (λ (t : State). t.exports) grown in (omega (arith, more), omega (arith, more, left))))
       (same_or_next s r)
 
@@ -313,7 +313,7 @@ module _ {X : Type 0} (books : X → ClientBooks) (unit : LengthUnit) (every : (
     }),
   )
   all_sum (client ∷ clients) (rs ∷ more) (x ∷ xs) (y ∷ ys) (moved, rest) =
-      let (least, most, solved, asked, added) = client_sum start client.commands rs x y (omega arith) moved in
+      let (least, most, solved, asked, added) = client_sum start_state client.commands rs x y (omega arith) moved in
       let (others_least, others_most, all_solved, all_asked, addeds) = all_sum clients more xs ys rest in
       let share = (books x).share in
       let share' = (books y).share in
@@ -390,9 +390,9 @@ module _ {K : Type 0} (items : List (Item K)) (shares news : List View) (tally :
       let probes_are : tally.probes ≡ count_in hit_by items + count_in missed_by items = ap (λ (t : Tally). t.probes) e in
       let hits_are : tally.hits ≡ count_in hit_by items = ap (λ (t : Tally). t.hits) e in
       let misses_are : tally.misses ≡ count_in missed_by items = ap (λ (t : Tally). t.misses) e in
-      let offered_are : tally.offered ≡ count_in kept_by items + count_in heavy_by items + tally.dropped = ap (λ (t : Tally). t.offered) e in
+      let offered_are : tally.offered ≡ count_in kept_by items + count_in not_kept_by items + tally.dropped = ap (λ (t : Tally). t.offered) e in
       let kept_are : tally.kept ≡ count_in kept_by items = ap (λ (t : Tally). t.kept) e in
-      let heavy_are : tally.heavy ≡ count_in heavy_by items = ap (λ (t : Tally). t.heavy) e in record {
+      let heavy_are : tally.heavy ≡ count_in not_kept_by items = ap (λ (t : Tally). t.heavy) e in record {
         probes = omega (arith, probes_are, hits_are, misses_are);
         offered = omega (arith, offered_are, kept_are, heavy_are);
         hits = sums.hits ∙ ap (sum_by (λ (s : View). s.hits)) same;
@@ -413,9 +413,9 @@ misses_most (s ∷ ss) all =
 pub offered_most : {K : Type 0} (shares : List View) (tally : Tally) (items : List (Item K)) → tally ≡ tally_of items tally.dropped → AreSums shares tally →
     All (λ s. offered_of s ≤ s.misses) shares → tally.offered ≤ tally.misses
 offered_most shares tally items e sums all =
-    let offered_are : tally.offered ≡ count_in kept_by items + count_in heavy_by items + tally.dropped = ap (λ (t : Tally). t.offered) e in
+    let offered_are : tally.offered ≡ count_in kept_by items + count_in not_kept_by items + tally.dropped = ap (λ (t : Tally). t.offered) e in
     let kept_are : tally.kept ≡ count_in kept_by items = ap (λ (t : Tally). t.kept) e in
-    let heavy_are : tally.heavy ≡ count_in heavy_by items = ap (λ (t : Tally). t.heavy) e in
+    let heavy_are : tally.heavy ≡ count_in not_kept_by items = ap (λ (t : Tally). t.heavy) e in
     let most = misses_most shares all in
     let parted = offered_in_all shares in
     let m = sums.misses in let k = sums.kept in let h = sums.heavy in let d = sums.dropped in
@@ -424,7 +424,7 @@ offered_most shares tally items e sums all =
 pub adds_up : {X : Type 0} (books : X → ClientBooks) (unit : LengthUnit) → ((source : List ℕ) → (n : ℕ) × HasJoins unit source n) →
     (clients : List ClientScript) (replies : List (List Reply)) (xs ys : List X) (callers : ℕ) (tally : Tally) →
     length clients ≤ 16 → map (λ x. (books x).share) xs ≡ opened_shares callers → AllMove (λ source r x y. Probes unit source r (books x) (books y)) clients replies xs ys →
-    IsTallyOf (map (λ x. (books x).share) ys) tally → AddsUp unit clients replies tally
+    IsTallyOf (map (λ x. (books x).share) ys) tally → TallyAddsUp unit clients replies tally
 adds_up books unit every clients replies xs ys callers tally few fresh moved is =
     let (least, most, solved, asked, added) = all_sum books unit every clients replies xs ys moved in
     let news = map (λ x. (books x).share) ys in

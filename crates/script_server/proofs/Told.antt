@@ -2,19 +2,19 @@
 use Rattle.std.proofs.Common.{◌≡◌, ◌≢◌, ◌⊎◌, ⊎_elim, inl, inr, ℕ, ◌<◌, ◌≤◌, List, [], ◌∷◌, ◌++◌, length, refl, sym, ap, ◌∙◌, subst, arith, append-nil, length-append}
 use Rattle.std.specs.Prelude.{Option, Some, None, IfSome}
 use Rattle.std.specs.Io.KnownBytes.{Appends, Consumes, IsAtEnd}
-use Rattle.outside_io.specs.Counts.{Rose}
+use Rattle.outside_io.specs.Counts.{CountRose}
 use Rattle.outside_io.specs.Moves.{AppendsProperPrefix}
 use Rattle.csg_tree.specs.Formulas.{Formula}
 use Rattle.csg_tree.specs.Numberings.{is_same_tree}
 use Rattle.csg_tree.specs.TreeKeys.{name_of}
 use Rattle.bsp_tree.specs.declared.Solid.{Solid}
 use Rattle.memo_core.specs.Memo.{replay, IsLegal}
-use Rattle.memo_core.specs.Views.{Core, marks}
+use Rattle.memo_core.specs.Views.{MemoView, marks}
 use Rattle.run_words.specs.declared.settings.Settings.{Settings}
 use Rattle.run_words.specs.declared.settings.Settings.TheVariants.{Run, Demo}
 use Rattle.run_words.specs.declared.settings.WordsFault.{WordsFault}
 use Rattle.run_words.specs.declared.settings.WordsFault.TheVariants as words_fault
-use Rattle.run_words.specs.Words.{Chooses, AreInRange, AreOutside}
+use Rattle.run_words.specs.Words.{Chooses, AreSettingsInRange, AreOutside}
 use Rattle.subtree_memo.specs.declared.tally.Tally.{Tally}
 use Rattle.script_reader.specs.declared.script.ClientScript.{ClientScript}
 use Rattle.script_reader.specs.declared.script.Script.{Script}
@@ -29,8 +29,8 @@ use Rattle.script_service.specs.declared.status.Status.TheVariants.{Done, BadWor
 use Rattle.script_service.specs.Statuses.{status_number}
 use Rattle.script_service.specs.Streams.{Stream, Streams}
 use Rattle.script_service.specs.Units.{unit_of, memo_of, share_of}
-use Rattle.script_service.specs.Serving.{usage_line, IsRun, AreTooMany, IsInput, IsWholeInput, Gives, Lacks, printed_text}
-use Rattle.script_service.specs.Outcomes.{AppendsPart, Ends, Prints, HasStatusCause, RefusesWords, RefusesInput}
+use Rattle.script_service.specs.Serving.{usage_line, IsRun, AreTooMany, IsInput, IsWholeInput, GivesScript, LacksScript, printed_text}
+use Rattle.script_service.specs.Outcomes.{AppendsPart, WritesTextOrNothing, PrintsReplies, HasStatusCause, RefusesWords, RefusesInput}
 use Rattle.std.specs.Prelude.{IsErrOf, Result, Ok, Err, IfOk, IfErr}
 use Rattle.flight_memo.specs.Claims.{View as ClaimsView}
 use Rattle.script_server.proofs.Books.{sizes_offered, weights_many}
@@ -48,7 +48,7 @@ words_refused words s words_fault.BadWords status outside (inr (e, rose, cut)) =
 words_refused words s words_fault.NoMemory status outside (e, same) = as_told words s status NoMemory e (inl same)
 
 -- ---- there is no script
-pub input_refused : (words : List (List ℕ)) (settings : Settings) (s : Streams) (end : InputEnd) (status : Status) → ChoosesAlone words settings → Lacks settings s.source end → RefusesInput end s.sink status → StatusTells words s status
+pub input_refused : (words : List (List ℕ)) (settings : Settings) (s : Streams) (end : InputEnd) (status : Status) → ChoosesAlone words settings → LacksScript settings s.source end → RefusesInput end s.sink status → StatusTells words s status
 input_refused words settings s (input_end.BadScript fault) status alone (run, bytes, input, is) (inl (e, whole)) =
     as_told words s status BadScript e (settings, alone, run, (bytes, fault, input, is, whole))
 input_refused words settings s (input_end.BadScript fault) status alone (run, bytes, input, is) (inr (inl (e, rose, cut))) =
@@ -62,7 +62,7 @@ part_of_input : (settings : Settings) (source : Stream) (bytes : List ℕ) → I
 part_of_input (Run workers memo share half tally) source bytes (read, end) = (read, inl end)
 part_of_input (Demo n) source bytes same = same
 
-pub script_served : (words : List (List ℕ)) (settings : Settings) (s : Streams) (script : Script) (status : Status) → ChoosesAlone words settings → Gives settings s.source script
+pub script_served : (words : List (List ℕ)) (settings : Settings) (s : Streams) (script : Script) (status : Status) → ChoosesAlone words settings → GivesScript settings s.source script
     → WritesOutput settings script.clients s.sink status → StatusTells words s status
 script_served words settings s script status alone (bytes, input, is) (inl (out, fits, inl (inl (e, whole)))) =
     as_told words s status Done e (settings, alone, (bytes, out, input, (script, is, fits), whole))
@@ -74,7 +74,7 @@ script_served words settings s script status alone (bytes, input, is) (inl (out,
 script_served words settings s script status alone gives (inr (e, same)) = as_told words s status NoMemory e (inl same)
 
 -- ---- what is written for a run
-pub output_of_run : (settings : Settings) (clients : List ClientScript) (replies : List (List Reply)) (tally : Tally) (core : Core Formula Solid) (closed : ClaimsView Formula) (owned : List ℕ) (callers : ℕ) →
+pub output_of_run : (settings : Settings) (clients : List ClientScript) (replies : List (List Reply)) (tally : Tally) (core : MemoView Formula Solid) (closed : ClaimsView Formula) (owned : List ℕ) (callers : ℕ) →
     IsRunOf (unit_of settings) clients (memo_of settings) (share_of settings) name_of replies tally core closed → owned ≡ weights_of callers (marks core.entries) → length owned ≡ callers → callers ≡ length clients →
     IsOutputFor settings clients (printed_text settings clients replies tally owned)
 output_of_run settings clients replies tally core closed owned callers ran weights many same =
@@ -101,9 +101,9 @@ output_of_run settings clients replies tally core closed owned callers ran weigh
     )
 
 -- what is written for a run whose weights are printed where they are asked for
-pub run_written : (settings : Settings) (clients : List ClientScript) (replies : List (List Reply)) (tally : Tally) (core : Core Formula Solid) (closed : ClaimsView Formula) (callers : ℕ) (sink : Stream) (status : Status) →
+pub run_written : (settings : Settings) (clients : List ClientScript) (replies : List (List Reply)) (tally : Tally) (core : MemoView Formula Solid) (closed : ClaimsView Formula) (callers : ℕ) (sink : Stream) (status : Status) →
     IsRunOf (unit_of settings) clients (memo_of settings) (share_of settings) name_of replies tally core closed → callers ≡ length clients →
-    Prints settings sink (printed_text settings clients replies tally (weights_of callers (marks core.entries))) status → WritesOutput settings clients sink status
+    PrintsReplies settings sink (printed_text settings clients replies tally (weights_of callers (marks core.entries))) status → WritesOutput settings clients sink status
 run_written settings clients replies tally core closed callers sink status ran same prints =
     let weights = weights_of callers (marks core.entries) in
     inl (printed_text settings clients replies tally weights, output_of_run settings clients replies tally core closed weights callers ran refl (weights_many callers (marks core.entries)) same, prints)
@@ -119,12 +119,12 @@ input_caused before now input_end.NoMemory sink status (inl e) refuses = absurd 
 input_caused before now input_end.NoMemory sink status (inr same) refuses = inr same
 
 -- ---- what a status says of words that choose settings
-pub in_range : (words : List (List ℕ)) (settings : Settings) → Chooses words settings → AreInRange settings
+pub in_range : (words : List (List ℕ)) (settings : Settings) → Chooses words settings → AreSettingsInRange settings
 in_range [] settings chosen = absurd chosen
 in_range (first ∷ rest) settings chosen = chosen.0
 
 pub completes : (words : List (List ℕ)) (s : Streams) (status : Status) → StatusTells words s status → (settings : Settings) → Chooses words settings
-    → (Rose s.source.before s.source.now → ⊥) → (Rose s.sink.before s.sink.now → ⊥) → (status ≡ Done) ⊎ (status ≡ BadScript) ⊎ (status ≡ NoMemory)
+    → (CountRose s.source.before s.source.now → ⊥) → (CountRose s.sink.before s.sink.now → ⊥) → (status ≡ Done) ⊎ (status ≡ BadScript) ⊎ (status ≡ NoMemory)
 completes words s Done told settings chosen read write = inl refl
 completes words s BadWords told settings chosen read write = absurd (told.0 settings chosen)
 completes words s BadScript told settings chosen read write = inr (inl refl)

@@ -12,20 +12,20 @@ use Rattle.bsp_tree.specs.Shapes.{tree_of}
 use Rattle.bsp_boolean.specs.Solids.{solid_of}
 use Rattle.bsp_boolean.specs.TreeSolids.{joins}
 use Rattle.memo_core.specs.Memo.{Item, Mark, Answer, Probe_answer, Fill_answer, itself, owner_weight, replay, IsLegal}
-use Rattle.memo_core.specs.Views.{Core, IsSound}
+use Rattle.memo_core.specs.Views.{MemoView, IsSound}
 use Rattle.flight_memo.specs.Claims.{View as ClaimsView, IsClosed}
 use Rattle.subtree_memo.specs.declared.tally.Tally.{Tally}
 use Rattle.subtree_memo.specs.Tallies.{tally_of}
 use Rattle.script_reader.specs.declared.script.ClientScript.{ClientScript}
 use Rattle.reply_text.specs.declared.reply.Reply.{Reply}
 use Rattle.reply_text.specs.Answers.{AllFit}
-use Rattle.reply_text.specs.Sums.{AllLackNoSolid, WhereSolid, AllSumTo}
-use Rattle.script_server.specs.Meaning.Sources.{Means, HasFault}
+use Rattle.reply_text.specs.Sums.{AllLackNoSolid, CountsWhereSolid, AllSumTo}
+use Rattle.script_server.specs.Meaning.Sources.{Means, HasSourceFault}
 use Rattle.script_server.specs.Meaning.Exports.{AnswersExport}
 
 -- A memo of solids by trees: each entry holds the solid of its tree with its size as its weight, and the journal is one that
 -- the sequential memo keeps, and replays to the entries.
-abbrev pub IsSolidMemo : (Formula → List ℕ) → Core Formula SolidParts → Type 0
+abbrev pub IsSolidMemo : (Formula → List ℕ) → MemoView Formula SolidParts → Type 0
 IsSolidMemo names core =
     IsSound is_same_tree names (λ tree solid. tree_of solid ≡ solid_of tree) (λ solid. size (tree_of solid)) core
 
@@ -46,7 +46,7 @@ weights_of (suc n) marks = weights_of n marks ++ owner_weight itself n marks ∷
 -- how many joins an export of a source has: those among the distinct subtrees of its tree, and none where it has a fault
 abbrev pub HasJoins : LengthUnit → List ℕ → ℕ → Type 0
 HasJoins unit source n =
-    ((fault : Fault) × HasFault unit source fault × (n ≡ 0))
+    ((fault : Fault) × HasSourceFault unit source fault × (n ≡ 0))
     ⊎ ((tree : Formula) × Means unit source tree × (n ≡ joins (nodes_of tree)))
 
 -- the same, whatever the export was answered
@@ -55,12 +55,11 @@ HasJoinsAsked unit source r n = HasJoins unit source n
 
 -- the same where the export lacks no solid, and else none
 abbrev pub HasJoinsSolved : LengthUnit → List ℕ → Reply → ℕ → Type 0
-HasJoinsSolved unit = WhereSolid (HasJoins unit)
+HasJoinsSolved unit = CountsWhereSolid (HasJoins unit)
 
--- The probes of a tally are at least the joins of the exports that were answered by neither want of memory nor a limit of size, in
--- sum, and at most those of all exports. Where all were answered so, they are these, and as many fills were offered as there were
--- misses.
-pub record AddsUp (unit : LengthUnit) (clients : List ClientScript) (replies : List (List Reply)) (tally : Tally) : Type 0 where
+-- A tally's probes are at least the joins of the exports that lack no solid, and at most those of all exports. Where all lack
+-- none, they are these, with as many fills offered as misses.
+pub record TallyAddsUp (unit : LengthUnit) (clients : List ClientScript) (replies : List (List Reply)) (tally : Tally) : Type 0 where
   pub least : (n : ℕ) × AllSumTo (HasJoinsSolved unit) clients replies n × (n ≤ tally.probes)
   pub most : (n : ℕ) × AllSumTo (HasJoinsAsked unit) clients replies n × (tally.probes ≤ n)
   pub whole : AllLackNoSolid clients replies
@@ -70,28 +69,27 @@ pub record AddsUp (unit : LengthUnit) (clients : List ClientScript) (replies : L
 abbrev pub IsOfClients : List ClientScript → List (Item Formula) → Type 0
 IsOfClients clients items = All (λ item. item.caller < max (length clients) 1) items
 
--- A tally and the weights of the callers' entries are those of some journal of the clients that the sequential memo of this budget
--- and share keeps, with trees as its keys, the digests of their bytes as names and the sizes of their solids as weights; the tally
--- adds up, and no more fills were offered than there were misses.
+-- The tally and the weights are those of a journal of the clients that the sequential memo keeps, with digests of trees as
+-- names and sizes of solids as weights; the tally adds up, with no more fills offered than misses.
 abbrev pub AreBooks : LengthUnit → List ClientScript → List (List Reply) → ℕ → ℕ → Tally → List ℕ → Type 0
 AreBooks unit clients replies budget share tally weights =
     (items : List (Item Formula)) × IsLegal is_same_tree name_of budget share [] items
     × (tally ≡ tally_of items tally.dropped)
     × (weights ≡ weights_of (length weights) (replay is_same_tree name_of budget share [] items))
-    × AddsUp unit clients replies tally
+    × TallyAddsUp unit clients replies tally
     × IsOfClients clients items × (tally.offered ≤ tally.misses) × OfferSizes items
 
 -- What came of a run of clients over a memo of this budget and share, whose names are these: the replies, the tally, the memo and
 -- its claims at the end.
 pub record IsRunOf (unit : LengthUnit) (clients : List ClientScript) (budget share : ℕ) (names : Formula → List ℕ)
-    (replies : List (List Reply)) (tally : Tally) (core : Core Formula SolidParts) (closed : ClaimsView Formula) : Type 0 where
+    (replies : List (List Reply)) (tally : Tally) (core : MemoView Formula SolidParts) (closed : ClaimsView Formula) : Type 0 where
   -- each client's replies are those that its own commands define, whatever the others do at the same time
   pub fits : AllFit (AnswersExport unit) clients replies
   pub few : All (λ rs. length rs ≤ 8192) replies
   -- the tally is that of the memo's journal, which is one of the sequential memo of the budget and share
   pub counted : tally ≡ tally_of core.journal tally.dropped
   -- its probes are between the joins of the exports that lack no solid and those of all exports
-  pub sums : AddsUp unit clients replies tally
+  pub sums : TallyAddsUp unit clients replies tally
   -- whatever the exports lacked, no more fills were offered than there were misses
   pub offered : tally.offered ≤ tally.misses
   pub sound : IsSolidMemo names core

@@ -8,7 +8,7 @@ use Rattle.reply_text.specs.Sums.{LacksNoSolid}
 use Rattle.script_server.specs.Books.{HasJoins}
 use Rattle.tree_export.specs.declared.export.TreeExport.{TreeExport}
 use Rattle.script_run.specs.Moves.{reply_or_want}
-use Rattle.script_server.specs.Meaning.Exports.{reply_of, AnswersExport}
+use Rattle.script_server.specs.Meaning.Exports.{export_reply, AnswersExport}
 
 -- how often a solid was asked for, and its share of the memo's books
 pub record ClientBooks : Type 0 where
@@ -30,7 +30,7 @@ pub record AreProbed (solved : Type 0) (n : ℕ) (old new : View) : Type 0 where
 
 -- an export was answered, and lacks no solid
 abbrev pub IsSolved : Result TreeExport NoMemory → Type 0
-IsSolved (Ok out) = LacksNoSolid (reply_of out)
+IsSolved (Ok out) = LacksNoSolid (export_reply out)
 IsSolved (Err none) = ⊥
 
 -- an export of a source that is answered so: the probes rose by at most the joins of its source, and where it lacks no solid by

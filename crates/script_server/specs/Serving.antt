@@ -1,7 +1,7 @@
 -- What a call of the server does with its words, its source and its sink: the table of statuses.
 use Rattle.std.specs.Prelude.{◌≡◌, ◌<◌, ℕ, true, false, List, ◌⊎◌, length}
 use Rattle.std.specs.Io.KnownBytes.{Appends}
-use Rattle.outside_io.specs.Counts.{Rose}
+use Rattle.outside_io.specs.Counts.{CountRose}
 use Rattle.outside_io.specs.Moves.{ConsumesAtMost, AppendsProperPrefix}
 use Rattle.run_words.specs.declared.settings.Settings.{Settings}
 use Rattle.run_words.specs.declared.settings.Settings.TheVariants.{Run, Demo}
@@ -19,9 +19,9 @@ use Rattle.script_service.specs.declared.status.Status.{Status}
 use Rattle.script_service.specs.declared.status.Status.TheVariants.{Done, BadWords, BadScript, ReadFault, WriteFault, NoMemory}
 use Rattle.script_service.specs.Streams.{Stream, Streams}
 use Rattle.script_service.specs.Units.{unit_of, memo_of, share_of}
-use Rattle.script_service.specs.Serving.{usage_line, IsRun, IsInput, IsWholeInput, printed_text}
+use Rattle.script_service.specs.Serving.{usage_line, IsRun, IsInput, IsWholeInput, IsReadInLimit, printed_text}
 use Rattle.script_service.specs.Statuses.{status_number}
-use Rattle.script_service.specs.Outcomes.{AppendsPart, Prints, HasStatusCause, RefusesWords}
+use Rattle.script_service.specs.Outcomes.{AppendsPart, PrintsReplies, HasStatusCause, RefusesWords}
 use Rattle.script_server.specs.Meaning.Exports.{AnswersExport}
 use Rattle.script_server.specs.Books.{AreBooks}
 
@@ -38,7 +38,7 @@ IsOutputFor settings clients out =
 -- that was written, or memory ran out before anything was written
 abbrev pub WritesOutput : Settings → List ClientScript → Stream → Status → Type 0
 WritesOutput settings clients sink status =
-    ((out : List ℕ) × IsOutputFor settings clients out × Prints settings sink out status) ⊎ ((status ≡ NoMemory) × sink.same)
+    ((out : List ℕ) × IsOutputFor settings clients out × PrintsReplies settings sink out status) ⊎ ((status ≡ NoMemory) × sink.same)
 
 -- with the tally, two runs were told the same one, and with a share above 0 the same weights of the clients' entries
 abbrev pub TellsAlike : Settings → Tally → Tally → List ℕ → List ℕ → Type 0
@@ -93,11 +93,11 @@ StatusTells words s BadWords = AreOutside words × Appends s.sink.old s.sink.new
 StatusTells words s BadScript = (settings : Settings) × ChoosesAlone words settings × IsRun settings × RefusesScript settings s
 -- The source failed, of which no more bytes were read than a script may have, and nothing was written.
 StatusTells words s ReadFault =
-    (settings : Settings) × ChoosesAlone words settings × IsRun settings × Rose s.source.before s.source.now
+    (settings : Settings) × ChoosesAlone words settings × IsRun settings × CountRose s.source.before s.source.now
     × ConsumesAtMost s.source.old s.source.new 1048576 × s.sink.same
 -- The sink failed, and a prefix of what was to be written was written, and not the whole.
 StatusTells words s WriteFault =
-    Rose s.sink.before s.sink.now
+    CountRose s.sink.before s.sink.now
     × ((AreOutside words × AppendsProperPrefix s.sink.old s.sink.new usage_line)
     ⊎ ((settings : Settings) × ChoosesAlone words settings × BreaksOff settings s))
 -- Nothing was written, or something of the output of a script, and not the whole.
@@ -125,6 +125,12 @@ AskForRun words = (settings : Settings) × Chooses words settings × IsRun setti
 -- the words are outside the grammar, or choose the demonstration: nothing is to be read
 abbrev pub AskForNoInput : List (List ℕ) → Type 0
 AskForNoInput words = AreOutside words ⊎ ((settings : Settings) × Chooses words settings × (IsRun settings → ⊥))
+
+-- Words that ask for no input have nothing read; whatever they ask for, no more bytes are read than a script may have, and those
+-- of one read more.
+pub record ReadsAsAsked (words : List (List ℕ)) (source : Stream) : Type 0 where
+  pub unread : AskForNoInput words → source.same
+  pub limit : IsReadInLimit source
 
 -- the bytes are some script
 abbrev pub IsScriptOf : List ℕ → Type 0

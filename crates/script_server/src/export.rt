@@ -4,8 +4,8 @@ ghost use Rattle.std.specs.Prelude.{◌≡◌, ◌-◌, ◌^◌, ◌<◌, IfOk, 
 ghost use Rattle.csg_tree.specs.ProperTrees.{IsProper};
 ghost use Rattle.csg_tree.specs.Trees.{formula_of};
 ghost use Rattle.scad_ast.specs.ProgramView.{program_of};
-ghost use Rattle.script_server.specs.Meaning.Sources.{Means, Refuses, GivesTree};
-ghost use Rattle.script_server.specs.Meaning.Exports.{reply_of};
+ghost use Rattle.script_server.specs.Meaning.Sources.{Means, RefusesSource, GivesTree};
+ghost use Rattle.script_server.specs.Meaning.Exports.{export_reply};
 
 use csg_tree::CsgTree;
 use plane_predicate::Unit;
@@ -22,7 +22,7 @@ pub fn tree_of(alloc: Global, unit: Unit, source: &[u8]) -> Result<CsgTree, Stop
     requires { length source.now < 2 ^ 32 - 1 }
     ensures tree { IfOk result (λ tree. Means unit source.now (formula_of tree)) }
     ensures proper { IfOk result (λ tree. IsProper (formula_of tree)) }
-    ensures fault { IfErr result (Refuses unit source.now) }
+    ensures fault { IfErr result (RefusesSource unit source.now) }
 {
     // The program is lent, since a crate proves the drop of each type that it drops.
     with_program(
@@ -36,10 +36,10 @@ pub fn tree_of(alloc: Global, unit: Unit, source: &[u8]) -> Result<CsgTree, Stop
 
 /// An export as a reply.
 pub fn reply(exported: TreeExport) -> Reply
-    ensures { result ≡ reply_of exported }
+    ensures { result ≡ export_reply exported }
 {
     match exported {
         TreeExport::Text(bytes) => Reply::Solid(bytes),
-        TreeExport::Complex(passed) => Reply::Complex(passed),
+        TreeExport::PassedLimit(passed) => Reply::PassedLimit(passed),
     }
 }

@@ -8,12 +8,12 @@ ghost use Rattle.csg_tree.specs.Numberings.{nodes_of, tree_numbered};
 ghost use Rattle.csg_tree.specs.Trees.{formula_of};
 ghost use Rattle.bsp_tree.specs.Shapes as shapes;
 ghost use Rattle.bsp_boolean.specs.Solids as solids;
-ghost use Rattle.bsp_boolean.specs.TreeSolids.{joins, AreWithin, IsTreeStop};
+ghost use Rattle.bsp_boolean.specs.TreeSolids.{joins, AreWithinSizeLimits, IsTreeStop};
 ghost use Rattle.subtree_memo.specs.Shares.{parts_each, offered_of};
-ghost use Rattle.tree_export.specs.Exports.{IsExported, Bounds};
+ghost use Rattle.tree_export.specs.Exports.{IsExported, IsBoundaryText};
 ghost use Rattle.plane_predicate.specs.declared.unit.Unit.{Unit as LengthUnit};
-ghost use Rattle.script_server.specs.Meaning.Sources.{Refuses};
-ghost use Rattle.script_server.specs.Meaning.Exports.{reply_of};
+ghost use Rattle.script_server.specs.Meaning.Sources.{RefusesSource};
+ghost use Rattle.script_server.specs.Meaning.Exports.{export_reply};
 ghost use Rattle.script_server.specs.Clients.{ClientBooks, AreProbed, IsSolved, ExportsFor};
 
 use crate::export::{reply, tree_of};
@@ -165,7 +165,7 @@ fn solid_for<
     requires few { client.old.asked < 8192 }
     ensures solid { IfOk result (λ s.
         shapes.tree_of (arc_value s) ≡ solids.solid_of (tree_numbered store (length store))) }
-    ensures within { OnOk result (AreWithin store) }
+    ensures within { OnOk result (AreWithinSizeLimits store) }
     ensures stop { IfErr result (IsTreeStop store) }
     ensures probed { AreProbed (IsOk result) (joins store) client.old.share client.new.share }
     ensures asked { client.new.asked ≤ client.old.asked + 1 }
@@ -200,7 +200,7 @@ fn exported<
     requires proper { IsProper (formula_of tree.now) }
     requires few { client.old.asked < 8192 }
     ensures exported { IfOk result (IsExported unit (formula_of tree.now)) }
-    ensures boundary { IfOk result (Bounds unit (formula_of tree.now)) }
+    ensures boundary { IfOk result (IsBoundaryText unit (formula_of tree.now)) }
     ensures probed { AreProbed (IsSolved result) (joins (nodes_of (formula_of tree.now)))
         client.old.share client.new.share }
     ensures asked { client.new.asked ≤ client.old.asked + 1 }
@@ -229,7 +229,7 @@ fn exported<
 #[tactic(auto, using(crate::proofs::Refused::fault_answered))]
 fn refused(stop: Stop) -> Result<Reply, NoMemory>
     ensures { (unit : LengthUnit) (source : List ℕ) (books : ClientBooks)
-        → Refuses unit source stop → ExportsFor unit source result books books }
+        → RefusesSource unit source stop → ExportsFor unit source result books books }
 {
     // A source for whose tree there was no memory has a number of joins, too.
     some_meaning();

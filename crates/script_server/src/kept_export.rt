@@ -2,10 +2,10 @@
 
 ghost use Rattle.std.specs.Prelude.{◌≡◌, Ok, IfOk, IfSome, OnErr};
 ghost use Rattle.csg_tree.specs.ProperTrees.{IsProper};
-ghost use Rattle.reply_text.specs.declared.reply.Complex.{Complex as Limit};
+ghost use Rattle.reply_text.specs.declared.reply.PassedLimit.{PassedLimit as Limit};
 ghost use Rattle.reply_text.specs.Sums.{IsSizeLimit};
 ghost use Rattle.tree_export.specs.declared.export.TreeExport.TheVariants as exported;
-ghost use Rattle.tree_export.specs.Exports.{IsExported, Bounds, IsMade};
+ghost use Rattle.tree_export.specs.Exports.{IsExported, IsBoundaryText, IsSolidOutcome};
 
 use bsp_tree::Solid;
 use csg_tree::TreeKey;
@@ -39,19 +39,19 @@ impl Model for KeptExport {
     ghost coded = { coded_formula };
 
     ghost use Rattle.tree_export.specs.declared.export.TreeExport.TheVariants as exported;
-    ghost use Rattle.tree_export.specs.Exports.{IsExported, Bounds};
+    ghost use Rattle.tree_export.specs.Exports.{IsExported, IsBoundaryText};
 
     ghost view = { λ k. k.key };
 
     ghost invariant = { λ k. IsExported k.unit k.key (exported.Text k.text)
-        × Bounds k.unit k.key (exported.Text k.text) };
+        × IsBoundaryText k.unit k.key (exported.Text k.text) };
 }
 
 impl KeptExport {
     // Keeps what the export of a tree gave, where that is a text that isn't too long and there is memory for a copy.
     fn of(alloc: Global, unit: Unit, key: TreeKey, given: &TreeExport) -> Option<KeptExport>
         requires exported { IsExported unit key given.now }
-        requires boundary { Bounds unit key given.now }
+        requires boundary { IsBoundaryText unit key given.now }
         ensures { IfSome result (λ kept. kept ≡ key) }
     {
         match given {
@@ -66,7 +66,7 @@ impl KeptExport {
     // What was kept, where it is the export of this tree in this unit.
     fn given_for(self, unit: Unit, key: &TreeKey) -> Option<TreeExport>
         ensures exported { IfSome result (IsExported unit key.now) }
-        ensures boundary { IfSome result (Bounds unit key.now) }
+        ensures boundary { IfSome result (IsBoundaryText unit key.now) }
     {
         if self.unit == unit && self.key.is_same(key) {
             let KeptExport { text, .. } = self;
@@ -88,9 +88,9 @@ fn given_or_cut<R: Threads + Sync>(
     solid: Arc<Solid>,
 ) -> Result<TreeExport, NoMemory>
     requires proper { IsProper key.now }
-    requires made { IsMade key.now (Ok solid) }
+    requires made { IsSolidOutcome key.now (Ok solid) }
     ensures exported { IfOk result (IsExported unit key.now) }
-    ensures boundary { IfOk result (Bounds unit key.now) }
+    ensures boundary { IfOk result (IsBoundaryText unit key.now) }
 {
     if let Some(last) = last {
         if let Some(given) = last.given_for(unit, key) {
@@ -111,11 +111,11 @@ fn given_or_made<R: Threads + Sync>(
     made: Result<Arc<Solid>, EvalStop>,
 ) -> Result<TreeExport, NoMemory>
     requires proper { IsProper key.now }
-    requires made { IsMade key.now made }
+    requires made { IsSolidOutcome key.now made }
     ensures exported { IfOk result (IsExported unit key.now) }
-    ensures boundary { IfOk result (Bounds unit key.now) }
+    ensures boundary { IfOk result (IsBoundaryText unit key.now) }
     ensures stopped { OnErr made (IfOk result (λ out.
-        (passed : Limit) × IsSizeLimit passed × (out ≡ exported.Complex passed))) }
+        (passed : Limit) × IsSizeLimit passed × (out ≡ exported.PassedLimit passed))) }
 {
     match made {
         Ok(solid) => given_or_cut(rt, alloc, workers, last, unit, key, solid),
@@ -136,11 +136,11 @@ pub fn export_kept<R: Threads + Sync>(
     made: Result<Arc<Solid>, EvalStop>,
 ) -> Result<TreeExport, NoMemory>
     requires proper { IsProper key }
-    requires made { IsMade key made }
+    requires made { IsSolidOutcome key made }
     ensures exported { IfOk result (IsExported unit key) }
-    ensures boundary { IfOk result (Bounds unit key) }
+    ensures boundary { IfOk result (IsBoundaryText unit key) }
     ensures stopped { OnErr made (IfOk result (λ out.
-        (passed : Limit) × IsSizeLimit passed × (out ≡ exported.Complex passed))) }
+        (passed : Limit) × IsSizeLimit passed × (out ≡ exported.PassedLimit passed))) }
 {
     let last = kept.take();
     let given = given_or_made(rt, alloc, workers, last, unit, &key, made)?;

@@ -11,7 +11,8 @@ mod server;
 mod under_way;
 
 pub use meaning::{
-    one_meaning, one_output, one_reply, own_replies, solids_pass_no_limit, some_meaning, some_reply,
+    one_meaning, one_output, one_reply, own_replies, solids_pass_no_limit, some_meaning,
+    some_reply, texts_of_sources_are_watertight,
 };
 pub use program::{run_program, serve_to_exit};
 pub use run_words::{Settings, WordsFault, read_words};

@@ -10,16 +10,17 @@ ghost use Rattle.script_reader.specs.declared.script.Script.{Script};
 ghost use Rattle.run_words.specs.declared.settings.Settings.{Settings};
 ghost use Rattle.subtree_memo.specs.declared.tally.Tally.{Tally};
 ghost use Rattle.csg_tree.specs.Formulas.{Formula};
+ghost use Rattle.off_text.specs.Bounding.{IsBoundary};
 ghost use Rattle.edit_session.specs.Sessions.{State};
 ghost use Rattle.reply_text.specs.declared.reply.Reply.{Reply};
 ghost use Rattle.reply_text.specs.declared.reply.Reply.TheVariants as reply;
 ghost use Rattle.reply_text.specs.Texts.{output};
 ghost use Rattle.reply_text.specs.Answers.{Fits, AllFit, SameWants};
 ghost use Rattle.tree_export.specs.Exports.{PassesNoLimit};
-ghost use Rattle.script_server.specs.Meaning.Sources.{Means, HasFault};
+ghost use Rattle.script_server.specs.Meaning.Sources.{Means, HasSourceFault};
 ghost use Rattle.script_service.specs.Units.{unit_of};
 ghost use Rattle.script_service.specs.Serving.{IsRun, printed_text};
-ghost use Rattle.script_server.specs.Meaning.Exports.{Exports, AnswersExport};
+ghost use Rattle.script_server.specs.Meaning.Exports.{Exports, AnswersExport, IsWatertightBoundary};
 ghost use Rattle.script_server.specs.Serving.{TellsAlike};
 
 use reply_text::Exporting;
@@ -27,7 +28,9 @@ use scad_grammar::{no_program_has_a_fault, one_fault_each, one_program_each, pro
 use scad_lexer::{one_outcome, some_outcome};
 use scad_meaning::programs_mean_proper_trees;
 use script_service::one_ending;
+use source_solids::programs_keep_within_reach;
 use tree_export::{one_export, some_export, texts_pass_no_limit};
+use watertight::texts_keep_within_reach;
 
 // The exports of this server, of which the laws of replies are asked.
 struct ServerExports;
@@ -42,10 +45,10 @@ impl Exporting for ServerExports {
 pub fn one_meaning()
     ensures trees { (unit : LengthUnit) (source : List ℕ) (f g : Formula) → Means unit source f
         → Means unit source g → f ≡ g }
-    ensures faults { (unit : LengthUnit) (source : List ℕ) (f g : Fault) → HasFault unit source f
-        → HasFault unit source g → f ≡ g }
+    ensures faults { (unit : LengthUnit) (source : List ℕ) (f g : Fault) → HasSourceFault unit source f
+        → HasSourceFault unit source g → f ≡ g }
     ensures either { (unit : LengthUnit) (source : List ℕ) (f : Formula) (fault : Fault)
-        → Means unit source f → HasFault unit source fault → ⊥ }
+        → Means unit source f → HasSourceFault unit source fault → ⊥ }
 {
     one_outcome();
     one_program_each();
@@ -58,7 +61,7 @@ pub fn one_meaning()
 pub fn some_meaning()
     ensures { (unit : LengthUnit) (source : List ℕ)
         → ((tree : Formula) × Means unit source tree)
-        ⊎ ((fault : Fault) × HasFault unit source fault) }
+        ⊎ ((fault : Fault) × HasSourceFault unit source fault) }
 {
     some_outcome();
     program_or_fault();
@@ -81,6 +84,17 @@ pub fn one_reply()
 {
     one_meaning();
     one_export();
+}
+
+/// The text of the tree that a source means is its watertight boundary, with no vertex beyond 4,095 grid steps along an axis. So is
+/// each solid that an export is answered, by its boundary of the tree that the source means.
+pub fn texts_of_sources_are_watertight()
+    ensures { (unit : LengthUnit) (source : List ℕ) (tree : Formula) (bytes : List ℕ) →
+        Means unit source tree → IsBoundary unit bytes tree → IsWatertightBoundary unit bytes tree }
+{
+    programs_mean_proper_trees();
+    programs_keep_within_reach();
+    texts_keep_within_reach();
 }
 
 /// Each source has a reply to its export.

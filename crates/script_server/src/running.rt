@@ -4,7 +4,7 @@ ghost use Rattle.std.specs.Prelude.{◌≡◌, ◌<◌, ◌≤◌, max, [], All,
 ghost use Rattle.csg_tree.specs.TreeKeys.{name_of};
 ghost use Rattle.memo_core.specs.Views.{marks};
 ghost use Rattle.subtree_memo.specs.Shares.{IsOf, opened_shares, offered_of, parts_each};
-ghost use Rattle.script_reader.specs.Limits.{AreWithin};
+ghost use Rattle.script_reader.specs.Limits.{AreClientsWithin};
 ghost use Rattle.script_service.specs.Serving.{PrintsWeights};
 ghost use Rattle.script_server.specs.Books.{IsRunOf, weights_of};
 ghost use Rattle.script_server.specs.Clients.{ExportsFor};
@@ -143,7 +143,7 @@ fn run_over<
     unit: Unit,
     script: &Script,
 ) -> Result<RunResult<N>, NoMemory>
-    requires within { AreWithin script.now.clients }
+    requires within { AreClientsWithin script.now.clients }
     requires callers { (blanks.callers ≡ max (length script.now.clients) 1)
         × (claims.callers ≡ blanks.callers) }
     requires empty { core.journal ≡ [] }
@@ -208,7 +208,7 @@ pub fn run_named<N: Namer<TreeKey> + Send + Sync, G: Gate + Sync, R: Threads + W
     gate: &G,
     namer: N,
 ) -> Result<RunResult<N>, NoMemory>
-    requires within { AreWithin script.now.clients }
+    requires within { AreClientsWithin script.now.clients }
     requires workers { (1 ≤ workers) × (workers ≤ 64) }
     ensures { IfOk result (λ ran. IsRunOf unit script.now.clients memo share N.name_of
         ran.replies.items ran.tally ran.core ran.claims) }
@@ -235,7 +235,7 @@ pub fn run_gated<G: Gate + Sync, R: Threads + Wait + Sync>(
     unit: Unit,
     gate: &G,
 ) -> Result<RunResult<ShaNamer>, NoMemory>
-    requires within { AreWithin script.now.clients }
+    requires within { AreClientsWithin script.now.clients }
     requires workers { (1 ≤ workers) × (workers ≤ 64) }
     ensures { IfOk result (λ ran. IsRunOf unit script.now.clients memo share name_of
         ran.replies.items ran.tally ran.core ran.claims) }
@@ -255,7 +255,7 @@ pub fn run_script<R: Threads + Wait + Sync>(
     share: u64,
     unit: Unit,
 ) -> Result<RunResult<ShaNamer>, NoMemory>
-    requires within { AreWithin script.now.clients }
+    requires within { AreClientsWithin script.now.clients }
     requires workers { (1 ≤ workers) × (workers ≤ 64) }
     ensures { IfOk result (λ ran. IsRunOf unit script.now.clients memo share name_of
         ran.replies.items ran.tally ran.core ran.claims) }

@@ -1,17 +1,17 @@
 //! The call that does all that the program does.
 
 ghost use Rattle.std.specs.Prelude.{◌≡◌, ◌≢◌, ◌≤◌, ◌⊎◌, length, map, string_bytes, IfSome, IfOk};
-ghost use Rattle.outside_io.specs.Counts.{Rose};
+ghost use Rattle.outside_io.specs.Counts.{CountRose};
 ghost use Rattle.csg_tree.specs.TreeKeys.{name_of};
 ghost use Rattle.run_words.specs.declared.settings.Settings.{Settings};
-ghost use Rattle.run_words.specs.Words.{Chooses, AreInRange};
-ghost use Rattle.script_reader.specs.Limits.{AreWithin};
+ghost use Rattle.run_words.specs.Words.{Chooses, AreSettingsInRange};
+ghost use Rattle.script_reader.specs.Limits.{AreClientsWithin};
 ghost use Rattle.script_service.specs.declared.status.Status.TheVariants as Status;
 ghost use Rattle.script_service.specs.Streams.{stream, streams};
 ghost use Rattle.script_service.specs.Units.{unit_of, memo_of, share_of};
 ghost use Rattle.script_server.specs.Books.{IsRunOf};
 ghost use Rattle.script_service.specs.Outcomes.{HasStatusCause};
-ghost use Rattle.script_server.specs.Serving.{StatusTells, AreCaused, WritesOutput, AskForRun, AskForNoInput, IsScriptOf, IsNoScript};
+ghost use Rattle.script_server.specs.Serving.{StatusTells, AreCaused, WritesOutput, AskForRun, ReadsAsAsked, IsScriptOf, IsNoScript};
 
 use crate::running::{RunResult, printed_weights, run_script};
 use outside_io::{Sink, Source};
@@ -32,8 +32,8 @@ fn run_clients<R: Threads + Wait + Sync>(
     settings: Settings,
     script: &Script,
 ) -> Result<RunResult<ShaNamer>, NoMemory>
-    requires within { AreWithin script.now.clients }
-    requires range { AreInRange settings }
+    requires within { AreClientsWithin script.now.clients }
+    requires range { AreSettingsInRange settings }
     ensures { IfOk result (λ ran.
         IsRunOf (unit_of settings) script.now.clients (memo_of settings) (share_of settings) name_of
         ran.replies.items ran.tally ran.core ran.claims) }
@@ -96,15 +96,17 @@ pub fn serve<S: Source, K: Sink, R: Threads + Wait + Sync>(
     // define, and each solid is the boundary of what the client's source means, in the unit of the run.
     ensures told { StatusTells (map string_bytes words.now)
         (streams S.left S.faults K.held K.faults source.old source.new sink.old sink.new) result }
-    // At words outside the grammar, and for the demonstration, nothing is read.
-    ensures unread { AskForNoInput (map string_bytes words.now) → source.new ≡ source.old }
+    // At words outside the grammar, and for the demonstration, nothing is read, and else no more than a script may have, and one
+    // read more.
+    ensures reads { ReadsAsAsked (map string_bytes words.now)
+        (stream S.left S.faults source.old source.new) }
     // A source that failed is told as that, and so is a sink. The counts of their faults never fall.
     ensures causes { AreCaused
         (streams S.left S.faults K.held K.faults source.old source.new sink.old sink.new) result }
 
     // Where no count of faults rose, a script is served and other bytes are refused, unless memory ran out.
     ensures complete { (settings : Settings) → Chooses (map string_bytes words.now) settings
-        → (Rose (S.faults source.old) (S.faults source.new) → ⊥) → (Rose (K.faults sink.old) (K.faults sink.new) → ⊥)
+        → (CountRose (S.faults source.old) (S.faults source.new) → ⊥) → (CountRose (K.faults sink.old) (K.faults sink.new) → ⊥)
         → (result ≡ Status.Done) ⊎ (result ≡ Status.BadScript) ⊎ (result ≡ Status.NoMemory) }
     ensures script { IfSome (S.left source.old)
         (λ bytes. IsScriptOf bytes → result ≢ Status.BadScript) }

@@ -1,4 +1,5 @@
 pub mod Lines
 mod OneEnding
+mod ReadLimits
 pub mod Sent
 pub mod Printed

@@ -147,7 +147,7 @@ body_is_some : (r : Reply) → 0 < length (reply_body r)
 body_is_some (reply.Lines n) = omega arith
 body_is_some (reply.Refused why) = omega arith
 body_is_some (reply.Faulted f) = omega arith
-body_is_some (reply.Complex c) = omega arith
+body_is_some (reply.PassedLimit c) = omega arith
 body_is_some reply.NoMem = omega arith
 body_is_some (reply.Text lines) = omega arith
 body_is_some (reply.Solid bytes) = omega arith

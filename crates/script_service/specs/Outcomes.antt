@@ -1,7 +1,7 @@
 -- How a text was written, and with which status that ended.
 use Rattle.std.specs.Prelude.{◌≡◌, ℕ, ◌<◌, ◌≤◌, List, ◌++◌, length, ◌⊎◌, Option}
 use Rattle.std.specs.Io.KnownBytes.{Appends}
-use Rattle.outside_io.specs.Counts.{Rose}
+use Rattle.outside_io.specs.Counts.{CountRose}
 use Rattle.outside_io.specs.Moves.{AppendsProperPrefix}
 use Rattle.run_words.specs.declared.settings.Settings.{Settings}
 use Rattle.run_words.specs.declared.settings.WordsFault.{WordsFault}
@@ -24,23 +24,23 @@ AppendsPart old new text =
 abbrev pub Writes : Status → Stream → List ℕ → Status → Type 0
 Writes good sink text status =
     ((status ≡ good) × Appends sink.old sink.new text)
-    ⊎ ((status ≡ WriteFault) × Rose sink.before sink.now × AppendsProperPrefix sink.old sink.new text)
+    ⊎ ((status ≡ WriteFault) × CountRose sink.before sink.now × AppendsProperPrefix sink.old sink.new text)
 
 -- the same, or memory ran out before anything was written
-abbrev pub Ends : Status → Stream → List ℕ → Status → Type 0
-Ends good sink text status =
+abbrev pub WritesTextOrNothing : Status → Stream → List ℕ → Status → Type 0
+WritesTextOrNothing good sink text status =
     ((status ≡ good) × Appends sink.old sink.new text)
-    ⊎ ((status ≡ WriteFault) × Rose sink.before sink.now × AppendsProperPrefix sink.old sink.new text)
+    ⊎ ((status ≡ WriteFault) × CountRose sink.before sink.now × AppendsProperPrefix sink.old sink.new text)
     ⊎ ((status ≡ NoMemory) × sink.same)
 
 -- what is printed for replies was written so; of a run memory may also run out on the way, when something of the text was
 -- written, and not the whole
-abbrev pub Prints : Settings → Stream → List ℕ → Status → Type 0
-Prints settings sink text status =
-    Ends Done sink text status ⊎ (IsRun settings × (status ≡ NoMemory) × AppendsPart sink.old sink.new text)
+abbrev pub PrintsReplies : Settings → Stream → List ℕ → Status → Type 0
+PrintsReplies settings sink text status =
+    WritesTextOrNothing Done sink text status ⊎ (IsRun settings × (status ≡ NoMemory) × AppendsPart sink.old sink.new text)
 
--- The count of faults did not fall, and it is as before where the status is not that of a fault: so a source or a sink that
--- failed ends a call as what it is, and never as want of memory.
+-- The count of faults never falls, and it stays where the status is not that of a fault: so a source or a sink that failed is
+-- never told as want of memory.
 pub record HasStatusCause (fault : Status) (before now : ℕ) (status : Status) : Type 0 where
   pub later : before ≤ now
   pub quiet : (status ≡ fault) ⊎ (now ≡ before)
@@ -52,6 +52,6 @@ RefusesWords words.NoMemory sink status = (status ≡ NoMemory) × sink.same
 
 -- what is told of an input that is no script
 abbrev pub RefusesInput : InputEnd → Stream → Status → Type 0
-RefusesInput (end.BadScript fault) sink status = Ends BadScript sink (fault_line fault) status
+RefusesInput (end.BadScript fault) sink status = WritesTextOrNothing BadScript sink (fault_line fault) status
 RefusesInput end.Failed sink status = (status ≡ ReadFault) × sink.same
 RefusesInput end.NoMemory sink status = (status ≡ NoMemory) × sink.same

@@ -1,7 +1,7 @@
 -- How far a text was written to a sink.
 use Rattle.std.specs.Prelude.{◌≡◌, ℕ, ◌<◌, ◌≤◌, ◌⊎◌, List, ◌++◌, length, IsErrOf, Option, Result}
 use Rattle.std.specs.Io.KnownBytes.{Appends}
-use Rattle.outside_io.specs.Counts.{Rose}
+use Rattle.outside_io.specs.Counts.{CountRose}
 use Rattle.outside_io.specs.Moves.{AppendsProperPrefix}
 use Rattle.script_service.specs.declared.output.OutputEnd.{OutputEnd}
 use Rattle.script_service.specs.declared.output.OutputEnd.TheVariants.{Failed, NoMemory}
@@ -22,5 +22,5 @@ module _ {K : Type 0} (held : K → Option (List ℕ)) where
 -- the count of faults rose where the sink failed, and else it is as before
 pub record HasOutputCause {T : Type 0} (before now : ℕ) (result : Result T OutputEnd) : Type 0 where
   pub later : before ≤ now
-  pub failed : IsErrOf result Failed → Rose before now
+  pub failed : IsErrOf result Failed → CountRose before now
   pub quiet : IsErrOf result Failed ⊎ (now ≡ before)

@@ -2,7 +2,7 @@
 -- `Consumes`, `IsAtEnd` and `Appends` say nothing.
 use Rattle.std.specs.Prelude.{◌≡◌, ℕ, ◌+◌, ◌<◌, ◌≤◌, true, List, ◌++◌, length, codes, ◌⊎◌, Result, IsErrOf}
 use Rattle.std.specs.Io.KnownBytes.{Appends, Consumes, IsAtEnd}
-use Rattle.outside_io.specs.Counts.{Rose}
+use Rattle.outside_io.specs.Counts.{CountRose}
 use Rattle.outside_io.specs.Moves.{ConsumesAtMost}
 use Rattle.run_words.specs.declared.settings.Settings.{Settings}
 use Rattle.run_words.specs.declared.settings.Settings.TheVariants.{Run, Demo}
@@ -54,17 +54,20 @@ AreNoScript bytes end.Failed = ⊥
 AreNoScript bytes end.NoMemory = Unit {0}
 
 -- the whole input is this script
-abbrev pub Gives : Settings → Stream → Script → Type 0
-Gives settings source script = (bytes : List ℕ) × IsWholeInput settings source bytes × IsScript bytes script
+abbrev pub GivesScript : Settings → Stream → Script → Type 0
+GivesScript settings source script = (bytes : List ℕ) × IsWholeInput settings source bytes × IsScript bytes script
 
--- why there is no script: the input has a first fault, or the source failed, of which no more bytes were read than a script may
--- have, or memory ran out. The script of the
--- demonstration has no fault, and no source fails of which nothing is read.
-abbrev pub Lacks : Settings → Stream → InputEnd → Type 0
-Lacks settings source (end.BadScript fault) =
+-- why there is no script: the input has a first fault, or the source failed before more than a script's most bytes were read,
+-- or memory ran out. The demonstration's script has no fault and reads no source
+abbrev pub LacksScript : Settings → Stream → InputEnd → Type 0
+LacksScript settings source (end.BadScript fault) =
     IsRun settings × (bytes : List ℕ) × IsInput settings source bytes × IsScriptFault bytes fault
-Lacks settings source end.Failed = IsRun settings × Rose source.before source.now × ConsumesAtMost source.old source.new 1048576
-Lacks settings source end.NoMemory = Unit {0}
+LacksScript settings source end.Failed = IsRun settings × CountRose source.before source.now × ConsumesAtMost source.old source.new 1048576
+LacksScript settings source end.NoMemory = Unit {0}
+
+-- no more bytes were read of a source than a script may have, and those of one read more
+abbrev pub IsReadInLimit : Stream → Type 0
+IsReadInLimit source = ConsumesAtMost source.old source.new (1048576 + 4096)
 
 -- the count of a source's faults did not fall, and it is as before where the source is not told to have failed
 pub record HasInputCause {T : Type 0} (before now : ℕ) (result : Result T InputEnd) : Type 0 where

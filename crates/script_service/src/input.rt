@@ -1,12 +1,12 @@
 //! Reads the input: the script of the source, or that of the demonstration.
 
 ghost use Rattle.std.specs.Prelude.{◌≡◌, ◌≤◌, IfOk, IfErr};
-ghost use Rattle.run_words.specs.Words.{AreInRange};
+ghost use Rattle.run_words.specs.Words.{AreSettingsInRange};
 ghost use Rattle.big_input.specs.DemoScript.{demo_script};
-ghost use Rattle.script_reader.specs.Limits.{AreWithin};
+ghost use Rattle.script_reader.specs.Limits.{AreClientsWithin};
 ghost use Rattle.script_reader.specs.Scripts.{IsScript};
 ghost use Rattle.script_service.specs.Streams.{stream};
-ghost use Rattle.script_service.specs.Serving.{IsRun, AreNoScript, Gives, Lacks, HasInputCause};
+ghost use Rattle.script_service.specs.Serving.{IsRun, AreNoScript, GivesScript, LacksScript, IsReadInLimit, HasInputCause};
 
 use big_input::{demo_scripts_have_no_fault, make_script};
 use outside_io::{ReadEnd, Source, read_to_end};
@@ -42,7 +42,7 @@ impl From<NoMemory> for InputEnd {
 // Reads bytes as a script.
 fn parse(alloc: Global, bytes: &[u8]) -> Result<Script, InputEnd>
     ensures script { IfOk result (IsScript bytes.now) }
-    ensures within { IfOk result (λ script. AreWithin script.clients) }
+    ensures within { IfOk result (λ script. AreClientsWithin script.clients) }
     ensures lacks { IfErr result (AreNoScript bytes.now) }
 {
     match read_script(alloc, bytes) {
@@ -59,10 +59,11 @@ fn read_run<S: Source>(
     source: &mut S,
 ) -> Result<Script, InputEnd>
     requires { IsRun settings }
-    ensures script { IfOk result (Gives settings (stream S.left S.faults source.old source.new)) }
-    ensures within { IfOk result (λ script. AreWithin script.clients) }
-    ensures lacks { IfErr result (Lacks settings (stream S.left S.faults source.old source.new)) }
+    ensures script { IfOk result (GivesScript settings (stream S.left S.faults source.old source.new)) }
+    ensures within { IfOk result (λ script. AreClientsWithin script.clients) }
+    ensures lacks { IfErr result (LacksScript settings (stream S.left S.faults source.old source.new)) }
     ensures cause { HasInputCause (S.faults source.old) (S.faults source.new) result }
+    ensures limit { IsReadInLimit (stream S.left S.faults source.old source.new) }
 {
     match read_to_end(alloc, source, SCRIPT_BYTES) {
         Ok(bytes) => parse(alloc, bytes.as_slice()),
@@ -76,7 +77,7 @@ fn read_run<S: Source>(
 fn make_demo(alloc: Global, parts: u64) -> Result<Script, NoMemory>
     requires { (1 ≤ parts) × (parts ≤ 200) }
     ensures script { IfOk result (IsScript (demo_script parts)) }
-    ensures within { IfOk result (λ script. AreWithin script.clients) }
+    ensures within { IfOk result (λ script. AreClientsWithin script.clients) }
 {
     demo_scripts_have_no_fault();
     let bytes = make_script(alloc, parts as u32)?;
@@ -97,11 +98,12 @@ pub fn read_input<S: Source>(
     settings: Settings,
     source: &mut S,
 ) -> Result<Script, InputEnd>
-    requires { AreInRange settings }
-    ensures script { IfOk result (Gives settings (stream S.left S.faults source.old source.new)) }
-    ensures within { IfOk result (λ script. AreWithin script.clients) }
-    ensures lacks { IfErr result (Lacks settings (stream S.left S.faults source.old source.new)) }
+    requires { AreSettingsInRange settings }
+    ensures script { IfOk result (GivesScript settings (stream S.left S.faults source.old source.new)) }
+    ensures within { IfOk result (λ script. AreClientsWithin script.clients) }
+    ensures lacks { IfErr result (LacksScript settings (stream S.left S.faults source.old source.new)) }
     ensures cause { HasInputCause (S.faults source.old) (S.faults source.new) result }
+    ensures limit { IsReadInLimit (stream S.left S.faults source.old source.new) }
     ensures unread { (IsRun settings → ⊥) → source.new ≡ source.old }
 {
     match settings {

@@ -7,7 +7,7 @@ ghost use Rattle.script_service.specs.Endings.{ending};
 ghost use Rattle.script_service.specs.Demos.{demo_text};
 ghost use Rattle.script_service.specs.Streams.{stream};
 ghost use Rattle.script_service.specs.Serving.{PrintsWeights, printed_text};
-ghost use Rattle.script_service.specs.Outcomes.{Writes, Ends, AppendsPart, Prints, HasStatusCause, RefusesWords, RefusesInput};
+ghost use Rattle.script_service.specs.Outcomes.{Writes, WritesTextOrNothing, AppendsPart, PrintsReplies, HasStatusCause, RefusesWords, RefusesInput};
 
 use crate::demo::demo_lines;
 use crate::ending::ending_lines;
@@ -39,7 +39,7 @@ fn finish<K: Sink>(sink: &mut K, text: &[u8], status: Status) -> Status
 
 // Writes the line of a script's fault.
 fn write_script_fault<K: Sink>(alloc: Global, fault: ScriptFault, sink: &mut K) -> Status
-    ensures ends { Ends Status.BadScript (stream K.held K.faults sink.old sink.new)
+    ensures ends { WritesTextOrNothing Status.BadScript (stream K.held K.faults sink.old sink.new)
         (fault_line fault) result }
     ensures cause { HasStatusCause Status.WriteFault (K.faults sink.old)
         (K.faults sink.new) result }
@@ -84,7 +84,7 @@ fn write_replies<K: Sink>(
     sink: &mut K,
 ) -> Status
     requires { All (λ rs. length rs ≤ 8192) replies.now }
-    ensures told { Ends Status.Done (stream K.held K.faults sink.old sink.new)
+    ensures told { WritesTextOrNothing Status.Done (stream K.held K.faults sink.old sink.new)
         (output clients.now replies.now ++ ending.now) result
         ⊎ ((result ≡ Status.NoMemory) × AppendsPart (K.held sink.old) (K.held sink.new) (output clients.now replies.now ++ ending.now)) }
     ensures cause { HasStatusCause Status.WriteFault (K.faults sink.old)
@@ -108,7 +108,7 @@ fn write_printed<K: Sink>(
     sink: &mut K,
 ) -> Status
     requires { All (λ rs. length rs ≤ 8192) replies.now }
-    ensures told { Prints settings (stream K.held K.faults sink.old sink.new)
+    ensures told { PrintsReplies settings (stream K.held K.faults sink.old sink.new)
         (printed_text settings clients.now replies.now counts owned.now) result }
     ensures cause { HasStatusCause Status.WriteFault (K.faults sink.old)
         (K.faults sink.new) result }
@@ -143,7 +143,7 @@ pub fn write_outcome<K: Sink>(
 ) -> Status
     requires { All (λ rs. length rs ≤ 8192) replies.now }
     ensures told { (weights : List ℕ) → (PrintsWeights settings → owned.now ≡ weights) →
-        Prints settings (stream K.held K.faults sink.old sink.new) (printed_text settings clients.now replies.now counts weights) result }
+        PrintsReplies settings (stream K.held K.faults sink.old sink.new) (printed_text settings clients.now replies.now counts weights) result }
     ensures cause { HasStatusCause Status.WriteFault (K.faults sink.old)
         (K.faults sink.new) result }
 {

@@ -4,7 +4,7 @@ ghost use Rattle.std.specs.Prelude.{◌≡◌, ◌<◌, ◌≤◌, ◌⊎◌, �
 ghost use Rattle.std.specs.Io.KnownBytes.{Appends};
 ghost use Rattle.text_place.specs.Decimals.{numeral};
 ghost use Rattle.script_reader.specs.Lines.{newline};
-ghost use Rattle.outside_io.specs.Counts.{Rose};
+ghost use Rattle.outside_io.specs.Counts.{CountRose};
 ghost use Rattle.outside_io.specs.Moves.{AppendsProperPrefix};
 ghost use Rattle.reply_text.specs.Texts.{reply_body, replies_text, client_text, output};
 ghost use Rattle.script_service.specs.declared.output.OutputEnd.TheVariants as ends;

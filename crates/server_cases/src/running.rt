@@ -1,7 +1,7 @@
 //! Runs of clients.
 
 ghost use Rattle.std.specs.Prelude.{replicate};
-ghost use Rattle.script_reader.specs.Limits.{AreWithin};
+ghost use Rattle.script_reader.specs.Limits.{AreClientsWithin};
 
 use crate::gating::{Gating, Rule};
 use crate::setting::Setting;
@@ -79,7 +79,7 @@ fn run_by<N: Namer<TreeKey> + Send + Sync, R: Threads + Wait + Sync>(
     gate: &Gating,
     namer: N,
 ) -> Result<Ended, NoMemory>
-    requires { AreWithin script.now.clients }
+    requires { AreClientsWithin script.now.clients }
 {
     let ran = run_named(
         rt,

@@ -5,8 +5,7 @@ use crate::making::{
 };
 use crate::put::{put_corners, put_counts, put_faces, put_points};
 use crate::steps::{add_step, kind_of, put_images};
-use case_lines::{CaseStop, Interpreter, Phrase, found, put};
-use case_planes::put_planes;
+use case_lines::{CaseStop, Interpreter, Phrase, found, put, put_planes};
 use int_transform::Step;
 use plane_predicate::Unit;
 use primitives::{Shape, place};

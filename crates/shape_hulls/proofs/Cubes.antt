@@ -9,9 +9,9 @@ use Rattle.primitives.specs.Sizes.{AreSizes}
 use Rattle.primitives.proofs.BoxBodies.{cube_is_shape}
 use Rattle.primitives.proofs.EndFaces.{ends_of_side}
 use Rattle.scad_hull.proofs.Turns.{Bounds}
-use Rattle.shape_hulls.specs.OwnHulls.{IsHullOfItsPoints}
+use Rattle.shape_hulls.specs.OwnHulls.{IsCornerOf, IsHullOfItsPoints}
 use Rattle.shape_hulls.proofs.Axes.{bounds_nothing, nothing_at, past_high, past_low, scaled, BoundsCorners, IsWithin}
-use Rattle.shape_hulls.proofs.Insides.{hull_by, none_below, IsCornerOf}
+use Rattle.shape_hulls.proofs.Insides.{hull_by, none_below}
 
 -- ---- the other orders of the axes
 second_on : (p q r s : ℤ) → p +ℤ q +ℤ r -ℤ s ≡ pos 0 → q +ℤ p +ℤ r -ℤ s ≡ pos 0

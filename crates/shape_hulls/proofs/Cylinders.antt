@@ -6,17 +6,17 @@ use Rattle.plane_predicate.specs.declared.unit.Unit.{Unit as LengthUnit}
 use Rattle.plane_predicate.specs.Space.{Coefficients, Coordinates, value}
 use Rattle.plane_predicate.proofs.IntegerRing.{sums}
 use Rattle.primitives.specs.Shapes.{Mesh, corner, IsInside, IsShape}
-use Rattle.primitives.specs.Sizes.{grid_steps, high_end, low_end}
+use Rattle.primitives.specs.Sizes.{length_in_grid_steps, high_end, low_end}
 use Rattle.round_four.specs.Cylinders.{cylinder_between, cylinder_of, faces_from_apex, faces_of_two, faces_to_apex, AreCylinderSizes}
 use Rattle.round_four.proofs.Cylinders.{by_apexes, cylinder_is_shape}
 use Rattle.round_four.proofs.FromApex.{from_apex}
 use Rattle.round_four.proofs.Radii.{no_steps, steps_above, steps_least}
 use Rattle.round_four.proofs.ToApex.{to_apex}
 use Rattle.round_four.proofs.TwoCircles.{two}
-use Rattle.shape_hulls.specs.OwnHulls.{IsHullOfItsPoints}
+use Rattle.shape_hulls.specs.OwnHulls.{IsCornerOf, IsHullOfItsPoints}
 use Rattle.shape_hulls.proofs.Axes.{nothing_at}
 use Rattle.shape_hulls.proofs.Frustums.{back_bounded, bounds_nothing, front_bounded, front_value, left_bounded, left_value, level_end, nearer_down, nearer_up, over_apex, over_low, right_bounded, slant_left_back, slant_left_front, slant_right_back, slant_right_front, under_apex, under_high, IsBeside}
-use Rattle.shape_hulls.proofs.Insides.{hull_by, none_below, IsCornerOf}
+use Rattle.shape_hulls.proofs.Insides.{hull_by, none_below}
 
 -- the value of a plane at a point, with the signs of the quarters to the left and to the front
 left : (m : Coefficients) (q : Coordinates) → value m q <ℤ pos 0 → (neg_ℤ m.a *ℤ neg_ℤ q.x +ℤ m.b *ℤ q.y +ℤ m.c *ℤ q.z -ℤ m.d *ℤ q.w) <ℤ pos 0
@@ -182,8 +182,8 @@ above_low l s h = omega (arith, sums, h)
 
 pub cylinder_is_hull : (unit : LengthUnit) (center : Bool) (height low high : ℤ) → AreCylinderSizes unit center height low high → IsHullOfItsPoints (cylinder_of unit center height low high)
 cylinder_is_hull unit center height low high h =
-    between_is_hull (grid_steps unit low) (grid_steps unit high) (low_end unit center height) (high_end unit center height)
+    between_is_hull (length_in_grid_steps unit low) (length_in_grid_steps unit high) (low_end unit center height) (high_end unit center height)
     (steps_least unit low h.body.low_least) (steps_least unit high h.body.high_least)
     (λ e g. h.body.some (no_steps unit low e) (no_steps unit high g))
-    (above_low (low_end unit center height) (grid_steps unit height) (steps_above unit height h.body.long))
+    (above_low (low_end unit center height) (length_in_grid_steps unit height) (steps_above unit height h.body.long))
     (cylinder_is_shape unit center height low high h)

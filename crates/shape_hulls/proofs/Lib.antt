@@ -5,7 +5,12 @@ pub mod Insides
 pub mod Cubes
 pub mod Cylinders
 pub mod Prisms
+pub mod FacePoints
 pub mod Moved
 pub mod Regular
 pub mod Reach
 pub mod Placed
+pub mod Seen
+pub mod Shares
+pub mod Projected
+pub mod Polyhedra

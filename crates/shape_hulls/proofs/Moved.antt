@@ -1,6 +1,8 @@
 -- A shape that is the hull of its points is so wherever it is moved.
-use Rattle.std.proofs.Common.{◌≡◌, ◌↔◌, inl, inr, List, [], ◌∷◌, length, map, refl, sym, ap, ◌∙◌, subst, arith, ℤ, pos, negsuc, ◌+ℤ◌, ◌-ℤ◌, ◌*ℤ◌, ◌<ℤ◌}
-use Rattle.std.proofs.lemmas.List.{length-map}
+use Rattle.std.proofs.Common.{◌≡◌, ◌↔◌, ◌<◌, ℕ, inl, inr, List, [], ◌∷◌, ◌++◌, length, get_or, map, flat_map, refl, sym, ap, ap₂, All, ◌∙◌, subst, arith, ℤ, pos, negsuc, ◌+ℤ◌, ◌-ℤ◌, ◌*ℤ◌, ◌<ℤ◌}
+use Rattle.std.specs.List.{AllByRecursion}
+use Rattle.std.proofs.lemmas.List.{get_or-map, length-map, map-append}
+use Rattle.std.proofs.lemmas.List.Elements.{recursion_from_All}
 use Rattle.std.proofs.lemmas.Simd.{map-map}
 use Rattle.plane_predicate.specs.Space.{Coefficients, Coordinates, determinant, minor, point_at, value}
 use Rattle.plane_predicate.proofs.IntegerRing.{sums}
@@ -16,7 +18,7 @@ use Rattle.primitives.specs.Shapes.{Mesh, IsInside, IsShape}
 use Rattle.primitives.proofs.Moves.{cancelled}
 use Rattle.primitives.proofs.Transforms.{inside-moved_mesh}
 use Rattle.scad_hull.specs.Combinations.{sum_of_weights, weighted_sum, IsInnerCombination}
-use Rattle.shape_hulls.specs.OwnHulls.{IsHullOfItsPoints}
+use Rattle.shape_hulls.specs.OwnHulls.{face_points, IsHullOfItsFaces, IsHullOfItsPoints}
 use Rattle.shape_hulls.proofs.Axes.{less_by, no_times}
 
 -- ---- the same point by other numbers
@@ -225,13 +227,37 @@ combined_before f points p regular c =
 after_above : (f : Affine) (q : Coordinates) (s : HasSource f q) → pos 0 <ℤ q.w → pos 0 <ℤ s.point.w
 after_above f q s above = subst (λ (p : Coordinates). pos 0 <ℤ p.w) (sym s.is) (pos_pos s.by q.w s.above above)
 
+-- what is inside a moved shape, where the inside of the shape is the inner combinations of some points
+pub moved_inside : (mesh : Mesh) (f : Affine) (points : List (List ℤ)) → IsShape mesh → (determinant_of f ≡ pos 0 → ⊥) → ((q : Coordinates) → pos 0 <ℤ q.w → IsInside mesh q ↔ IsInnerCombination points q) → (q : Coordinates) → pos 0 <ℤ q.w → IsInside (moved_mesh f mesh) q ↔ IsInnerCombination (moved f points) q
+moved_inside mesh f points shape regular hull q above =
+    let s = source f q regular in
+    let inside = inside-moved_mesh f mesh regular shape.faces s.point in
+    let combined = hull s.point (after_above f q s above) in (
+      λ h. (combined_scaled (moved f points) s.by q s.above).0 (subst (IsInnerCombination (moved f points)) s.is (combined_moved f points s.point (combined.0 (inside.1 (subst (IsInside (moved_mesh f mesh)) (sym s.is) ((inside_scaled (moved_mesh f mesh) s.by q s.above).1 h)))))),
+      λ c. (inside_scaled (moved_mesh f mesh) s.by q s.above).0 (subst (IsInside (moved_mesh f mesh)) s.is (inside.0 (combined.1 (combined_before f points s.point regular (subst (IsInnerCombination (moved f points)) (sym s.is) ((combined_scaled (moved f points) s.by q s.above).1 c)))))),
+    )
+
 pub moved_is_hull : (mesh : Mesh) (f : Affine) → IsShape mesh → (determinant_of f ≡ pos 0 → ⊥) → IsHullOfItsPoints mesh → IsHullOfItsPoints (moved_mesh f mesh)
-moved_is_hull mesh f shape regular hull = record {
-  inside = λ q above.
-      (let s = source f q regular in
-      let inside = inside-moved_mesh f mesh regular shape.faces s.point in
-      let combined = hull.inside s.point (after_above f q s above) in (
-        λ h. (combined_scaled (moved f mesh.points) s.by q s.above).0 (subst (IsInnerCombination (moved f mesh.points)) s.is (combined_moved f mesh.points s.point (combined.0 (inside.1 (subst (IsInside (moved_mesh f mesh)) (sym s.is) ((inside_scaled (moved_mesh f mesh) s.by q s.above).1 h)))))),
-        λ c. (inside_scaled (moved_mesh f mesh) s.by q s.above).0 (subst (IsInside (moved_mesh f mesh)) s.is (inside.0 (combined.1 (combined_before f mesh.points s.point regular (subst (IsInnerCombination (moved f mesh.points)) (sym s.is) ((combined_scaled (moved f mesh.points) s.by q s.above).1 c)))))),
-      ));
+moved_is_hull mesh f shape regular hull = record { inside = moved_inside mesh f mesh.points shape regular hull.inside }
+
+-- ---- the points of the faces
+moved_face : (f : Affine) (points : List (List ℤ)) (face : List ℕ) → AllByRecursion (λ i. i < length points) face → map (λ i. get_or (moved f points) i []) face ≡ moved f (map (λ i. get_or points i []) face)
+moved_face f points [] h = refl
+moved_face f points (i ∷ face) h = ap₂ ◌∷◌ (get_or-map (λ p. coordinates (image f (point_at p))) points i [] [] h.0) (moved_face f points face h.1)
+
+moved_parts : (f : Affine) (points : List (List ℤ)) (faces : List (List ℕ)) → AllByRecursion (λ face. All (λ i. i < length points) face) faces → flat_map (λ face. map (λ i. get_or (moved f points) i []) face) faces ≡ moved f (flat_map (λ face. map (λ i. get_or points i []) face) faces)
+moved_parts f points [] h = refl
+moved_parts f points (face ∷ faces) h =
+    ap₂ ◌++◌ (moved_face f points face (recursion_from_All (λ i. i < length points) face h.0)) (moved_parts f points faces h.1)
+    ∙ sym (map-append (λ p. coordinates (image f (point_at p))) (map (λ i. get_or points i []) face) (flat_map (λ g. map (λ i. get_or points i []) g) faces))
+
+there : (mesh : Mesh) → IsShape mesh → All (λ face. All (λ i. i < length mesh.points) face) mesh.faces
+there mesh shape = λ k d lt. (shape.faces k d lt).there
+
+pub moved_face_points : (mesh : Mesh) (f : Affine) → IsShape mesh → face_points (moved_mesh f mesh) ≡ moved f (face_points mesh)
+moved_face_points mesh f shape = moved_parts f mesh.points mesh.faces (recursion_from_All (λ face. All (λ i. i < length mesh.points) face) mesh.faces (there mesh shape))
+
+pub moved_is_hull_of_faces : (mesh : Mesh) (f : Affine) → IsShape mesh → (determinant_of f ≡ pos 0 → ⊥) → IsHullOfItsFaces mesh → IsHullOfItsFaces (moved_mesh f mesh)
+moved_is_hull_of_faces mesh f shape regular hull = record {
+  inside = λ q above. subst (λ (points : List (List ℤ)). IsInside (moved_mesh f mesh) q ↔ IsInnerCombination points q) (sym (moved_face_points mesh f shape)) (moved_inside mesh f (face_points mesh) shape regular hull.inside q above);
 }

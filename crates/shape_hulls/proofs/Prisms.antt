@@ -12,9 +12,9 @@ use Rattle.plane_predicate.specs.declared.unit.Unit.{Unit as LengthUnit}
 use Rattle.plane_predicate.specs.Space.{Coefficients, Coordinates, minor, value}
 use Rattle.plane_predicate.proofs.IntegerRing.{sums, one_mul}
 use Rattle.plane_predicate.proofs.Signs.{pos_pos}
-use Rattle.primitives.specs.Polygons.{x_of, y_of, after, orientation, point, GoesLeft, GoesRight, HasCorner, IsFlat}
+use Rattle.primitives.specs.Polygons.{x_of, y_of, next_point, orientation, point, GoesLeft, GoesRight, HasCorner, IsFlatShape}
 use Rattle.primitives.specs.Prisms.{extrusion_of, is_same_point, prism_faces, prism_of, prism_points, side_over, sides_over}
-use Rattle.primitives.specs.Shapes.{corner, value_at, IsBehindFace, IsFacePlane, IsInside}
+use Rattle.primitives.specs.Shapes.{corner, value_at, IsBehindFace, IsPlaneOfFace, IsInside}
 use Rattle.primitives.specs.Sizes.{high_end, low_end, AreSizes}
 use Rattle.primitives.proofs.EndFaces.{ends_of_side}
 use Rattle.primitives.proofs.Moves.{whole}
@@ -22,10 +22,10 @@ use Rattle.primitives.proofs.PrismBodies.{prism_is_shape}
 use Rattle.primitives.proofs.PrismLists.{after_in, each_corner, high_corner, high_face, length_faces, length_points, low_corner, low_face, side_face}
 use Rattle.primitives.proofs.SidePlanes.{left_of_way, points_differ}
 use Rattle.scad_hull.proofs.Turns.{Bounds}
-use Rattle.shape_hulls.specs.OwnHulls.{IsHullOfItsPoints}
+use Rattle.shape_hulls.specs.OwnHulls.{AreAllCorners, IsCornerOf, IsHullOfItsPoints}
 use Rattle.shape_hulls.proofs.Axes.{less_by, most_by}
 use Rattle.shape_hulls.proofs.Frustums.{over_low, under_high}
-use Rattle.shape_hulls.proofs.Insides.{hull_by, none_ahead, AreCorners, IsCornerOf}
+use Rattle.shape_hulls.proofs.Insides.{hull_by, none_ahead}
 use Rattle.shape_hulls.proofs.Turns.{all_same, beside, left_of, level, no_corner, same_seen, seen_below_high, seen_below_low, seen_most, turn_back, turn_seen, IsBetween, IsRound}
 
 -- ---- lists
@@ -43,14 +43,14 @@ range_item : (a n i : ℕ) → i < n → get_or (range_with_len a n) i 0 ≡ a +
 range_item a n i lt = get_or-range_with_len a n i 0 lt
 
 -- what holds of all faces of a prism holds of the side over a way between two different points
-each_side : (P : List ℕ → Type 0) (points : List (List ℤ)) → All P (prism_faces points) → (i : ℕ) → i < length points → is_same_point (point points i) (point points (after (length points) i)) ≡ false → P (side_face (length points) i (after (length points) i))
+each_side : (P : List ℕ → Type 0) (points : List (List ℤ)) → All P (prism_faces points) → (i : ℕ) → i < length points → is_same_point (point points i) (point points (next_point (length points) i)) ≡ false → P (side_face (length points) i (next_point (length points) i))
 each_side P points h i lt apart =
     let n = length points in
     let sides : All P (sides_over points n) = first_part P (sides_over points n) (range_with_len 0 n ∷ range_with_len n n ∷ []) h in
     let over : All P (side_over points (get_or (range_with_len 0 n) i 0)) = All-from_recursion (λ (k : ℕ). All P (side_over points k)) (range_with_len 0 n) (each_part P (side_over points) (range_with_len 0 n) sides) i 0 (omega (arith, lt, length-range_with_len 0 n)) in
     let e : 0 + i ≡ i = omega arith in
     let here : All P (side_over points i) = subst (λ (k : ℕ). All P (side_over points k)) (range_item 0 n i lt ∙ e) over in
-    let single : All P (side_face n i (after n i) ∷ []) = subst (λ (b : Bool). All P (cond b [] (side_face n i (after n i) ∷ []))) apart here in
+    let single : All P (side_face n i (next_point n i) ∷ []) = subst (λ (b : Bool). All P (cond b [] (side_face n i (next_point n i) ∷ []))) apart here in
     single 0 [] (omega arith)
 
 -- and of both ends
@@ -61,7 +61,7 @@ high_end_of : (P : List ℕ → Type 0) (points : List (List ℤ)) → All P (pr
 high_end_of P points h = subst P (high_face points) (h (length (sides_over points (length points)) + 1) [] (omega (arith, length_faces points)))
 
 -- ---- corners
-prism_corners : (points : List (List ℤ)) (low high : ℤ) → AreCorners (prism_of points low high)
+prism_corners : (points : List (List ℤ)) (low high : ℤ) → AreAllCorners (prism_of points low high)
 prism_corners points low high i lt =
     let n = length points in
     each_corner (IsCornerOf (prism_faces points)) n
@@ -126,7 +126,7 @@ under points low high lt k q inside =
 
 -- ---- sides
 -- a point behind the side over points i and j is strictly to the left of a way along it on whose right no point is
-beside_way : (points : List (List ℤ)) (low high : ℤ) → low <ℤ high → HasCorner points → (q : Coordinates) (m : Coefficients) (face : List ℕ) → IsFacePlane (prism_of points low high) face m → value m q <ℤ pos 0 → (p r : List ℤ) → value m (whole (x_of p) (y_of p) low) ≡ pos 0 → value m (whole (x_of r) (y_of r) low) ≡ pos 0 → value m (whole (x_of p) (y_of p) high) ≡ pos 0 →
+beside_way : (points : List (List ℤ)) (low high : ℤ) → low <ℤ high → HasCorner points → (q : Coordinates) (m : Coefficients) (face : List ℕ) → IsPlaneOfFace (prism_of points low high) face m → value m q <ℤ pos 0 → (p r : List ℤ) → value m (whole (x_of p) (y_of p) low) ≡ pos 0 → value m (whole (x_of r) (y_of r) low) ≡ pos 0 → value m (whole (x_of p) (y_of p) high) ≡ pos 0 →
     (is_same_point p r ≡ false) → All (λ (s : List ℤ). pos 0 ≤ℤ orientation p r s) points → pos 0 <ℤ left_of (x_of p) (y_of p) (x_of r) (y_of r) q.x q.y q.w
 beside_way points low high lt k q m face is below p r first second third apart left =
     let far = left_of_way points p r k (points_differ p r apart) left in
@@ -172,25 +172,25 @@ seen_same points q i j e = let same = (same_point (point points i) (point points
 
 -- the same point, or a turn, from point i to the next
 abbrev IsTurned : ℤ → List (List ℤ) → Coordinates → ℕ → Type 0
-IsTurned k points q i = let j = after (length points) i in ((xs_from points q i ≡ xs_from points q j) × (ys_from points q i ≡ ys_from points q j)) ⊎ Turn k points q i j
+IsTurned k points q i = let j = next_point (length points) i in ((xs_from points q i ≡ xs_from points q j) × (ys_from points q i ≡ ys_from points q j)) ⊎ Turn k points q i j
 
-turned_by : (k : ℤ) (points : List (List ℤ)) (q : Coordinates) (i : ℕ) → (is_same_point (point points i) (point points (after (length points) i)) ≡ false → Turn k points q i (after (length points) i)) → (b : Bool) → is_same_point (point points i) (point points (after (length points) i)) ≡ b → IsTurned k points q i
-turned_by k points q i turn true e = inl (seen_same points q i (after (length points) i) e)
+turned_by : (k : ℤ) (points : List (List ℤ)) (q : Coordinates) (i : ℕ) → (is_same_point (point points i) (point points (next_point (length points) i)) ≡ false → Turn k points q i (next_point (length points) i)) → (b : Bool) → is_same_point (point points i) (point points (next_point (length points) i)) ≡ b → IsTurned k points q i
+turned_by k points q i turn true e = inl (seen_same points q i (next_point (length points) i) e)
 turned_by k points q i turn false e = inr (turn e)
 
-round_by : (k : ℤ) (points : List (List ℤ)) (q : Coordinates) → ((i : ℕ) → i < length points → is_same_point (point points i) (point points (after (length points) i)) ≡ false → Turn k points q i (after (length points) i)) → IsRound k (xs_from points q) (ys_from points q) (length points)
+round_by : (k : ℤ) (points : List (List ℤ)) (q : Coordinates) → ((i : ℕ) → i < length points → is_same_point (point points i) (point points (next_point (length points) i)) ≡ false → Turn k points q i (next_point (length points) i)) → IsRound k (xs_from points q) (ys_from points q) (length points)
 round_by k points q turn = record {
-  next = after (length points);
+  next = next_point (length points);
   inner = λ i lt. inner_case (length points) i lt (eqb (suc i) (length points)) refl;
   outer = λ i h. outer_case (length points) i h (eqb (suc i) (length points)) refl;
   within = λ i lt. after_in (length points) i lt;
-  turns = λ i lt. turned_by k points q i (turn i lt) (is_same_point (point points i) (point points (after (length points) i))) refl;
+  turns = λ i lt. turned_by k points q i (turn i lt) (is_same_point (point points i) (point points (next_point (length points) i))) refl;
 }
 
 left_round : (points : List (List ℤ)) (low high : ℤ) → low <ℤ high → HasCorner points → GoesLeft points → (q : Coordinates) → pos 0 <ℤ q.w → IsInside (prism_of points low high) q → IsRound (pos 1) (xs_from points q) (ys_from points q) (length points)
 left_round points low high lt k goes q hw inside =
     round_by (pos 1) points q (λ i li apart.
-    (let n = length points in let j = after n i in let lj = after_in n i li in
+    (let n = length points in let j = next_point n i in let lj = after_in n i li in
     let p = point points i in let r = point points j in
     let b = each_side (IsBehindFace (prism_of points low high) q) points inside i li apart in
     let m = b.plane in
@@ -201,7 +201,7 @@ left_round points low high lt k goes q hw inside =
 right_round : (points : List (List ℤ)) (low high : ℤ) → low <ℤ high → HasCorner points → GoesRight points → (q : Coordinates) → pos 0 <ℤ q.w → IsInside (prism_of points low high) q → IsRound (pos 0 -ℤ pos 1) (xs_from points q) (ys_from points q) (length points)
 right_round points low high lt k goes q hw inside =
     round_by (pos 0 -ℤ pos 1) points q (λ i li apart.
-    (let n = length points in let j = after n i in let lj = after_in n i li in
+    (let n = length points in let j = next_point n i in let lj = after_in n i li in
     let p = point points i in let r = point points j in
     let b = each_side (IsBehindFace (prism_of points low high) q) points inside i li apart in
     let m = b.plane in
@@ -241,7 +241,7 @@ no_round k points c q hw m r most s =
     (same_seen q.w (x_of p) (x_of t) q.x hw (sym first.0 ∙ second.0))
     (same_seen q.w (y_of p) (y_of t) q.y hw (sym first.1 ∙ second.1)))
 
-prism_apart : (points : List (List ℤ)) (low high : ℤ) → low <ℤ high → IsFlat points → (q : Coordinates) → pos 0 <ℤ q.w → IsInside (prism_of points low high) q → (m : Coefficients) → Bounds (corner (prism_points points low high)) (length (prism_points points low high)) q m → ⊥
+prism_apart : (points : List (List ℤ)) (low high : ℤ) → low <ℤ high → IsFlatShape points → (q : Coordinates) → pos 0 <ℤ q.w → IsInside (prism_of points low high) q → (m : Coefficients) → Bounds (corner (prism_points points low high)) (length (prism_points points low high)) q m → ⊥
 prism_apart points low high lt h q hw inside m b =
     let c = h.convex.corner in
     let z : IsBetween m.a m.b m.c m.d low high q.x q.y q.z q.w = record { apart = lt; low = over points low high lt c q inside; high = under points low high lt c q inside; at = b.at } in
@@ -252,7 +252,7 @@ prism_apart points low high lt h q hw inside m b =
       | inr goes ↦ no_round (pos 0 -ℤ pos 1) points c q hw m (right_round points low high lt c goes q hw inside) most s
     ]
 
-pub extrusion_is_hull : (unit : LengthUnit) (center : Bool) (points : List (List ℤ)) (height : ℤ) → IsFlat points → AreSizes unit center (height ∷ []) → IsHullOfItsPoints (extrusion_of unit center points height)
+pub extrusion_is_hull : (unit : LengthUnit) (center : Bool) (points : List (List ℤ)) (height : ℤ) → IsFlatShape points → AreSizes unit center (height ∷ []) → IsHullOfItsPoints (extrusion_of unit center points height)
 extrusion_is_hull unit center points height h s =
     let ends = ends_of_side unit center height (s.long 0 (pos 0) (omega arith)) (s.safe 0 (pos 0) (omega arith)) in
     let low = low_end unit center height in let high = high_end unit center height in

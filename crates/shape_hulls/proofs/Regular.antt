@@ -7,7 +7,7 @@ use Rattle.int_transform.specs.declared.affine.Affine.{Affine}
 use Rattle.int_transform.specs.Maps.{determinant_of, image}
 use Rattle.int_transform.proofs.Images.{imageP, of_map}
 use Rattle.primitives.specs.Placing.{moved_mesh}
-use Rattle.primitives.specs.Shapes.{Mesh, corner, IsFace, IsShape}
+use Rattle.primitives.specs.Shapes.{Mesh, corner, IsFaceOfShape, IsShape}
 use Rattle.primitives.proofs.Moves.{throughP, whole, wholeP}
 use Rattle.primitives.proofs.OnePlane.{not_zero_below, off_the_plane}
 use Rattle.primitives.proofs.Transforms.{corner-moved_mesh}
@@ -21,7 +21,7 @@ volume_moved f a b c d e g h i j x y z =
     (valueP (throughP (imageP X Y Z P) (imageP X Y Z Q) (imageP X Y Z R)) (imageP X Y Z S))
     (times (determinantP X.a X.b X.c Y.a Y.b Y.c Z.a Z.b Z.c) (valueP (throughP P Q R) S)) refl
 
-pub regular_by : (mesh : Mesh) (f : Affine) → IsShape mesh → All (IsFace (moved_mesh f mesh)) mesh.faces → determinant_of f ≡ pos 0 → ⊥
+pub regular_by : (mesh : Mesh) (f : Affine) → IsShape mesh → All (IsFaceOfShape (moved_mesh f mesh)) mesh.faces → determinant_of f ≡ pos 0 → ⊥
 regular_by mesh f shape solid none =
     let points = mesh.points in
     let images = (moved_mesh f mesh).points in

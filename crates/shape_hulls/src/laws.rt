@@ -1,13 +1,14 @@
 //! Laws of shapes as the hulls of their points. They are proved, and do nothing when they run.
 
-ghost use Rattle.std.specs.Prelude.{◌↔◌, ℤ, ◌<ℤ◌, pos, Bool, List, [], ◌∷◌, All};
+ghost use Rattle.std.specs.Prelude.{◌↔◌, ℕ, ℤ, ◌<ℤ◌, pos, Bool, List, [], ◌∷◌, All};
 ghost use Rattle.plane_predicate.specs.declared.unit.Unit.{Unit as LengthUnit};
 ghost use Rattle.plane_predicate.specs.Space.{Coefficients, Coordinates, point_at, IsInReach};
 ghost use Rattle.int_transform.specs.declared.affine.Affine.{Affine};
 ghost use Rattle.int_transform.specs.Maps.{image};
 ghost use Rattle.primitives.specs.Boxes.{cube_of};
 ghost use Rattle.primitives.specs.Placing.{moved_mesh, IsBehindAll};
-ghost use Rattle.primitives.specs.Polygons.{IsFlat};
+ghost use Rattle.primitives.specs.Polygons.{IsFlatShape};
+ghost use Rattle.primitives.specs.Polyhedra.{mesh_of, IsPolyhedron};
 ghost use Rattle.primitives.specs.Prisms.{extrusion_of};
 ghost use Rattle.primitives.specs.Shapes.{Mesh, IsInside};
 ghost use Rattle.primitives.specs.Sizes.{AreSizes};
@@ -15,7 +16,7 @@ ghost use Rattle.round_four.specs.Cylinders.{cylinder_of, AreCylinderSizes};
 ghost use Rattle.scad_hull.specs.Combinations.{IsInnerCombination};
 ghost use Rattle.scad_hull.specs.Hulls.{hull_of};
 ghost use Rattle.scad_hull.specs.Refusals.{HaveHull};
-ghost use Rattle.shape_hulls.specs.OwnHulls.{ArePlacedPlanes, IsHullOfItsPoints};
+ghost use Rattle.shape_hulls.specs.OwnHulls.{face_points, AreAllCorners, ArePlacedPlanes, IsHullOfItsFaces, IsHullOfItsPoints};
 
 /// A cube is the hull of its corners.
 pub fn cubes_are_hulls_of_their_points()
@@ -34,13 +35,24 @@ pub fn cylinders_are_hulls_of_their_points()
 /// An extruded convex polygon is the hull of its points: those of the polygon at both heights.
 pub fn extrusions_are_hulls_of_their_points()
     ensures { (unit : LengthUnit) (center : Bool) (points : List (List ℤ)) (height : ℤ) →
-        IsFlat points → AreSizes unit center (height ∷ []) →
+        IsFlatShape points → AreSizes unit center (height ∷ []) →
         IsHullOfItsPoints (extrusion_of unit center points height) }
 {}
 
 /// What `hull` makes of points that have a hull is the hull of its points.
 pub fn hulls_are_hulls_of_their_points()
     ensures { (given : List (List ℤ)) → HaveHull given → IsHullOfItsPoints (hull_of given) }
+{}
+
+/// A polyhedron is the hull of its faces' points: a point is strictly behind all of its faces
+/// exactly where it is a combination of these points with weights above 0. Where each point is a
+/// corner of a face, it is the hull of its points.
+pub fn polyhedra_are_hulls_of_their_faces()
+    ensures faces { (unit : LengthUnit) (points : List (List ℤ)) (faces : List (List ℕ)) →
+        IsPolyhedron unit points faces → IsHullOfItsFaces (mesh_of unit points faces) }
+    ensures points { (unit : LengthUnit) (points : List (List ℤ)) (faces : List (List ℕ)) →
+        IsPolyhedron unit points faces → AreAllCorners (mesh_of unit points faces) →
+        IsHullOfItsPoints (mesh_of unit points faces) }
 {}
 
 /// A point is inside a shape exactly where its image is strictly behind all planes of the placed
@@ -64,6 +76,22 @@ pub fn placed_shapes_are_hulls_of_their_points()
         IsBehindAll planes q ↔ IsInnerCombination (moved_mesh f mesh).points q }
     ensures reach { (mesh : Mesh) (f : Affine) (planes : List Coefficients) →
         ArePlacedPlanes mesh f planes → IsHullOfItsPoints mesh →
+        All (λ p. IsInReach (point_at p)) (moved_mesh f mesh).points →
+        (q : Coordinates) → pos 0 <ℤ q.w → IsBehindAll planes q → IsInReach q }
+{}
+
+/// The same of a shape that is the hull of its faces' points, as a polyhedron is, whatever other
+/// points it lists.
+pub fn placed_shapes_are_hulls_of_their_faces()
+    ensures hull { (mesh : Mesh) (f : Affine) (planes : List Coefficients) →
+        ArePlacedPlanes mesh f planes → IsHullOfItsFaces mesh →
+        IsHullOfItsFaces (moved_mesh f mesh) }
+    ensures behind { (mesh : Mesh) (f : Affine) (planes : List Coefficients) →
+        ArePlacedPlanes mesh f planes → IsHullOfItsFaces mesh →
+        (q : Coordinates) → pos 0 <ℤ q.w →
+        IsBehindAll planes q ↔ IsInnerCombination (face_points (moved_mesh f mesh)) q }
+    ensures reach { (mesh : Mesh) (f : Affine) (planes : List Coefficients) →
+        ArePlacedPlanes mesh f planes → IsHullOfItsFaces mesh →
         All (λ p. IsInReach (point_at p)) (moved_mesh f mesh).points →
         (q : Coordinates) → pos 0 <ℤ q.w → IsBehindAll planes q → IsInReach q }
 {}

@@ -3,8 +3,8 @@ use Rattle.std.proofs.Common.{◌≡◌, ◌≢◌, ℕ, zero, suc, ◌+◌, Boo
 use Rattle.std.specs.Prelude.{slice_get}
 use Rattle.std.specs.Option.{option_map_or}
 use Rattle.std.proofs.lemmas.Option.{none-some, same_Some}
-use Rattle.memo_core.specs.Views.{Core}
-use Rattle.share_core.specs.Views.{Part, Tasks, Machine}
+use Rattle.memo_core.specs.Views.{MemoView}
+use Rattle.share_core.specs.Views.{Part, ClientTasks, Machine}
 use Rattle.share_core.specs.Fields.{IsSoundPart, AreSoundParts, nobody}
 use Rattle.share_core.specs.Steps.{Answers, Steps, Changes, is_possible, can_do}
 use Rattle.share_core.specs.declared.event.Event.{Event}
@@ -32,7 +32,7 @@ module _ {A : Type 0} where
   get_set_same (z ∷ zs) zero x y e = refl
   get_set_same (z ∷ zs) (suc i) x y e = get_set_same zs i x y e
 
-module _ {K V R : Type 0} (fits : K → V → Type 0) (weighs : V → ℕ) (tasks : Tasks K V R) where
+module _ {K V R : Type 0} (fits : K → V → Type 0) (weighs : V → ℕ) (tasks : ClientTasks K V R) where
   moved : (n m : ℕ) (p : Part V R) → n ≡ m → IsSoundPart fits weighs tasks n p → IsSoundPart fits weighs tasks m p
   moved n m p e s = subst (λ k. IsSoundPart fits weighs tasks k p) e s
 
@@ -60,15 +60,15 @@ module _ {K V R : Type 0} (fits : K → V → Type 0) (weighs : V → ℕ) (task
   nobodies_sound (suc n) k = (record { answered = tt; within = omega arith; command = tt; count = tt; sound = tt }, nobodies_sound n (k + 1))
 
 module _ {K V R : Type 0} where
-  machine_is : (m n : Core K V) (ps qs : List (Part V R)) → m ≡ n → ps ≡ qs → ◌≡◌ {A = Machine K V R} (record { memo = m; parts = ps }) (record { memo = n; parts = qs })
-  machine_is m n ps qs p q = ap (λ (x : Core K V). record { memo = x; parts = ps }) p ∙ ap (λ (x : List (Part V R)). record { memo = n; parts = x }) q
+  machine_is : (m n : MemoView K V) (ps qs : List (Part V R)) → m ≡ n → ps ≡ qs → ◌≡◌ {A = Machine K V R} (record { memo = m; parts = ps }) (record { memo = n; parts = qs })
+  machine_is m n ps qs p q = ap (λ (x : MemoView K V). record { memo = x; parts = ps }) p ∙ ap (λ (x : List (Part V R)). record { memo = n; parts = x }) q
 
   -- where a client's part and the memo stay, the machine stays
-  pub machine_stays : (m n : Core K V) (ps : List (Part V R)) (i : ℕ) (p q : Part V R) → slice_get ps i ≡ Some p → n ≡ m → q ≡ p → ◌≡◌ {A = Machine K V R} (record { memo = n; parts = set ps i q }) (record { memo = m; parts = ps })
+  pub machine_stays : (m n : MemoView K V) (ps : List (Part V R)) (i : ℕ) (p q : Part V R) → slice_get ps i ≡ Some p → n ≡ m → q ≡ p → ◌≡◌ {A = Machine K V R} (record { memo = n; parts = set ps i q }) (record { memo = m; parts = ps })
   machine_stays m n ps i p q at e f = machine_is n m (set ps i q) ps e (ap (set ps i) f ∙ set_same ps i p at)
 
   -- what a client's act answers is what the event does to the machine
-  pub lifted : (same : K → K → Bool) (name_of : K → List ℕ) (fits : K → V → Type 0) (weighs : V → ℕ) (tasks : Tasks K V R) (event : Event) (m n : Core K V) (ps : List (Part V R)) (p q : Part V R) (s : Stepped)
+  pub lifted : (same : K → K → Bool) (name_of : K → List ℕ) (fits : K → V → Type 0) (weighs : V → ℕ) (tasks : ClientTasks K V R) (event : Event) (m n : MemoView K V) (ps : List (Part V R)) (p q : Part V R) (s : Stepped)
       → slice_get ps event.client ≡ Some p
       → Answers (can_do tasks event.client event.act p) (Changes same name_of fits weighs tasks event.client event.act m p n q) ((n ≡ m) × (q ≡ p)) s
       → Answers (is_possible tasks (record { memo = m; parts = ps }) event) (Steps same name_of fits weighs tasks (record { memo = m; parts = ps }) event (record { memo = n; parts = set ps event.client q })) (◌≡◌ {A = Machine K V R} (record { memo = n; parts = set ps event.client q }) (record { memo = m; parts = ps })) s

@@ -3,7 +3,7 @@ use Rattle.std.proofs.Common.{◌≡◌, ℕ, zero, suc, ◌+◌, ◌<◌, Bool,
 use Rattle.std.specs.Prelude.{Option, slice_get}
 use Rattle.std.proofs.lemmas.Option.{none-some, same_Some, slice_get_within}
 use Rattle.std.specs.Option.{option_map_or}
-use Rattle.share_core.specs.Views.{Node, Unasked, Missed, Built, There, Tasks, HaveFits, AllThere, MoreThere}
+use Rattle.share_core.specs.Views.{Node, Unasked, Missed, Built, There, ClientTasks, HaveFits, AllThere, MoreThere}
 use Rattle.share_core.specs.Fields.{value_of, have, IsSoundNode, AreSoundNodes}
 use Rattle.share_core.specs.Steps.{all_there, is_at, is_missed, is_unasked}
 
@@ -68,7 +68,7 @@ module _ {V : Type 0} where
     go None e h = absurd (never h)
     go (Some x) e h = slice_get_within xs n x e
 
-module _ {K V R : Type 0} (fits : K → V → Type 0) (weighs : V → ℕ) (tasks : Tasks K V R) (client : ℕ) where
+module _ {K V R : Type 0} (fits : K → V → Type 0) (weighs : V → ℕ) (tasks : ClientTasks K V R) (client : ℕ) where
   -- the values that are there fit
   pub have_fits : (command : ℕ) (values : List (Option V)) (n : ℕ) (xs : List (Node V)) → AreSoundNodes fits weighs tasks client command values n xs → HaveFits fits (tasks.key client command) n (have xs)
   have_fits command values n [] s = tt

@@ -1,14 +1,14 @@
 -- Runs of two clients that are written out: each has one command of one node, and both nodes have one key.
 use Rattle.std.proofs.Common.{◌≡◌, ℕ, true, false, List, [], ◌∷◌, drop, Option, Some, None, refl, inl, inr, nat_eq, nat_lt, if◌then◌else◌}
 use Rattle.memo_core.specs.Memo.{Entry, Item, item, Probe_answer, Fill_answer}
-use Rattle.share_core.specs.Views.{Node, Unasked, Missed, Built, There, Part, Tasks, Machine}
+use Rattle.share_core.specs.Views.{Node, Unasked, Missed, Built, There, Part, ClientTasks, Machine}
 use Rattle.share_core.specs.Steps.{is_possible, Steps, first_machine}
 use Rattle.share_core.specs.Runs.{Runs}
 use Rattle.share_core.specs.declared.event.Act.{Act}
 use Rattle.share_core.specs.declared.event.Act.TheVariants.{Command, Probe, Build, Fill, Reply}
 use Rattle.share_core.specs.declared.event.Event.{Event}
 
-abbrev tasks : Tasks ℕ ℕ ℕ
+abbrev tasks : ClientTasks ℕ ℕ ℕ
 tasks = record {
   commands = λ client. if nat_lt client 2 then 1 else 0;
   nodes = λ client command. 1;

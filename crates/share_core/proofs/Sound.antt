@@ -4,7 +4,7 @@ use Rattle.std.specs.Prelude.{Option, IfSome, slice_get}
 use Rattle.std.proofs.lemmas.Option.{none-some, same_Some, slice_get_within}
 use Rattle.std.specs.Option.{option_map_or}
 use Rattle.std.proofs.lemmas.List.{length-append, length-set, length-replicate}
-use Rattle.share_core.specs.Views.{Node, Unasked, Missed, Built, There, Part, Tasks, MoreThere}
+use Rattle.share_core.specs.Views.{Node, Unasked, Missed, Built, There, Part, ClientTasks, MoreThere}
 use Rattle.share_core.specs.Fields.{value_of, have, IsSoundNode, AreSoundNodes, IsSoundPart, AreRepliesFrom}
 use Rattle.share_core.specs.Steps.{all_there, key_at, node_at, with_node, part_at_command, part_after_reply, can_do, is_at, is_unasked, is_missed}
 use Rattle.share_core.specs.declared.event.Act.TheVariants.{Probe, Build, Reply}
@@ -23,7 +23,7 @@ module _ {V R : Type 0} where
     go None e = tt
     go (Some xs) e = slice_get_within xs n x (same_Some _ _ e)
 
-module _ {K V R : Type 0} (fits : K → V → Type 0) (weighs : V → ℕ) (tasks : Tasks K V R) (client : ℕ) (part : Part V R) (s : IsSoundPart fits weighs tasks client part) where
+module _ {K V R : Type 0} (fits : K → V → Type 0) (weighs : V → ℕ) (tasks : ClientTasks K V R) (client : ℕ) (part : Part V R) (s : IsSoundPart fits weighs tasks client part) where
   -- the nodes of the command that a client is at
   pub nodes_in : (xs : List (Node V)) → part.nodes ≡ Some xs → AreSoundNodes fits weighs tasks client (length part.replies) (have xs) 0 xs
   nodes_in xs e = subst (λ o. IfSome o (λ ys. AreSoundNodes fits weighs tasks client (length part.replies) (have ys) 0 ys)) e s.sound

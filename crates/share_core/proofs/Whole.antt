@@ -6,11 +6,11 @@ use Rattle.std.proofs.lemmas.Option.{none-some, same_Some}
 use Rattle.std.proofs.lemmas.List.{map-append, append-nil, append_assoc, length-append}
 use Rattle.std.proofs.lemmas.Bool.Decides.{nat_tests}
 use Rattle.memo_core.specs.Memo.{Fill_answer, Entry, holds, entries_after_offer, fill_answer}
-use Rattle.memo_core.specs.Views.{Core, mark_in, new_entry}
-use Rattle.share_core.specs.Views.{Part, Tasks, Machine}
+use Rattle.memo_core.specs.Views.{MemoView, mark_in, new_entry}
+use Rattle.share_core.specs.Views.{Part, ClientTasks, Machine}
 use Rattle.share_core.specs.Fields.{AreRepliesFrom, nobody}
 use Rattle.share_core.specs.Steps.{Answers, Steps, Changes, is_possible, key_at, first_machine}
-use Rattle.share_core.specs.Runs.{Runs, Leaves, call_of, calls_of, call_by, calls_after, replies_in, reply_of, fills}
+use Rattle.share_core.specs.Runs.{Runs, Leaves, call_of, calls_of, call_by, calls_after, replies_in, reply_count_of, fills}
 use Rattle.share_core.specs.declared.event.Act.{Act}
 use Rattle.share_core.specs.declared.event.Act.TheVariants.{Command, Probe, Build, Fill, Reply}
 use Rattle.share_core.specs.declared.event.Event.{Event}
@@ -20,11 +20,11 @@ use Rattle.share_core.proofs.Sound.{replies_more}
 use Rattle.share_core.proofs.Clients.{get_set_same, get_set_other}
 
 -- one event more
-pub replies_in_more : (client : ℕ) (ts : List Event) (e : Event) → replies_in client (ts ++ e ∷ []) ≡ replies_in client ts + (if nat_eq e.client client then reply_of e.act else 0)
+pub replies_in_more : (client : ℕ) (ts : List Event) (e : Event) → replies_in client (ts ++ e ∷ []) ≡ replies_in client ts + (if nat_eq e.client client then reply_count_of e.act else 0)
 replies_in_more client [] e = omega arith
 replies_in_more client (t ∷ ts) e = let h = replies_in_more client ts e in omega (arith, h)
 
-module _ {K V R : Type 0} (tasks : Tasks K V R) where
+module _ {K V R : Type 0} (tasks : ClientTasks K V R) where
   pub calls_more : (before ts : List Event) (e : Event) → calls_after tasks before (ts ++ e ∷ []) ≡ calls_after tasks before ts ++ call_by tasks e.client (replies_in e.client (before ++ ts)) e.act
   calls_more before [] e = append-nil _ ∙ ap (λ xs. call_by tasks e.client (replies_in e.client xs) e.act) (sym (append-nil before))
   calls_more before (t ∷ ts) e =
@@ -40,9 +40,9 @@ fill_fills {K} {V} same budget share new es = go (entries_after_offer same mark_
   go None = refl
   go (Some kept) = refl
 
-module _ {K V R : Type 0} (same : K → K → Bool) (name_of : K → List ℕ) (fits : K → V → Type 0) (weighs : V → ℕ) (tasks : Tasks K V R) where
+module _ {K V R : Type 0} (same : K → K → Bool) (name_of : K → List ℕ) (fits : K → V → Type 0) (weighs : V → ℕ) (tasks : ClientTasks K V R) where
   -- the calls that an act makes
-  pub act_calls : (client : ℕ) (act : Act) (m : Core K V) (p : Part V R) (n : Core K V) (q : Part V R) → Changes same name_of fits weighs tasks client act m p n q
+  pub act_calls : (client : ℕ) (act : Act) (m : MemoView K V) (p : Part V R) (n : MemoView K V) (q : Part V R) → Changes same name_of fits weighs tasks client act m p n q
       → calls_of n.journal ≡ calls_of m.journal ++ call_by tasks client (length p.replies) act
   act_calls client Command m p n q c = ap (λ x. calls_of x.journal) c.0 ∙ sym (append-nil _)
   act_calls client (Probe k) m p n q c = ap (λ x. calls_of x.journal) c.0 ∙ map-append call_of m.journal _
@@ -54,8 +54,8 @@ module _ {K V R : Type 0} (same : K → K → Bool) (name_of : K → List ℕ) (
   act_calls client Reply m p n q c = ap (λ x. calls_of x.journal) c.0 ∙ sym (append-nil _)
 
   -- the replies that an act gives
-  pub act_replies : (client : ℕ) (act : Act) (m : Core K V) (p : Part V R) (n : Core K V) (q : Part V R) → Changes same name_of fits weighs tasks client act m p n q
-      → (length q.replies ≡ length p.replies + reply_of act) × (AreRepliesFrom (tasks.reply client) 0 p.replies → AreRepliesFrom (tasks.reply client) 0 q.replies)
+  pub act_replies : (client : ℕ) (act : Act) (m : MemoView K V) (p : Part V R) (n : MemoView K V) (q : Part V R) → Changes same name_of fits weighs tasks client act m p n q
+      → (length q.replies ≡ length p.replies + reply_count_of act) × (AreRepliesFrom (tasks.reply client) 0 p.replies → AreRepliesFrom (tasks.reply client) 0 q.replies)
   act_replies client Command m p n q c = stayed (ap (λ x. x.replies) c.1) where
     stayed : q.replies ≡ p.replies → (length q.replies ≡ length p.replies + 0) × (AreRepliesFrom (tasks.reply client) 0 p.replies → AreRepliesFrom (tasks.reply client) 0 q.replies)
     stayed e = let l = ap length e in (omega (arith, l), λ a. subst (AreRepliesFrom (tasks.reply client) 0) (sym e) a)
@@ -92,7 +92,7 @@ module _ {K V R : Type 0} (same : K → K → Bool) (name_of : K → List ℕ) (
   passed_more m (x ∷ xs) ts n e n' (inr r) p s = inr (r.0, (r.1.0, r.1.1, r.1.2, r.1.3, passed_more r.1.0 xs r.1.1 n e n' r.1.4 p s))
 
   -- no act changes the budget or the share
-  pub act_limits : (client : ℕ) (act : Act) (m : Core K V) (p : Part V R) (n : Core K V) (q : Part V R) → Changes same name_of fits weighs tasks client act m p n q
+  pub act_limits : (client : ℕ) (act : Act) (m : MemoView K V) (p : Part V R) (n : MemoView K V) (q : Part V R) → Changes same name_of fits weighs tasks client act m p n q
       → (n.budget ≡ m.budget) × (n.share ≡ m.share)
   act_limits client Command m p n q c = (ap (λ x. x.budget) c.0, ap (λ x. x.share) c.0)
   act_limits client (Probe k) m p n q c = (ap (λ x. x.budget) c.0, ap (λ x. x.share) c.0)
@@ -151,10 +151,10 @@ module _ {K V R : Type 0} (same : K → K → Bool) (name_of : K → List ℕ) (
         counts client part true b h =
             let k : e.client ≡ client = grind (arith, nat_tests) in
             ap (λ x. length x.replies) (here client part k h) ∙ (act_replies e.client e.act m.memo s.0 n.memo s.1 s.3).0
-            ∙ ap (λ j. j + reply_of e.act) (l.count e.client s.0 s.2 ∙ ap (λ i. replies_in i ts) k)
-            ∙ sym (replies_in_more client ts e ∙ ap (λ t. replies_in client ts + (if t then reply_of e.act else 0)) b)
+            ∙ ap (λ j. j + reply_count_of e.act) (l.count e.client s.0 s.2 ∙ ap (λ i. replies_in i ts) k)
+            ∙ sym (replies_in_more client ts e ∙ ap (λ t. replies_in client ts + (if t then reply_count_of e.act else 0)) b)
         counts client part false b h =
-            let more = replies_in_more client ts e ∙ ap (λ t. replies_in client ts + (if t then reply_of e.act else 0)) b in
+            let more = replies_in_more client ts e ∙ ap (λ t. replies_in client ts + (if t then reply_count_of e.act else 0)) b in
             let old = l.count client part (there client part (other client b) h) in
             omega (arith, more, old)
 

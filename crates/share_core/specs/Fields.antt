@@ -1,7 +1,7 @@
 -- How the fields of a world stand for what contracts see, and what each part keeps.
 use Rattle.std.specs.Prelude.{◌≡◌, ℕ, ◌+◌, ◌<◌, ◌≤◌, true, List, [], ◌∷◌, map, length, Option, Some, None, IfSome}
-use Rattle.memo_core.specs.Views.{Core}
-use Rattle.share_core.specs.Views.{Node, Unasked, Missed, Built, There, Part, Tasks, Machine, settled_memo}
+use Rattle.memo_core.specs.Views.{MemoView}
+use Rattle.share_core.specs.Views.{Node, Unasked, Missed, Built, There, Part, ClientTasks, Machine, settled_memo}
 use Rattle.share_core.specs.declared.parts.ClientPart.{ClientPart}
 
 module _ {V : Type 0} where
@@ -31,7 +31,7 @@ module _ {R : Type 0} where
   AreRepliesFrom reply n [] = Unit {0}
   AreRepliesFrom reply n (r ∷ rs) = (r ≡ reply n) × AreRepliesFrom reply (n + 1) rs
 
-module _ {K V R : Type 0} (fits : K → V → Type 0) (weighs : V → ℕ) (tasks : Tasks K V R) (client : ℕ) where
+module _ {K V R : Type 0} (fits : K → V → Type 0) (weighs : V → ℕ) (tasks : ClientTasks K V R) (client : ℕ) where
   -- a missed node is ready; a value fits its node's key, and weighs its weight
   abbrev pub IsSoundNode : ℕ → List (Option V) → ℕ → Node V → Type 0
   IsSoundNode command values n Unasked = Unit {0}
@@ -52,7 +52,7 @@ module _ {K V R : Type 0} (fits : K → V → Type 0) (weighs : V → ℕ) (task
     pub count : IfSome part.nodes (λ xs. length xs ≡ tasks.nodes client (length part.replies))
     pub sound : IfSome part.nodes (λ xs. AreSoundNodes (length part.replies) (have xs) 0 xs)
 
-module _ {K V R : Type 0} (fits : K → V → Type 0) (weighs : V → ℕ) (tasks : Tasks K V R) where
+module _ {K V R : Type 0} (fits : K → V → Type 0) (weighs : V → ℕ) (tasks : ClientTasks K V R) where
   -- what the parts of the clients from the n-th on keep
   abbrev pub AreSoundParts : ℕ → List (Part V R) → Type 0
   AreSoundParts n [] = Unit {0}
@@ -60,5 +60,5 @@ module _ {K V R : Type 0} (fits : K → V → Type 0) (weighs : V → ℕ) (task
 
 module _ {K V R : Type 0} where
   -- the machine that a memo and the clients' parts stand for
-  abbrev pub machine_of : Core K V → List (ClientPart V R) → Machine K V R
+  abbrev pub machine_of : MemoView K V → List (ClientPart V R) → Machine K V R
   machine_of memo parts = record { memo = settled_memo memo; parts = map part_of parts }

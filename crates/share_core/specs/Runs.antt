@@ -1,7 +1,7 @@
 -- Whole runs: every list of events.
 use Rattle.std.specs.Prelude.{◌≡◌, ℕ, ◌+◌, ◌<◌, ◌≤◌, take, Bool, true, false, List, [], ◌∷◌, ◌++◌, map, length, ◌⊎◌, nat_eq, if◌then◌else◌, slice_get, Some}
 use Rattle.memo_core.specs.Memo.{Item, Answer, Probe_answer, Fill_answer}
-use Rattle.share_core.specs.Views.{Tasks, Machine, Part}
+use Rattle.share_core.specs.Views.{ClientTasks, Machine, Part}
 use Rattle.share_core.specs.Fields.{AreRepliesFrom}
 use Rattle.share_core.specs.Steps.{is_possible, Steps}
 use Rattle.share_core.specs.declared.event.Act.{Act}
@@ -9,7 +9,7 @@ use Rattle.share_core.specs.declared.event.Act.TheVariants.{Command, Probe, Buil
 use Rattle.share_core.specs.declared.event.Event.{Event}
 
 module _ {K V R : Type 0} (same : K → K → Bool) (name_of : K → List ℕ) (fits : K → V → Type 0) (weighs : V → ℕ)
-    (tasks : Tasks K V R) where
+    (tasks : ClientTasks K V R) where
   -- One machine is the other after a list of events, of which these were taken, in their order; an event
   -- that is not possible changes nothing, and the next one follows.
   abbrev pub Runs : Machine K V R → List Event → List Event → Machine K V R → Type 0
@@ -21,17 +21,17 @@ module _ {K V R : Type 0} (same : K → K → Bool) (name_of : K → List ℕ) (
       × (taken ≡ e ∷ rest) × Runs next es rest machine'))
 
 -- how many replies an act gives
-abbrev pub reply_of : Act → ℕ
-reply_of Command = 0
-reply_of (Probe n) = 0
-reply_of (Build n) = 0
-reply_of (Fill n) = 0
-reply_of Reply = 1
+abbrev pub reply_count_of : Act → ℕ
+reply_count_of Command = 0
+reply_count_of (Probe n) = 0
+reply_count_of (Build n) = 0
+reply_count_of (Fill n) = 0
+reply_count_of Reply = 1
 
 -- how many replies of a client are among these events
 abbrev pub replies_in : ℕ → List Event → ℕ
 replies_in client [] = 0
-replies_in client (e ∷ es) = (if nat_eq e.client client then reply_of e.act else 0) + replies_in client es
+replies_in client (e ∷ es) = (if nat_eq e.client client then reply_count_of e.act else 0) + replies_in client es
 
 -- a call on the memo: whose it was, of which key, and whether it was a fill
 pub record MemoCall (K : Type 0) : Type 0 where
@@ -51,7 +51,7 @@ module _ {K : Type 0} where
   abbrev pub calls_of : List (Item K) → List (MemoCall K)
   calls_of items = map call_of items
 
-module _ {K V R : Type 0} (tasks : Tasks K V R) where
+module _ {K V R : Type 0} (tasks : ClientTasks K V R) where
   -- the call that an act makes, if it makes one, of a client that has answered so many commands
   abbrev pub call_by : ℕ → ℕ → Act → List (MemoCall K)
   call_by client command Command = []
@@ -78,7 +78,7 @@ module _ {K V R : Type 0} (tasks : Tasks K V R) where
 module _ {K V R : Type 0} where
   -- two works agree on a client's commands where each command that both have has the same reply; that its
   -- nodes and keys are the same ones is not even asked
-  abbrev pub AgreeOn : Tasks K V R → Tasks K V R → ℕ → Type 0
+  abbrev pub AgreeOn : ClientTasks K V R → ClientTasks K V R → ℕ → Type 0
   AgreeOn tasks others client =
       (command : ℕ) → command < tasks.commands client → command < others.commands client →
       tasks.reply client command ≡ others.reply client command

@@ -2,8 +2,8 @@
 use Rattle.std.specs.Prelude.{◌≡◌, ℕ, Bool, true, false, ◌&&◌, nat_lt, List, [], ◌∷◌, ◌++◌, length, replicate, slice_get, slice_set, Option, Some, None, is_none, option_map}
 use Rattle.std.specs.Option.{option_map_or}
 use Rattle.memo_core.specs.Memo.{first_with, has_key}
-use Rattle.memo_core.specs.Views.{Core, mark_in, after_probe, after_fill}
-use Rattle.share_core.specs.Views.{Node, Unasked, Missed, Built, There, Part, Tasks, Machine}
+use Rattle.memo_core.specs.Views.{MemoView, mark_in, after_probe, after_fill}
+use Rattle.share_core.specs.Views.{Node, Unasked, Missed, Built, There, Part, ClientTasks, Machine}
 use Rattle.share_core.specs.Fields.{have, nobody}
 use Rattle.share_core.specs.declared.event.Act.{Act}
 use Rattle.share_core.specs.declared.event.Act.TheVariants.{Command, Probe, Build, Fill, Reply}
@@ -50,7 +50,7 @@ module _ {V R : Type 0} where
   abbrev pub with_node : ℕ → Node V → Part V R → Part V R
   with_node n node part = record { nodes = option_map (λ xs. slice_set xs n node) part.nodes; replies = part.replies }
 
-module _ {K V R : Type 0} (tasks : Tasks K V R) (client : ℕ) where
+module _ {K V R : Type 0} (tasks : ClientTasks K V R) (client : ℕ) where
   -- Whether a client can do this. Command: it is between commands and has one left. Probe: the node is
   -- ready and not yet probed. Build: it was missed. Fill: it was built. Reply: all nodes of the command
   -- that it is at are there.
@@ -68,10 +68,10 @@ module _ {K V R : Type 0} (tasks : Tasks K V R) (client : ℕ) where
 
 module _ {K V : Type 0} (same : K → K → Bool) where
   -- a node that was probed: there with the value that is held for this key, or missed
-  abbrev pub node_after_probe : K → Core K V → Node V
+  abbrev pub node_after_probe : K → MemoView K V → Node V
   node_after_probe key memo = option_map_or (λ e. There e.value) (first_with (has_key same mark_in key) memo.entries) Missed
 
-module _ {K V R : Type 0} (tasks : Tasks K V R) (client : ℕ) where
+module _ {K V R : Type 0} (tasks : ClientTasks K V R) (client : ℕ) where
   -- the part of a client that came to its next command: no node is probed yet
   abbrev pub part_at_command : Part V R → Part V R
   part_at_command part = record {
@@ -89,11 +89,11 @@ module _ {V R : Type 0} where
   node_at n part = option_map (λ xs. slice_get xs n) part.nodes
 
 module _ {K V R : Type 0} (same : K → K → Bool) (name_of : K → List ℕ) (fits : K → V → Type 0) (weighs : V → ℕ)
-    (tasks : Tasks K V R) (client : ℕ) where
+    (tasks : ClientTasks K V R) (client : ℕ) where
   -- What an act changes: the memo and the client's part before, and both after. Probe and Fill are the
   -- steps of the memo. Build gives some value that fits the key, and what it weighs. Fill makes its node
   -- there, whether the fill was kept or not.
-  abbrev pub Changes : Act → Core K V → Part V R → Core K V → Part V R → Type 0
+  abbrev pub Changes : Act → MemoView K V → Part V R → MemoView K V → Part V R → Type 0
   Changes Command memo part memo' part' = (memo' ≡ memo) × (part' ≡ part_at_command tasks client part)
   Changes (Probe n) memo part memo' part' =
       (memo' ≡ after_probe same client (key_at tasks client n part) memo)
@@ -112,13 +112,13 @@ abbrev pub Answers : Bool → Type 0 → Type 0 → Stepped → Type 0
 Answers possible Changed Same Taken = (possible ≡ true) × Changed
 Answers possible Changed Same NotReady = (possible ≡ false) × Same
 
-module _ {K V R : Type 0} (tasks : Tasks K V R) where
+module _ {K V R : Type 0} (tasks : ClientTasks K V R) where
   -- whether an event is possible: there is such a client, and it can do this
   abbrev pub is_possible : Machine K V R → Event → Bool
   is_possible machine event = option_map_or (can_do tasks event.client event.act) (slice_get machine.parts event.client) false
 
 module _ {K V R : Type 0} (same : K → K → Bool) (name_of : K → List ℕ) (fits : K → V → Type 0) (weighs : V → ℕ)
-    (tasks : Tasks K V R) where
+    (tasks : ClientTasks K V R) where
   -- one machine is the other after this event: the memo and the client's own part change as its act says,
   -- and nothing else
   abbrev pub Steps : Machine K V R → Event → Machine K V R → Type 0

@@ -1,10 +1,10 @@
 -- The pure machine: what the clients do, how far each of them is, and the one memo.
 use Rattle.std.specs.Prelude.{◌≡◌, ℕ, ◌+◌, List, [], ◌∷◌, Option, Some, None, Bool}
-use Rattle.memo_core.specs.Views.{Core}
+use Rattle.memo_core.specs.Views.{MemoView}
 
 -- What the clients do: how many commands a client has, how many nodes a command has, each node's key,
 -- whether a node is ready where these values are there, and the reply that fitting values give.
-pub record Tasks (K V R : Type 0) : Type 0 where
+pub record ClientTasks (K V R : Type 0) : Type 0 where
   pub commands : ℕ → ℕ
   pub nodes : ℕ → ℕ → ℕ
   pub key : ℕ → ℕ → ℕ → K
@@ -26,13 +26,13 @@ pub record Part (V R : Type 0) : Type 0 where
 
 -- the memo, without the room of its journal, and each client's part
 pub record Machine (K V R : Type 0) : Type 0 where
-  pub memo : Core K V
+  pub memo : MemoView K V
   pub parts : List (Part V R)
 
 module _ {K V : Type 0} where
   -- A memo without the room of its journal and without what it has dropped, which are no part of the
   -- state.
-  abbrev pub settled_memo : Core K V → Core K V
+  abbrev pub settled_memo : MemoView K V → MemoView K V
   settled_memo core = record {
     entries = core.entries;
     dropped = [];

@@ -1,6 +1,6 @@
 ghost use Rattle.std.specs.Prelude.{◌≡◌, ℕ, ◌<◌, true, List, map, length, IfOk, Option, option_map};
 ghost use Rattle.std.specs.Arc.{arc_value};
-ghost use Rattle.share_core.specs.Views.{Tasks, HaveFits, AllThere, MoreThere};
+ghost use Rattle.share_core.specs.Views.{ClientTasks, HaveFits, AllThere, MoreThere};
 
 use memo_core::Fit;
 use std::alloc::Global;
@@ -13,7 +13,7 @@ pub trait Work<F: Fit>: Drop {
     type Reply: Drop;
 
     /// What the clients do, as contracts see it.
-    ghost tasks: { Self → Tasks F.Key F.Value Self.Reply };
+    ghost tasks: { Self → ClientTasks F.Key F.Value Self.Reply };
 
     /// How many commands a client has: 0 for one that this work does not have.
     fn commands(&self, client: u32) -> u32

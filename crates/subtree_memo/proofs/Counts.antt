@@ -4,7 +4,7 @@ use Rattle.std.specs.Arc.{arc_value}
 use Rattle.std.proofs.lemmas.List.{map-append, take_more}
 use Rattle.std.proofs.lemmas.List.Elements.{All-push}
 use Rattle.std.proofs.lemmas.List.Sums.{sum_by_push}
-use Rattle.memo_core.specs.Memo.{Item, Answer, item, count_in, hit_by, missed_by, kept_by, heavy_by}
+use Rattle.memo_core.specs.Memo.{Item, Answer, item, count_in, hit_by, missed_by, kept_by, not_kept_by}
 use Rattle.memo_core.specs.Fields.{item_of, items_of, answer_of}
 use Rattle.memo_core.specs.declared.journal.JournalItem.{JournalItem}
 
@@ -21,8 +21,8 @@ module _ {K : Type 0} where
   pub kept_more : (is : List (Item K)) (caller : ℕ) (key : K) (said : Answer) → count_in kept_by (is ++ item caller key said ∷ []) ≡ count_in kept_by is + kept_by said
   kept_more is caller key said = count_more kept_by is caller key said
 
-  pub heavy_more : (is : List (Item K)) (caller : ℕ) (key : K) (said : Answer) → count_in heavy_by (is ++ item caller key said ∷ []) ≡ count_in heavy_by is + heavy_by said
-  heavy_more is caller key said = count_more heavy_by is caller key said
+  pub heavy_more : (is : List (Item K)) (caller : ℕ) (key : K) (said : Answer) → count_in not_kept_by (is ++ item caller key said ∷ []) ≡ count_in not_kept_by is + not_kept_by said
+  heavy_more is caller key said = count_more not_kept_by is caller key said
 
   -- the callers of a journal with one item more
   pub callers_more : (is : List (Item K)) (caller : ℕ) (key : K) (said : Answer) (most : ℕ) → All (λ i. i.caller < most) is → caller < most → All (λ i. i.caller < most) (is ++ item caller key said ∷ [])

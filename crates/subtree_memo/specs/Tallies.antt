@@ -1,6 +1,6 @@
 -- The counts of a journal.
 use Rattle.std.specs.Prelude.{◌≡◌, ℕ, ◌+◌, min, sum_by, List}
-use Rattle.memo_core.specs.Memo.{Item, count_in, hit_by, missed_by, kept_by, heavy_by, evicted_in}
+use Rattle.memo_core.specs.Memo.{Item, count_in, hit_by, missed_by, kept_by, not_kept_by, evicted_in}
 use Rattle.subtree_memo.specs.Shares.{View, dropped_max}
 use Rattle.subtree_memo.specs.declared.tally.Counts.{Counts}
 use Rattle.subtree_memo.specs.declared.tally.Tally.{Tally}
@@ -11,7 +11,7 @@ module _ {K : Type 0} where
     pub hits : counts.hits ≡ count_in hit_by items
     pub misses : counts.misses ≡ count_in missed_by items
     pub kept : counts.kept ≡ count_in kept_by items
-    pub heavy : counts.heavy ≡ count_in heavy_by items
+    pub heavy : counts.heavy ≡ count_in not_kept_by items
 
   -- The tally of a journal, and of so many fills that were dropped for want of memory and stand in no
   -- journal. Fills that were kept, too heavy or dropped were offered.
@@ -20,9 +20,9 @@ module _ {K : Type 0} where
     probes = count_in hit_by items + count_in missed_by items;
     hits = count_in hit_by items;
     misses = count_in missed_by items;
-    offered = count_in kept_by items + count_in heavy_by items + dropped;
+    offered = count_in kept_by items + count_in not_kept_by items + dropped;
     kept = count_in kept_by items;
-    heavy = count_in heavy_by items;
+    heavy = count_in not_kept_by items;
     dropped = dropped;
     evicted = evicted_in items;
   }

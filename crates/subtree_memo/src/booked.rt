@@ -3,7 +3,7 @@ ghost use Rattle.std.specs.Prelude.{true};
 ghost use Rattle.std.specs.Arc.{arc_value};
 ghost use Rattle.memo_core.specs.Fields.{value_in, is_hit};
 ghost use Rattle.memo_core.specs.Memo.{item, Probe_answer, count_in};
-ghost use Rattle.memo_core.specs.Memo.{hit_by, missed_by, kept_by, heavy_by};
+ghost use Rattle.memo_core.specs.Memo.{hit_by, missed_by, kept_by, not_kept_by};
 ghost use Rattle.memo_core.specs.Fills.{IsFilled};
 ghost use Rattle.subtree_memo.specs.Shares.{probe_booked, fill_booked};
 
@@ -26,7 +26,7 @@ pub struct BookedMemo<F: Fit, N: Namer<F::Key>, B: Books> {
     pub ghost hits_are: { hits.total ≡ count_in hit_by core.journal },
     pub ghost misses_are: { misses.total ≡ count_in missed_by core.journal },
     pub ghost kept_are: { kept.total ≡ count_in kept_by core.journal },
-    pub ghost heavy_are: { heavy.total ≡ count_in heavy_by core.journal },
+    pub ghost heavy_are: { heavy.total ≡ count_in not_kept_by core.journal },
     pub ghost budget_is: { core.budget ≡ B.Hits.budget },
     pub ghost share_is: { core.share ≡ B.Hits.share },
     pub ghost callers_are: { All (λ i. i.caller < B.Hits.callers) core.journal },

@@ -5,8 +5,7 @@ ghost use Rattle.plane_predicate.specs.Space.{ComesInReach};
 ghost use Rattle.csg_tree.specs.ProperTrees.{IsLeafPlane, IsProper, subtrees};
 ghost use Rattle.csg_tree.specs.Trees.{formula_of};
 
-use case_lines::CaseStop;
-use case_planes::Walls;
+use case_lines::{CaseStop, Walls};
 use csg_tree::{CsgTree, Op, Planes, join, joins_are_proper};
 use plane_predicate::Plane;
 use std::alloc::Global;

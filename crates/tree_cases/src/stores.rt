@@ -3,11 +3,10 @@
 use crate::proper::ProperTree;
 use crate::written::{put_tree, sign_of};
 use bsp_boolean::{PlainBuilder, TreeStop, tree_solid};
-use case_lines::{CaseStop, found, put, put_number};
-use case_planes::{put_stroked, unit_of};
+use case_lines::{CaseStop, found, put, put_number, put_stroked, unit_of};
 use csg_tree::{CsgNode, CsgStore, TreeKey};
 use plane_predicate::Unit;
-use reply_text::Complex;
+use reply_text::PassedLimit;
 use std::alloc::Global;
 use std::sync::Arc;
 use std::thread::Threads;
@@ -139,13 +138,13 @@ fn put_tree_size(alloc: Global, out: &mut Vec<u8>, tree: &ProperTree) -> Result<
     Ok(())
 }
 
-fn put_complex(alloc: Global, out: &mut Vec<u8>, passed: Complex) -> Result<(), CaseStop> {
+fn put_complex(alloc: Global, out: &mut Vec<u8>, passed: PassedLimit) -> Result<(), CaseStop> {
     match passed {
-        Complex::Solid(number) => put_at(alloc, out, b"solid ", number)?,
-        Complex::Sum(number) => put_at(alloc, out, b"sum ", number)?,
-        Complex::Facets => put(out, b"facets")?,
-        Complex::Corners => put(out, b"corners")?,
-        Complex::Vertices => put(out, b"vertices")?,
+        PassedLimit::Solid(number) => put_at(alloc, out, b"solid ", number)?,
+        PassedLimit::Sum(number) => put_at(alloc, out, b"sum ", number)?,
+        PassedLimit::Facets => put(out, b"facets")?,
+        PassedLimit::Corners => put(out, b"corners")?,
+        PassedLimit::Vertices => put(out, b"vertices")?,
     }
     Ok(())
 }
@@ -162,7 +161,7 @@ fn put_export<R: Threads + Sync>(
 ) -> Result<(), CaseStop> {
     match export_tree(rt, alloc, workers, tree.tree(), unit)? {
         TreeExport::Text(text) => put_stroked(out, text.items(), most)?,
-        TreeExport::Complex(passed) => put_complex(alloc, out, passed)?,
+        TreeExport::PassedLimit(passed) => put_complex(alloc, out, passed)?,
     }
     Ok(())
 }

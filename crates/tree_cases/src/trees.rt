@@ -3,8 +3,7 @@
 use crate::proper::ProperTree;
 use crate::stores::{ask_tree, tree_asking_of};
 use crate::written::{put_alike, put_halves};
-use case_lines::{CaseStop, Phrase, found};
-use case_planes::{Walls, box_walls, lay, laying_of, slab_walls};
+use case_lines::{CaseStop, Phrase, Walls, box_walls, found, lay, laying_of, slab_walls};
 use csg_tree::Op;
 use std::alloc::Global;
 use std::thread::Threads;

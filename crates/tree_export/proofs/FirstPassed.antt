@@ -6,19 +6,19 @@ use Rattle.std.proofs.lemmas.List.Sums.{sum_by-take-le}
 use Rattle.std.proofs.lemmas.List.Elements.{All-nil, All-get_or}
 use Rattle.csg_tree.specs.Formulas.{Formula, nothing}
 use Rattle.csg_tree.specs.Numberings.{tree_numbered, IsNumberIn}
-use Rattle.bsp_boolean.specs.TreeSolids.{most_of_one, most_of_all, solid_size, total_size, AreWithin}
-use Rattle.reply_text.specs.declared.reply.Complex.{Complex}
-use Rattle.reply_text.specs.declared.reply.Complex.TheVariants as limit
+use Rattle.bsp_boolean.specs.TreeSolids.{most_of_one, most_of_all, solid_size, total_size, AreWithinSizeLimits}
+use Rattle.reply_text.specs.declared.reply.PassedLimit.{PassedLimit}
+use Rattle.reply_text.specs.declared.reply.PassedLimit.TheVariants as limit
 use Rattle.tree_export.specs.Exports.{IsFirstPassed}
 
 -- without trees no limit is passed
-pub no_trees : AreWithin []
+pub no_trees : AreWithinSizeLimits []
 no_trees = record { each = All-nil (λ tree. solid_size tree ≤ most_of_one); together = omega arith }
 
 -- a limit is passed at a number, and none before it
 record Passes (trees : List Formula) (n : ℕ) : Type 0 where
   pub number : IsNumberIn trees n
-  pub before : AreWithin (take (n - 1) trees)
+  pub before : AreWithinSizeLimits (take (n - 1) trees)
   pub past : (most_of_one < solid_size (tree_numbered trees n)) ⊎ (most_of_all < total_size (take n trees))
 
 take_take : (k n : ℕ) (trees : List Formula) → n ≤ k → take n (take k trees) ≡ take n trees
@@ -28,14 +28,14 @@ take_take (suc k) (suc n) [] low = refl
 take_take (suc k) (suc n) (t ∷ trees) low = ap (λ (ts : List Formula). t ∷ ts) (take_take k n trees (omega (arith, low)))
 
 -- trees within the limits pass none
-none_within : (trees : List Formula) (n : ℕ) → AreWithin trees → IsNumberIn trees n →
+none_within : (trees : List Formula) (n : ℕ) → AreWithinSizeLimits trees → IsNumberIn trees n →
     (most_of_one < solid_size (tree_numbered trees n)) ⊎ (most_of_all < total_size (take n trees)) → ⊥
 none_within trees n within number (inl past) =
     let one = All-get_or (λ tree. solid_size tree ≤ most_of_one) trees (n - 1) nothing (omega (arith, number.0, number.1)) within.each in
     omega (arith, one, past)
 none_within trees n within number (inr past) = omega (arith, within.together, sum_by-take-le solid_size trees n, past)
 
-pub none_passed : (trees : List Formula) (passed : Complex) → AreWithin trees → IsFirstPassed trees passed → ⊥
+pub none_passed : (trees : List Formula) (passed : PassedLimit) → AreWithinSizeLimits trees → IsFirstPassed trees passed → ⊥
 none_passed trees (limit.Solid n) within h = none_within trees n within h.0 (inl h.2)
 none_passed trees (limit.Sum n) within h = none_within trees n within h.0 (inr h.3)
 none_passed trees limit.Facets within h = h
@@ -73,7 +73,7 @@ not_both trees n m a b =
     let same = one_number trees n m (solid_passes trees n a) (sum_passes trees m b) in
     omega (arith, a.2, b.2, ap (λ k. solid_size (tree_numbered trees k)) same)
 
-pub one_passed : (trees : List Formula) (a b : Complex) → IsFirstPassed trees a → IsFirstPassed trees b → a ≡ b
+pub one_passed : (trees : List Formula) (a b : PassedLimit) → IsFirstPassed trees a → IsFirstPassed trees b → a ≡ b
 one_passed trees (limit.Solid n) (limit.Solid m) h g = ap limit.Solid (one_number trees n m (solid_passes trees n h) (solid_passes trees m g))
 one_passed trees (limit.Solid n) (limit.Sum m) h g = absurd (not_both trees n m h g)
 one_passed trees (limit.Sum n) (limit.Solid m) h g = absurd (not_both trees m n g h)
@@ -90,12 +90,12 @@ one_passed trees limit.Vertices b h g = absurd h
 
 -- the first trees are within the limits, or a first limit is passed
 abbrev pub IsSettled : List Formula → List Formula → Type 0
-IsSettled trees front = AreWithin front ⊎ ((passed : Complex) × IsFirstPassed trees passed)
+IsSettled trees front = AreWithinSizeLimits front ⊎ ((passed : PassedLimit) × IsFirstPassed trees passed)
 
 -- ---- a limit is passed, or none is: one tree more is within the limits where its own size and the sum are
-module _ (trees : List Formula) (more : (n : ℕ) → IsNumberIn trees n → AreWithin (take (n - 1) trees) →
-    solid_size (tree_numbered trees n) ≤ most_of_one → total_size (take n trees) ≤ most_of_all → AreWithin (take n trees)) where
-  one_more : (n : ℕ) → IsNumberIn trees n → AreWithin (take (n - 1) trees) → IsSettled trees (take n trees)
+module _ (trees : List Formula) (more : (n : ℕ) → IsNumberIn trees n → AreWithinSizeLimits (take (n - 1) trees) →
+    solid_size (tree_numbered trees n) ≤ most_of_one → total_size (take n trees) ≤ most_of_all → AreWithinSizeLimits (take n trees)) where
+  one_more : (n : ℕ) → IsNumberIn trees n → AreWithinSizeLimits (take (n - 1) trees) → IsSettled trees (take n trees)
   one_more n number before =
       elim (cases_lt most_of_one (solid_size (tree_numbered trees n))) [
         | inl past ↦ inr (limit.Solid n, (number, before, past))
@@ -111,7 +111,7 @@ module _ (trees : List Formula) (more : (n : ℕ) → IsNumberIn trees n → Are
   first_ones (suc n) h =
       let back : n ≡ suc n - 1 = omega arith in
       elim (first_ones n (omega (arith, h))) [
-        | inl within ↦ one_more (suc n) (omega arith, h) (subst (λ (k : ℕ). AreWithin (take k trees)) back within)
+        | inl within ↦ one_more (suc n) (omega arith, h) (subst (λ (k : ℕ). AreWithinSizeLimits (take k trees)) back within)
         | inr passed ↦ inr passed
       ]
 

@@ -4,7 +4,7 @@ use Rattle.csg_tree.specs.Formulas.{Formula, nothing, leaf, joined}
 use Rattle.csg_tree.specs.Numberings.{nodes_of, tree_numbered}
 use Rattle.bsp_tree.specs.Trees.{outside}
 use Rattle.bsp_boolean.specs.Solids.{solid_of}
-use Rattle.bsp_boolean.specs.TreeSolids.{AreWithin}
+use Rattle.bsp_boolean.specs.TreeSolids.{AreWithinSizeLimits}
 use Rattle.tree_export.proofs.FirstPassed.{no_trees}
 use Rattle.tree_export.proofs.LastNode.{some_node, last_node}
 
@@ -17,8 +17,8 @@ without_nodes (joined op left right) none = absurd (omega (arith, none, some_nod
 pub no_solid : (tree : Formula) → length (nodes_of tree) ≡ 0 → outside ≡ solid_of tree
 no_solid tree none = ap solid_of (sym (without_nodes tree none))
 
-pub nothing_within : (tree : Formula) → length (nodes_of tree) ≡ 0 → AreWithin (nodes_of tree)
-nothing_within tree none = subst (λ f. AreWithin (nodes_of f)) (sym (without_nodes tree none)) no_trees
+pub nothing_within : (tree : Formula) → length (nodes_of tree) ≡ 0 → AreWithinSizeLimits (nodes_of tree)
+nothing_within tree none = subst (λ f. AreWithinSizeLimits (nodes_of f)) (sym (without_nodes tree none)) no_trees
 
 pub last_tree : (tree : Formula) → 0 < length (nodes_of tree) → tree_numbered (nodes_of tree) (length (nodes_of tree)) ≡ tree
 last_tree nothing some = absurd (omega (arith, some))

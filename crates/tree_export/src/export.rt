@@ -9,12 +9,12 @@ ghost use Rattle.csg_tree.specs.Trees.{formula_of};
 ghost use Rattle.bsp_tree.specs.Shapes.{tree_of};
 ghost use Rattle.bsp_tree.specs.Trees.{outside};
 ghost use Rattle.bsp_boolean.specs.Solids.{solid_of};
-ghost use Rattle.bsp_boolean.specs.TreeSolids.{AreWithin, IsTreeStop};
+ghost use Rattle.bsp_boolean.specs.TreeSolids.{AreWithinSizeLimits, IsTreeStop};
 ghost use Rattle.facet_cut.specs.Facets.{facets_of};
-ghost use Rattle.reply_text.specs.declared.reply.Complex.{Complex as Limit};
+ghost use Rattle.reply_text.specs.declared.reply.PassedLimit.{PassedLimit as Limit};
 ghost use Rattle.reply_text.specs.Sums.{IsSizeLimit};
 ghost use Rattle.tree_export.specs.declared.export.TreeExport.TheVariants as exported;
-ghost use Rattle.tree_export.specs.Exports.{IsWritten, IsCut, IsExported, Bounds, IsMade};
+ghost use Rattle.tree_export.specs.Exports.{IsTextOutcome, IsFacetOutcome, IsExported, IsBoundaryText, IsSolidOutcome};
 
 use bsp_boolean::{PlainBuilder, TreeStop, tree_solid};
 use bsp_tree::Solid;
@@ -22,7 +22,7 @@ use csg_tree::{CsgStore, CsgTree};
 use facet_cut::{CutStop, Facet, facets_by};
 use off_text::{OffStop, off_bytes_by};
 use plane_predicate::Unit;
-use reply_text::Complex;
+use reply_text::PassedLimit;
 use std::alloc::Global;
 use std::sync::Arc;
 use std::thread::Threads;
@@ -37,7 +37,7 @@ pub enum TreeExport {
     /// The bytes of its 4OFF text.
     Text(Bytes),
     /// The first limit that it passes.
-    Complex(Complex),
+    PassedLimit(PassedLimit),
 }
 
 // What facets within their limit give, by so many workers.
@@ -48,14 +48,14 @@ fn write_facets<R: Threads + Sync>(
     facets: &[Facet],
     unit: Unit,
 ) -> Result<TreeExport, NoMemory>
-    ensures written { IfOk result (IsWritten unit facets.now) }
+    ensures written { IfOk result (IsTextOutcome unit facets.now) }
     ensures boundary { (f : Formula) → IsProper f → facets.now ≡ facets_of (solid_of f) →
-        IfOk result (Bounds unit f) }
+        IfOk result (IsBoundaryText unit f) }
 {
     match off_bytes_by(rt, alloc, workers, facets, unit) {
         Ok(bytes) => Ok(TreeExport::Text(Bytes::of(bytes))),
-        Err(OffStop::TooManyCorners) => Ok(TreeExport::Complex(Complex::Corners)),
-        Err(OffStop::TooManyVertices) => Ok(TreeExport::Complex(Complex::Vertices)),
+        Err(OffStop::TooManyCorners) => Ok(TreeExport::PassedLimit(PassedLimit::Corners)),
+        Err(OffStop::TooManyVertices) => Ok(TreeExport::PassedLimit(PassedLimit::Vertices)),
         Err(OffStop::NoMemory) => Err(NoMemory),
     }
 }
@@ -68,13 +68,13 @@ fn cut_solid<R: Threads + Sync>(
     solid: &Solid,
     unit: Unit,
 ) -> Result<TreeExport, NoMemory>
-    ensures cut { IfOk result (IsCut unit (facets_of (tree_of solid.now))) }
+    ensures cut { IfOk result (IsFacetOutcome unit (facets_of (tree_of solid.now))) }
     ensures boundary { (f : Formula) → IsProper f → tree_of solid.now ≡ solid_of f →
-        IfOk result (Bounds unit f) }
+        IfOk result (IsBoundaryText unit f) }
 {
     match facets_by(rt, alloc, workers, solid, FACETS) {
         Ok(facets) => write_facets(rt, alloc, workers, &facets, unit),
-        Err(CutStop::TooMany) => Ok(TreeExport::Complex(Complex::Facets)),
+        Err(CutStop::TooMany) => Ok(TreeExport::PassedLimit(PassedLimit::Facets)),
         Err(CutStop::NoMemory) => Err(NoMemory),
     }
 }
@@ -104,7 +104,7 @@ pub fn solid_of_nothing(alloc: Global) -> Result<Arc<Solid>, NoMemory>
 /// The export of a tree as a text in units, from the solid of its last node or the first node that passes a limit of size, whose
 /// facets are cut and written by so many workers.
 ///
-/// `Complex` tells the first limit that is passed: at the first node in order of number at which either is passed,
+/// `PassedLimit` tells the first limit that is passed: at the first node in order of number at which either is passed,
 /// that the node's solid is above 50,000 in size, or else that the solids up to it are above 500,000 together; then
 /// more than 20,000 facets, more than 200,000 corners, more than 60,000 vertices. Where none is passed it is the text.
 pub fn export_made<R: Threads + Sync>(
@@ -114,18 +114,18 @@ pub fn export_made<R: Threads + Sync>(
     made: Result<Arc<Solid>, TreeStop>,
     unit: Unit,
 ) -> Result<TreeExport, NoMemory>
-    ensures exported { (f : Formula) → IsMade f made → IfOk result (IsExported unit f) }
+    ensures exported { (f : Formula) → IsSolidOutcome f made → IfOk result (IsExported unit f) }
     // A text is the boundary of the tree.
-    ensures boundary { (f : Formula) → IsProper f → IsMade f made → IfOk result (Bounds unit f) }
+    ensures boundary { (f : Formula) → IsProper f → IsSolidOutcome f made → IfOk result (IsBoundaryText unit f) }
     // Without a solid there is no other export than a limit of size.
     ensures stopped { OnErr made
         (IfOk result
-        (λ out. (passed : Limit) × IsSizeLimit passed × (out ≡ exported.Complex passed))) }
+        (λ out. (passed : Limit) × IsSizeLimit passed × (out ≡ exported.PassedLimit passed))) }
 {
     match made {
         Ok(solid) => cut_solid(rt, alloc, workers, &solid, unit),
-        Err(TreeStop::TooBig(number)) => Ok(TreeExport::Complex(Complex::Solid(number))),
-        Err(TreeStop::SumTooBig(number)) => Ok(TreeExport::Complex(Complex::Sum(number))),
+        Err(TreeStop::TooBig(number)) => Ok(TreeExport::PassedLimit(PassedLimit::Solid(number))),
+        Err(TreeStop::SumTooBig(number)) => Ok(TreeExport::PassedLimit(PassedLimit::Sum(number))),
         Err(TreeStop::NoMemory) => Err(NoMemory),
     }
 }
@@ -134,7 +134,7 @@ pub fn export_made<R: Threads + Sync>(
 fn solid_within(alloc: Global, tree: &CsgTree) -> Result<Arc<Solid>, TreeStop>
     requires { IsProper (formula_of tree.now) }
     ensures solid { IfOk result (λ s. tree_of (arc_value s) ≡ solid_of (formula_of tree.now)) }
-    ensures within { OnOk result (AreWithin (nodes_of (formula_of tree.now))) }
+    ensures within { OnOk result (AreWithinSizeLimits (nodes_of (formula_of tree.now))) }
     ensures stop { IfErr result (IsTreeStop (nodes_of (formula_of tree.now))) }
 {
     let store = nodes_of_tree(alloc, tree)?;
@@ -155,7 +155,7 @@ pub fn export_tree<R: Threads + Sync>(
 ) -> Result<TreeExport, NoMemory>
     requires { IsProper (formula_of tree.now) }
     ensures exported { IfOk result (IsExported unit (formula_of tree.now)) }
-    ensures boundary { IfOk result (Bounds unit (formula_of tree.now)) }
+    ensures boundary { IfOk result (IsBoundaryText unit (formula_of tree.now)) }
 {
     let made = solid_within(alloc, tree);
     export_made(rt, alloc, workers, made, unit)

@@ -8,10 +8,10 @@ ghost use Rattle.csg_tree.specs.Numberings.{nodes_of, tree_numbered};
 ghost use Rattle.csg_tree.specs.ProperTrees.{IsProper};
 ghost use Rattle.bsp_tree.specs.Trees.{outside};
 ghost use Rattle.bsp_boolean.specs.Solids.{solid_of};
-ghost use Rattle.bsp_boolean.specs.TreeSolids.{AreWithin};
+ghost use Rattle.bsp_boolean.specs.TreeSolids.{AreWithinSizeLimits};
 ghost use Rattle.tree_export.specs.declared.export.TreeExport.{TreeExport};
 ghost use Rattle.tree_export.specs.declared.export.TreeExport.TheVariants as exported;
-ghost use Rattle.tree_export.specs.Exports.{empty_text, Bounds, IsText, IsExported, PassesNoLimit};
+ghost use Rattle.tree_export.specs.Exports.{empty_text, IsBoundaryText, IsTextExport, IsExported, PassesNoLimit};
 
 use bsp_boolean::{one_tree_more, solids_are_their_trees};
 use facet_cut::facets_are_polygons;
@@ -26,7 +26,7 @@ pub fn one_export()
 /// In each unit each proper tree has an export, and a text is the boundary of the tree.
 pub fn some_export()
     ensures { (unit : LengthUnit) (tree : Formula) → IsProper tree → (out : TreeExport) ×
-        IsExported unit tree out × Bounds unit tree out }
+        IsExported unit tree out × IsBoundaryText unit tree out }
 {
     one_tree_more();
     solids_are_their_trees();
@@ -39,7 +39,7 @@ pub fn some_export()
 /// A tree's export is a text exactly where no limit is passed.
 pub fn texts_pass_no_limit()
     ensures { (unit : LengthUnit) (tree : Formula) (out : TreeExport) → IsExported unit tree out →
-        IsText out ↔ PassesNoLimit unit tree }
+        IsTextExport out ↔ PassesNoLimit unit tree }
 {}
 
 /// The export of Nothing is the 4OFF text without vertices and faces.
@@ -51,7 +51,7 @@ pub fn nothing_has_the_empty_text()
 /// A leaf of at most eight planes passes no limit.
 pub fn small_leaves_are_texts()
     ensures { (unit : LengthUnit) (planes : List Coefficients) (out : TreeExport) →
-        length planes ≤ 8 → IsExported unit (leaf planes) out → IsText out }
+        length planes ≤ 8 → IsExported unit (leaf planes) out → IsTextExport out }
 {}
 
 /// A tree's last node is the tree, and so has its solid; a tree without nodes has the empty solid.
@@ -61,5 +61,5 @@ pub fn last_nodes_are_trees()
     ensures last { (tree : Formula) → 0 < length (nodes_of tree) →
         solid_of (tree_numbered (nodes_of tree) (length (nodes_of tree))) ≡ solid_of tree }
     ensures none { (tree : Formula) → length (nodes_of tree) ≡ 0 → outside ≡ solid_of tree }
-    ensures within { (tree : Formula) → length (nodes_of tree) ≡ 0 → AreWithin (nodes_of tree) }
+    ensures within { (tree : Formula) → length (nodes_of tree) ≡ 0 → AreWithinSizeLimits (nodes_of tree) }
 {}

@@ -6,7 +6,7 @@ use Rattle.plane_predicate.specs.Space.{Coefficients, Coordinates, value, IsInWo
 use Rattle.plane_predicate.specs.Units.{steps_of}
 use Rattle.plane_predicate.specs.InUnits.{in_steps}
 use Rattle.plane_predicate.proofs.IntegerRing.{mul_assoc_ℤ, sums}
-use Rattle.bsp_tree.specs.Cells.{world_box, AllBehind, IsIn}
+use Rattle.bsp_tree.specs.Cells.{world_box, AllBehind, IsInCell}
 use Rattle.bsp_tree.proofs.Worlds.{open_world}
 use Rattle.closed_surface.specs.Ways.{Direction, way, is_same_way, is_opposite_way}
 use Rattle.closed_surface.specs.Closed.{Edge, edges_along, edges_against, edges_of, runs_through, corners_at, is_corner, IsClosedSurface}

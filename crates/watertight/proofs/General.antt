@@ -8,8 +8,8 @@ use Rattle.plane_predicate.proofs.Vectors.{form, of_plane, determinantP}
 use Rattle.plane_predicate.proofs.Signs.{signs, zero_cancel}
 use Rattle.plane_predicate.proofs.SamePlanes.{directed_above, equal_or_opposite}
 use Rattle.bsp_tree.proofs.Openness.{more_below, more_above}
-use Rattle.closed_surface.specs.Ways.{Direction, way, dot, slope, line_of}
-use Rattle.closed_surface.specs.Around.{turn_about}
+use Rattle.closed_surface.specs.Ways.{Direction, way, dot_product, slope, line_of}
+use Rattle.closed_surface.specs.Around.{triple_product_of}
 use Rattle.closed_surface.specs.Near.{direction_beside}
 use Rattle.closed_surface.proofs.Near.{slope_beside}
 use Rattle.closed_surface.proofs.Numbers.{not_zero_below, not_zero_above}
@@ -18,7 +18,7 @@ use Rattle.closed_surface.proofs.Lines.{IsEither, is_either, either_parts, eithe
 use Rattle.closed_surface.proofs.Each.{Each, each_weaker, each_both}
 
 -- ---- two planes through a point whose line has no direction have the same points
-minus_zero : (u x w y : ℤ) → x ≡ pos 0 → y ≡ pos 0 → u *ℤ x -ℤ w *ℤ y ≡ pos 0
+pub minus_zero : (u x w y : ℤ) → x ≡ pos 0 → y ≡ pos 0 → u *ℤ x -ℤ w *ℤ y ≡ pos 0
 minus_zero u x w y hx hy = rw (hx, hy, *ℤ-zero u, *ℤ-zero w) refl
 
 only_first : (u x w y : ℤ) → u *ℤ x -ℤ w *ℤ y ≡ pos 0 → y ≡ pos 0 → u *ℤ x ≡ pos 0
@@ -31,7 +31,7 @@ same_points q hw m n plane hm hn z = record {
       let b : Direction = record { x = n.a; y = n.b; z = n.c } in
       let u = way q p in
       let flat : slope m u ≡ pos 0 = slope_way m q p ∙ minus_zero q.w (value m p) p.w (value m q) e hm in
-      let same : slope n u ≡ pos 0 = zero_cancel (dot a a) (dot b u) (directed_above m plane.directed) (along_dot a b u z ∙ ap (λ (x : ℤ). dot a b *ℤ x) flat ∙ *ℤ-zero (dot a b)) in
+      let same : slope n u ≡ pos 0 = zero_cancel (dot_product a a) (dot_product b u) (directed_above m plane.directed) (along_dot a b u z ∙ ap (λ (x : ℤ). dot_product a b *ℤ x) flat ∙ *ℤ-zero (dot_product a b)) in
       zero_cancel q.w (value n p) hw (only_first q.w (value n p) p.w (value n q) (sym (slope_way n q p) ∙ same) hn);
 }
 
@@ -69,14 +69,14 @@ pub each_slope : (ms : List Coefficients) (u : Direction) (number : ℕ) → all
 each_slope [] u number h = tt
 each_slope (m ∷ ms) u number h = (omega arith, each_slope ms u number (omega arith))
 
-least_itself : (n : ℕ) → n ≤ n
+pub least_itself : (n : ℕ) → n ≤ n
 least_itself n = omega arith
 
 -- ---- the direction that is at right angles to the line of two planes, in one of them
 abbrev across : Coefficients → Coefficients → Direction
 across n m = direction_beside n (line_of m n)
 
-own_turn : (n : Coefficients) (v : Direction) → turn_about v n n ≡ pos 0
+own_turn : (n : Coefficients) (v : Direction) → triple_product_of v n n ≡ pos 0
 own_turn n v =
     let N = form 0 in
     ring (of_plane n (v.x ∷ v.y ∷ v.z ∷ [])) (determinantP N.a N.b N.c N.a N.b N.c (var 4) (var 5) (var 6)) (num (pos 0)) refl
@@ -84,7 +84,7 @@ own_turn n v =
 across_flat : (n m : Coefficients) → slope n (across n m) ≡ pos 0
 across_flat n m = slope_beside n n (line_of m n) ∙ own_turn n (line_of m n)
 
-across_length : (n m : Coefficients) → slope m (across n m) ≡ dot (line_of m n) (line_of m n)
+across_length : (n m : Coefficients) → slope m (across n m) ≡ dot_product (line_of m n) (line_of m n)
 across_length n m = slope_beside m n (line_of m n) ∙ sym (line_turn m n (line_of m n))
 
 module _ (q : Coordinates) (hw : pos 0 <ℤ q.w) (n : Coefficients) (plane : IsPlane n) (on : value n q ≡ pos 0) where

@@ -6,7 +6,7 @@ use Rattle.plane_predicate.specs.Space.{Coordinates}
 use Rattle.plane_predicate.proofs.IntegerRing.{sums, mul_comm_ℤ}
 use Rattle.plane_predicate.proofs.Polynomials.{Poly, var, plus, times, minus, ring}
 use Rattle.plane_predicate.proofs.Signs.{signs, pos_pos}
-use Rattle.closed_surface.specs.Ways.{Direction, way, dot, cross, is_same_place, is_same_way, is_opposite_way}
+use Rattle.closed_surface.specs.Ways.{Direction, way, dot_product, cross_product, is_same_place, is_same_way, is_opposite_way}
 use Rattle.closed_surface.specs.Closed.{Edge, edges_along, edges_against, edges_of, runs_through, is_corner}
 use Rattle.closed_surface.proofs.Numbers.{same_tests, false_by}
 use Rattle.closed_surface.proofs.Parallels.{IsZero, dot_above, same_place_is, opposite_way_is, opposite_way_parts}
@@ -40,10 +40,10 @@ second_half pw qw p q =
     ring (pw ∷ qw ∷ p ∷ q ∷ []) (minus (times (plus (times PW QW) (times PW QW)) Q) (times QW (plus (times PW Q) (times QW P))))
     (times QW (minus (times PW Q) (times QW P))) refl
 
-half_ahead : (p q : Coordinates) → pos 0 <ℤ p.w → pos 0 <ℤ dot (way p q) (way p q) → Along (way p q) (way p (half_way p q))
+half_ahead : (p q : Coordinates) → pos 0 <ℤ p.w → pos 0 <ℤ dot_product (way p q) (way p q) → Along (way p q) (way p (half_way p q))
 half_ahead p q wp d = times_along p.w (way p q) (way p (half_way p q)) wp d (first_half p.w q.w p.x q.x) (first_half p.w q.w p.y q.y) (first_half p.w q.w p.z q.z)
 
-half_behind : (p q : Coordinates) → pos 0 <ℤ q.w → pos 0 <ℤ dot (way p q) (way p q) → Along (way p q) (way (half_way p q) q)
+half_behind : (p q : Coordinates) → pos 0 <ℤ q.w → pos 0 <ℤ dot_product (way p q) (way p q) → Along (way p q) (way (half_way p q) q)
 half_behind p q wq d = times_along q.w (way p q) (way (half_way p q) q) wq d (second_half p.w q.w p.x q.x) (second_half p.w q.w p.y q.y) (second_half p.w q.w p.z q.z)
 
 exchange : (a b : ℤ) → a +ℤ b ≡ b +ℤ a
@@ -72,22 +72,22 @@ module _ (p q : Coordinates) (wp : pos 0 <ℤ p.w) (wq : pos 0 <ℤ q.w) where
   between x h k = along_is (way p x) (way x q) (between_ways (way p q) (way p x) (way x q) h k)
 
   -- who is before the half way point and not between is at p or before it
-  reaches_back : pos 0 <ℤ dot (way p q) (way p q) → (x : Coordinates) → IsOutside p q x → Along (way p q) (way x (half_way p q)) → NotAgainst (way p q) (way x p)
+  reaches_back : pos 0 <ℤ dot_product (way p q) (way p q) → (x : Coordinates) → IsOutside p q x → Along (way p q) (way x (half_way p q)) → NotAgainst (way p q) (way x p)
   reaches_back d x o h =
       let v = way p q in let m = half_way p q in let wm = half_weight p q wp wq in
-      let z : IsZero (cross v (way x p)) = first_zero p.w m.w x.w v (way x m) (way x p) (way p m) (way_by x p m) wm h.zero (half_ahead p q wp d).zero in
-      elim (signs (dot v (way x p))) [
+      let z : IsZero (cross_product v (way x p)) = first_zero p.w m.w x.w v (way x m) (way x p) (way p m) (way_by x p m) wm h.zero (half_ahead p q wp d).zero in
+      elim (signs (dot_product v (way x p))) [
         | inl below ↦ absurd (not_both _
             (between x (against_back v x p z below) (before_before v x m q o.0 wm wq h (half_behind p q wq d))) o.1)
         | inr (inl zero) ↦ record { zero = z; least = omega (arith, sums, zero) }
         | inr (inr above) ↦ record { zero = z; least = omega (arith, sums, above) }
       ]
 
-  reaches_on : pos 0 <ℤ dot (way p q) (way p q) → (x : Coordinates) → IsOutside p q x → Along (way p q) (way (half_way p q) x) → NotAgainst (way p q) (way q x)
+  reaches_on : pos 0 <ℤ dot_product (way p q) (way p q) → (x : Coordinates) → IsOutside p q x → Along (way p q) (way (half_way p q) x) → NotAgainst (way p q) (way q x)
   reaches_on d x o h =
       let v = way p q in let m = half_way p q in let wm = half_weight p q wp wq in
-      let z : IsZero (cross v (way q x)) = second_zero q.w x.w m.w v (way m x) (way m q) (way q x) (way_by m q x) wm h.zero (half_behind p q wq d).zero in
-      elim (signs (dot v (way q x))) [
+      let z : IsZero (cross_product v (way q x)) = second_zero q.w x.w m.w v (way m x) (way m q) (way q x) (way_by m q x) wm h.zero (half_behind p q wq d).zero in
+      elim (signs (dot_product v (way q x))) [
         | inl below ↦ absurd (not_both _
             (between x (before_before v p m x wp wm o.0 (half_ahead p q wp d) h) (against_back v q x z below)) o.1)
         | inr (inl zero) ↦ record { zero = z; least = omega (arith, sums, zero) }
@@ -130,13 +130,13 @@ module _ (p q : Coordinates) (wp : pos 0 <ℤ p.w) (wq : pos 0 <ℤ q.w) where
       let start = reaches_back d e.0 o.0 first in
       let end = reaches_on d e.1 o.1 second in
       and_from _ _
-      (elim (signs (dot v (way e.0 p))) [
+      (elim (signs (dot_product v (way e.0 p))) [
         | inl below ↦ absurd (omega (arith, sums, below, start.least))
         | inr (inl zero) ↦ or_left _ _ (same_place_is e.0 p (no_part_no_length v (way e.0 p) d start.zero zero))
         | inr (inr above) ↦ or_right _ _ (along_is _ _ (between_ways v (way e.0 p) (way e.0 e.1) (record { zero = start.zero; above = above }) g))
       ])
       (and_from _ _
-      (elim (signs (dot v (way q e.1))) [
+      (elim (signs (dot_product v (way q e.1))) [
         | inl below ↦ absurd (omega (arith, sums, below, end.least))
         | inr (inl zero) ↦ or_left _ _ (same_place_is q e.1 (no_part_no_length v (way q e.1) d end.zero zero))
         | inr (inr above) ↦ or_right _ _ (along_is _ _ (between_ways v (way q e.1) (way e.0 e.1) (record { zero = end.zero; above = above }) g))
@@ -148,7 +148,7 @@ module _ (p q : Coordinates) (wp : pos 0 <ℤ p.w) (wq : pos 0 <ℤ q.w) where
   part_by_half e o = same_tests _ _ (forward e o) (backward e o)
 
   -- a corner at the half way point is strictly between
-  no_corner_half : pos 0 <ℤ dot (way p q) (way p q) → (corners : List Coordinates) → Each (IsOutside p q) corners →
+  no_corner_half : pos 0 <ℤ dot_product (way p q) (way p q) → (corners : List Coordinates) → Each (IsOutside p q) corners →
       list_any (λ x. is_same_place x (half_way p q)) corners ≡ true → ⊥
   no_corner_half d [] o h = true≢false (sym h)
   no_corner_half d (x ∷ corners) o h =
@@ -188,7 +188,7 @@ run_back e p q =
     ap₂ (λ (m : Coordinates) (v : Direction). runs_through e m && is_same_way (way e.0 e.1) v) (half_back q p) (way_back q p)
     ∙ ap (λ (b : Bool). runs_through e (half_way p q) && b) (against_way (way e.0 e.1) (way p q))
 
-part_way : (p q : Coordinates) (e : Edge) → is_part_of (p, q) e ≡ true → pos 0 <ℤ dot (way p q) (way p q)
+part_way : (p q : Coordinates) (e : Edge) → is_part_of (p, q) e ≡ true → pos 0 <ℤ dot_product (way p q) (way p q)
 part_way p q e h =
     let a = and_parts (lies_from_start e p) (lies_before_end e q && is_same_way (way p q) (way e.0 e.1)) h in
     let b = and_parts (lies_before_end e q) (is_same_way (way p q) (way e.0 e.1)) a.1 in

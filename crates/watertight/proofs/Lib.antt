@@ -5,4 +5,8 @@ pub mod Boxed
 pub mod Halves
 pub mod General
 pub mod Inner
+pub mod Nearby
+pub mod Strict
 pub mod Overlaps
+pub mod Reach
+pub mod Vertices

@@ -4,7 +4,7 @@ use Rattle.std.specs.Prelude.{Contains}
 use Rattle.std.proofs.Math.IntN.{*ℤ-zero}
 use Rattle.std.proofs.lemmas.Bool.{cases_lt}
 use Rattle.plane_predicate.specs.declared.unit.Unit.{Unit as LengthUnit}
-use Rattle.plane_predicate.specs.Space.{Coefficients, Coordinates, value, turn, opposite_of, is_same, product_with, IsPlane, IsInWorld}
+use Rattle.plane_predicate.specs.Space.{Coefficients, Coordinates, value, orientation_seen_from, opposite_of, is_same, product_with, IsPlane, IsInWorld}
 use Rattle.plane_predicate.specs.Units.{steps_of}
 use Rattle.plane_predicate.specs.InUnits.{in_steps}
 use Rattle.plane_predicate.proofs.IntegerRing.{sums, mul_neg_left}
@@ -15,8 +15,8 @@ use Rattle.plane_predicate.proofs.Signs.{zero_cancel}
 use Rattle.plane_predicate.proofs.SamePlanes.{directed_above, equal_or_opposite}
 use Rattle.plane_polygon.proofs.FourPoints.{four_points}
 use Rattle.plane_polygon.proofs.Hull.{after_below}
-use Rattle.csg_tree.specs.Formulas.{Formula, nothing, leaf, joined, Assignment, holds, sides_of, IsPlaneOf}
-use Rattle.csg_tree.specs.FacePlanes.{IsFacePlane, IsOnOneFacePlane, just_behind, just_ahead, is_boundary_at}
+use Rattle.csg_tree.specs.Formulas.{Formula, nothing, leaf, joined, SideAssignment, holds, sides_of, IsPlaneOf}
+use Rattle.csg_tree.specs.FacePlanes.{IsFacePlane, IsOnOneFacePlane, sides_just_behind, sides_just_ahead, is_boundary_at}
 use Rattle.csg_tree.specs.ProperTrees.{HasFullLeaves, IsProper}
 use Rattle.bsp_tree.specs.Cells.{world_box}
 use Rattle.bsp_tree.proofs.Opposites.{opposite_twice}
@@ -29,169 +29,15 @@ use Rattle.closed_surface.proofs.Balanced.{in_near}
 use Rattle.closed_surface.proofs.Closing.{not_opposite}
 use Rattle.closed_surface.proofs.Lines.{IsEither}
 use Rattle.closed_surface.proofs.Each.{Each, each_weaker, each_both, each_append, each_left, each_right, each_from_all}
-use Rattle.off_text.specs.Boundaries.{after, grid_corner, Faces, Covers, OneExactlyWhere}
+use Rattle.off_text.specs.Boundaries.{corner_after, grid_corner, FacesPlane, FaceCovers, OneExactlyWhere}
 use Rattle.off_text.specs.Bounding.{IsBoundary}
 use Rattle.off_text.proofs.BesideFaces.{face_plane_is_plane}
 use Rattle.off_text.proofs.Rounded.{below_three, not_two, last_of_four}
 use Rattle.off_text.proofs.Scaled.{no_two_sides}
 use Rattle.watertight.specs.Overlaps.{ShareNoInnerPoint}
 use Rattle.watertight.proofs.General.{General, Clears, general, all_slopes, each_slope}
-use Rattle.watertight.proofs.Inner.{inner_in_world}
-
--- ---- the planes of a formula, in a list
-abbrev planes_in : Formula → List Coefficients
-planes_in nothing = []
-planes_in (leaf planes) = planes
-planes_in (joined op left right) = planes_in left ++ planes_in right
-
-contained : (planes : List Coefficients) → Each (Contains planes) planes
-contained [] = tt
-contained (n ∷ planes) = (
-  (0, omega arith, refl),
-  each_weaker (Contains planes) (Contains (n ∷ planes)) (λ m c. (suc c.0, omega (arith, c.1), c.2)) planes (contained planes),
-)
-
-each_is : (f : Formula) → Each (λ m. IsPlaneOf m f) (planes_in f)
-each_is nothing = tt
-each_is (leaf planes) = contained planes
-each_is (joined op left right) =
-    each_append (λ m. IsPlaneOf m (joined op left right)) (planes_in left) (planes_in right)
-    (each_weaker (λ m. IsPlaneOf m left) (λ m. IsPlaneOf m (joined op left right)) (λ m h. inl h) (planes_in left) (each_is left))
-    (each_weaker (λ m. IsPlaneOf m right) (λ m. IsPlaneOf m (joined op left right)) (λ m h. inr h) (planes_in right) (each_is right))
-
-each_contained : (P : Coefficients → Type 0) (planes : List Coefficients) → Each P planes → (m : Coefficients) → Contains planes m → P m
-each_contained P [] e m c = absurd (omega (arith, c.1))
-each_contained P (n ∷ planes) e m (zero, l, q) = subst P q e.0
-each_contained P (n ∷ planes) e m (suc i, l, q) = each_contained P planes e.1 m (i, omega (arith, l), q)
-
-each_of : (P : Coefficients → Type 0) (f : Formula) → Each P (planes_in f) → (m : Coefficients) → IsPlaneOf m f → P m
-each_of P nothing e m h = absurd h
-each_of P (leaf planes) e m h = each_contained P planes e m h
-each_of P (joined op left right) e m (inl h) = each_of P left (each_left P (planes_in left) (planes_in right) e) m h
-each_of P (joined op left right) e m (inr h) = each_of P right (each_right P (planes_in left) (planes_in right) e) m h
-
--- ---- the plane whose value at a point is the turn of a way to it
-abbrev way_plane : Coefficients → Coordinates → Coordinates → Coefficients
-way_plane n p q = record {
-  a = p.w *ℤ (n.b *ℤ q.z -ℤ n.c *ℤ q.y) +ℤ q.w *ℤ (n.c *ℤ p.y -ℤ n.b *ℤ p.z);
-  b = p.w *ℤ (n.c *ℤ q.x -ℤ n.a *ℤ q.z) +ℤ q.w *ℤ (n.a *ℤ p.z -ℤ n.c *ℤ p.x);
-  c = p.w *ℤ (n.a *ℤ q.y -ℤ n.b *ℤ q.x) +ℤ q.w *ℤ (n.b *ℤ p.x -ℤ n.a *ℤ p.y);
-  d = pos 0 -ℤ product_with n p q;
-}
-
-abbrev way_planeP : Form → Place → Place → Form
-way_planeP n p q = record {
-  a = plus (times p.w (minus (times n.b q.z) (times n.c q.y))) (times q.w (minus (times n.c p.y) (times n.b p.z)));
-  b = plus (times p.w (minus (times n.c q.x) (times n.a q.z))) (times q.w (minus (times n.a p.z) (times n.c p.x)));
-  c = plus (times p.w (minus (times n.a q.y) (times n.b q.x))) (times q.w (minus (times n.b p.x) (times n.a p.y)));
-  d = minus (num (pos 0)) (productP n p q);
-}
-
-way_value : (n : Coefficients) (p q r : Coordinates) → value (way_plane n p q) r ≡ turn n p q r
-way_value n p q r =
-    let N = form 0 in let P = place 4 in let Q = place 8 in let R = place 12 in
-    ring (of_plane n (of_point p (of_point q (of_point r [])))) (valueP (way_planeP N P Q) R) (turnP N P Q R) refl
-
--- ---- sums of numbers
-abbrev sum_to : (ℕ → ℕ) → ℕ → ℕ
-sum_to g zero = 0
-sum_to g (suc k) = sum_to g k + g k
-
-below_next : (x s y : ℕ) → (x ≡ y) ⊎ (x ≤ s) → x ≤ s + y
-below_next x s y (inl e) = omega (arith, e)
-below_next x s y (inr b) = omega (arith, b)
-
-last_or_less : (i k : ℕ) → i < suc k → (i ≡ k) ⊎ (i < k)
-last_or_less i k l = elim (cases_lt i k) [ inl b ↦ inr b | inr b ↦ inl (omega arith) ]
-
-same_or_less : (g : ℕ → ℕ) (s i k : ℕ) → (i ≡ k) ⊎ (i < k) → (i < k → g i ≤ s) → (g i ≡ g k) ⊎ (g i ≤ s)
-same_or_less g s i k (inl e) h = inl (ap g e)
-same_or_less g s i k (inr b) h = inr (h b)
-
-below_sum : (g : ℕ → ℕ) (k i : ℕ) → i < k → g i ≤ sum_to g k
-below_sum g zero i l = absurd (omega arith)
-below_sum g (suc k) i l = below_next (g i) (sum_to g k) (g k) (same_or_less g (sum_to g k) i k (last_or_less i k l) (below_sum g k i))
-
-first_part : (a b c : ℕ) → a ≤ a + (b + c)
-first_part a b c = omega arith
-
-second_part : (a b c : ℕ) → b ≤ a + (b + c)
-second_part a b c = omega arith
-
-third_part : (a b c : ℕ) → c ≤ a + (b + c)
-third_part a b c = omega arith
-
-at_most_left : (a b n : ℕ) → a + b ≤ n → a ≤ n
-at_most_left a b n h = omega arith
-
-at_most_right : (a b n : ℕ) → a + b ≤ n → b ≤ n
-at_most_right a b n h = omega arith
-
-at_most_both : (x y n : ℕ) → x ≤ y → y ≤ n → x ≤ n
-at_most_both x y n h k = omega arith
-
--- ---- a direction in units, in grid steps
-abbrev several : LengthUnit → Direction → Direction
-several unit v = record { x = steps_of unit *ℤ v.x; y = steps_of unit *ℤ v.y; z = steps_of unit *ℤ v.z }
-
-coordinate_moved : (s k x v : ℤ) → s *ℤ (k *ℤ x +ℤ v) ≡ k *ℤ (s *ℤ x) +ℤ s *ℤ v
-coordinate_moved s k x v =
-    ring (s ∷ k ∷ x ∷ v ∷ []) (times (var 0) (plus (times (var 1) (var 2)) (var 3))) (plus (times (var 1) (times (var 0) (var 2))) (times (var 0) (var 3))) refl
-
-moved : (unit : LengthUnit) (number : ℕ) (p : Coordinates) (v : Direction) → in_steps unit (near_point number p v) ≡ near_point number (in_steps unit p) (several unit v)
-moved unit number p v = λ i. record {
-  x = coordinate_moved (steps_of unit) (pos (suc number)) p.x v.x i;
-  y = coordinate_moved (steps_of unit) (pos (suc number)) p.y v.y i;
-  z = coordinate_moved (steps_of unit) (pos (suc number)) p.z v.z i;
-  w = pos (suc number) *ℤ p.w;
-}
-
-slope_several : (unit : LengthUnit) (m : Coefficients) (v : Direction) → slope m (several unit v) ≡ steps_of unit *ℤ slope m v
-slope_several unit m v =
-    let M = form 0 in
-    ring (of_plane m (v.x ∷ v.y ∷ v.z ∷ steps_of unit ∷ []))
-    (plus (plus (times M.a (times (var 7) (var 4))) (times M.b (times (var 7) (var 5)))) (times M.c (times (var 7) (var 6))))
-    (times (var 7) (plus (plus (times M.a (var 4)) (times M.b (var 5))) (times M.c (var 6)))) refl
-
-several_flat : (unit : LengthUnit) (m : Coefficients) (v : Direction) → slope m v ≡ pos 0 → slope m (several unit v) ≡ pos 0
-several_flat unit m v e = slope_several unit m v ∙ ap (λ (x : ℤ). steps_of unit *ℤ x) e ∙ *ℤ-zero (steps_of unit)
-
-several_apart : (unit : LengthUnit) (m : Coefficients) (v : Direction) → slope m v ≢ pos 0 → slope m (several unit v) ≢ pos 0
-several_apart unit m v h e = h (zero_cancel (steps_of unit) (slope m v) (steps_above unit) (sym (slope_several unit m v) ∙ e))
-
--- ---- the plane that a face faces
-module _ (unit : LengthUnit) (vertices : List Coordinates) (face : List ℕ) (three : 3 ≤ length face) where
-  abbrev spot : ℕ → Coordinates
-  spot i = grid_corner unit vertices face i
-
-  abbrev second : ℕ
-  second = after (length face) 0
-
-  first_below : 0 < length face
-  first_below = below_three 0 (length face) three (omega arith)
-
-  last_below : 2 < length face
-  last_below = below_three 2 (length face) three (omega arith)
-
-  second_below : second < length face
-  second_below = after_below (length face) 0 first_below
-
-  corners_turn : (n : Coefficients) → Faces unit vertices n face → pos 0 <ℤ turn n (spot 0) (spot second) (spot 2)
-  corners_turn n h = h.left 0 2 first_below last_below (omega arith) (not_two (length face) three)
-
-  points_too : (n m : Coefficients) → IsPlane n → Faces unit vertices n face → Faces unit vertices m face → (p : Coordinates) → value n p ≡ pos 0 → value m p ≡ pos 0
-  points_too n m hn h k p on =
-      zero_cancel (turn n (spot 0) (spot second) (spot 2)) (value m p) (corners_turn n h)
-      (last_of_four (turn n (spot second) (spot 2) p) (turn n (spot 0) (spot 2) p) (turn n (spot 0) (spot second) p) (turn n (spot 0) (spot second) (spot 2))
-      (value m (spot 0)) (value m (spot second)) (value m (spot 2)) (value m p)
-      (four_points n (directed_above n hn.directed) (spot 0) (spot second) (spot 2) p (h.on 0 first_below) (h.on second second_below) (h.on 2 last_below) on m)
-      (k.on 0 first_below) (k.on second second_below) (k.on 2 last_below))
-
-  pub one_plane : (n m : Coefficients) → IsPlane n → IsPlane m → Faces unit vertices n face → Faces unit vertices m face → n ≡ m
-  one_plane n m hn hm h k = elim (equal_or_opposite n m hn hm (record { points = λ p w e. points_too n m hn h k p e })) [
-    | inl e ↦ e
-    | inr e ↦ absurd (no_two_sides n m e (spot 0) (spot second) (spot 2) (corners_turn n h) (corners_turn m k))
-  ]
+use Rattle.watertight.proofs.Nearby.{way_out, own_slopes, step_flat, alone_near, still_covers, face_slopes, several, one_plane, one_only, is_where, first_part, second_part, third_part}
+use Rattle.watertight.proofs.Strict.{inner_in_world, plane_reach}
 
 -- ---- the other side of a plane
 both_or_neither : (x y s : Bool) → (x ≡ true → y ≡ true → ⊥) → (if y then true else if x then false else s) ≡ (if x then false else if y then true else s)
@@ -200,13 +46,13 @@ both_or_neither true false s h = refl
 both_or_neither false true s h = refl
 both_or_neither false false s h = refl
 
-other_side : (n : Coefficients) → IsPlane n → (q : Coordinates) (m : Coefficients) → just_behind (opposite_of n) q m ≡ just_ahead n q m
+other_side : (n : Coefficients) → IsPlane n → (q : Coordinates) (m : Coefficients) → sides_just_behind (opposite_of n) q m ≡ sides_just_ahead n q m
 other_side n plane q m =
     ap (λ (k : Coefficients). if is_same m (opposite_of n) then true else if is_same m k then false else sides_of q m) (opposite_twice n)
     ∙ both_or_neither (is_same m n) (is_same m (opposite_of n)) (sides_of q m)
     (λ e f. not_opposite n plane (sym (same_equal m n e) ∙ same_equal m (opposite_of n) f))
 
-sides_exchanged : (n : Coefficients) → IsPlane n → (q : Coordinates) → just_behind (opposite_of n) q ≡ just_ahead n q
+sides_exchanged : (n : Coefficients) → IsPlane n → (q : Coordinates) → sides_just_behind (opposite_of n) q ≡ sides_just_ahead n q
 sides_exchanged n plane q = λ i m. other_side n plane q m i
 
 zero_negative : (x y : ℤ) → x ≡ neg_ℤ y → y ≡ pos 0 → x ≡ pos 0
@@ -228,91 +74,10 @@ on_opposite f n q h = record {
   alone = λ m k e. opposite_either m n (h.alone m k e);
 }
 
--- ---- exactly one face
-one_only : (b : Bool) (P : List ℕ → Type 0) (faces : List (List ℕ)) → OneExactlyWhere b P faces → (i j : ℕ) → i < length faces → j < length faces →
-    P (slice_index_or faces i []) → P (slice_index_or faces j []) → i ≡ j
-one_only true P faces h i j l k hi hj = h.only i l hi ∙ sym (h.only j k hj)
-one_only false P faces h i j l k hi hj = absurd (h i l hi)
-
-is_where : (b : Bool) (P : List ℕ → Type 0) (faces : List (List ℕ)) → OneExactlyWhere b P faces → (i : ℕ) → i < length faces → P (slice_index_or faces i []) → b ≡ true
-is_where true P faces h i l hi = refl
-is_where false P faces h i l hi = absurd (h i l hi)
-
 not_both_ways : (x y z : Bool) → (x && not y) ≡ true → (y && not z) ≡ true → ⊥
 not_both_ways true true z h k = true≢false (sym h)
 not_both_ways true false z h k = true≢false (sym k)
 not_both_ways false y z h k = true≢false (sym h)
-
--- ---- near an inner point of two faces
-abbrev way_slopes : LengthUnit → List Coordinates → Coefficients → List ℕ → Direction → ℕ → ℕ
-way_slopes unit vertices n face u i = unsigned_abs (slope (way_plane n (grid_corner unit vertices face i) (grid_corner unit vertices face (after (length face) i))) u)
-
-abbrev face_slopes : LengthUnit → List Coordinates → Coefficients → List ℕ → Direction → ℕ
-face_slopes unit vertices n face u = sum_to (way_slopes unit vertices n face u) (length face)
-
--- a face that covers a point covers one near by, along its plane
-still_covers : (unit : LengthUnit) (vertices : List Coordinates) (n : Coefficients) (face : List ℕ) (p : Coordinates) (v : Direction) (number : ℕ) →
-    slope n (several unit v) ≡ pos 0 → face_slopes unit vertices n face (several unit v) ≤ number →
-    Covers unit vertices n p face → Covers unit vertices n (near_point number p v) face
-still_covers unit vertices n face p v number flat enough h =
-    let u = several unit v in
-    let q = in_steps unit p in record {
-      faces = h.faces;
-      on = ap (value n) (moved unit number p v) ∙ near_on n number q u h.on ∙ flat;
-      left = λ i l.
-          (let a = grid_corner unit vertices face i in
-          let b = grid_corner unit vertices face (after (length face) i) in
-          let small = below_sum (way_slopes unit vertices n face u) (length face) i l in
-          subst (λ (x : ℤ). pos 0 <ℤ x) (way_value n a b (near_point number q u) ∙ ap (turn n a b) (sym (moved unit number p v)))
-          (near_ahead (way_plane n a b) number q u (at_most_both (way_slopes unit vertices n face u i) (face_slopes unit vertices n face u) number small enough)
-          (subst (λ (x : ℤ). pos 0 <ℤ x) (sym (way_value n a b q)) (h.left i l))));
-    }
-
-module _ (unit : LengthUnit) (f : Formula) (full : HasFullLeaves f) (n : Coefficients) (plane : IsPlane n) (face_plane : IsFacePlane n f)
-    (p : Coordinates) (world : IsInWorld (in_steps unit p)) (on : value n (in_steps unit p) ≡ pos 0) where
-  abbrev here : Coordinates
-  here = in_steps unit p
-
-  each_plane : Each IsPlane (planes_in f)
-  each_plane = each_weaker (λ m. IsPlaneOf m f) IsPlane (λ m h. face_plane_is_plane f m full (inl h)) (planes_in f) (each_is f)
-
-  found : General here world.weight n plane on (planes_in f)
-  found = general here world.weight n plane on (planes_in f) each_plane
-
-  abbrev way_out : Direction
-  way_out = found.v
-
-  abbrev step_out : Direction
-  step_out = several unit way_out
-
-  step_flat : slope n step_out ≡ pos 0
-  step_flat = several_flat unit n way_out found.flat
-
-  abbrev own_slopes : ℕ
-  own_slopes = all_slopes world_box step_out + all_slopes (planes_in f) step_out
-
-  only_plane : (number : ℕ) (m : Coefficients) → unsigned_abs (slope m step_out) ≤ number → Clears here world.weight n plane on way_out m → value m (near_point number here step_out) ≡ pos 0 → IsEither m n
-  only_plane number m b (inl off) e = absurd (off (zero_near m number here step_out b e))
-  only_plane number m b (inr (inl either)) e = either
-  only_plane number m b (inr (inr leaves)) e =
-      absurd (several_apart unit m way_out leaves (sym (near_on m number here step_out (zero_near m number here step_out b e)) ∙ e))
-
-  -- the point near by is on no other face plane
-  alone_near : (number : ℕ) → own_slopes ≤ number → IsOnOneFacePlane f n (in_steps unit (near_point number p way_out))
-  alone_near number enough =
-      let there = near_point number here step_out in
-      let box = each_slope world_box step_out number (at_most_left (all_slopes world_box step_out) (all_slopes (planes_in f) step_out) number enough) in
-      let planes = each_both (λ m. unsigned_abs (slope m step_out) ≤ number) (Clears here world.weight n plane on way_out) (planes_in f)
-      (each_slope (planes_in f) step_out number (at_most_right (all_slopes world_box step_out) (all_slopes (planes_in f) step_out) number enough)) found.clear in
-      subst (IsOnOneFacePlane f n) (sym (moved unit number p way_out))
-      (record {
-        world = (open_world there).0 (in_near world_box number here step_out box ((open_world here).1 world));
-        face_plane = face_plane;
-        on = near_on n number here step_out on ∙ step_flat;
-        alone = λ m h e.
-            (let c = each_of (λ k. (unsigned_abs (slope k step_out) ≤ number) × Clears here world.weight n plane on way_out k) f planes m h in
-            only_plane number m c.0 c.1 e);
-      })
 
 slope_opposite : (n : Coefficients) (u : Direction) → slope (opposite_of n) u ≡ neg_ℤ (slope n u)
 slope_opposite n u = omega (arith, sums, mul_neg_left n.a u.x, mul_neg_left n.b u.y, mul_neg_left n.c u.z)
@@ -325,15 +90,22 @@ module _ (unit : LengthUnit) (bytes : List ℕ) (f : Formula) (full : HasFullLea
   abbrev face_at : ℕ → List ℕ
   face_at i = slice_index_or text.faces i []
 
-  faced_plane : (n : Coefficients) → IsPlane n → (i : ℕ) → i < length text.faces → Faces unit text.vertices n (face_at i) → IsFacePlane n f
+  faced_plane : (n : Coefficients) → IsPlane n → (i : ℕ) → i < length text.faces → FacesPlane unit text.vertices n (face_at i) → IsFacePlane n f
   faced_plane n plane i l h =
       let b = text.bounding i [] l in
       subst (λ (m : Coefficients). IsFacePlane m f)
       (one_plane unit text.vertices (face_at i) (text.read.loops i [] l).three b.plane n (face_plane_is_plane f b.plane full b.of_formula) plane b.faces h) b.of_formula
 
-  same_face : (n : Coefficients) (p : Coordinates) → IsPlane n → IsInWorld (in_steps unit p) → (i j : ℕ) → i < length text.faces → j < length text.faces →
-      Covers unit text.vertices n p (face_at i) → Covers unit text.vertices n p (face_at j) → i ≡ j
-  same_face n p plane world i j l k h g =
+  -- a point strictly inside a face is strictly inside the world box
+  in_world : (n : Coefficients) (p : Coordinates) → IsPlane n → pos 0 <ℤ p.w → (i : ℕ) → i < length text.faces → FaceCovers unit text.vertices n p (face_at i) → IsInWorld (in_steps unit p)
+  in_world n p plane w i l h =
+      inner_in_world unit text.vertices (face_at i) (text.read.loops i [] l).three n plane p w h
+      (plane_reach f n full (faced_plane n plane i l h.faces)) (text.bounding i [] l).boxed
+
+  same_face : (n : Coefficients) (p : Coordinates) → IsPlane n → pos 0 <ℤ p.w → (i j : ℕ) → i < length text.faces → j < length text.faces →
+      FaceCovers unit text.vertices n p (face_at i) → FaceCovers unit text.vertices n p (face_at j) → i ≡ j
+  same_face n p plane w i j l k h g =
+      let world = in_world n p plane w i l h in
       let fp = faced_plane n plane i l h.faces in
       let v = way_out unit f full n plane fp p world h.on in
       let own = own_slopes unit f full n plane fp p world h.on in
@@ -342,14 +114,15 @@ module _ (unit : LengthUnit) (bytes : List ℕ) (f : Formula) (full : HasFullLea
       let number = own + (first + second) in
       let flat = step_flat unit f full n plane fp p world h.on in
       let there = near_point number p v in
-      one_only (is_boundary_at f n (in_steps unit there)) (Covers unit text.vertices n there) text.faces
+      one_only (is_boundary_at f n (in_steps unit there)) (FaceCovers unit text.vertices n there) text.faces
       (text.covered n there (alone_near unit f full n plane fp p world h.on number (first_part own first second))) i j l k
       (still_covers unit text.vertices n (face_at i) p v number flat (second_part own first second) h)
       (still_covers unit text.vertices n (face_at j) p v number flat (third_part own first second) g)
 
-  no_opposite : (n : Coefficients) (p : Coordinates) → IsPlane n → IsInWorld (in_steps unit p) → (i j : ℕ) → i < length text.faces → j < length text.faces →
-      Covers unit text.vertices n p (face_at i) → Covers unit text.vertices (opposite_of n) p (face_at j) → ⊥
-  no_opposite n p plane world i j l k h g =
+  no_opposite : (n : Coefficients) (p : Coordinates) → IsPlane n → pos 0 <ℤ p.w → (i j : ℕ) → i < length text.faces → j < length text.faces →
+      FaceCovers unit text.vertices n p (face_at i) → FaceCovers unit text.vertices (opposite_of n) p (face_at j) → ⊥
+  no_opposite n p plane w i j l k h g =
+      let world = in_world n p plane w i l h in
       let fp = faced_plane n plane i l h.faces in
       let v = way_out unit f full n plane fp p world h.on in
       let own = own_slopes unit f full n plane fp p world h.on in
@@ -360,23 +133,13 @@ module _ (unit : LengthUnit) (bytes : List ℕ) (f : Formula) (full : HasFullLea
       let there = near_point number p v in
       let r = in_steps unit there in
       let alone = alone_near unit f full n plane fp p world h.on number (first_part own first second) in
-      let one = is_where (is_boundary_at f n r) (Covers unit text.vertices n there) text.faces (text.covered n there alone) i l
+      let one = is_where (is_boundary_at f n r) (FaceCovers unit text.vertices n there) text.faces (text.covered n there alone) i l
       (still_covers unit text.vertices n (face_at i) p v number flat (second_part own first second) h) in
-      let other = is_where (is_boundary_at f (opposite_of n) r) (Covers unit text.vertices (opposite_of n) there) text.faces
+      let other = is_where (is_boundary_at f (opposite_of n) r) (FaceCovers unit text.vertices (opposite_of n) there) text.faces
       (text.covered (opposite_of n) there (on_opposite f n r alone)) j k
       (still_covers unit text.vertices (opposite_of n) (face_at j) p v number (opposite_flat n (several unit v) flat) (third_part own first second) g) in
-      not_both_ways (holds f (just_behind n r)) (holds f (just_ahead n r)) (holds f (just_ahead (opposite_of n) r)) one
-      (subst (λ (s : Assignment). (holds f s && not (holds f (just_ahead (opposite_of n) r))) ≡ true) (sides_exchanged n plane r) other)
+      not_both_ways (holds f (sides_just_behind n r)) (holds f (sides_just_ahead n r)) (holds f (sides_just_ahead (opposite_of n) r)) one
+      (subst (λ (s : SideAssignment). (holds f s && not (holds f (sides_just_ahead (opposite_of n) r))) ≡ true) (sides_exchanged n plane r) other)
 
-  pub no_overlaps : ShareNoInnerPoint (λ p. IsInWorld (in_steps unit p)) unit text.vertices text.faces
+  pub no_overlaps : ShareNoInnerPoint unit text.vertices text.faces
   no_overlaps = record { same = same_face; opposite = no_opposite }
-
-  -- where all vertices are strictly inside the box, so are all inner points
-  pub no_overlaps_anywhere : All (λ p. IsInWorld (in_steps unit p)) text.vertices → ShareNoInnerPoint (λ p. pos 0 <ℤ p.w) unit text.vertices text.faces
-  no_overlaps_anywhere inside =
-      let each = each_from_all (λ (p : Coordinates). IsInWorld (in_steps unit p)) text.vertices inside in record {
-        same = λ n p plane w i j l k h g. same_face n p plane
-            (inner_in_world unit text.vertices each (face_at i) (text.read.loops i [] l).three n plane p w h) i j l k h g;
-        opposite = λ n p plane w i j l k h g. no_opposite n p plane
-            (inner_in_world unit text.vertices each (face_at i) (text.read.loops i [] l).three n plane p w h) i j l k h g;
-      }

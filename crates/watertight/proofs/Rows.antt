@@ -1,17 +1,26 @@
 -- Surfaces that are written out, worked by hand: a cube, two cubes that share a face, two that share an edge alone, and a
 -- tetrahedron.
-use Rattle.std.proofs.Common.{◌≡◌, ◌≢◌, ℕ, zero, suc, ◌<◌, Bool, true, false, List, [], ◌∷◌, ◌++◌, map, flat_map, length, slice_index_or, eqb, refl, sym, ◌∙◌, true≢false, arith, ℤ, pos, ◌<ℤ◌, negsuc}
+use Rattle.std.proofs.Common.{◌≡◌, ◌≢◌, ℕ, zero, suc, ◌<◌, Bool, true, false, List, [], ◌∷◌, ◌++◌, map, flat_map, length, slice_index_or, eqb, refl, sym, ◌∙◌, true≢false, arith, ℤ, pos, ◌-ℤ◌, ◌*ℤ◌, ◌<ℤ◌, negsuc, ◌*◌, ◌≤◌, unsigned_abs}
+use Rattle.std.specs.List.{list_all}
 use Rattle.std.proofs.Math.Nat.{eq-one_of_dvd-one}
+use Rattle.std.proofs.lemmas.Bool.{and_parts}
 use Rattle.std.proofs.lemmas.Bool.Decides.{Decides-eqb}
 use Rattle.plane_predicate.specs.declared.unit.Unit.TheVariants.{Whole}
-use Rattle.plane_predicate.specs.Space.{Coefficients, Coordinates, value, turn, opposite_of, IsPlane}
+use Rattle.plane_predicate.specs.Space.{Coefficients, Coordinates, value, orientation_seen_from, opposite_of, IsPlane}
 use Rattle.plane_predicate.proofs.IntegerRing.{sums}
+use Rattle.plane_predicate.proofs.Polynomials.{var, num, plus, times, minus, ring}
+use Rattle.plane_predicate.proofs.Vectors.{Form, place, of_point, valueP}
+use Rattle.csg_tree.specs.declared.op.Op.TheVariants.{Union}
+use Rattle.csg_tree.specs.Formulas.{Formula, leaf, joined, sides_of}
+use Rattle.bsp_tree.specs.Cells.{AllBehind}
 use Rattle.closed_surface.specs.Ways.{Direction}
 use Rattle.closed_surface.specs.Closed.{edges_of, corners_at, edges_along, edges_against}
-use Rattle.off_text.specs.Boundaries.{after, grid_corner, Faces, Covers}
+use Rattle.off_text.specs.Boundaries.{corner_after, grid_corner, FacesPlane, FaceCovers}
 use Rattle.watertight.specs.Everywhere.{IsClosedEverywhere}
 use Rattle.watertight.specs.Pieces.{is_elementary, edges_along_part}
+use Rattle.closed_surface.proofs.Numbers.{below_back}
 use Rattle.watertight.specs.Overlaps.{ShareNoInnerPoint}
+use Rattle.csg_tree.specs.Reach.{KeepsWithinReach, LeavesKeepWithinReach}
 
 abbrev point : ℤ → ℤ → ℤ → ℤ → Coordinates
 point x y z w = record { x = x; y = y; z = z; w = w }
@@ -160,8 +169,8 @@ corners_on (suc zero) l = refl
 corners_on (suc (suc zero)) l = refl
 corners_on (suc (suc (suc i))) l = absurd (omega arith)
 
-corners_left : (i j : ℕ) → i < 3 → j < 3 → j ≢ i → j ≢ after 3 i →
-    pos 0 <ℤ turn slope_plane (grid_corner Whole tetrahedron slanted i) (grid_corner Whole tetrahedron slanted (after 3 i)) (grid_corner Whole tetrahedron slanted j)
+corners_left : (i j : ℕ) → i < 3 → j < 3 → j ≢ i → j ≢ corner_after 3 i →
+    pos 0 <ℤ orientation_seen_from slope_plane (grid_corner Whole tetrahedron slanted i) (grid_corner Whole tetrahedron slanted (corner_after 3 i)) (grid_corner Whole tetrahedron slanted j)
 corners_left zero zero l k a b = absurd (a refl)
 corners_left zero (suc zero) l k a b = absurd (b refl)
 corners_left zero (suc (suc zero)) l k a b = omega (arith, sums)
@@ -174,13 +183,13 @@ corners_left (suc (suc zero)) (suc (suc zero)) l k a b = absurd (a refl)
 corners_left (suc (suc (suc i))) j l k a b = absurd (omega arith)
 corners_left i (suc (suc (suc j))) l k a b = absurd (omega arith)
 
-middle_left : (i : ℕ) → i < 3 → pos 0 <ℤ turn slope_plane (grid_corner Whole tetrahedron slanted i) (grid_corner Whole tetrahedron slanted (after 3 i)) middle
+middle_left : (i : ℕ) → i < 3 → pos 0 <ℤ orientation_seen_from slope_plane (grid_corner Whole tetrahedron slanted i) (grid_corner Whole tetrahedron slanted (corner_after 3 i)) middle
 middle_left zero l = omega (arith, sums)
 middle_left (suc zero) l = omega (arith, sums)
 middle_left (suc (suc zero)) l = omega (arith, sums)
 middle_left (suc (suc (suc i))) l = absurd (omega arith)
 
-middle_covered : Covers Whole tetrahedron slope_plane middle slanted
+middle_covered : FaceCovers Whole tetrahedron slope_plane middle slanted
 middle_covered = record { faces = record { on = corners_on; left = corners_left }; on = refl; left = middle_left }
 
 back_on : (i : ℕ) → i < 3 → value (opposite_of slope_plane) (grid_corner Whole tetrahedron turned_round i) ≡ pos 0
@@ -189,8 +198,8 @@ back_on (suc zero) l = refl
 back_on (suc (suc zero)) l = refl
 back_on (suc (suc (suc i))) l = absurd (omega arith)
 
-back_left : (i j : ℕ) → i < 3 → j < 3 → j ≢ i → j ≢ after 3 i →
-    pos 0 <ℤ turn (opposite_of slope_plane) (grid_corner Whole tetrahedron turned_round i) (grid_corner Whole tetrahedron turned_round (after 3 i)) (grid_corner Whole tetrahedron turned_round j)
+back_left : (i j : ℕ) → i < 3 → j < 3 → j ≢ i → j ≢ corner_after 3 i →
+    pos 0 <ℤ orientation_seen_from (opposite_of slope_plane) (grid_corner Whole tetrahedron turned_round i) (grid_corner Whole tetrahedron turned_round (corner_after 3 i)) (grid_corner Whole tetrahedron turned_round j)
 back_left zero zero l k a b = absurd (a refl)
 back_left zero (suc zero) l k a b = absurd (b refl)
 back_left zero (suc (suc zero)) l k a b = omega (arith, sums)
@@ -203,17 +212,107 @@ back_left (suc (suc zero)) (suc (suc zero)) l k a b = absurd (a refl)
 back_left (suc (suc (suc i))) j l k a b = absurd (omega arith)
 back_left i (suc (suc (suc j))) l k a b = absurd (omega arith)
 
-middle_left_back : (i : ℕ) → i < 3 → pos 0 <ℤ turn (opposite_of slope_plane) (grid_corner Whole tetrahedron turned_round i) (grid_corner Whole tetrahedron turned_round (after 3 i)) middle
+middle_left_back : (i : ℕ) → i < 3 → pos 0 <ℤ orientation_seen_from (opposite_of slope_plane) (grid_corner Whole tetrahedron turned_round i) (grid_corner Whole tetrahedron turned_round (corner_after 3 i)) middle
 middle_left_back zero l = omega (arith, sums)
 middle_left_back (suc zero) l = omega (arith, sums)
 middle_left_back (suc (suc zero)) l = omega (arith, sums)
 middle_left_back (suc (suc (suc i))) l = absurd (omega arith)
 
-middle_covered_back : Covers Whole tetrahedron (opposite_of slope_plane) middle turned_round
+middle_covered_back : FaceCovers Whole tetrahedron (opposite_of slope_plane) middle turned_round
 middle_covered_back = record { faces = record { on = back_on; left = back_left }; on = refl; left = middle_left_back }
 
-twice_overlaps : ShareNoInnerPoint (λ p. pos 0 <ℤ p.w) Whole tetrahedron (slanted ∷ slanted ∷ []) → ⊥
+twice_overlaps : ShareNoInnerPoint Whole tetrahedron (slanted ∷ slanted ∷ []) → ⊥
 twice_overlaps h = differ 0 1 (h.same slope_plane middle is_plane (omega (arith, sums)) 0 1 (omega arith) (omega arith) middle_covered middle_covered) refl
 
-both_sides_overlap : ShareNoInnerPoint (λ p. pos 0 <ℤ p.w) Whole tetrahedron (slanted ∷ turned_round ∷ []) → ⊥
+both_sides_overlap : ShareNoInnerPoint Whole tetrahedron (slanted ∷ turned_round ∷ []) → ⊥
 both_sides_overlap h = h.opposite slope_plane middle is_plane (omega (arith, sums)) 0 1 (omega arith) (omega arith) middle_covered middle_covered_back
+
+-- ---- formulas that hold only within reach: a cube, two cubes that share a face, two that share an edge alone
+abbrev wall : ℤ → ℤ → ℤ → ℤ → Coefficients
+wall a b c d = record { a = a; b = b; c = c; d = d }
+
+-- the walls of the cube of side 1 above z = 0 that ends at these two in x and y, and begins at the opposites of the others
+abbrev walls_at : (high_x low_x high_y low_y : ℤ) → List Coefficients
+walls_at high_x low_x high_y low_y =
+    wall (pos 1) (pos 0) (pos 0) high_x ∷ wall (negsuc 0) (pos 0) (pos 0) low_x ∷ wall (pos 0) (pos 1) (pos 0) high_y
+    ∷ wall (pos 0) (negsuc 0) (pos 0) low_y ∷ wall (pos 0) (pos 0) (pos 1) (pos 1) ∷ wall (pos 0) (pos 0) (negsuc 0) (pos 0) ∷ []
+
+abbrev cube_at : (high_x low_x high_y low_y : ℤ) → Formula
+cube_at high_x low_x high_y low_y = leaf (walls_at high_x low_x high_y low_y)
+
+size_below_two : (x w : ℤ) → pos 0 <ℤ w → pos 0 <ℤ x → x <ℤ (pos 2 *ℤ w) → unsigned_abs x ≤ 4095 * unsigned_abs w
+size_below_two x (negsuc n) above h k = absurd (omega (arith, sums, above))
+size_below_two (negsuc m) (pos n) above h k = absurd (omega (arith, sums, h))
+size_below_two (pos m) (pos n) above h k = omega (arith, sums, k)
+
+behind_each : (planes : List Coefficients) (p : Coordinates) → list_all (sides_of p) planes ≡ true → AllBehind planes p
+behind_each [] p h = tt
+behind_each (m ∷ planes) p h =
+    let k = and_parts (sides_of p m) (list_all (sides_of p) planes) h in (below_back (value m p) (pos 0) k.0, behind_each planes p k.1)
+
+abbrev wallP : ℤ → ℤ → ℤ → ℤ → Form
+wallP a b c d = record { a = num a; b = num b; c = num c; d = num d }
+
+from_zero : (v x : ℤ) → v ≡ pos 0 -ℤ x → v <ℤ pos 0 → pos 0 <ℤ x
+from_zero v x e h = omega (arith, sums, e, h)
+
+from_one : (v x w : ℤ) → v ≡ w -ℤ x → v <ℤ pos 0 → pos 0 <ℤ w → pos 0 <ℤ x
+from_one v x w e h k = omega (arith, sums, e, h, k)
+
+to_one : (v x w : ℤ) → v ≡ x -ℤ w → v <ℤ pos 0 → pos 0 <ℤ w → x <ℤ (pos 2 *ℤ w)
+to_one v x w e h k = omega (arith, sums, e, h, k, ring (w ∷ []) (times (num (pos 2)) (var 0)) (plus (var 0) (var 0)) refl)
+
+to_two : (v x w : ℤ) → v ≡ x -ℤ pos 2 *ℤ w → v <ℤ pos 0 → x <ℤ (pos 2 *ℤ w)
+to_two v x w e h = omega (arith, sums, e, h)
+
+first_cube : KeepsWithinReach (cube_at (pos 1) (pos 0) (pos 1) (pos 0))
+first_cube p w solid = let h = behind_each (walls_at (pos 1) (pos 0) (pos 1) (pos 0)) p solid in record {
+  weight = w;
+  x_size = size_below_two p.x p.w w
+      (from_zero _ p.x (ring (of_point p []) (valueP (wallP (negsuc 0) (pos 0) (pos 0) (pos 0)) (place 0)) (minus (num (pos 0)) (var 0)) refl) h.1.0)
+      (to_one _ p.x p.w (ring (of_point p []) (valueP (wallP (pos 1) (pos 0) (pos 0) (pos 1)) (place 0)) (minus (var 0) (var 3)) refl) h.0 w);
+  y_size = size_below_two p.y p.w w
+      (from_zero _ p.y (ring (of_point p []) (valueP (wallP (pos 0) (negsuc 0) (pos 0) (pos 0)) (place 0)) (minus (num (pos 0)) (var 1)) refl) h.1.1.1.0)
+      (to_one _ p.y p.w (ring (of_point p []) (valueP (wallP (pos 0) (pos 1) (pos 0) (pos 1)) (place 0)) (minus (var 1) (var 3)) refl) h.1.1.0 w);
+  z_size = size_below_two p.z p.w w
+      (from_zero _ p.z (ring (of_point p []) (valueP (wallP (pos 0) (pos 0) (negsuc 0) (pos 0)) (place 0)) (minus (num (pos 0)) (var 2)) refl) h.1.1.1.1.1.0)
+      (to_one _ p.z p.w (ring (of_point p []) (valueP (wallP (pos 0) (pos 0) (pos 1) (pos 1)) (place 0)) (minus (var 2) (var 3)) refl) h.1.1.1.1.0 w);
+}
+
+cube_next_to : KeepsWithinReach (cube_at (pos 2) (negsuc 0) (pos 1) (pos 0))
+cube_next_to p w solid = let h = behind_each (walls_at (pos 2) (negsuc 0) (pos 1) (pos 0)) p solid in record {
+  weight = w;
+  x_size = size_below_two p.x p.w w
+      (from_one _ p.x p.w (ring (of_point p []) (valueP (wallP (negsuc 0) (pos 0) (pos 0) (negsuc 0)) (place 0)) (minus (var 3) (var 0)) refl) h.1.0 w)
+      (to_two _ p.x p.w (ring (of_point p []) (valueP (wallP (pos 1) (pos 0) (pos 0) (pos 2)) (place 0)) (minus (var 0) (times (num (pos 2)) (var 3))) refl) h.0);
+  y_size = size_below_two p.y p.w w
+      (from_zero _ p.y (ring (of_point p []) (valueP (wallP (pos 0) (negsuc 0) (pos 0) (pos 0)) (place 0)) (minus (num (pos 0)) (var 1)) refl) h.1.1.1.0)
+      (to_one _ p.y p.w (ring (of_point p []) (valueP (wallP (pos 0) (pos 1) (pos 0) (pos 1)) (place 0)) (minus (var 1) (var 3)) refl) h.1.1.0 w);
+  z_size = size_below_two p.z p.w w
+      (from_zero _ p.z (ring (of_point p []) (valueP (wallP (pos 0) (pos 0) (negsuc 0) (pos 0)) (place 0)) (minus (num (pos 0)) (var 2)) refl) h.1.1.1.1.1.0)
+      (to_one _ p.z p.w (ring (of_point p []) (valueP (wallP (pos 0) (pos 0) (pos 1) (pos 1)) (place 0)) (minus (var 2) (var 3)) refl) h.1.1.1.1.0 w);
+}
+
+cube_at_its_edge : KeepsWithinReach (cube_at (pos 2) (negsuc 0) (pos 2) (negsuc 0))
+cube_at_its_edge p w solid = let h = behind_each (walls_at (pos 2) (negsuc 0) (pos 2) (negsuc 0)) p solid in record {
+  weight = w;
+  x_size = size_below_two p.x p.w w
+      (from_one _ p.x p.w (ring (of_point p []) (valueP (wallP (negsuc 0) (pos 0) (pos 0) (negsuc 0)) (place 0)) (minus (var 3) (var 0)) refl) h.1.0 w)
+      (to_two _ p.x p.w (ring (of_point p []) (valueP (wallP (pos 1) (pos 0) (pos 0) (pos 2)) (place 0)) (minus (var 0) (times (num (pos 2)) (var 3))) refl) h.0);
+  y_size = size_below_two p.y p.w w
+      (from_one _ p.y p.w (ring (of_point p []) (valueP (wallP (pos 0) (negsuc 0) (pos 0) (negsuc 0)) (place 0)) (minus (var 3) (var 1)) refl) h.1.1.1.0 w)
+      (to_two _ p.y p.w (ring (of_point p []) (valueP (wallP (pos 0) (pos 1) (pos 0) (pos 2)) (place 0)) (minus (var 1) (times (num (pos 2)) (var 3))) refl) h.1.1.0);
+  z_size = size_below_two p.z p.w w
+      (from_zero _ p.z (ring (of_point p []) (valueP (wallP (pos 0) (pos 0) (negsuc 0) (pos 0)) (place 0)) (minus (num (pos 0)) (var 2)) refl) h.1.1.1.1.1.0)
+      (to_one _ p.z p.w (ring (of_point p []) (valueP (wallP (pos 0) (pos 0) (pos 1) (pos 1)) (place 0)) (minus (var 2) (var 3)) refl) h.1.1.1.1.0 w);
+}
+
+cubes_at_a_face_keep : LeavesKeepWithinReach (joined Union (cube_at (pos 1) (pos 0) (pos 1) (pos 0)) (cube_at (pos 2) (negsuc 0) (pos 1) (pos 0)))
+cubes_at_a_face_keep = (first_cube, cube_next_to)
+
+cubes_at_an_edge_keep : LeavesKeepWithinReach (joined Union (cube_at (pos 1) (pos 0) (pos 1) (pos 0)) (cube_at (pos 2) (negsuc 0) (pos 2) (negsuc 0)))
+cubes_at_an_edge_keep = (first_cube, cube_at_its_edge)
+
+-- all points with x below 0: one of them is 5,000 away
+half_space_leaves : KeepsWithinReach (leaf (wall (pos 1) (pos 0) (pos 0) (pos 0) ∷ [])) → ⊥
+half_space_leaves h = let r = h (point (negsuc 4999) (pos 0) (pos 0) (pos 1)) (omega (arith, sums)) refl in absurd (omega (arith, r.x_size))

@@ -8,19 +8,19 @@ use Rattle.plane_predicate.specs.Space.{Coordinates, minor}
 use Rattle.plane_predicate.proofs.IntegerRing.{sums, mul_comm_ℤ, mul_neg_left, mul_neg_right}
 use Rattle.plane_predicate.proofs.Polynomials.{Poly, var, plus, times, minus, ring}
 use Rattle.plane_predicate.proofs.Signs.{signs, pos_pos, least_least, pos_cancel, zero_cancel}
-use Rattle.closed_surface.specs.Ways.{Direction, way, dot, cross, is_same_place, is_same_way, is_opposite_way}
+use Rattle.closed_surface.specs.Ways.{Direction, way, dot_product, cross_product, is_same_place, is_same_way, is_opposite_way}
 use Rattle.closed_surface.proofs.Numbers.{not_zero_above}
 use Rattle.closed_surface.proofs.Parallels.{IsZero, along_dot, along_cross, dot_above, same_way_is, same_way_parts, same_place_is}
 
 -- ---- u is g times a number above 0
 pub record Along (g u : Direction) : Type 0 where
-  pub zero : IsZero (cross g u)
-  pub above : pos 0 <ℤ dot g u
+  pub zero : IsZero (cross_product g u)
+  pub above : pos 0 <ℤ dot_product g u
 
 -- the same, or u is 0
 pub record NotAgainst (g u : Direction) : Type 0 where
-  pub zero : IsZero (cross g u)
-  pub least : pos 0 ≤ℤ dot g u
+  pub zero : IsZero (cross_product g u)
+  pub least : pos 0 ≤ℤ dot_product g u
 
 pub along_parts : (g u : Direction) → is_same_way g u ≡ true → Along g u
 along_parts g u h = let k = same_way_parts g u h in record { zero = k.0; above = k.1 }
@@ -28,13 +28,13 @@ along_parts g u h = let k = same_way_parts g u h in record { zero = k.0; above =
 pub along_is : (g u : Direction) → Along g u → is_same_way g u ≡ true
 along_is g u h = same_way_is g u h.zero h.above
 
-pub length_above : (g u : Direction) → Along g u → pos 0 <ℤ dot g g
+pub length_above : (g u : Direction) → Along g u → pos 0 <ℤ dot_product g g
 length_above g u h = dot_above g u (not_zero_above _ h.above)
 
 pub weaker : (g u : Direction) → Along g u → NotAgainst g u
 weaker g u h = record { zero = h.zero; least = omega (arith, sums, h.above) }
 
-cross_itself : (u : Direction) → IsZero (cross u u)
+cross_itself : (u : Direction) → IsZero (cross_product u u)
 cross_itself u = record {
   x = omega (arith, sums, mul_comm_ℤ u.y u.z);
   y = omega (arith, sums, mul_comm_ℤ u.z u.x);
@@ -46,10 +46,10 @@ pub between_ways : (g u w : Direction) → Along g u → Along g w → Along u w
 between_ways g u w h k =
     let d = length_above g u h in record {
       zero = along_cross g u w d h.zero k.zero;
-      above = pos_cancel (dot g g) (dot u w) d (subst (λ (x : ℤ). pos 0 <ℤ x) (sym (along_dot g u w h.zero)) (pos_pos _ _ h.above k.above));
+      above = pos_cancel (dot_product g g) (dot_product u w) d (subst (λ (x : ℤ). pos 0 <ℤ x) (sym (along_dot g u w h.zero)) (pos_pos _ _ h.above k.above));
     }
 
-pub along_itself : (g : Direction) → pos 0 <ℤ dot g g → Along g g
+pub along_itself : (g : Direction) → pos 0 <ℤ dot_product g g → Along g g
 along_itself g d = record { zero = cross_itself g; above = d }
 
 pub along_back : (u w : Direction) → Along u w → Along w u
@@ -107,7 +107,7 @@ out_of_dot l m a b c x1 x2 y1 y2 z1 z2 =
     (plus (plus (times A (plus (times L X1) (times M X2))) (times B (plus (times L Y1) (times M Y2)))) (times C (plus (times L Z1) (times M Z2))))
     (plus (times L (plus (plus (times A X1) (times B Y1)) (times C Z1))) (times M (plus (plus (times A X2) (times B Y2)) (times C Z2)))) refl
 
-pub sum_dot : (k l m : ℤ) (v u u1 u2 : Direction) → IsSum k l m u u1 u2 → k *ℤ dot v u ≡ l *ℤ dot v u1 +ℤ m *ℤ dot v u2
+pub sum_dot : (k l m : ℤ) (v u u1 u2 : Direction) → IsSum k l m u u1 u2 → k *ℤ dot_product v u ≡ l *ℤ dot_product v u1 +ℤ m *ℤ dot_product v u2
 sum_dot k l m v u u1 u2 h =
     into_dot k v.x v.y v.z u.x u.y u.z
     ∙ (λ i. v.x *ℤ h.x i +ℤ v.y *ℤ h.y i +ℤ v.z *ℤ h.z i)
@@ -128,21 +128,21 @@ zero_second k l m c c1 c2 hm e h h1 =
 
 -- of three ways that sum up, two that are parallel to v tell that the third one is
 module _ (k l m : ℤ) (v u u1 u2 : Direction) (h : IsSum k l m u u1 u2) where
-  pub sum_zero : pos 0 <ℤ k → IsZero (cross v u1) → IsZero (cross v u2) → IsZero (cross v u)
+  pub sum_zero : pos 0 <ℤ k → IsZero (cross_product v u1) → IsZero (cross_product v u2) → IsZero (cross_product v u)
   sum_zero hk z1 z2 = record {
     x = zero_sum k l m _ _ _ hk (sum_minor k l m v.y v.z u.y u1.y u2.y u.z u1.z u2.z h.y h.z) z1.x z2.x;
     y = zero_sum k l m _ _ _ hk (sum_minor k l m v.z v.x u.z u1.z u2.z u.x u1.x u2.x h.z h.x) z1.y z2.y;
     z = zero_sum k l m _ _ _ hk (sum_minor k l m v.x v.y u.x u1.x u2.x u.y u1.y u2.y h.x h.y) z1.z z2.z;
   }
 
-  pub first_zero : pos 0 <ℤ l → IsZero (cross v u) → IsZero (cross v u2) → IsZero (cross v u1)
+  pub first_zero : pos 0 <ℤ l → IsZero (cross_product v u) → IsZero (cross_product v u2) → IsZero (cross_product v u1)
   first_zero hl z z2 = record {
     x = zero_first k l m _ _ _ hl (sum_minor k l m v.y v.z u.y u1.y u2.y u.z u1.z u2.z h.y h.z) z.x z2.x;
     y = zero_first k l m _ _ _ hl (sum_minor k l m v.z v.x u.z u1.z u2.z u.x u1.x u2.x h.z h.x) z.y z2.y;
     z = zero_first k l m _ _ _ hl (sum_minor k l m v.x v.y u.x u1.x u2.x u.y u1.y u2.y h.x h.y) z.z z2.z;
   }
 
-  pub second_zero : pos 0 <ℤ m → IsZero (cross v u) → IsZero (cross v u1) → IsZero (cross v u2)
+  pub second_zero : pos 0 <ℤ m → IsZero (cross_product v u) → IsZero (cross_product v u1) → IsZero (cross_product v u2)
   second_zero hm z z1 = record {
     x = zero_second k l m _ _ _ hm (sum_minor k l m v.y v.z u.y u1.y u2.y u.z u1.z u2.z h.y h.z) z.x z1.x;
     y = zero_second k l m _ _ _ hm (sum_minor k l m v.z v.x u.z u1.z u2.z u.x u1.x u2.x h.z h.x) z.y z1.y;
@@ -161,14 +161,14 @@ pub most_before : (v : Direction) (p q r : Coordinates) → pos 0 <ℤ p.w → p
 most_before v p q r wp wq wr h k = record {
   zero = sum_zero q.w r.w p.w v (way p r) (way p q) (way q r) (way_by p q r) wq h.zero k.zero;
   above = pos_cancel q.w _ wq (subst (λ (x : ℤ). pos 0 <ℤ x) (sym (sum_dot q.w r.w p.w v (way p r) (way p q) (way q r) (way_by p q r)))
-      (omega (arith, sums, least_least r.w (dot v (way p q)) (omega (arith, sums, wr)) h.least, pos_pos _ _ wp k.above)));
+      (omega (arith, sums, least_least r.w (dot_product v (way p q)) (omega (arith, sums, wr)) h.least, pos_pos _ _ wp k.above)));
 }
 
 pub before_most : (v : Direction) (p q r : Coordinates) → pos 0 <ℤ p.w → pos 0 <ℤ q.w → pos 0 <ℤ r.w → Along v (way p q) → NotAgainst v (way q r) → Along v (way p r)
 before_most v p q r wp wq wr h k = record {
   zero = sum_zero q.w r.w p.w v (way p r) (way p q) (way q r) (way_by p q r) wq h.zero k.zero;
   above = pos_cancel q.w _ wq (subst (λ (x : ℤ). pos 0 <ℤ x) (sym (sum_dot q.w r.w p.w v (way p r) (way p q) (way q r) (way_by p q r)))
-      (omega (arith, sums, pos_pos _ _ wr h.above, least_least p.w (dot v (way q r)) (omega (arith, sums, wp)) k.least)));
+      (omega (arith, sums, pos_pos _ _ wr h.above, least_least p.w (dot_product v (way q r)) (omega (arith, sums, wp)) k.least)));
 }
 
 -- ---- the way back
@@ -185,17 +185,17 @@ way_back p q = λ i. record {
   z = turned_difference (p.w *ℤ q.z) (q.w *ℤ p.z) i;
 }
 
-pub back_zero : (g u : Direction) → IsZero (cross g u) → IsZero (cross g (back u))
+pub back_zero : (g u : Direction) → IsZero (cross_product g u) → IsZero (cross_product g (back u))
 back_zero g u h = record {
   x = omega (arith, sums, h.x, mul_neg_right g.y u.z, mul_neg_right g.z u.y);
   y = omega (arith, sums, h.y, mul_neg_right g.z u.x, mul_neg_right g.x u.z);
   z = omega (arith, sums, h.z, mul_neg_right g.x u.y, mul_neg_right g.y u.x);
 }
 
-pub back_dot : (g u : Direction) → dot g (back u) ≡ neg_ℤ (dot g u)
+pub back_dot : (g u : Direction) → dot_product g (back u) ≡ neg_ℤ (dot_product g u)
 back_dot g u = omega (arith, sums, mul_neg_right g.x u.x, mul_neg_right g.y u.y, mul_neg_right g.z u.z)
 
-pub back_cross : (g u : Direction) → IsZero (cross g (back u)) → IsZero (cross g u)
+pub back_cross : (g u : Direction) → IsZero (cross_product g (back u)) → IsZero (cross_product g u)
 back_cross g u h = record {
   x = omega (arith, sums, h.x, mul_neg_right g.y u.z, mul_neg_right g.z u.y);
   y = omega (arith, sums, h.y, mul_neg_right g.z u.x, mul_neg_right g.x u.z);
@@ -203,26 +203,26 @@ back_cross g u h = record {
 }
 
 -- where the way from p to q is against v, the way from q to p is along it
-pub against_back : (v : Direction) (p q : Coordinates) → IsZero (cross v (way p q)) → dot v (way p q) <ℤ pos 0 → Along v (way q p)
+pub against_back : (v : Direction) (p q : Coordinates) → IsZero (cross_product v (way p q)) → dot_product v (way p q) <ℤ pos 0 → Along v (way q p)
 against_back v p q z d = subst (Along v) (sym (way_back q p)) (record { zero = back_zero v (way p q) z; above = omega (arith, sums, d, back_dot v (way p q)) })
 
-pub zero_back : (v : Direction) (p q : Coordinates) → IsZero (cross v (way p q)) → IsZero (cross v (way q p))
-zero_back v p q z = subst (λ (u : Direction). IsZero (cross v u)) (sym (way_back q p)) (back_zero v (way p q) z)
+pub zero_back : (v : Direction) (p q : Coordinates) → IsZero (cross_product v (way p q)) → IsZero (cross_product v (way q p))
+zero_back v p q z = subst (λ (u : Direction). IsZero (cross_product v u)) (sym (way_back q p)) (back_zero v (way p q) z)
 
-pub flip_zero : (a b : Direction) → IsZero (cross a b) → IsZero (cross b a)
+pub flip_zero : (a b : Direction) → IsZero (cross_product a b) → IsZero (cross_product b a)
 flip_zero a b h = record {
   x = omega (arith, sums, h.x, mul_comm_ℤ b.y a.z, mul_comm_ℤ b.z a.y);
   y = omega (arith, sums, h.y, mul_comm_ℤ b.z a.x, mul_comm_ℤ b.x a.z);
   z = omega (arith, sums, h.z, mul_comm_ℤ b.x a.y, mul_comm_ℤ b.y a.x);
 }
 
-pub flip_dot : (a b : Direction) → dot a b ≡ dot b a
+pub flip_dot : (a b : Direction) → dot_product a b ≡ dot_product b a
 flip_dot a b = λ i. mul_comm_ℤ a.x b.x i +ℤ mul_comm_ℤ a.y b.y i +ℤ mul_comm_ℤ a.z b.z i
 
 -- two ways back are along one another where the ways are
 pub along_both_back : (u w : Direction) → Along (back w) (back u) → Along u w
 along_both_back u w h =
-    let below : dot (back w) u <ℤ pos 0 = omega (arith, sums, h.above, back_dot (back w) u) in
+    let below : dot_product (back w) u <ℤ pos 0 = omega (arith, sums, h.above, back_dot (back w) u) in
     record {
       zero = back_cross u w (flip_zero (back w) u (back_cross (back w) u h.zero));
       above = omega (arith, sums, below, flip_dot (back w) u, back_dot u w);
@@ -248,8 +248,8 @@ zero_not_against v u h = record {
 }
 
 -- a way that is parallel to v, with no part along v, has no length
-pub no_part_no_length : (v u : Direction) → pos 0 <ℤ dot v v → IsZero (cross v u) → dot v u ≡ pos 0 → dot u u ≡ pos 0
-no_part_no_length v u d z e = zero_cancel (dot v v) (dot u u) d (along_dot v u u z ∙ ap₂ (λ (a b : ℤ). a *ℤ b) e e)
+pub no_part_no_length : (v u : Direction) → pos 0 <ℤ dot_product v v → IsZero (cross_product v u) → dot_product v u ≡ pos 0 → dot_product u u ≡ pos 0
+no_part_no_length v u d z e = zero_cancel (dot_product v v) (dot_product u u) d (along_dot v u u z ∙ ap₂ (λ (a b : ℤ). a *ℤ b) e e)
 
 -- ---- ways that are v times a number
 times_exchanged : (k p q : ℤ) → p *ℤ (k *ℤ q) ≡ q *ℤ (k *ℤ p)
@@ -258,14 +258,14 @@ times_exchanged k p q = ring (k ∷ p ∷ q ∷ []) (times (var 1) (times (var 0
 times_minor : (k p q y z : ℤ) → y ≡ k *ℤ p → z ≡ k *ℤ q → minor p q y z ≡ pos 0
 times_minor k p q y z hy hz = rw (hy, hz) (omega (arith, sums, times_exchanged k p q))
 
-times_dot : (k : ℤ) (v : Direction) → v.x *ℤ (k *ℤ v.x) +ℤ v.y *ℤ (k *ℤ v.y) +ℤ v.z *ℤ (k *ℤ v.z) ≡ k *ℤ dot v v
+times_dot : (k : ℤ) (v : Direction) → v.x *ℤ (k *ℤ v.x) +ℤ v.y *ℤ (k *ℤ v.y) +ℤ v.z *ℤ (k *ℤ v.z) ≡ k *ℤ dot_product v v
 times_dot k v =
     let K = var 0 in let X = var 1 in let Y = var 2 in let Z = var 3 in
     ring (k ∷ v.x ∷ v.y ∷ v.z ∷ []) (plus (plus (times X (times K X)) (times Y (times K Y))) (times Z (times K Z)))
     (times K (plus (plus (times X X) (times Y Y)) (times Z Z))) refl
 
-pub times_along : (k : ℤ) (v u : Direction) → pos 0 <ℤ k → pos 0 <ℤ dot v v → u.x ≡ k *ℤ v.x → u.y ≡ k *ℤ v.y → u.z ≡ k *ℤ v.z → Along v u
+pub times_along : (k : ℤ) (v u : Direction) → pos 0 <ℤ k → pos 0 <ℤ dot_product v v → u.x ≡ k *ℤ v.x → u.y ≡ k *ℤ v.y → u.z ≡ k *ℤ v.z → Along v u
 times_along k v u hk d hx hy hz = record {
   zero = record { x = times_minor k v.y v.z u.y u.z hy hz; y = times_minor k v.z v.x u.z u.x hz hx; z = times_minor k v.x v.y u.x u.y hx hy };
-  above = subst (λ (x : ℤ). pos 0 <ℤ x) (sym ((λ i. v.x *ℤ hx i +ℤ v.y *ℤ hy i +ℤ v.z *ℤ hz i) ∙ times_dot k v)) (pos_pos k (dot v v) hk d);
+  above = subst (λ (x : ℤ). pos 0 <ℤ x) (sym ((λ i. v.x *ℤ hx i +ℤ v.y *ℤ hy i +ℤ v.z *ℤ hz i) ∙ times_dot k v)) (pos_pos k (dot_product v v) hk d);
 }

@@ -1,3 +1,4 @@
 pub mod Everywhere
 pub mod Pieces
 pub mod Overlaps
+pub mod WatertightFaces

@@ -1,13 +1,13 @@
--- Faces that share no inner point: no two lie on one another. Vertices and points are in units, and planes in grid steps.
-use Rattle.std.specs.Prelude.{◌≡◌, ℕ, ◌<◌, List, [], length, slice_index_or}
+-- Printed faces that share no inner point: no two lie on one another. Vertices and points are in units, and planes in grid steps.
+use Rattle.std.specs.Prelude.{◌≡◌, ℕ, ◌<◌, pos, ◌<ℤ◌, List, [], length, slice_index_or}
 use Rattle.plane_predicate.specs.declared.unit.Unit.{Unit as LengthUnit}
 use Rattle.plane_predicate.specs.Space.{Coefficients, Coordinates, opposite_of, IsPlane}
-use Rattle.off_text.specs.Boundaries.{Covers}
+use Rattle.off_text.specs.Boundaries.{FaceCovers}
 
--- of the points where it is so, none is strictly inside two faces that face the same plane, and none strictly inside two faces
--- that face a plane from opposite sides
-pub record ShareNoInnerPoint (IsThere : Coordinates → Type 0) (unit : LengthUnit) (vertices : List Coordinates) (faces : List (List ℕ)) : Type 0 where
-  pub same : (n : Coefficients) (p : Coordinates) → IsPlane n → IsThere p → (i j : ℕ) → i < length faces → j < length faces →
-      Covers unit vertices n p (slice_index_or faces i []) → Covers unit vertices n p (slice_index_or faces j []) → i ≡ j
-  pub opposite : (n : Coefficients) (p : Coordinates) → IsPlane n → IsThere p → (i j : ℕ) → i < length faces → j < length faces →
-      Covers unit vertices n p (slice_index_or faces i []) → Covers unit vertices (opposite_of n) p (slice_index_or faces j []) → ⊥
+-- no point of space is strictly inside two faces that face the same plane, and none strictly inside two faces that face a plane
+-- from opposite sides
+pub record ShareNoInnerPoint (unit : LengthUnit) (vertices : List Coordinates) (faces : List (List ℕ)) : Type 0 where
+  pub same : (n : Coefficients) (p : Coordinates) → IsPlane n → pos 0 <ℤ p.w → (i j : ℕ) → i < length faces → j < length faces →
+      FaceCovers unit vertices n p (slice_index_or faces i []) → FaceCovers unit vertices n p (slice_index_or faces j []) → i ≡ j
+  pub opposite : (n : Coefficients) (p : Coordinates) → IsPlane n → pos 0 <ℤ p.w → (i j : ℕ) → i < length faces → j < length faces →
+      FaceCovers unit vertices n p (slice_index_or faces i []) → FaceCovers unit vertices (opposite_of n) p (slice_index_or faces j []) → ⊥

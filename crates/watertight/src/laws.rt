@@ -2,15 +2,17 @@
 
 ghost use Rattle.std.specs.Prelude.{◌≡◌, ℕ, ◌<ℤ◌, pos, true, List, map, All};
 ghost use Rattle.plane_predicate.specs.declared.unit.Unit.{Unit as LengthUnit};
-ghost use Rattle.plane_predicate.specs.Space.{Coordinates, IsInWorld};
+ghost use Rattle.plane_predicate.specs.Space.{Coordinates, IsInReach, IsInWorld};
 ghost use Rattle.plane_predicate.specs.InUnits.{in_steps};
 ghost use Rattle.csg_tree.specs.Formulas.{Formula};
 ghost use Rattle.closed_surface.specs.Closed.{corners_at, IsClosedSurface};
 ghost use Rattle.csg_tree.specs.ProperTrees.{IsProper};
+ghost use Rattle.csg_tree.specs.Reach.{KeepsWithinReach};
 ghost use Rattle.off_text.specs.Bounding.{IsBoundary};
 ghost use Rattle.watertight.specs.Everywhere.{AreClosedEverywhere, IsClosedEverywhere};
 ghost use Rattle.watertight.specs.Overlaps.{ShareNoInnerPoint};
 ghost use Rattle.watertight.specs.Pieces.{is_elementary, edges_along_part};
+ghost use Rattle.watertight.specs.WatertightFaces.{AreWatertight};
 
 /// Faces that are closed inside the world box, and whose vertices are strictly inside it, are closed at every point of space that
 /// is no corner.
@@ -43,14 +45,20 @@ pub fn texts_are_watertight()
         ≡ edges_along_part (map (corners_at text.vertices) text.faces) (q, p) }
 {}
 
-/// No two faces of the text of a boundary lie on one another. No point strictly inside the world box is strictly inside two faces
-/// that face the same plane, nor strictly inside two that face a plane from opposite sides. Where all vertices are strictly inside
-/// the box, no point of space is.
+/// No two faces of the text of a boundary lie on one another: no point of space is strictly inside two faces that face the same
+/// plane, nor strictly inside two that face a plane from opposite sides.
 pub fn faces_share_no_inner_point()
-    ensures inside { (unit : LengthUnit) (bytes : List ℕ) (f : Formula) → IsProper f →
-        (text : IsBoundary unit bytes f) →
-        ShareNoInnerPoint (λ p. IsInWorld (in_steps unit p)) unit text.vertices text.faces }
-    ensures anywhere { (unit : LengthUnit) (bytes : List ℕ) (f : Formula) → IsProper f →
-        (text : IsBoundary unit bytes f) → All (λ p. IsInWorld (in_steps unit p)) text.vertices →
-        ShareNoInnerPoint (λ p. pos 0 <ℤ p.w) unit text.vertices text.faces }
+    ensures { (unit : LengthUnit) (bytes : List ℕ) (f : Formula) → IsProper f →
+        (text : IsBoundary unit bytes f) → ShareNoInnerPoint unit text.vertices text.faces }
+{}
+
+/// The text of a formula that holds only within reach has all vertices within reach, and so it is watertight, without a premise on
+/// vertices.
+pub fn texts_keep_within_reach()
+    ensures vertices { (unit : LengthUnit) (bytes : List ℕ) (f : Formula) → IsProper f →
+        KeepsWithinReach f → (text : IsBoundary unit bytes f) →
+        All (λ p. IsInReach (in_steps unit p)) text.vertices }
+    ensures watertight { (unit : LengthUnit) (bytes : List ℕ) (f : Formula) → IsProper f →
+        KeepsWithinReach f → (text : IsBoundary unit bytes f) →
+        AreWatertight text.vertices text.faces }
 {}

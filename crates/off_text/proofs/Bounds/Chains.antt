@@ -6,7 +6,7 @@ use Rattle.plane_polygon.specs.Parts.{class_of, part_behind, part_ahead}
 use Rattle.plane_polygon.specs.Boxes.{box_outline}
 use Rattle.plane_polygon.specs.declared.classes.Class.{Class}
 use Rattle.plane_polygon.specs.declared.classes.Class.TheVariants.{Behind, Ahead, Across}
-use Rattle.bsp_tree.specs.Trees.{Tree, inside, outside, node, make, half_space}
+use Rattle.bsp_tree.specs.Trees.{BspTree, inside, outside, node, make, half_space}
 use Rattle.bsp_tree.specs.Partitions.{divide, rows}
 use Rattle.bsp_boolean.specs.Combined.{combination}
 use Rattle.bsp_boolean.specs.LeafSolids.{solid_of_leaf}
@@ -14,21 +14,21 @@ use Rattle.off_text.proofs.Bounds.Edges.{part_edges, box_edges}
 use Rattle.off_text.proofs.Bounds.Doubling.{doubled, doubled_more, doubled_least, doubled_later, doubled_twice}
 
 -- how many nodes stand one behind another
-abbrev pub nodes : Tree → ℕ
+abbrev pub nodes : BspTree → ℕ
 nodes inside = 0
 nodes outside = 0
 nodes (node s b a) = suc (nodes b)
 
 -- each node has its like behind it and nothing ahead, and its polygon has at most k edges also after it was
 -- cut once by each node behind it, with its edges doubled each time
-abbrev pub IsChain : ℕ → Tree → Type 0
+abbrev pub IsChain : ℕ → BspTree → Type 0
 IsChain k inside = Unit {0}
 IsChain k outside = Unit {0}
 IsChain k (node s b outside) = (doubled (sides s) (nodes b) ≤ k) × IsChain k b
 IsChain k (node s b inside) = ⊥
 IsChain k (node s b (node t c d)) = ⊥
 
-chain_more : (t : Tree) (j k : ℕ) → j ≤ k → IsChain j t → IsChain k t
+chain_more : (t : BspTree) (j k : ℕ) → j ≤ k → IsChain j t → IsChain k t
 chain_more inside j k h c = tt
 chain_more outside j k h c = tt
 chain_more (node s b outside) j k h c = (omega (arith, c.0), chain_more b j k h c.1)
@@ -36,29 +36,29 @@ chain_more (node s b inside) j k h c = absurd c
 chain_more (node s b (node t d e)) j k h c = absurd c
 
 -- a node that may be folded to a leaf
-made_chain : (s : Outline) (b : Tree) (k : ℕ) → doubled (sides s) (nodes b) ≤ k → IsChain k b →
+made_chain : (s : Outline) (b : BspTree) (k : ℕ) → doubled (sides s) (nodes b) ≤ k → IsChain k b →
     IsChain k (make s b outside)
 made_chain s inside k h c = (h, tt)
 made_chain s outside k h c = tt
 made_chain s (node t b a) k h c = (h, c)
 
-made_nodes : (s : Outline) (b : Tree) → nodes (make s b outside) ≤ suc (nodes b)
+made_nodes : (s : Outline) (b : BspTree) → nodes (make s b outside) ≤ suc (nodes b)
 made_nodes s inside = omega arith
 made_nodes s outside = omega arith
 made_nodes s (node t b a) = omega arith
 
 -- the part of a chain behind a plane
-record IsPart (k n : ℕ) (r : Tree) : Type 0 where
+record IsPart (k n : ℕ) (r : BspTree) : Type 0 where
   pub chain : IsChain (2 * k) r
   pub few : nodes r ≤ n
 
 outside_part : (k n : ℕ) → IsPart k n outside
 outside_part k n = record { chain = tt; few = omega arith }
 
-later_part : (k n : ℕ) (r : Tree) → IsPart k n r → IsPart k (suc n) r
+later_part : (k n : ℕ) (r : BspTree) → IsPart k n r → IsPart k (suc n) r
 later_part k n r h = record { chain = h.chain; few = omega (arith, h.few) }
 
-own_part : (k : ℕ) (b : Tree) → IsChain k b → IsPart k (suc (nodes b)) b
+own_part : (k : ℕ) (b : BspTree) → IsChain k b → IsPart k (suc (nodes b)) b
 own_part k b c = record { chain = chain_more b k (2 * k) (omega arith) c; few = omega arith }
 
 -- a polygon of twice as many edges at most, and the part of what stands behind it
@@ -66,15 +66,15 @@ twice_room : (i j m n k : ℕ) → i ≤ 2 * j → m ≤ n → doubled j n ≤ k
 twice_room i j m n k h l r =
     omega (arith, doubled_more m i (2 * j) h, doubled_later m n (2 * j) l, doubled_twice n j)
 
-made_part : (s t : Outline) (r : Tree) (k n : ℕ) → sides s ≤ 2 * sides t → doubled (sides t) n ≤ k →
+made_part : (s t : Outline) (r : BspTree) (k n : ℕ) → sides s ≤ 2 * sides t → doubled (sides t) n ≤ k →
     IsPart k n r → IsPart k (suc n) (make s r outside)
 made_part s t r k n h l p = record {
   chain = made_chain s r (2 * k) (twice_room (sides s) (sides t) (nodes r) n k h p.few l) p.chain;
   few = omega (arith, made_nodes s r, p.few);
 }
 
-module _ (s t : Outline) (b : Tree) (k : ℕ) (c : doubled (sides t) (nodes b) ≤ k) (d : IsChain k b) where
-  row_part : (low low_part : Tree × Tree) (x y : Class) →
+module _ (s t : Outline) (b : BspTree) (k : ℕ) (c : doubled (sides t) (nodes b) ≤ k) (d : IsChain k b) where
+  row_part : (low low_part : BspTree × BspTree) (x y : Class) →
       IsPart k (nodes b) low.0 → IsPart k (nodes b) low_part.0 →
       IsPart k (suc (nodes b)) (rows x y s t b outside low (outside, outside) low_part (outside, outside)).0
   row_part low low_part Across Across l p =
@@ -87,14 +87,14 @@ module _ (s t : Outline) (b : Tree) (k : ℕ) (c : doubled (sides t) (nodes b) �
   row_part low low_part Ahead Ahead l p = outside_part k (suc (nodes b))
   row_part low low_part x y l p = own_part k b d
 
-chosen_part : (k n : ℕ) (b a : Tree) (parts : Tree × Tree) (x y : Bool) →
+chosen_part : (k n : ℕ) (b a : BspTree) (parts : BspTree × BspTree) (x y : Bool) →
     IsPart k n b → IsPart k n a → IsPart k n parts.0 →
     IsPart k n (if x then (b, a) else if y then (a, b) else parts).0
 chosen_part k n b a parts true y h g p = h
 chosen_part k n b a parts false true h g p = g
 chosen_part k n b a parts false false h g p = p
 
-divided : (t : Tree) (s : Outline) (k : ℕ) → IsChain k t → IsPart k (nodes t) (divide t s).0
+divided : (t : BspTree) (s : Outline) (k : ℕ) → IsChain k t → IsPart k (nodes t) (divide t s).0
 divided inside s k c = record { chain = tt; few = omega arith }
 divided outside s k c = outside_part k 0
 divided (node t b inside) s k c = absurd c
@@ -110,11 +110,11 @@ divided (node t b outside) s k c =
     (divided b s k c.1) (divided b (part_behind s q) k c.1))
 
 -- the solid of n planes
-pub record IsOfPlanes (n : ℕ) (t : Tree) : Type 0 where
+pub record IsOfPlanes (n : ℕ) (t : BspTree) : Type 0 where
   pub chain : IsChain (doubled 16 n) t
   pub few : nodes t ≤ n
 
-one_more : (m : Coefficients) (n : ℕ) (t : Tree) → IsOfPlanes n t →
+one_more : (m : Coefficients) (n : ℕ) (t : BspTree) → IsOfPlanes n t →
     IsOfPlanes (suc n) (combination false (half_space m) t)
 one_more m n inside h = record {
   chain = (omega (arith, box_edges m, doubled_least (suc n) 16), tt);

@@ -3,8 +3,8 @@ use Rattle.std.proofs.Common.{◌≡◌, ℕ, zero, suc, ◌*◌, ◌≤◌, Boo
 use Rattle.std.specs.Ordering.{int_eq}
 use Rattle.plane_predicate.specs.Space.{Coefficients}
 use Rattle.plane_polygon.specs.Polygons.{Outline, edge, sides, corner}
-use Rattle.plane_polygon.specs.Parts.{up_to, is_behind, before, edges_kept_by, edges_kept_at, part_behind, class_of}
-use Rattle.plane_polygon.specs.Boxes.{trimmed_outline, outline_trimmed_to, turned, box_over_x, box_over_y, box_over_z, box_outline, high_x, low_x, high_y, low_y, high_z, low_z}
+use Rattle.plane_polygon.specs.Parts.{indices_below, is_behind, index_before, edges_kept_by, edges_kept_at, part_behind, class_of}
+use Rattle.plane_polygon.specs.Boxes.{trimmed_outline, outline_trimmed_to, counterclockwise_edges, box_over_x, box_over_y, box_over_z, box_outline, high_x, low_x, high_y, low_y, high_z, low_z}
 use Rattle.plane_polygon.specs.declared.classes.Class.{Class}
 use Rattle.plane_polygon.specs.declared.classes.Class.TheVariants.{Behind, Ahead, On, Across}
 use Rattle.plane_polygon.proofs.PartLists.{flat_up_to}
@@ -17,15 +17,15 @@ kept_edges false true e m = omega arith
 kept_edges false false e m = omega arith
 
 all_edges : (f : ℕ → List Coefficients) → ((i : ℕ) → length (f i) ≤ 2) → (n : ℕ) →
-    length (flat_map f (up_to n)) ≤ 2 * n
+    length (flat_map f (indices_below n)) ≤ 2 * n
 all_edges f h zero = omega arith
 all_edges f h (suc n) =
-    let appended = length-append (flat_map f (up_to n)) (f n) in
+    let appended = length-append (flat_map f (indices_below n)) (f n) in
     omega (arith, ap length (flat_up_to f n), appended, all_edges f h n, h n)
 
 pub part_edges : (s : Outline) (m : Coefficients) → sides (part_behind s m) ≤ 2 * sides s
 part_edges s m =
-    let from = λ (i : ℕ). is_behind m (corner s (before (sides s) i)) in
+    let from = λ (i : ℕ). is_behind m (corner s (index_before (sides s) i)) in
     all_edges (edges_kept_at s m) (λ i. kept_edges (from i) (is_behind m (corner s i)) (edge s i) m) (sides s)
 
 trimmed_to_edges : (c : Class) (s : Outline) (m : Coefficients) → sides (outline_trimmed_to c s m) ≤ 2 * sides s
@@ -37,7 +37,7 @@ trimmed_to_edges On s m = omega arith
 trimmed_edges : (s : Outline) (m : Coefficients) → sides (trimmed_outline s m) ≤ 2 * sides s
 trimmed_edges s m = trimmed_to_edges (class_of s m) s m
 
-four_edges : (z : ℤ) (p q r s : Coefficients) → length (turned z p q r s) ≡ 4
+four_edges : (z : ℤ) (p q r s : Coefficients) → length (counterclockwise_edges z p q r s) ≡ 4
 four_edges (pos n) p q r s = refl
 four_edges (negsuc n) p q r s = refl
 
@@ -55,9 +55,9 @@ pub box_edges : (m : Coefficients) → sides (box_outline m) ≤ 16
 box_edges m =
     chosen_edges (not (int_eq m.c (pos 0))) (not (int_eq m.b (pos 0)))
     (box_over_z m) (box_over_y m) (box_over_x m)
-    (trimmed_twice (record { plane = m; edges = turned m.c low_x low_y high_x high_y }) high_z low_z
+    (trimmed_twice (record { plane = m; edges = counterclockwise_edges m.c low_x low_y high_x high_y }) high_z low_z
     (four_edges m.c low_x low_y high_x high_y))
-    (trimmed_twice (record { plane = m; edges = turned m.b low_x high_z high_x low_z }) high_y low_y
+    (trimmed_twice (record { plane = m; edges = counterclockwise_edges m.b low_x high_z high_x low_z }) high_y low_y
     (four_edges m.b low_x high_z high_x low_z))
-    (trimmed_twice (record { plane = m; edges = turned m.a low_y low_z high_y high_z }) high_x low_x
+    (trimmed_twice (record { plane = m; edges = counterclockwise_edges m.a low_y low_z high_y high_z }) high_x low_x
     (four_edges m.a low_y low_z high_y high_z))

@@ -6,15 +6,15 @@ use Rattle.plane_polygon.specs.Polygons.{Outline, sides}
 use Rattle.plane_polygon.specs.Parts.{class_of, part_behind, part_ahead}
 use Rattle.plane_polygon.specs.declared.classes.Class.{Class}
 use Rattle.plane_polygon.specs.declared.classes.Class.TheVariants.{Behind, Ahead, On, Across}
-use Rattle.bsp_tree.specs.Trees.{Tree, inside, outside, node, size}
+use Rattle.bsp_tree.specs.Trees.{BspTree, inside, outside, node, size}
 use Rattle.bsp_boolean.specs.LeafSolids.{solid_of_leaf}
-use Rattle.facet_cut.specs.Facets.{Piece, on_sides, pieces, facets_ahead, facets_between, facets_of}
+use Rattle.facet_cut.specs.Facets.{Piece, pieces_on_sides, pieces, facets_ahead, facets_between, facets_of}
 use Rattle.off_text.specs.Texts.{corner_count}
 use Rattle.off_text.proofs.Bounds.Edges.{part_edges}
 use Rattle.off_text.proofs.Bounds.Doubling.{doubled, doubled_more, doubled_least, doubled_is}
 use Rattle.off_text.proofs.Bounds.Chains.{nodes, IsChain, of_planes}
 
-chain_size : (t : Tree) (k : ℕ) → IsChain k t → size t ≤ nodes t * (1 + k)
+chain_size : (t : BspTree) (k : ℕ) → IsChain k t → size t ≤ nodes t * (1 + k)
 chain_size inside k c = omega arith
 chain_size outside k c = omega arith
 chain_size (node s b inside) k c = absurd c
@@ -57,7 +57,7 @@ flat_append f (x ∷ xs) ys =
 -- the pieces of a polygon on the sides of a plane give one facet at most, where those behind do
 on_sides_front : (c : Class) (k : ℕ) (low high low_part high_part : List Piece) →
     AreFew 1 k (flat_map front low) → AreFew 1 k (flat_map front low_part) → flat_map front high ≡ [] → flat_map front high_part ≡ [] →
-    AreFew 1 k (flat_map front (on_sides c low high low_part high_part))
+    AreFew 1 k (flat_map front (pieces_on_sides c low high low_part high_part))
 on_sides_front Behind k low high low_part high_part l p h g = l
 on_sides_front On k low high low_part high_part l p h g = l
 on_sides_front Ahead k low high low_part high_part l p h g = subst (AreFew 1 k) (sym h) (none k)
@@ -67,7 +67,7 @@ on_sides_front Across k low high low_part high_part l p h g =
     subst (AreFew 1 k) (sym whole) p
 
 -- a polygon has one facet at most, cut once by each node of the chain behind it
-chain_front : (t : Tree) (s : Outline) (k : ℕ) → IsChain k t →
+chain_front : (t : BspTree) (s : Outline) (k : ℕ) → IsChain k t →
     AreFew 1 (doubled (sides s) (nodes t)) (flat_map front (pieces t s))
 chain_front inside s k c = record { few = omega arith; corners = omega arith }
 chain_front outside s k c = none (sides s)
@@ -84,7 +84,7 @@ chain_front (node t b outside) s k c =
     (doubled_more (nodes b) (sides part) (2 * sides s) (part_edges s t.plane)) (chain_front b part k c.1))
     refl refl
 
-chain_facets : (t : Tree) (k : ℕ) → IsChain k t → AreFew (nodes t) (nodes t * k) (facets_of t)
+chain_facets : (t : BspTree) (k : ℕ) → IsChain k t → AreFew (nodes t) (nodes t * k) (facets_of t)
 chain_facets inside k c = record { few = omega arith; corners = omega arith }
 chain_facets outside k c = record { few = omega arith; corners = omega arith }
 chain_facets (node s b inside) k c = absurd c

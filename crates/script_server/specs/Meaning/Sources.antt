@@ -9,23 +9,23 @@ use Rattle.csg_tree.specs.Formulas.{Formula}
 use Rattle.csg_tree.specs.ProperTrees.{IsProper}
 use Rattle.csg_tree.specs.Trees.{formula_of}
 use Rattle.scad_ast.specs.Terms.{StatementTerm}
-use Rattle.scad_parser.specs.Sources.{Writes, HasTextFault}
+use Rattle.scad_parser.specs.Sources.{WritesProgram, HasTextFault}
 use Rattle.scad_meaning.specs.Sources.{a_tree, a_fault, IsMeaning, IsMeaningStop}
 
 -- the source means this tree, with its lengths in a unit
 abbrev pub Means : LengthUnit → List ℕ → Formula → Type 0
-Means unit source tree = (program : List StatementTerm) × Writes source program × IsMeaning unit program (a_tree tree)
+Means unit source tree = (program : List StatementTerm) × WritesProgram source program × IsMeaning unit program (a_tree tree)
 
 -- the first fault of the source: of its text, or else of the program that it writes
-abbrev pub HasFault : LengthUnit → List ℕ → Fault → Type 0
-HasFault unit source fault =
+abbrev pub HasSourceFault : LengthUnit → List ℕ → Fault → Type 0
+HasSourceFault unit source fault =
     HasTextFault source fault
-    ⊎ ((program : List StatementTerm) × Writes source program × IsMeaning unit program (a_fault fault.kind fault.place))
+    ⊎ ((program : List StatementTerm) × WritesProgram source program × IsMeaning unit program (a_fault fault.kind fault.place))
 
 -- the source has no tree: it is refused with its first fault, unless memory ran out
-abbrev pub Refuses : LengthUnit → List ℕ → Stop → Type 0
-Refuses unit source (stop.Fault fault) = HasFault unit source fault
-Refuses unit source stop.NoMemory = Unit {0}
+abbrev pub RefusesSource : LengthUnit → List ℕ → Stop → Type 0
+RefusesSource unit source (stop.Fault fault) = HasSourceFault unit source fault
+RefusesSource unit source stop.NoMemory = Unit {0}
 
 -- what a program gives: the proper tree that it means, or its first fault, unless memory ran out
 abbrev pub GivesTree : LengthUnit → List StatementTerm → Result CsgTree Stop → Type 0

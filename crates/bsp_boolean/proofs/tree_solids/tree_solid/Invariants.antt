@@ -1,8 +1,8 @@
 use Rattle.std.proofs.Common.{◌≡◌, ◌+◌, take}
-use Rattle.bsp_boolean.specs.TreeSolids.{joins, IsGrown}
+use Rattle.bsp_boolean.specs.TreeSolids.{joins, HasFirstSolids}
 use Rattle.bsp_boolean.proofs.tree_solids.tree_solid.Given as goal
 
 abbrev pub invariant-loop-index : goal.invariant-loop-index
 invariant-loop-index g l =
-    IsGrown l.fn.store l.index l.growth
+    HasFirstSolids l.fn.store l.index l.growth
     × (g.B.Builder.builds l.builder ≡ g.B.Builder.builds l.fn.builder + joins (take l.index l.fn.store))

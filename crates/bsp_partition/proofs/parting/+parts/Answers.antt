@@ -7,7 +7,7 @@ use Rattle.plane_polygon.specs.declared.classes.Class.{Class}
 use Rattle.plane_table.specs.Tables.{plane_named}
 use Rattle.plane_table.specs.Faces.{outline_of}
 use Rattle.plane_table.specs.Cuts.{part_in}
-use Rattle.bsp_tree.specs.Trees.{Tree}
+use Rattle.bsp_tree.specs.Trees.{BspTree}
 use Rattle.bsp_tree.specs.Growths.{tree_on}
 use Rattle.bsp_tree.proofs.Sheets.{stood_on}
 use Rattle.bsp_tree.specs.Partitions.{across_row, divide, rows}
@@ -38,7 +38,7 @@ side_parts-returns t c =
     let new = c.half_parts-2.new.nodes in
     let longer = c.in_ok-low.ensures.longer in
     let node = c.args.node.now in
-    let second = subst (λ (u : Tree). HasParts middle new c.in_ok-high.high (divide u (part_ahead (outline_of middle.planes c.args.by.now) (plane_named middle.planes node.face.plane))))
+    let second = subst (λ (u : BspTree). HasParts middle new c.in_ok-high.high (divide u (part_ahead (outline_of middle.planes c.args.by.now) (plane_named middle.planes node.face.plane))))
     (stood_on old middle node.ahead longer c.requires.node.ahead) c.in_ok-high.ensures in
     sides_parted old middle new node.behind node.ahead c.in_ok-low.low c.in_ok-high.high _ _ c.in_ok-low.ensures
     (subst (λ (ps : List Coefficients). HasParts middle new c.in_ok-high.high (divide (tree_on old node.ahead) (part_ahead (outline_of ps c.args.by.now) (plane_named ps node.face.plane)))) longer.planes second)

@@ -6,7 +6,7 @@ use Rattle.plane_table.specs.Faces.{outline_of}
 use Rattle.plane_table.specs.Cuts.{part_in}
 use Rattle.bsp_tree.specs.Trees.{make}
 use Rattle.bsp_tree.specs.Growths.{tree_on}
-use Rattle.bsp_partition.specs.Parts.{HasMade}
+use Rattle.bsp_partition.specs.Parts.{HasAddedTree}
 use Rattle.bsp_partition.proofs.SheetParts.{same_made}
 use Rattle.bsp_partition.proofs.parting.make_half.Goals as goal
 
@@ -18,7 +18,7 @@ returns c =
     let old = c.args.nodes.now in
     let outline = rw c.table.ensures at c.in_ok-part.ensures.outline in
     IfOk-weaker c.make_node.result
-    (λ l. HasMade old c.make_node.new.nodes l (make (outline_of old.planes c.in_ok-part.part) (tree_on old c.args.behind) (tree_on old c.args.ahead)))
-    (λ l. HasMade old c.make_node.new.nodes l (make (part_in c.args.half (outline_of old.planes c.args.own.face.now) (plane_named old.planes c.args.own.number)) (tree_on old c.args.behind) (tree_on old c.args.ahead)))
-    (λ l. subst (λ (s : Outline). HasMade old c.make_node.new.nodes l (make s (tree_on old c.args.behind) (tree_on old c.args.ahead))) outline)
+    (λ l. HasAddedTree old c.make_node.new.nodes l (make (outline_of old.planes c.in_ok-part.part) (tree_on old c.args.behind) (tree_on old c.args.ahead)))
+    (λ l. HasAddedTree old c.make_node.new.nodes l (make (part_in c.args.half (outline_of old.planes c.args.own.face.now) (plane_named old.planes c.args.own.number)) (tree_on old c.args.behind) (tree_on old c.args.ahead)))
+    (λ l. subst (λ (s : Outline). HasAddedTree old c.make_node.new.nodes l (make s (tree_on old c.args.behind) (tree_on old c.args.ahead))) outline)
     c.make_node.ensures

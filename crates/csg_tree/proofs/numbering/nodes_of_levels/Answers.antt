@@ -5,7 +5,7 @@ use Rattle.csg_tree.specs.Formulas.{Formula}
 use Rattle.csg_tree.specs.Numberings.{by_height, distinct_trees, height, tree_numbered, IsNumberIn}
 use Rattle.csg_tree.specs.Nodes.{node_of, trees_of, trees_of_lent, AreLinkedLent}
 use Rattle.csg_tree.specs.Levels.{numbers_of_height}
-use Rattle.csg_tree.specs.Interned.{AreReady, IsPlaced}
+use Rattle.csg_tree.specs.Interned.{IsLevelReady, IsPartNumbered}
 use Rattle.csg_tree.proofs.Linked.{length_lent, length_trees}
 use Rattle.csg_tree.proofs.ByHeight.{level_read}
 use Rattle.csg_tree.proofs.Placing.{lent_number}
@@ -16,7 +16,7 @@ use Rattle.csg_tree.proofs.numbering.nodes_of_levels.Goals as goal
 level_ready : (parts : List CsgNode) (ts : List Formula) (ns level : List ℕ) (h : ℕ) → AreLinkedLent parts →
     level ≡ numbers_of_height h (trees_of_lent parts) →
     ((m : ℕ) → IsNumberIn (trees_of_lent parts) m → height (tree_numbered (trees_of_lent parts) m) < h →
-    IsPlaced (trees_of_lent parts) ts ns m) → AreReady parts ts ns level
+    IsPartNumbered (trees_of_lent parts) ts ns m) → IsLevelReady parts ts ns level
 level_ready parts ts ns level h linked e placed = λ j j_in.
     let ps = trees_of_lent parts in
     let member = level_member h ps j (omega (arith, ap length e)) in
@@ -32,16 +32,16 @@ level_ready parts ts ns level h linked e placed = λ j j_in.
 
 -- what is placed, with a level
 level_placed : (ps ts : List Formula) (ns level : List ℕ) (h : ℕ) → level ≡ numbers_of_height h ps →
-    ((m : ℕ) → IsNumberIn ps m → height (tree_numbered ps m) < h → IsPlaced ps ts ns m) →
-    ((j : ℕ) → j < length level → IsPlaced ps ts ns (get_or level j 0)) →
-    (m : ℕ) → IsNumberIn ps m → height (tree_numbered ps m) < h + 1 → IsPlaced ps ts ns m
+    ((m : ℕ) → IsNumberIn ps m → height (tree_numbered ps m) < h → IsPartNumbered ps ts ns m) →
+    ((j : ℕ) → j < length level → IsPartNumbered ps ts ns (get_or level j 0)) →
+    (m : ℕ) → IsNumberIn ps m → height (tree_numbered ps m) < h + 1 → IsPartNumbered ps ts ns m
 level_placed ps ts ns level h e low placed m within lower =
-    elim (cases_lt (height (tree_numbered ps m)) h) as (λ _. IsPlaced ps ts ns m) [
+    elim (cases_lt (height (tree_numbered ps m)) h) as (λ _. IsPartNumbered ps ts ns m) [
       | inl less ↦ low m within less
       | inr more ↦
           let at = level_has h ps m within (omega arith) in
           let is : get_or level at.0 0 ≡ m = ap (λ (ms : List ℕ). get_or ms at.0 0) e ∙ at.2 in
-          subst (IsPlaced ps ts ns) is (placed at.0 (omega (arith, at.1, ap length e)))
+          subst (IsPartNumbered ps ts ns) is (placed at.0 (omega (arith, at.1, ap length e)))
     ]
 
 pub number_level-requires-clause-ready : goal.number_level-requires-clause-ready

@@ -1,7 +1,7 @@
 use Rattle.std.proofs.Common.{◌≡◌, ℕ, ◌<◌, length}
 use Rattle.csg_tree.specs.Numberings.{by_height, distinct_trees, height, tree_numbered, IsNumberIn}
 use Rattle.csg_tree.specs.Nodes.{trees_of, trees_of_lent}
-use Rattle.csg_tree.specs.Interned.{AreInterned, IsPlaced}
+use Rattle.csg_tree.specs.Interned.{AreInterned, IsPartNumbered}
 use Rattle.csg_tree.proofs.numbering.nodes_of_levels.Given as goal
 
 abbrev pub invariant-loop-level : goal.invariant-loop-level
@@ -10,5 +10,5 @@ invariant-loop-level l = record {
   interned : AreInterned l.interner.found l.interner.nodes.items;
   trees : trees_of l.interner.nodes.items ≡ distinct_trees (by_height l.level-index (trees_of_lent l.parts));
   placed : (m : ℕ) → IsNumberIn (trees_of_lent l.parts) m → height (tree_numbered (trees_of_lent l.parts) m) < l.level-index →
-      IsPlaced (trees_of_lent l.parts) (trees_of l.interner.nodes.items) l.numbers.items m;
+      IsPartNumbered (trees_of_lent l.parts) (trees_of l.interner.nodes.items) l.numbers.items m;
 }

@@ -4,7 +4,7 @@ use Rattle.std.proofs.lemmas.List.{length-map, map-append, take_all, take_more}
 use Rattle.csg_tree.specs.Formulas.{Formula}
 use Rattle.csg_tree.specs.Numberings.{distinct_trees, tree_numbered}
 use Rattle.csg_tree.specs.Nodes.{node_of, trees_of, trees_of_lent}
-use Rattle.csg_tree.specs.Interned.{IsPlaced}
+use Rattle.csg_tree.specs.Interned.{IsPartNumbered}
 use Rattle.csg_tree.proofs.Linked.{length_lent}
 use Rattle.csg_tree.proofs.Placing.{lent_number}
 use Rattle.csg_tree.proofs.Heights.{ready_stay}
@@ -40,13 +40,13 @@ loop-number-preserved c =
       interned = now.interned;
       few = omega (arith, now.grown.few, before.few);
       placed = λ j j_in.
-          elim (cases_lt j i) as (λ _. IsPlaced ps us c.number_part.new.numbers.items (get_or level j 0)) [
+          elim (cases_lt j i) as (λ _. IsPartNumbered ps us c.number_part.new.numbers.items (get_or level j 0)) [
             | inl h ↦
                 let within = (c.requires.ready j (omega arith)).0 in
                 now.stay (get_or level j 0) (within.0, omega (arith, within.1, count)) (before.placed j h)
             | inr h ↦
                 let e : i ≡ j = omega arith in
-                subst (λ (k : ℕ). IsPlaced ps us c.number_part.new.numbers.items (get_or level k 0)) e now.placed
+                subst (λ (k : ℕ). IsPartNumbered ps us c.number_part.new.numbers.items (get_or level k 0)) e now.placed
           ];
       stay = λ m within placed. now.stay m within (before.stay m within placed);
       distinct = λ trees e.

@@ -3,7 +3,7 @@ use Rattle.csg_tree.specs.declared.node.CsgNode.{CsgNode}
 use Rattle.csg_tree.specs.Formulas.{Formula}
 use Rattle.csg_tree.specs.Numberings.{distinct_trees, tree_numbered, HasNumber}
 use Rattle.csg_tree.specs.Nodes.{node_of, tree_over, trees_of, trees_of_lent}
-use Rattle.csg_tree.specs.Interned.{renumbered_node, IsReady}
+use Rattle.csg_tree.specs.Interned.{renumbered_node, IsNodeReady}
 use Rattle.csg_tree.proofs.Linked.{length_lent}
 use Rattle.csg_tree.proofs.ByHeight.{over_same}
 use Rattle.csg_tree.proofs.Placing.{lent_number, ready_tree, placed_set, stay_set}
@@ -30,7 +30,7 @@ tree_is c =
     let part = c.index-parts-index.result in
     let at = lent_number parts c.args.number part c.requires.numbering.linked c.requires.ready.0 in
     let read : get_or parts (c.args.number - 1) part ≡ part = sym c.index-parts-index.is in
-    let ready : IsReady ps ts ns (node_of part) = subst (λ (x : CsgNode). IsReady ps ts ns (node_of x)) read (c.requires.ready.1 part) in
+    let ready : IsNodeReady ps ts ns (node_of part) = subst (λ (x : CsgNode). IsNodeReady ps ts ns (node_of x)) read (c.requires.ready.1 part) in
     ap (tree_over ts) (c.linked-node.ensures ∙ ap (λ (xs : List ℕ). renumbered_node xs (node_of part)) c.deref.ensures.value)
     ∙ ready_tree ps ts ns (node_of part) ready
     ∙ ap (λ (x : CsgNode). tree_over ps (node_of x)) (sym read) ∙ sym at.1

@@ -3,7 +3,7 @@ use Rattle.std.proofs.lemmas.Simd.{map-map}
 use Rattle.plane_predicate.specs.Space.{Coordinates}
 use Rattle.plane_predicate.specs.InUnits.{in_units}
 use Rattle.plane_polygon.specs.Polygons.{Outline, corner, AreReducedFrom}
-use Rattle.plane_polygon.specs.Parts.{up_to}
+use Rattle.plane_polygon.specs.Parts.{indices_below}
 use Rattle.plane_polygon.proofs.CornerSides.{reduced_step}
 use Rattle.off_text.proofs.corners.push_meetings.Goals as goal
 
@@ -20,5 +20,5 @@ pub returns : goal.returns
 returns c =
     let s : Outline = record { plane = c.args.plane.now; edges = c.args.edges.now } in
     let all : c.loop-i.i ≡ length c.args.edges.now = omega arith in
-    subst (λ (ps : List Coordinates). AreReducedFrom ps c.loop-i.corners.items) (sym (map-map (in_units c.args.unit) (corner s) (up_to (length s.edges))))
-    (subst (λ (n : ℕ). AreReducedFrom (map (λ j. in_units c.args.unit (corner s j)) (up_to n)) c.loop-i.corners.items) all c.loop-i.invariant)
+    subst (λ (ps : List Coordinates). AreReducedFrom ps c.loop-i.corners.items) (sym (map-map (in_units c.args.unit) (corner s) (indices_below (length s.edges))))
+    (subst (λ (n : ℕ). AreReducedFrom (map (λ j. in_units c.args.unit (corner s j)) (indices_below n)) c.loop-i.corners.items) all c.loop-i.invariant)

@@ -10,8 +10,8 @@ returns-clause-units c = law.back_in_units
 pub returns-clause-value : goal.returns-clause-value
 returns-clause-value c = law.value_in_steps
 
-pub returns-clause-turn : goal.returns-clause-turn
-returns-clause-turn c = law.turn_in_steps
+pub returns-clause-orientation_seen_from : goal.returns-clause-orientation_seen_from
+returns-clause-orientation_seen_from c = law.turn_in_steps
 
 pub returns-clause-whole_units : goal.returns-clause-whole_units
 returns-clause-whole_units c = law.whole_units

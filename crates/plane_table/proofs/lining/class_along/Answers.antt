@@ -4,7 +4,7 @@ use Rattle.plane_predicate.specs.Space.{Coefficients, value}
 use Rattle.plane_predicate.specs.Sides.{is_side_ahead, is_side_behind}
 use Rattle.plane_predicate.specs.Lines.{IsAxisOf, IsPlaceOf}
 use Rattle.plane_polygon.specs.Polygons.{Outline, corner}
-use Rattle.plane_polygon.specs.Parts.{some_of, is_behind, is_ahead, up_to}
+use Rattle.plane_polygon.specs.Parts.{some_of, is_behind, is_ahead, indices_below}
 use Rattle.plane_table.specs.Tables.{plane_named}
 use Rattle.plane_table.specs.Faces.{outline_of}
 use Rattle.plane_table.proofs.Corners.{after_last, after_next, some_step, class_end, side_ahead, side_behind}
@@ -52,5 +52,5 @@ returns c m axis =
     (c.is_ahead-2.ensures ∙ ap is_side_ahead here ∙ side_ahead (value m (corner s i))) in
     c.class_from.ensures
     ∙ class_end planes face m c.is_either.result c.is_either-2.result
-    (behind ∙ ap (λ (k : ℕ). some_of (is_behind m) (map (corner s) (up_to k))) e)
-    (ahead ∙ ap (λ (k : ℕ). some_of (is_ahead m) (map (corner s) (up_to k))) e)
+    (behind ∙ ap (λ (k : ℕ). some_of (is_behind m) (map (corner s) (indices_below k))) e)
+    (ahead ∙ ap (λ (k : ℕ). some_of (is_ahead m) (map (corner s) (indices_below k))) e)

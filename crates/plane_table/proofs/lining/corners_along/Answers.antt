@@ -3,7 +3,7 @@ use Rattle.std.proofs.lemmas.List.{length-append, length-map}
 use Rattle.plane_predicate.specs.Space.{Coefficients}
 use Rattle.plane_predicate.specs.Lines.{IsAxisOf, IsPlaceOf}
 use Rattle.plane_polygon.specs.Polygons.{Outline, corner}
-use Rattle.plane_polygon.specs.Parts.{up_to}
+use Rattle.plane_polygon.specs.Parts.{indices_below}
 use Rattle.plane_table.specs.Tables.{plane_named}
 use Rattle.plane_table.specs.Faces.{outline_of, side_against}
 use Rattle.plane_table.proofs.Corners.{after_last, after_next, map_step, side_pair, sides_end}
@@ -47,4 +47,4 @@ returns c m axis =
     let here = side_along planes face m i line c.loop-i.ends c.place_on-first.result c.side_between-2.result (omega (arith, e)) axis c.loop-i.invariant.ends next c.side_between-2.ensures in
     let found = c.push_reserved-2.ensures.items ∙ map_step (λ k. side_against m (corner s k)) i c.loop-i.found.items c.corner_on-2.result (c.loop-i.invariant.found m axis)
     (c.corner_on-2.ensures ∙ side_pair m (corner s i) c.side_between-2.result _ _ here refl refl) in
-    sides_end planes face m c.push_reserved-2.new.self.items (found ∙ ap (λ (k : ℕ). map (λ j. side_against m (corner s j)) (up_to k)) e)
+    sides_end planes face m c.push_reserved-2.new.self.items (found ∙ ap (λ (k : ℕ). map (λ j. side_against m (corner s j)) (indices_below k)) e)

@@ -1,6 +1,6 @@
 use Rattle.std.proofs.Common.{ℕ, length, get_or, sym, ap, ◌∙◌, arith}
 use Rattle.std.proofs.lemmas.List.{get_or_read, length_push}
-use Rattle.plane_polygon.specs.Polygons.{nowhere}
+use Rattle.plane_polygon.specs.Polygons.{missing_plane}
 use Rattle.plane_table.proofs.Joins.{keeps_on, first_more}
 use Rattle.plane_table.proofs.numbering.numbers_of.Goals as goal
 
@@ -22,5 +22,5 @@ loop-plane-preserved c =
       keeps = keeps_on c.args.known.items old new c.loop-plane.invariant.keeps found.keeps;
       count = omega arith;
       first = rw c.in_ok-push.ensures.items (first_more old new numbers from n c.loop-plane.invariant.first found.keeps (omega arith) found.in_range
-          (found.same ∙ get_or_read from i c.plane-item.result test c.plane-item.is nowhere ∙ ap (λ (k : ℕ). get_or from k nowhere) (sym count)));
+          (found.same ∙ get_or_read from i c.plane-item.result test c.plane-item.is missing_plane ∙ ap (λ (k : ℕ). get_or from k missing_plane) (sym count)));
     }

@@ -1,14 +1,14 @@
 use Rattle.std.proofs.Common.{◌∙◌, ap, subst, sym}
 use Rattle.plane_predicate.specs.Space.{Coefficients, opposite_of, value}
 use Rattle.plane_predicate.specs.Sides.{side_of}
-use Rattle.plane_table.specs.Tables.{plane_named, IsNumberIn}
+use Rattle.plane_table.specs.Tables.{plane_named, NamesPlaneIn}
 use Rattle.plane_table.proofs.Numbers.{opposite_in}
 use Rattle.plane_table.proofs.Oriented.{back_opposite, opposite_alike}
 use Rattle.plane_table.proofs.sorting.side_of_all.Goals as goal
 
 pub plane-requires-then-direction-opposite_number : goal.plane-requires-then-direction-opposite_number
 plane-requires-then-direction-opposite_number c =
-    subst (IsNumberIn c.args.table.now) (sym c.opposite_number-then-direction-opposite_number.ensures) (opposite_in c.args.table.now c.args.of c.requires.of)
+    subst (NamesPlaneIn c.args.table.now) (sym c.opposite_number-then-direction-opposite_number.ensures) (opposite_in c.args.table.now c.args.of c.requires.of)
 
 pub side_alike-requires-then-direction-opposite_number : goal.side_alike-requires-then-direction-opposite_number
 side_alike-requires-then-direction-opposite_number c =

@@ -1,6 +1,6 @@
 use Rattle.std.proofs.Common.{◌≡◌, ◌<◌, length, get_or, map, IfSome}
 use Rattle.plane_polygon.specs.Polygons.{corner}
-use Rattle.plane_polygon.specs.Parts.{some_of, is_behind, is_ahead, up_to}
+use Rattle.plane_polygon.specs.Parts.{some_of, is_behind, is_ahead, indices_below}
 use Rattle.plane_polygon.specs.Parallels.{HasAllOn}
 use Rattle.plane_table.specs.Tables.{plane_named}
 use Rattle.plane_table.specs.Faces.{outline_of, side_against}
@@ -8,8 +8,8 @@ use Rattle.plane_table.proofs.sorting.sides.Given as goal
 
 abbrev pub invariant-loop-i : goal.invariant-loop-i
 invariant-loop-i l = record {
-  behind : l.some_behind ≡ some_of (is_behind (plane_named l.table l.number)) (map (corner (outline_of l.table l.face)) (up_to l.i));
-  ahead : l.some_ahead ≡ some_of (is_ahead (plane_named l.table l.number)) (map (corner (outline_of l.table l.face)) (up_to l.i));
-  corners : l.corners.items ≡ map (λ i. side_against (plane_named l.table l.number) (corner (outline_of l.table l.face) i)) (up_to l.i);
+  behind : l.some_behind ≡ some_of (is_behind (plane_named l.table l.number)) (map (corner (outline_of l.table l.face)) (indices_below l.i));
+  ahead : l.some_ahead ≡ some_of (is_ahead (plane_named l.table l.number)) (map (corner (outline_of l.table l.face)) (indices_below l.i));
+  corners : l.corners.items ≡ map (λ i. side_against (plane_named l.table l.number) (corner (outline_of l.table l.face) i)) (indices_below l.i);
   ends : l.i < length l.face.edges → IfSome l.ends (HasAllOn (plane_named l.table (get_or l.face.edges l.i 0)) (plane_named l.table l.number));
 }

@@ -1,6 +1,6 @@
 use Rattle.std.proofs.Common.{◌≡◌, ℕ, length, ap, sym, ◌∙◌, arith}
 use Rattle.std.proofs.lemmas.Result.{IfOk-weaker}
-use Rattle.plane_polygon.specs.Polygons.{Outline, after}
+use Rattle.plane_polygon.specs.Polygons.{Outline, index_after}
 use Rattle.plane_table.specs.Tables.{plane_named}
 use Rattle.plane_table.specs.Faces.{outline_of, AreFourSides, AreSidesOf, AreSidesWhereAcross}
 use Rattle.plane_table.proofs.Corners.{all_listed, all_of_class, one_side, begins_at, ends_at, four_end}
@@ -24,9 +24,9 @@ returns-in-Some-both_known c =
     IfOk-weaker c.four_sides.result (AreFourSides first third third first) (AreSidesWhereAcross (outline_of planes face) m)
     (λ r h. four_end planes face m first third third first r four
     (ends_at planes face m 0 first c.requires.face (omega arith) known.0)
-    (begins_at planes face m 1 2 third c.requires.face (omega arith) (ap (λ (n : ℕ). after n 1) four) known.1)
+    (begins_at planes face m 1 2 third c.requires.face (omega arith) (ap (λ (n : ℕ). index_after n 1) four) known.1)
     (ends_at planes face m 2 third c.requires.face (omega arith) known.1)
-    (begins_at planes face m 3 0 first c.requires.face (omega arith) (ap (λ (n : ℕ). after n 3) four) known.0) h)
+    (begins_at planes face m 3 0 first c.requires.face (omega arith) (ap (λ (n : ℕ). index_after n 3) four) known.0) h)
     c.four_sides.ensures
 
 pub returns-in-Some-both_known-2 : goal.returns-in-Some-both_known-2
@@ -40,9 +40,9 @@ returns-in-Some-both_known-2 c =
     let known = rw c.items-edges.ensures at c.in-Some-both_known-2.ensures in
     IfOk-weaker c.four_sides-in-Some-both_known-2.result (AreFourSides second second fourth fourth) (AreSidesWhereAcross (outline_of planes face) m)
     (λ r h. four_end planes face m second second fourth fourth r four
-    (begins_at planes face m 0 1 second c.requires.face (omega arith) (ap (λ (n : ℕ). after n 0) four) known.0)
+    (begins_at planes face m 0 1 second c.requires.face (omega arith) (ap (λ (n : ℕ). index_after n 0) four) known.0)
     (ends_at planes face m 1 second c.requires.face (omega arith) known.0)
-    (begins_at planes face m 2 3 fourth c.requires.face (omega arith) (ap (λ (n : ℕ). after n 2) four) known.1)
+    (begins_at planes face m 2 3 fourth c.requires.face (omega arith) (ap (λ (n : ℕ). index_after n 2) four) known.1)
     (ends_at planes face m 3 fourth c.requires.face (omega arith) known.1) h)
     c.four_sides-in-Some-both_known-2.ensures
 

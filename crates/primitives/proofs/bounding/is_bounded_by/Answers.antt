@@ -1,7 +1,7 @@
 use Rattle.std.proofs.Common.{subst}
 use Rattle.plane_predicate.specs.Space.{Coefficients}
 use Rattle.primitives.specs.Shapes.{Mesh}
-use Rattle.primitives.specs.Bounding.{Bounds}
+use Rattle.primitives.specs.Bounding.{IsOuterPlane}
 use Rattle.primitives.proofs.OuterPlanes.{bounded_spanned, bounded_opposite, one_plane, opposite_twice}
 use Rattle.primitives.proofs.Searches.{on_true, on_false}
 use Rattle.primitives.proofs.bounding.is_bounded_by.Goals as goal
@@ -15,9 +15,9 @@ returns-then-bounds-clause-all c = bounded_spanned _ c.args.face.now c.args.plan
 pub returns-clause-all : goal.returns-clause-all
 returns-clause-all c =
     let mesh : Mesh = record { points = c.args.points.now; faces = c.args.faces.now } in
-    on_true _ (λ b. bounded_opposite mesh c.args.face.now c.args.plane.now c.requires.spans c.requires.flat (subst (Bounds mesh c.args.face.now) c.opposite-turned.ensures b)) c.bounds-2.ensures.all
+    on_true _ (λ b. bounded_opposite mesh c.args.face.now c.args.plane.now c.requires.spans c.requires.flat (subst (IsOuterPlane mesh c.args.face.now) c.opposite-turned.ensures b)) c.bounds-2.ensures.all
 
 pub returns-clause-past : goal.returns-clause-past
 returns-clause-past c =
     let mesh : Mesh = record { points = c.args.points.now; faces = c.args.faces.now } in
-    on_false _ (λ no. one_plane mesh c.args.face.now c.args.plane.now c.requires.spans c.if-bounds.ensures.past (subst (λ (k : Coefficients). Bounds mesh c.args.face.now k → ⊥) c.opposite-turned.ensures no)) c.bounds-2.ensures.past
+    on_false _ (λ no. one_plane mesh c.args.face.now c.args.plane.now c.requires.spans c.if-bounds.ensures.past (subst (λ (k : Coefficients). IsOuterPlane mesh c.args.face.now k → ⊥) c.opposite-turned.ensures no)) c.bounds-2.ensures.past

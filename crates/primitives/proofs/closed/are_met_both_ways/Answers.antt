@@ -2,7 +2,7 @@ use Rattle.std.proofs.Common.{IsTrue, ◌↔◌, BTreeSet, Option, IfSome, IsNon
 use Rattle.std.specs.BTreeSet.{contains}
 use Rattle.primitives.specs.contracts.ways.WayOrd.TheImpl.{cmp-value}
 use Rattle.primitives.specs.declared.ways.Way.{Way}
-use Rattle.primitives.specs.Ways.{turned, AreDifferent, AreMetBothWays, IsMet}
+use Rattle.primitives.specs.Ways.{reversed_way, AreDifferent, AreMetBothWays, IsMet}
 use Rattle.primitives.proofs.Searches.{on_true, on_false}
 use Rattle.primitives.proofs.Sets.{all_met_back, are_different, met_both_ways}
 use Rattle.primitives.proofs.closed.are_met_both_ways.Goals as goal
@@ -23,5 +23,5 @@ pub returns-in-Some-clause-past : goal.returns-in-Some-clause-past
 returns-in-Some-clause-past c =
     let ways = c.args.ways.now in
     let found = subst (λ (o : Option (BTreeSet Way)). IfSome o (λ s. (w : Way) → IsTrue (contains cmp-value.it s w) ↔ IsMet ways w)) c.in-Some.is c.in_ok-met.ensures.set in
-    let MetBack : Type 0 = All (λ (w : Way). IsTrue (contains cmp-value.it c.in-Some.met (turned w))) ways in
+    let MetBack : Type 0 = All (λ (w : Way). IsTrue (contains cmp-value.it c.in-Some.met (reversed_way w))) ways in
     on_false {P = MetBack → ⊥} {Q = AreMetBothWays ways → ⊥} _ (λ no h. no (all_met_back cmp-value.it c.in-Some.met ways found h)) c.are_met_back.ensures.past

@@ -1,5 +1,5 @@
 use Rattle.std.proofs.Common.{◌≡◌, true, false, List, ℕ, sym, ◌∙◌, ap, subst, arith}
-use Rattle.primitives.specs.Shapes.{Mesh, IsFacePlane}
+use Rattle.primitives.specs.Shapes.{Mesh, IsPlaneOfFace}
 use Rattle.primitives.specs.Placing.{ArePlanesOf}
 use Rattle.primitives.proofs.Distinct.{among}
 use Rattle.primitives.proofs.Placed.{plane_added, plane_kept}
@@ -11,7 +11,7 @@ loop-face-preserved c =
     let mesh : Mesh = record { points = c.args.points.now; faces = c.args.faces.now } in
     let face = c.face-item.result in
     let plane = c.face_plane-plane.result in
-    let is : IsFacePlane mesh face plane = subst (λ (f : List ℕ). IsFacePlane mesh f plane) c.items.ensures c.face_plane-plane.ensures in
+    let is : IsPlaneOfFace mesh face plane = subst (λ (f : List ℕ). IsPlaneOfFace mesh f plane) c.items.ensures c.face_plane-plane.ensures in
     let found : c.holds.result ≡ among plane c.loop-face.planes.items = c.holds.ensures ∙ ap (among plane) c.deref.ensures.value in
     elim c.if-not-holds.branch [
       | then-not-holds+in_ok-push w ↦ (

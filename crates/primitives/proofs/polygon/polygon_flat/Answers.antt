@@ -1,5 +1,5 @@
 use Rattle.std.proofs.Common.{◌≡◌, ◌∙◌, sym, subst, arith, All}
-use Rattle.primitives.specs.Polygons.{polygon_of, IsConvex, IsFlat, IsNear}
+use Rattle.primitives.specs.Polygons.{polygon_of, IsConvex, IsFlatShape, IsNear}
 use Rattle.primitives.proofs.Grids.{near_grid, polygon_is_flat}
 use Rattle.primitives.proofs.polygon.polygon_flat.Goals as goal
 
@@ -17,4 +17,4 @@ pub of-requires : goal.of-requires
 of-requires c =
     let same : c.deref.result.now ≡ polygon_of c.args.unit c.args.points.now = c.deref.ensures.value ∙ c.in_ok-grid.ensures in
     let convex = subst IsConvex same c.if-not-is_convex.ensures.yes in
-    subst IsFlat (sym c.in_ok-grid.ensures) (polygon_is_flat c.args.unit c.args.points.now (record { most = omega arith; least = omega arith; range = c.if-not-are_in_range.ensures.all; convex = convex }))
+    subst IsFlatShape (sym c.in_ok-grid.ensures) (polygon_is_flat c.args.unit c.args.points.now (record { most = omega arith; least = omega arith; range = c.if-not-are_in_range.ensures.all; convex = convex }))

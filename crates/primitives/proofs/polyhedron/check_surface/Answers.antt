@@ -1,7 +1,7 @@
 use Rattle.std.proofs.Common.{refl, Bool, All, subst}
 use Rattle.std.specs.Bool.{OnTrue, OnFalse}
 use Rattle.primitives.specs.Shapes.{Mesh}
-use Rattle.primitives.specs.Bounding.{IsBounded}
+use Rattle.primitives.specs.Bounding.{IsFaceOfBody}
 use Rattle.primitives.specs.Checks.{IsClosed, IsConvex}
 use Rattle.primitives.proofs.Solids.{convex_by}
 use Rattle.primitives.proofs.polyhedron.check_surface.Goals as goal
@@ -27,5 +27,5 @@ pub returns-clause-surface : goal.returns-clause-surface
 returns-clause-surface c =
     let mesh : Mesh = record { points = c.args.points.now; faces = c.args.faces.now } in
     let closed = subst (λ (b : Bool). OnTrue b (IsClosed c.args.points.now c.args.faces.now)) c.if-not-branch.false c.in_ok-are_closed.ensures.all in
-    let bounded = subst (λ (b : Bool). OnTrue b (All (IsBounded mesh) mesh.faces)) c.if-not-branch-2.false c.in_ok-are_convex.ensures.all in
+    let bounded = subst (λ (b : Bool). OnTrue b (All (IsFaceOfBody mesh) mesh.faces)) c.if-not-branch-2.false c.in_ok-are_convex.ensures.all in
     record { flat = c.if-not-are_flat.ensures.all; closed = closed; convex = convex_by mesh c.requires.some c.if-not-are_flat.ensures.all bounded }

@@ -3,7 +3,7 @@ use Rattle.std.proofs.lemmas.Result.{err_from_is_err_and}
 use Rattle.plane_predicate.specs.Space.{point_at}
 use Rattle.primitives.specs.Checks.{in_grid_steps}
 use Rattle.primitives.specs.Polyhedra.{IsSurfaceFault}
-use Rattle.primitives.specs.GridSizes.{IsOnGrid}
+use Rattle.primitives.specs.GridSizes.{IsWithinGridLimits}
 use Rattle.primitives.proofs.PolyhedronGrids.{are_on_grid}
 use Rattle.primitives.proofs.FirstFaults.{surface_fault}
 use Rattle.primitives.proofs.polyhedron.checked_points.Goals as goal
@@ -11,7 +11,7 @@ use Rattle.primitives.proofs.polyhedron.checked_points.Goals as goal
 pub check_surface-requires-clause-grid : goal.check_surface-requires-clause-grid
 check_surface-requires-clause-grid c =
     let e : c.deref.result.now ≡ in_grid_steps c.args.unit c.args.points.now = search rules in
-    subst (All (λ (p : List ℤ). IsOnGrid (point_at p))) (sym e) (are_on_grid c.args.unit c.args.points.now c.in_ok-check_written.ensures.written.range)
+    subst (All (λ (p : List ℤ). IsWithinGridLimits (point_at p))) (sym e) (are_on_grid c.args.unit c.args.points.now c.in_ok-check_written.ensures.written.range)
 
 pub returns-in_err-check_surface-clause-fault : goal.returns-in_err-check_surface-clause-fault
 returns-in_err-check_surface-clause-fault c =

@@ -1,6 +1,6 @@
 use Rattle.std.proofs.Common.{rules, ◌≡◌, ◌∙◌, ◌≤◌, ap, sym, subst, arith, ℤ, pos, ◌≤ℤ◌, unsigned_abs, to_z-of_z, FitsSigned, w64}
 use Rattle.std.proofs.lemmas.Int.{ints}
-use Rattle.primitives.specs.Polygons.{IsFlat}
+use Rattle.primitives.specs.Polygons.{IsFlatShape}
 use Rattle.round_four.specs.Circles.{circle_of, circle_points}
 use Rattle.round_four.proofs.Circles.{sized_circle_is_flat}
 use Rattle.round_four.proofs.circle.circle_flat.Goals as goal
@@ -15,4 +15,4 @@ of-requires c =
     let long : pos 1 ≤ℤ c.args.radius = omega (arith, ints, test) in
     let same : c.in_ok-points.points.items ≡ circle_of c.args.unit c.args.radius = points ∙ ap circle_points steps in
     let flat = sized_circle_is_flat c.args.unit c.args.radius (record { long = long; range = subst (λ (n : ℤ). unsigned_abs n ≤ 65535) steps near }) in
-    subst IsFlat (sym same) flat
+    subst IsFlatShape (sym same) flat

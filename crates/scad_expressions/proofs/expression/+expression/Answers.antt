@@ -10,10 +10,10 @@ use Rattle.scad_ast.specs.declared.expression.Suffix.{Suffix}
 use Rattle.scad_ast.specs.Terms.{Term, PositionalTerm}
 use Rattle.scad_ast.specs.ExprView.{term_of, terms_of, link_of, suffix_of, arg_of, args_of}
 use Rattle.scad_grammar.specs.declared.SyntaxFault.{SyntaxFault}
-use Rattle.scad_grammar.specs.Classes.{close_bracket_sign, close_parenthesis_sign, among, is, other_than}
+use Rattle.scad_grammar.specs.Classes.{close_bracket_sign, close_parenthesis_sign, has_class_in, has_class, has_class_outside}
 use Rattle.scad_grammar.specs.Grammar.{levels, unary_term, index_term, paren_term, bracket_term, filled_term, given_term, Rest}
 use Rattle.scad_grammar.specs.Languages.{pair_of}
-use Rattle.scad_grammar.specs.Reading.{Read, after, both, maybe, with_front}
+use Rattle.scad_grammar.specs.Reading.{Read, then_read, both, maybe, with_front}
 use Rattle.scad_grammar.specs.Reads.{expr_read, operand_read, arg_in, args_read, suffix_read, rest_read, chain_read, choice_read, in_parentheses}
 use Rattle.scad_grammar.proofs.Readers.{loop_more, loop_end, loop_fault}
 use Rattle.scad_expressions.specs.declared.class.Level.TheVariants.{Or}
@@ -33,7 +33,7 @@ use Rattle.scad_expressions.proofs.expression.+expression.Goals as goal
 use Rattle.scad_expressions.proofs.expression.+expression.Goals.{climb_below-then-begins+in_ok-chained, climb_below-else-begins}
 
 bracket_filled : (bracket : Token) (first : Term) (q : Read Token SyntaxFault Rest)
-    → after (after (after q (λ more us. Ok (pair_of first more, us))) (λ p us. Ok (Some p, us))) (λ p us. Ok (bracket_term bracket p, us)) ≡ after q (λ more us. Ok (filled_term bracket first more, us))
+    → then_read (then_read (then_read q (λ more us. Ok (pair_of first more, us))) (λ p us. Ok (Some p, us))) (λ p us. Ok (bracket_term bracket p, us)) ≡ then_read q (λ more us. Ok (filled_term bracket first more, us))
 bracket_filled bracket first (Ok p) = refl
 bracket_filled bracket first (Err e) = refl
 
@@ -101,7 +101,7 @@ side-returns-in_err-first t c = record {
 pub climbed-returns-in_default : goal.climbed-returns-in_default
 climbed-returns-in_default t c = record {
   value =
-      rw (c.in-Ok.ensures.value, many_none (among (operators_at Or)) _ c.in-Ok.rest.now (sym c.begins.ensures ∙ c.if-begins.false)) refl;
+      rw (c.in-Ok.ensures.value, many_none (has_class_in (operators_at Or)) _ c.in-Ok.rest.now (sym c.begins.ensures ∙ c.if-begins.false)) refl;
 }
 
 pub climb_below-returns-in_err-chained : goal.climb_below-returns-in_err-chained
@@ -143,88 +143,88 @@ climb_below-returns t c = record {
 pub postfix-returns-in_default : goal.postfix-returns-in_default
 postfix-returns-in_default t c = record {
   value =
-      rw (c.in-Ok.ensures.value, many_none (among suffix_signs) (suffix_read (expr_read c.args.depth)) c.in-Ok.rest.now (sym c.begins.ensures ∙ c.if-begins.false)) refl;
+      rw (c.in-Ok.ensures.value, many_none (has_class_in suffix_signs) (suffix_read (expr_read c.args.depth)) c.in-Ok.rest.now (sym c.begins.ensures ∙ c.if-begins.false)) refl;
 }
 
 pub links-returns-in_err-item : goal.links-returns-in_err-item
 links-returns-in_err-item t c = record {
   value =
       let p = err_from_is_err_and c.from_residual.result c.from_residual.ensures.1 in
-      rw (p.1, p.2) (link_goes c.in_err-item.field-0.0 _ _ (λ x e. loop_fault _ _ _ _ c.links.invariant (many_stop (among (operators_at c.args.level)) _ (link_strict c.args.level c.args.depth) c.links.rest.now x (sym c.begins.ensures ∙ c.links-test.true) e)) c.in_err-item.ensures.value);
+      rw (p.1, p.2) (link_goes c.in_err-item.field-0.0 _ _ (λ x e. loop_fault _ _ _ _ c.links.invariant (many_stop (has_class_in (operators_at c.args.level)) _ (link_strict c.args.level c.args.depth) c.links.rest.now x (sym c.begins.ensures ∙ c.links-test.true) e)) c.in_err-item.ensures.value);
 }
 
 pub links-links-preserved : goal.links-links-preserved
-links-links-preserved t c = rw (c.in_ok-push.ensures.items, map-append) (loop_more _ _ _ _ _ c.links.invariant (many_more (among (operators_at c.args.level)) _ (link_strict c.args.level c.args.depth) c.links.rest.now (link_of c.in_ok-item.item) c.in_ok-item.after.now (sym c.begins.ensures ∙ c.links-test.true) c.in_ok-item.ensures.value))
+links-links-preserved t c = rw (c.in_ok-push.ensures.items, map-append) (loop_more _ _ _ _ _ c.links.invariant (many_more (has_class_in (operators_at c.args.level)) _ (link_strict c.args.level c.args.depth) c.links.rest.now (link_of c.in_ok-item.item) c.in_ok-item.after.now (sym c.begins.ensures ∙ c.links-test.true) c.in_ok-item.ensures.value))
 
 pub links-links-smaller : goal.links-links-smaller
 links-links-smaller t c = link_strict c.args.level c.args.depth c.links.rest.now (link_of c.in_ok-item.item) c.in_ok-item.after.now c.in_ok-item.ensures.value
 
 pub links-returns : goal.links-returns
-links-returns t c = record { value = loop_end _ _ _ _ c.links.invariant (many_end (among (operators_at c.args.level)) _ (link_strict c.args.level c.args.depth) c.links.rest.now (sym c.begins.ensures ∙ c.links-test.false)) }
+links-returns t c = record { value = loop_end _ _ _ _ c.links.invariant (many_end (has_class_in (operators_at c.args.level)) _ (link_strict c.args.level c.args.depth) c.links.rest.now (sym c.begins.ensures ∙ c.links-test.false)) }
 
 pub suffixes-returns-in_err-item : goal.suffixes-returns-in_err-item
 suffixes-returns-in_err-item t c = record {
   value =
       let p = err_from_is_err_and c.from_residual.result c.from_residual.ensures.1 in
-      rw (p.1, p.2) (suffix_goes c.in_err-item.field-0.0 _ _ (λ x e. loop_fault _ _ _ _ c.suffixes.invariant (many_stop (among suffix_signs) _ (suffix_strict c.args.depth) c.suffixes.rest.now x (sym c.begins.ensures ∙ c.suffixes-test.true) e)) c.in_err-item.ensures.value);
+      rw (p.1, p.2) (suffix_goes c.in_err-item.field-0.0 _ _ (λ x e. loop_fault _ _ _ _ c.suffixes.invariant (many_stop (has_class_in suffix_signs) _ (suffix_strict c.args.depth) c.suffixes.rest.now x (sym c.begins.ensures ∙ c.suffixes-test.true) e)) c.in_err-item.ensures.value);
 }
 
 pub suffixes-suffixes-preserved : goal.suffixes-suffixes-preserved
-suffixes-suffixes-preserved t c = rw (c.in_ok-push.ensures.items, map-append) (loop_more _ _ _ _ _ c.suffixes.invariant (many_more (among suffix_signs) _ (suffix_strict c.args.depth) c.suffixes.rest.now (suffix_of c.in_ok-item.item) c.in_ok-item.after.now (sym c.begins.ensures ∙ c.suffixes-test.true) c.in_ok-item.ensures.value))
+suffixes-suffixes-preserved t c = rw (c.in_ok-push.ensures.items, map-append) (loop_more _ _ _ _ _ c.suffixes.invariant (many_more (has_class_in suffix_signs) _ (suffix_strict c.args.depth) c.suffixes.rest.now (suffix_of c.in_ok-item.item) c.in_ok-item.after.now (sym c.begins.ensures ∙ c.suffixes-test.true) c.in_ok-item.ensures.value))
 
 pub suffixes-suffixes-smaller : goal.suffixes-suffixes-smaller
 suffixes-suffixes-smaller t c = suffix_strict c.args.depth c.suffixes.rest.now (suffix_of c.in_ok-item.item) c.in_ok-item.after.now c.in_ok-item.ensures.value
 
 pub suffixes-returns : goal.suffixes-returns
-suffixes-returns t c = record { value = loop_end _ _ _ _ c.suffixes.invariant (many_end (among suffix_signs) _ (suffix_strict c.args.depth) c.suffixes.rest.now (sym c.begins.ensures ∙ c.suffixes-test.false)) }
+suffixes-returns t c = record { value = loop_end _ _ _ _ c.suffixes.invariant (many_end (has_class_in suffix_signs) _ (suffix_strict c.args.depth) c.suffixes.rest.now (sym c.begins.ensures ∙ c.suffixes-test.false)) }
 
 pub more_args-returns-in_err-item : goal.more_args-returns-in_err-item
 more_args-returns-in_err-item t c = record {
   value =
       let p = err_from_is_err_and c.from_residual.result c.from_residual.ensures.1 in
-      rw (p.1, p.2) (arg_goes c.in_err-item.field-0.0 _ _ (λ x e. loop_fault _ _ _ _ c.commas.invariant (trailing_stop (other_than (close_parenthesis_sign ∷ [])) _ (arg_shorter c.args.depth) c.commas.rest.now x (sym c.is_comma_before.ensures ∙ c.commas-test.true) (ap (arg_in c.args.depth (expr_read c.args.depth)) (sym c.behind_comma.ensures.rest) ∙ e))) c.in_err-item.ensures.value);
+      rw (p.1, p.2) (arg_goes c.in_err-item.field-0.0 _ _ (λ x e. loop_fault _ _ _ _ c.commas.invariant (trailing_stop (has_class_outside (close_parenthesis_sign ∷ [])) _ (arg_shorter c.args.depth) c.commas.rest.now x (sym c.is_comma_before.ensures ∙ c.commas-test.true) (ap (arg_in c.args.depth (expr_read c.args.depth)) (sym c.behind_comma.ensures.rest) ∙ e))) c.in_err-item.ensures.value);
 }
 
 pub more_args-commas-preserved : goal.more_args-commas-preserved
-more_args-commas-preserved t c = rw (c.in_ok-push.ensures.items, map-append) (loop_more _ _ _ _ _ c.commas.invariant (trailing_more (other_than (close_parenthesis_sign ∷ [])) _ (arg_shorter c.args.depth) c.commas.rest.now (arg_of c.in_ok-item.item) c.in_ok-item.after.now (sym c.is_comma_before.ensures ∙ c.commas-test.true) (ap (arg_in c.args.depth (expr_read c.args.depth)) (sym c.behind_comma.ensures.rest) ∙ c.in_ok-item.ensures.value)))
+more_args-commas-preserved t c = rw (c.in_ok-push.ensures.items, map-append) (loop_more _ _ _ _ _ c.commas.invariant (trailing_more (has_class_outside (close_parenthesis_sign ∷ [])) _ (arg_shorter c.args.depth) c.commas.rest.now (arg_of c.in_ok-item.item) c.in_ok-item.after.now (sym c.is_comma_before.ensures ∙ c.commas-test.true) (ap (arg_in c.args.depth (expr_read c.args.depth)) (sym c.behind_comma.ensures.rest) ∙ c.in_ok-item.ensures.value)))
 
 pub more_args-commas-smaller : goal.more_args-commas-smaller
 more_args-commas-smaller t c =
     let left = arg_shorter c.args.depth (past_comma c.commas.rest.now) (arg_of c.in_ok-item.item) c.in_ok-item.after.now (ap (arg_in c.args.depth (expr_read c.args.depth)) (sym c.behind_comma.ensures.rest) ∙ c.in_ok-item.ensures.value) in
-    omega (arith, left, past_shorter (other_than (close_parenthesis_sign ∷ [])) c.commas.rest.now (sym c.is_comma_before.ensures ∙ c.commas-test.true))
+    omega (arith, left, past_shorter (has_class_outside (close_parenthesis_sign ∷ [])) c.commas.rest.now (sym c.is_comma_before.ensures ∙ c.commas-test.true))
 
 pub more_args-returns : goal.more_args-returns
-more_args-returns t c = record { value = rw (args_roll (record { items = c.commas.items }), c.behind_comma-2.ensures.rest) (loop_end _ _ _ _ c.commas.invariant (trailing_end (other_than (close_parenthesis_sign ∷ [])) _ (arg_shorter c.args.depth) c.commas.rest.now (sym c.is_comma_before.ensures ∙ c.commas-test.false))) }
+more_args-returns t c = record { value = rw (args_roll (record { items = c.commas.items }), c.behind_comma-2.ensures.rest) (loop_end _ _ _ _ c.commas.invariant (trailing_end (has_class_outside (close_parenthesis_sign ∷ [])) _ (arg_shorter c.args.depth) c.commas.rest.now (sym c.is_comma_before.ensures ∙ c.commas-test.false))) }
 
 pub more_items-returns-in_err-item : goal.more_items-returns-in_err-item
 more_items-returns-in_err-item t c = record {
   value =
       let p = err_from_is_err_and c.from_residual.result c.from_residual.ensures.1 in
-      rw (p.1, p.2) (item_goes c.in_err-item.field-0.0 _ _ (λ x e. loop_fault _ _ _ _ c.commas.invariant (trailing_stop (other_than (close_bracket_sign ∷ [])) _ (expr_shorter c.args.depth) c.commas.rest.now x (sym c.is_comma_before.ensures ∙ c.commas-test.true) (ap (expr_read c.args.depth) (sym c.behind_comma.ensures.rest) ∙ e))) c.in_err-item.ensures.value);
+      rw (p.1, p.2) (item_goes c.in_err-item.field-0.0 _ _ (λ x e. loop_fault _ _ _ _ c.commas.invariant (trailing_stop (has_class_outside (close_bracket_sign ∷ [])) _ (expr_shorter c.args.depth) c.commas.rest.now x (sym c.is_comma_before.ensures ∙ c.commas-test.true) (ap (expr_read c.args.depth) (sym c.behind_comma.ensures.rest) ∙ e))) c.in_err-item.ensures.value);
 }
 
 pub more_items-commas-preserved : goal.more_items-commas-preserved
-more_items-commas-preserved t c = rw (c.in_ok-push.ensures.items, map-append) (loop_more _ _ _ _ _ c.commas.invariant (trailing_more (other_than (close_bracket_sign ∷ [])) _ (expr_shorter c.args.depth) c.commas.rest.now (term_of c.in_ok-item.item) c.in_ok-item.after.now (sym c.is_comma_before.ensures ∙ c.commas-test.true) (ap (expr_read c.args.depth) (sym c.behind_comma.ensures.rest) ∙ c.in_ok-item.ensures.value)))
+more_items-commas-preserved t c = rw (c.in_ok-push.ensures.items, map-append) (loop_more _ _ _ _ _ c.commas.invariant (trailing_more (has_class_outside (close_bracket_sign ∷ [])) _ (expr_shorter c.args.depth) c.commas.rest.now (term_of c.in_ok-item.item) c.in_ok-item.after.now (sym c.is_comma_before.ensures ∙ c.commas-test.true) (ap (expr_read c.args.depth) (sym c.behind_comma.ensures.rest) ∙ c.in_ok-item.ensures.value)))
 
 pub more_items-commas-smaller : goal.more_items-commas-smaller
 more_items-commas-smaller t c =
     let left = expr_shorter c.args.depth (past_comma c.commas.rest.now) (term_of c.in_ok-item.item) c.in_ok-item.after.now (ap (expr_read c.args.depth) (sym c.behind_comma.ensures.rest) ∙ c.in_ok-item.ensures.value) in
-    omega (arith, left, past_shorter (other_than (close_bracket_sign ∷ [])) c.commas.rest.now (sym c.is_comma_before.ensures ∙ c.commas-test.true))
+    omega (arith, left, past_shorter (has_class_outside (close_bracket_sign ∷ [])) c.commas.rest.now (sym c.is_comma_before.ensures ∙ c.commas-test.true))
 
 pub more_items-returns : goal.more_items-returns
-more_items-returns t c = record { value = rw (terms_roll (record { items = c.commas.items }), c.behind_comma-2.ensures.rest) (loop_end _ _ _ _ c.commas.invariant (trailing_end (other_than (close_bracket_sign ∷ [])) _ (expr_shorter c.args.depth) c.commas.rest.now (sym c.is_comma_before.ensures ∙ c.commas-test.false))) }
+more_items-returns t c = record { value = rw (terms_roll (record { items = c.commas.items }), c.behind_comma-2.ensures.rest) (loop_end _ _ _ _ c.commas.invariant (trailing_end (has_class_outside (close_bracket_sign ∷ [])) _ (expr_shorter c.args.depth) c.commas.rest.now (sym c.is_comma_before.ensures ∙ c.commas-test.false))) }
 
 pub some_links-returns-in_err-next : goal.some_links-returns-in_err-next
 some_links-returns-in_err-next t c = record {
   value =
       let p = err_from_is_err_and c.from_residual.result c.from_residual.ensures.1 in
-      rw (p.1, p.2) (first_link_goes c.in_err-next.field-0.0 _ _ (λ x e. many_stop (among (operators_at c.args.level)) _ (link_strict c.args.level c.args.depth) c.args.tokens.now x c.requires e) c.in_err-next.ensures.value);
+      rw (p.1, p.2) (first_link_goes c.in_err-next.field-0.0 _ _ (λ x e. many_stop (has_class_in (operators_at c.args.level)) _ (link_strict c.args.level c.args.depth) c.args.tokens.now x c.requires e) c.in_err-next.ensures.value);
 }
 
 pub some_links-returns : goal.some_links-returns
 some_links-returns t c = record {
   value =
-      let more = many_more (among (operators_at c.args.level)) _ (link_strict c.args.level c.args.depth) c.args.tokens.now (link_of c.in_ok-next.next) c.in_ok-next.rest.now c.requires c.in_ok-next.ensures.value in
+      let more = many_more (has_class_in (operators_at c.args.level)) _ (link_strict c.args.level c.args.depth) c.args.tokens.now (link_of c.in_ok-next.next) c.in_ok-next.rest.now c.requires c.in_ok-next.ensures.value in
       with_gives links_in (λ (next : Link) (links : Vec Link Global). some_links_in (next, links)) _ c.links.result c.with.result _ _
       (λ links us e. more ∙ ap (with_front _) e) (λ x e. more ∙ ap (with_front _) e) c.links.ensures.value c.with.ensures.ok c.with.ensures.err;
 }
@@ -241,13 +241,13 @@ pub some_suffixes-returns-in_err-next : goal.some_suffixes-returns-in_err-next
 some_suffixes-returns-in_err-next t c = record {
   value =
       let p = err_from_is_err_and c.from_residual.result c.from_residual.ensures.1 in
-      rw (p.1, p.2) (first_suffix_goes c.in_err-next.field-0.0 _ _ (λ x e. many_stop (among suffix_signs) _ (suffix_strict c.args.depth) c.args.tokens.now x c.requires e) c.in_err-next.ensures.value);
+      rw (p.1, p.2) (first_suffix_goes c.in_err-next.field-0.0 _ _ (λ x e. many_stop (has_class_in suffix_signs) _ (suffix_strict c.args.depth) c.args.tokens.now x c.requires e) c.in_err-next.ensures.value);
 }
 
 pub some_suffixes-returns : goal.some_suffixes-returns
 some_suffixes-returns t c = record {
   value =
-      let more = many_more (among suffix_signs) _ (suffix_strict c.args.depth) c.args.tokens.now (suffix_of c.in_ok-next.next) c.in_ok-next.rest.now c.requires c.in_ok-next.ensures.value in
+      let more = many_more (has_class_in suffix_signs) _ (suffix_strict c.args.depth) c.args.tokens.now (suffix_of c.in_ok-next.next) c.in_ok-next.rest.now c.requires c.in_ok-next.ensures.value in
       with_gives suffixes_in (λ (next : Suffix) (suffixes : Vec Suffix Global). some_suffixes_in (next, suffixes)) _ c.suffixes.result c.with.result _ _
       (λ suffixes us e. more ∙ ap (with_front _) e) (λ x e. more ∙ ap (with_front _) e) c.suffixes.ensures.value c.with.ensures.ok c.with.ensures.err;
 }
@@ -266,7 +266,7 @@ arg-returns t c = record {
       let made = c.in_ok-bytes-2.ensures.ok in
       let value = rw made.1 at c.expr-2.ensures.value in
       arg_given c.args.depth c.args.tokens.now c.in-Some.name.now c.in-Some.rest.now c.if-depth-eq0.false c.in-Some.ensures.some
-      ∙ ap (λ (q : Read Token SyntaxFault Term). after q (λ x us. Ok (given_term c.in-Some.name.now x, us))) value
+      ∙ ap (λ (q : Read Token SyntaxFault Term). then_read q (λ x us. Ok (given_term c.in-Some.name.now x, us))) value
       ∙ ap (λ x. Ok (x, c.in_ok-bytes-2.rest.now)) (sym c.given.ensures);
 }
 
@@ -321,7 +321,7 @@ paren-returns-in_err-open t c = record { value = stops token_of term_of c.from_r
 pub paren-returns-in_err-inner : goal.paren-returns-in_err-inner
 paren-returns-in_err-inner t c = record {
   value =
-      let read = closed_gives term_of (is close_parenthesis_sign) c.expr.result c.closed.result _ c.expr.ensures.value c.closed.ensures in
+      let read = closed_gives term_of (has_class close_parenthesis_sign) c.expr.result c.closed.result _ c.expr.ensures.value c.closed.ensures in
       rw c.in_ok-open.ensures.value
       (made_stops (λ (b : Box Expr). term_of b.value) term_of (paren_term c.in_ok-open.open.now) c.from_residual-in_err-inner.result c.in_err-inner.field-0.0 _
       (boxed_gives term_of c.closed.result (Err c.in_err-inner.field-0.0) _ read c.in_err-inner.ensures) c.from_residual-in_err-inner.ensures.1);
@@ -376,7 +376,7 @@ suffix-returns-in_err-index t c = record {
       let some = c.in-Some.ensures.some in
       rw (some.0, some.1)
       (made_stops term_of suffix_of (index_term c.in-Some.open.now) c.from_residual.result c.in_err-index.field-0.0 _
-      (closed_gives term_of (is close_bracket_sign) c.expr.result (Err c.in_err-index.field-0.0) _ c.expr.ensures.value c.in_err-index.ensures) c.from_residual.ensures.1);
+      (closed_gives term_of (has_class close_bracket_sign) c.expr.result (Err c.in_err-index.field-0.0) _ c.expr.ensures.value c.in_err-index.ensures) c.from_residual.ensures.1);
 }
 
 pub suffix-returns-in_err-dot : goal.suffix-returns-in_err-dot
@@ -423,9 +423,9 @@ pub suffix-returns-in-Some : goal.suffix-returns-in-Some
 suffix-returns-in-Some t c = record {
   value =
       let some = c.in-Some.ensures.some in
-      let read = closed_gives term_of (is close_bracket_sign) c.expr.result (Ok (c.in_ok-index.index, c.in_ok-index.rest)) _ c.expr.ensures.value c.in_ok-index.ensures in
+      let read = closed_gives term_of (has_class close_bracket_sign) c.expr.result (Ok (c.in_ok-index.index, c.in_ok-index.rest)) _ c.expr.ensures.value c.in_ok-index.ensures in
       rw (some.0, some.1)
-      (ap (λ (q : Read Token SyntaxFault Term). after q (λ x us. Ok (index_term c.in-Some.open.now x, us))) read
+      (ap (λ (q : Read Token SyntaxFault Term). then_read q (λ x us. Ok (index_term c.in-Some.open.now x, us))) read
       ∙ ap (λ x. Ok (x, c.in_ok-index.rest.now)) (sym (index_made c.in-Some.open.now.place c.in_ok-index.index)));
 }
 
@@ -446,18 +446,18 @@ primary-returns-in-Some t c = record {
 pub paren-returns : goal.paren-returns
 paren-returns t c = record {
   value =
-      let read = closed_gives term_of (is close_parenthesis_sign) c.expr.result c.closed.result _ c.expr.ensures.value c.closed.ensures in
+      let read = closed_gives term_of (has_class close_parenthesis_sign) c.expr.result c.closed.result _ c.expr.ensures.value c.closed.ensures in
       let inner = boxed_gives term_of c.closed.result (Ok (c.in_ok-inner.inner, c.in_ok-inner.rest)) _ read c.in_ok-inner.ensures in
-      rw c.in_ok-open.ensures.value (ap (λ (q : Read Token SyntaxFault Term). after q (λ x us. Ok (paren_term c.in_ok-open.open.now x, us))) inner
+      rw c.in_ok-open.ensures.value (ap (λ (q : Read Token SyntaxFault Term). then_read q (λ x us. Ok (paren_term c.in_ok-open.open.now x, us))) inner
       ∙ ap (λ x. Ok (x, c.in_ok-inner.rest.now)) (sym (paren_made c.in_ok-open.open.now.place c.in_ok-inner.inner)));
 }
 
 pub bracket-returns : goal.bracket-returns
 bracket-returns t c = record {
   value =
-      let inside = maybe (other_than (close_bracket_sign ∷ [])) (both pair_of (expr_read c.args.depth) (rest_read (expr_read c.args.depth))) c.in_ok-open.rest.now in
-      same_read term_of c.closed.result _ _ (rw c.in_ok-open.ensures.value (sym (closed_made (is close_bracket_sign) (bracket_term c.in_ok-open.open.now) inside)))
-      (closed_gives term_of (is close_bracket_sign) c.inside.result c.closed.result _ c.inside.ensures.value c.closed.ensures);
+      let inside = maybe (has_class_outside (close_bracket_sign ∷ [])) (both pair_of (expr_read c.args.depth) (rest_read (expr_read c.args.depth))) c.in_ok-open.rest.now in
+      same_read term_of c.closed.result _ _ (rw c.in_ok-open.ensures.value (sym (closed_made (has_class close_bracket_sign) (bracket_term c.in_ok-open.open.now) inside)))
+      (closed_gives term_of (has_class close_bracket_sign) c.inside.result c.closed.result _ c.inside.ensures.value c.closed.ensures);
 }
 
 pub inside-returns-in_err-first : goal.inside-returns-in_err-first
@@ -474,7 +474,7 @@ inside-returns t c = record {
 pub arguments-returns-clause-value : goal.arguments-returns-clause-value
 arguments-returns-clause-value t c =
     same_read args_of c.closed.result _ _ (parenthesized (args_read (arg_in c.args.depth (expr_read c.args.depth))) c.args.tokens.now _ c.in_ok-rest.rest.now c.in_ok-rest.ensures.value)
-    (closed_gives args_of (is close_parenthesis_sign) c.arg_list.result c.closed.result _ c.arg_list.ensures.value c.closed.ensures)
+    (closed_gives args_of (has_class close_parenthesis_sign) c.arg_list.result c.closed.result _ c.arg_list.ensures.value c.closed.ensures)
 
 pub arguments-returns-clause-rest : goal.arguments-returns-clause-rest
 arguments-returns-clause-rest t c = given_shorter args_of (in_parentheses (args_read (arg_in c.args.depth (expr_read c.args.depth)))) (arguments_shorter c.args.depth) c.args.tokens.now c.closed.result (arguments-returns-clause-value t c)
@@ -498,6 +498,6 @@ pub arg-returns-in_default : goal.arg-returns-in_default
 arg-returns-in_default t c = record {
   value =
       arg_positional c.args.depth c.args.tokens.now c.if-depth-eq0.false c.in_default.ensures.none
-      ∙ ap (λ (q : Read Token SyntaxFault Term). after q (λ x us. Ok (PositionalTerm x, us))) c.in_ok-value.ensures.value
+      ∙ ap (λ (q : Read Token SyntaxFault Term). then_read q (λ x us. Ok (PositionalTerm x, us))) c.in_ok-value.ensures.value
       ∙ ap (λ x. Ok (x, c.in_ok-value.rest.now)) (sym (positional_made c.in_ok-value.value));
 }

@@ -1,7 +1,7 @@
 use Rattle.std.proofs.Common.{◌≡◌, ◌+◌, ◌-◌, ◌*◌, ◌≤◌, [], ◌∷◌, map, length, Ok}
 use Rattle.scad_ast.specs.ExprView.{term_of, link_of, suffix_of, arg_of}
-use Rattle.scad_grammar.specs.Classes.{comma_sign, close_bracket_sign, close_parenthesis_sign, among, is, other_than}
-use Rattle.scad_grammar.specs.Reading.{many, trailing, in_front}
+use Rattle.scad_grammar.specs.Classes.{comma_sign, close_bracket_sign, close_parenthesis_sign, has_class_in, has_class, has_class_outside}
+use Rattle.scad_grammar.specs.Reading.{many, trailing_items, in_front}
 use Rattle.scad_grammar.specs.Reads.{expr_read, arg_in, suffix_read}
 use Rattle.scad_expressions.specs.Climbing.{unary_in, link_in, climb_read}
 use Rattle.scad_expressions.specs.TokenClasses.{levels_below, operators_at, suffix_signs, tighter_levels}
@@ -111,31 +111,31 @@ decreases-some_links l = 64 * l.depth + (7 * tighter_levels l.level + 13)
 
 abbrev pub invariant-links-links : goal.invariant-links-links
 invariant-links-links l =
-    many (among (operators_at l.level)) (link_in l.level l.depth) l.tokens
-    ≡ in_front (map link_of l.items.items) (many (among (operators_at l.level)) (link_in l.level l.depth) l.rest)
+    many (has_class_in (operators_at l.level)) (link_in l.level l.depth) l.tokens
+    ≡ in_front (map link_of l.items.items) (many (has_class_in (operators_at l.level)) (link_in l.level l.depth) l.rest)
 
 abbrev pub decreases-links-links : goal.decreases-links-links
 decreases-links-links l = length l.rest
 
 abbrev pub invariant-suffixes-suffixes : goal.invariant-suffixes-suffixes
 invariant-suffixes-suffixes l =
-    many (among suffix_signs) (suffix_read (expr_read l.depth)) l.tokens ≡ in_front (map suffix_of l.items.items) (many (among suffix_signs) (suffix_read (expr_read l.depth)) l.rest)
+    many (has_class_in suffix_signs) (suffix_read (expr_read l.depth)) l.tokens ≡ in_front (map suffix_of l.items.items) (many (has_class_in suffix_signs) (suffix_read (expr_read l.depth)) l.rest)
 
 abbrev pub decreases-suffixes-suffixes : goal.decreases-suffixes-suffixes
 decreases-suffixes-suffixes l = length l.rest
 
 abbrev pub invariant-more_items-commas : goal.invariant-more_items-commas
 invariant-more_items-commas l =
-    in_front (map term_of l.fn.items.items) (trailing (is comma_sign) (other_than (close_bracket_sign ∷ [])) (expr_read l.depth) l.tokens)
-    ≡ in_front (map term_of l.items.items) (trailing (is comma_sign) (other_than (close_bracket_sign ∷ [])) (expr_read l.depth) l.rest)
+    in_front (map term_of l.fn.items.items) (trailing_items (has_class comma_sign) (has_class_outside (close_bracket_sign ∷ [])) (expr_read l.depth) l.tokens)
+    ≡ in_front (map term_of l.items.items) (trailing_items (has_class comma_sign) (has_class_outside (close_bracket_sign ∷ [])) (expr_read l.depth) l.rest)
 
 abbrev pub decreases-more_items-commas : goal.decreases-more_items-commas
 decreases-more_items-commas l = length l.rest
 
 abbrev pub invariant-more_args-commas : goal.invariant-more_args-commas
 invariant-more_args-commas l =
-    in_front (map arg_of l.fn.items.items) (trailing (is comma_sign) (other_than (close_parenthesis_sign ∷ [])) (arg_in l.depth (expr_read l.depth)) l.tokens)
-    ≡ in_front (map arg_of l.items.items) (trailing (is comma_sign) (other_than (close_parenthesis_sign ∷ [])) (arg_in l.depth (expr_read l.depth)) l.rest)
+    in_front (map arg_of l.fn.items.items) (trailing_items (has_class comma_sign) (has_class_outside (close_parenthesis_sign ∷ [])) (arg_in l.depth (expr_read l.depth)) l.tokens)
+    ≡ in_front (map arg_of l.items.items) (trailing_items (has_class comma_sign) (has_class_outside (close_parenthesis_sign ∷ [])) (arg_in l.depth (expr_read l.depth)) l.rest)
 
 abbrev pub decreases-more_args-commas : goal.decreases-more_args-commas
 decreases-more_args-commas l = length l.rest

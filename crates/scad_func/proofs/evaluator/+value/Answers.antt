@@ -18,13 +18,13 @@ use Rattle.scad_ast.specs.StatementView.{param_of}
 use Rattle.scad_value.specs.View.{vals_in}
 use Rattle.scad_value.specs.declared.bounded_value.BoundedValue.{BoundedValue}
 use Rattle.scad_value.specs.BoundedView.{bounded_val}
-use Rattle.scad_definitions.specs.Arguments.{name_of, names_of, no_arguments_of, destination_of, argument_place}
+use Rattle.scad_definitions.specs.Arguments.{parameter_name, parameter_names, no_arguments_of, destination_of, argument_place}
 use Rattle.scad_definitions.specs.ArgumentsView.{call_arguments_of, names_in, destination_term, IsOneMoreGiven, IsFaultAt}
 use Rattle.scad_scope.specs.Names.{find_in, variable_in}
 use Rattle.scad_scope.specs.Table.{bindings_of}
 use Rattle.scad_definitions.specs.TextView.{function_of}
 use Rattle.scad_func.specs.Limits.{most_evaluations}
-use Rattle.scad_func.specs.Meaning.{Outcome, Gives, Faults, value_at, setting_with_calls, each_argument, each_parameter, parameter_value, function_value, operand, each_value, each_suffix, each_link, call_value, answer_at, or_fault, or_zero, Setting, BoundArguments, Arguments, then_with}
+use Rattle.scad_func.specs.Meaning.{Outcome, Gives, Faults, deeper_value, setting_with_calls, each_argument, each_parameter, parameter_value, function_value, value_here, each_value, each_suffix, each_link, call_value, answer_at, or_fault, or_zero, Setting, BoundArguments, Arguments, then_with}
 use Rattle.scad_value.specs.Answers.{range_of}
 use Rattle.scad_value.specs.AnswerView.{MeetsAnswerAt}
 use Rattle.scad_func.specs.Steps.{all_values, suffix_value, link_value, with_parameters}
@@ -89,7 +89,7 @@ operand-returns-in-ChildCount t c =
     let e = c.args.evaluation.now in
     record {
       value = meets_along c.child_count.result e.turns _ _
-          (ap (λ x. operand (setting_here e) x e.turns)
+          (ap (λ x. value_here (setting_here e) x e.turns)
           (ap term_of c.in-ChildCount.is ∙ count_form c.in-ChildCount.place)
           ∙ ap (λ o. Gives e.turns (or_zero o))
           (variable_same (table_in e.source.now) (numbered_env_here e) (codes "$children")))
@@ -102,7 +102,7 @@ operand-returns-in-Name t c =
     let e = c.args.evaluation.now in
     record {
       value = meets_along c.variable_of.result e.turns _ _
-          (ap (λ x. operand (setting_here e) x e.turns)
+          (ap (λ x. value_here (setting_here e) x e.turns)
           (ap term_of c.in-Name.is ∙ name_form c.in-Name.place c.in-Name.name)
           ∙ ap (λ o. or_fault o UnknownName c.in-Name.place (λ x. Gives e.turns x))
           (variable_same (table_in e.source.now) (numbered_env_here e) c.in-Name.name ∙ ap
@@ -117,7 +117,7 @@ operand-returns-in-Special t c =
     let e = c.args.evaluation.now in
     record {
       value = meets_along c.special_of.result e.turns _ _
-          (ap (λ x. operand (setting_here e) x e.turns)
+          (ap (λ x. value_here (setting_here e) x e.turns)
           (ap term_of c.in-Special.is ∙ special_form c.in-Special.place c.in-Special.name)
           ∙ ap (λ n. or_fault (find_in (bindings_of e.scopes.now) n) UnknownName c.in-Special.place (λ x. Gives e.turns x))
           (sym c.items-in-Special.ensures))
@@ -129,7 +129,7 @@ pub operand-returns-in-Postfix : goal.operand-returns-in-Postfix
 operand-returns-in-Postfix t c =
     record {
       value = meets_along c.postfix.result c.postfix.new.evaluation.turns _ _
-          (ap (λ e. operand (setting_here c.args.evaluation.now) e c.args.evaluation.now.turns)
+          (ap (λ e. value_here (setting_here c.args.evaluation.now) e c.args.evaluation.now.turns)
           (postfix_form c.args.expr.now c.in-Postfix.field-0 c.in-Postfix.parts c.deref-in-Postfix.result.now c.deref-in-Postfix-2.result.now
           c.in-Postfix.is c.deref-in-Postfix.ensures c.deref-in-Postfix-2.ensures)) c.postfix.ensures.value;
       kept = c.postfix.ensures.kept;
@@ -139,7 +139,7 @@ pub operand-returns-in-Chain : goal.operand-returns-in-Chain
 operand-returns-in-Chain t c =
     record {
       value = meets_along c.operators.result c.operators.new.evaluation.turns _ _
-          (ap (λ e. operand (setting_here c.args.evaluation.now) e c.args.evaluation.now.turns)
+          (ap (λ e. value_here (setting_here c.args.evaluation.now) e c.args.evaluation.now.turns)
           (chain_form c.args.expr.now c.in-Chain.field-0 c.in-Chain.parts c.deref-in-Chain.result.now c.deref-in-Chain-2.result.now
           c.in-Chain.is c.deref-in-Chain.ensures c.deref-in-Chain-2.ensures)) c.operators.ensures.value;
       kept = c.operators.ensures.kept;
@@ -149,7 +149,7 @@ pub operand-returns-in-Choice : goal.operand-returns-in-Choice
 operand-returns-in-Choice t c =
     record {
       value = meets_along c.choice.result c.choice.new.evaluation.turns _ _
-          (ap (λ e. operand (setting_here c.args.evaluation.now) e c.args.evaluation.now.turns)
+          (ap (λ e. value_here (setting_here c.args.evaluation.now) e c.args.evaluation.now.turns)
           (choice_form c.args.expr.now c.in-Choice.field-0 c.in-Choice.parts c.deref-in-Choice.result.now c.deref-in-Choice-2.result.now c.deref-in-Choice-3.result.now
           c.in-Choice.is c.deref-in-Choice.ensures c.deref-in-Choice-2.ensures c.deref-in-Choice-3.ensures)) c.choice.ensures.value;
       kept = c.choice.ensures.kept;
@@ -170,40 +170,40 @@ list-returns t c =
 pub unary-returns-in_err-value : goal.unary-returns-in_err-value
 unary-returns-in_err-value t c =
     let p = err_from_is_err_and c.from_residual.result c.from_residual.ensures.1 in
-    rw (p.1, p.2) (stops bounded_val bounded_val (λ here. value_at here false (term_of c.args.of.now))
+    rw (p.1, p.2) (stops bounded_val bounded_val (λ here. deeper_value here false (term_of c.args.of.now))
     (λ here turns v. answer_at (unary_of c.args.op v) c.args.place turns) _ _ c.in_err-value.field-0.0 c.in_err-value.ensures)
 
 pub unary-returns : goal.unary-returns
 unary-returns t c =
-    goes bounded_val bounded_val (λ here. value_at here false (term_of c.args.of.now))
+    goes bounded_val bounded_val (λ here. deeper_value here false (term_of c.args.of.now))
     (λ here turns v. answer_at (unary_of c.args.op v) c.args.place turns) _ _ _ c.in_ok-value.value c.unary_value.result c.in_ok-value.ensures
     (answers _ c.unary_value.result (unary_of c.args.op (bounded_val c.in_ok-value.value)) c.args.place c.unary_value.ensures)
 
 pub operators-returns-in_err-left : goal.operators-returns-in_err-left
 operators-returns-in_err-left t c =
     let p = err_from_is_err_and c.from_residual.result c.from_residual.ensures.1 in
-    rw (p.1, p.2) (stops bounded_val bounded_val (λ here. operand here (term_of c.args.first.now))
+    rw (p.1, p.2) (stops bounded_val bounded_val (λ here. value_here here (term_of c.args.first.now))
     (λ here turns v. each_link here v (links_from (links_of c.args.rest.now)) turns) _ _ c.in_err-left.field-0.0 c.in_err-left.ensures)
 
 pub operators-returns : goal.operators-returns
 operators-returns t c =
-    goes bounded_val bounded_val (λ here. operand here (term_of c.args.first.now))
+    goes bounded_val bounded_val (λ here. value_here here (term_of c.args.first.now))
     (λ here turns v. each_link here v (links_from (links_of c.args.rest.now)) turns) _ _ _ c.in_ok-left.left c.links.result
     c.in_ok-left.ensures c.links.ensures
 
 pub range-returns-in_err-first : goal.range-returns-in_err-first
 range-returns-in_err-first t c =
     let p = err_from_is_err_and c.from_residual.result c.from_residual.ensures.1 in
-    rw (p.1, p.2) (stops bounded_val bounded_val (λ here. value_at here true (term_of c.args.from.now))
-    (λ here turns a. then_with (value_at here true (term_of c.args.upto.now) turns) (λ turns b. answer_at (range_of a b) c.args.place turns))
+    rw (p.1, p.2) (stops bounded_val bounded_val (λ here. deeper_value here true (term_of c.args.from.now))
+    (λ here turns a. then_with (deeper_value here true (term_of c.args.upto.now) turns) (λ turns b. answer_at (range_of a b) c.args.place turns))
     _ _ c.in_err-first.field-0.0 c.in_err-first.ensures)
 
 pub range-returns-in_err-a : goal.range-returns-in_err-a
 range-returns-in_err-a t c =
     let p = err_from_is_err_and c.from_residual-in_err-a.result c.from_residual-in_err-a.ensures.1 in
     let a = c.in_ok-first.first in
-    let last = λ (here : Setting). value_at here true (term_of c.args.upto.now) in
-    rw (p.1, p.2) (goes bounded_val bounded_val (λ here. value_at here true (term_of c.args.from.now))
+    let last = λ (here : Setting). deeper_value here true (term_of c.args.upto.now) in
+    rw (p.1, p.2) (goes bounded_val bounded_val (λ here. deeper_value here true (term_of c.args.from.now))
     (λ here turns a. then_with (last here turns) (λ turns b. answer_at (range_of a b) c.args.place turns)) _ _ _ a (Err c.in_err-a.field-0.0)
     c.in_ok-first.ensures
     (stops bounded_val bounded_val last (λ here turns b. answer_at (range_of (bounded_val a) b) c.args.place turns) _ _ c.in_err-a.field-0.0
@@ -215,8 +215,8 @@ range-returns t c =
     let a = c.in_ok-first.first in
     let b = c.in_ok-a.b in
     let w = c.in_ok-a.ensures.ok in
-    let last = λ (here : Setting). value_at here true (term_of c.args.upto.now) in
-    goes bounded_val bounded_val (λ here. value_at here true (term_of c.args.from.now))
+    let last = λ (here : Setting). deeper_value here true (term_of c.args.upto.now) in
+    goes bounded_val bounded_val (λ here. deeper_value here true (term_of c.args.from.now))
     (λ here turns a. then_with (last here turns) (λ turns b. answer_at (range_of a b) c.args.place turns)) _ _ _ a c.range_value.result
     c.in_ok-first.ensures
     (goes bounded_val bounded_val last (λ here turns b. answer_at (range_of (bounded_val a) b) c.args.place turns) _ _ _ b c.range_value.result
@@ -239,7 +239,7 @@ each_value-each-preserved t c =
     record {
       told = item_told _ _ inv.kept c.each.values _
           (each_value here (terms_from (map term_of (drop i xs))) c.each.evaluation.turns)
-          (λ here. value_at here true (term_of x)) (each_value here rest) inv.told
+          (λ here. deeper_value here true (term_of x)) (each_value here rest) inv.told
           (ap (λ t. each_value here t c.each.evaluation.turns) (terms_here xs i x h is))
           _ c.evaluate-next.result c.in_ok-values.values c.in_ok-values.ensures g;
       kept = keeps_trans inv.kept g.kept;
@@ -272,7 +272,7 @@ each_value-returns-in_err-values t c =
     record {
       value = rw (p.1, p.2) (item_stops _ _ inv.kept c.each.values _
           (each_value here (terms_from (map term_of (drop i xs))) c.each.evaluation.turns)
-          (λ here. value_at here true (term_of x)) (each_value here rest) inv.told
+          (λ here. deeper_value here true (term_of x)) (each_value here rest) inv.told
           (ap (λ t. each_value here t c.each.evaluation.turns) (terms_here xs i x h is))
           c.evaluate-next.new.evaluation c.evaluate-next.result c.in_err-values.field-0.0 c.evaluate-next.new.evaluation.turns c.in_err-values.ensures g);
       kept = keeps_trans inv.kept g.kept;
@@ -293,7 +293,7 @@ each_positional-each-preserved t c =
     record {
       told = item_told _ _ inv.kept c.each.values _
           (each_value here (all_values (args_from (map arg_of (drop i xs)))) c.each.evaluation.turns)
-          (λ here. value_at here true (term_of c.argument_value.result.now)) (each_value here (all_values rest)) inv.told
+          (λ here. deeper_value here true (term_of c.argument_value.result.now)) (each_value here (all_values rest)) inv.told
           (ap (λ t. each_value here t c.each.evaluation.turns) (values_here xs i x h is _ c.argument_value.ensures.value))
           _ c.evaluate-next.result c.in_ok-values.values c.in_ok-values.ensures g;
       kept = keeps_trans inv.kept g.kept;
@@ -327,7 +327,7 @@ each_positional-returns-in_err-values t c =
     record {
       value = rw (p.1, p.2) (item_stops _ _ inv.kept c.each.values _
           (each_value here (all_values (args_from (map arg_of (drop i xs)))) c.each.evaluation.turns)
-          (λ here. value_at here true (term_of c.argument_value.result.now)) (each_value here (all_values rest)) inv.told
+          (λ here. deeper_value here true (term_of c.argument_value.result.now)) (each_value here (all_values rest)) inv.told
           (ap (λ t. each_value here t c.each.evaluation.turns) (values_here xs i x h is _ c.argument_value.ensures.value))
           c.evaluate-next.new.evaluation c.evaluate-next.result c.in_err-values.field-0.0 c.evaluate-next.new.evaluation.turns c.in_err-values.ensures g);
       kept = keeps_trans inv.kept g.kept;
@@ -484,7 +484,7 @@ call-returns-in_err-given-in-Some t c =
     let e = c.args.evaluation.now in
     let args = args_from (args_of c.args.args.now) in
     let told = subst (λ (l : List Param). MeetsOutcome arguments_of (Err c.in_err-given-in-Some.field-0.0) c.arguments.new.evaluation.turns
-    (each_argument (setting_here e) (names_of (map param_of l)) 0 args (no_arguments_of (length (names_of (map param_of l)))) e.turns))
+    (each_argument (setting_here e) (parameter_names (map param_of l)) 0 args (no_arguments_of (length (parameter_names (map param_of l)))) e.turns))
     c.deref.ensures.value c.in_err-given-in-Some.ensures.given.value in
     record {
       value = rw (p.1, p.2) (meets_along (Err c.in_err-given-in-Some.field-0.0) c.arguments.new.evaluation.turns _ _
@@ -501,7 +501,7 @@ call-function_call-value-requires t c =
       omega (arith, g.given.kept.work, c.decreases),
       (
         rw (g.given.kept.source) (deep_enough _ _ c.in-Some.ensures.among),
-        g.count ∙ length-map (map param_of c.deref.result.now) name_of ∙ length-map c.deref.result.now param_of
+        g.count ∙ length-map (map param_of c.deref.result.now) parameter_name ∙ length-map c.deref.result.now param_of
             ∙ ap (λ (l : List Param). length l) c.deref.ensures.value,
       ),
     )
@@ -559,8 +559,8 @@ arguments-each-preserved t c =
     ∙ taker_given (names_in c.each.so_far.names) c.each.positional before a
     ∙ if_ok_at (λ (d : Destination). destination_of (names_in c.each.so_far.names) c.each.positional (call_arguments_of before) a ≡ Some (destination_term d))
     c.destination_for-free.result d w.1 c.destination_for-free.ensures.free in
-    let step = meets_along c.evaluate-next.result _ _ _ (ap (λ e. value_at here true e c.each.evaluation.turns)
-    (sym c.argument_value.ensures.value) ∙ moved (λ s. value_at s true (term_of c.argument_value.result.now) c.each.evaluation.turns)
+    let step = meets_along c.evaluate-next.result _ _ _ (ap (λ e. deeper_value here true e c.each.evaluation.turns)
+    (sym c.argument_value.ensures.value) ∙ moved (λ s. deeper_value s true (term_of c.argument_value.result.now) c.each.evaluation.turns)
     inv.kept) g.value in
     let given = held_seen before d c.evaluate-next.result (Ok after.given)
     (subst (λ (v : ArgumentsSoFar BoundedValue). IsOneMoreGiven v.given d c.evaluate-next.result (Ok after.given)) w.0
@@ -637,8 +637,8 @@ arguments-returns-in_err-so_far-2-clause-given t c =
     ∙ taker_given (names_in c.each.so_far.names) c.each.positional before a
     ∙ if_ok_at (λ (d : Destination). destination_of (names_in c.each.so_far.names) c.each.positional (call_arguments_of before) a ≡ Some (destination_term d))
     c.destination_for-free.result d w.1 c.destination_for-free.ensures.free in
-    let step = meets_along c.evaluate-next.result _ _ _ (ap (λ e. value_at here true e c.each.evaluation.turns)
-    (sym c.argument_value.ensures.value) ∙ moved (λ s. value_at s true (term_of c.argument_value.result.now) c.each.evaluation.turns)
+    let step = meets_along c.evaluate-next.result _ _ _ (ap (λ e. deeper_value here true e c.each.evaluation.turns)
+    (sym c.argument_value.ensures.value) ∙ moved (λ s. deeper_value s true (term_of c.argument_value.result.now) c.each.evaluation.turns)
     inv.kept) g.value in
     let stop = c.in_err-so_far-2.field-0.0 in
     let held = held_seen before d c.evaluate-next.result (Err stop)

@@ -17,7 +17,7 @@ use Rattle.scad_definitions.specs.ArgumentsView.{names_in}
 use Rattle.scad_func.specs.Meaning.{each_value, each_argument, each_parameter, each_suffix, each_link}
 use Rattle.scad_func.specs.Steps.{all_values}
 use Rattle.scad_func.specs.View.{indexed_val, bound_arguments_in, arguments_of, function_size, param_size, params_size}
-use Rattle.scad_func.specs.Evaluations.{Keeps, work_left, numbered_env_here, setting_here}
+use Rattle.scad_func.specs.Evaluations.{KeepsEvaluation, work_left, numbered_env_here, setting_here}
 use Rattle.scad_func.proofs.Calls.{in_front}
 use Rattle.scad_func.proofs.evaluator.+value.Given as goal
 
@@ -105,7 +105,7 @@ invariant-each_value-each l =
       told : each_value here (terms_from (terms_of l.exprs)) l.fn.evaluation.turns
           ≡ in_front (vals_in l.values.items.items) (each_value here
           (terms_from (map term_of (drop l.expr-index l.exprs.items.items))) l.evaluation.turns);
-      kept : Keeps l.fn.evaluation l.evaluation;
+      kept : KeepsEvaluation l.fn.evaluation l.evaluation;
     }
 
 abbrev pub invariant-each_positional-each : goal.invariant-each_positional-each
@@ -115,7 +115,7 @@ invariant-each_positional-each l =
       told : each_value here (all_values (args_from (args_of l.args))) l.fn.evaluation.turns
           ≡ in_front (vals_in l.values.items.items) (each_value here
           (all_values (args_from (map arg_of (drop l.arg-index l.args.items.items)))) l.evaluation.turns);
-      kept : Keeps l.fn.evaluation l.evaluation;
+      kept : KeepsEvaluation l.fn.evaluation l.evaluation;
     }
 
 abbrev pub invariant-suffixes-each : goal.invariant-suffixes-each
@@ -126,7 +126,7 @@ invariant-suffixes-each l =
           (suffixes_from (suffixes_of l.rest)) l.fn.evaluation.turns
           ≡ each_suffix here (bounded_val l.so_far)
           (suffixes_from (map suffix_of (drop l.part-index l.rest.more.items))) l.evaluation.turns;
-      kept : Keeps l.fn.evaluation l.evaluation;
+      kept : KeepsEvaluation l.fn.evaluation l.evaluation;
     }
 
 abbrev pub invariant-links-each : goal.invariant-links-each
@@ -136,7 +136,7 @@ invariant-links-each l =
       told : each_link here (bounded_val l.fn.left) (links_from (links_of l.rest)) l.fn.evaluation.turns
           ≡ each_link here (bounded_val l.so_far)
           (links_from (map link_of (drop l.part-index l.part-items))) l.evaluation.turns;
-      kept : Keeps l.fn.evaluation l.evaluation;
+      kept : KeepsEvaluation l.fn.evaluation l.evaluation;
     }
 
 abbrev pub invariant-arguments-each : goal.invariant-arguments-each
@@ -149,7 +149,7 @@ invariant-arguments-each l =
           (args_from (map arg_of (drop l.arg-index l.args.items.items))) (arguments_of l.so_far.given) l.evaluation.turns;
       names : l.so_far.names ≡ l.names;
       few : l.positional ≤ l.arg-index;
-      kept : Keeps l.fn.evaluation l.evaluation;
+      kept : KeepsEvaluation l.fn.evaluation l.evaluation;
     }
 
 abbrev pub invariant-parameters-each : goal.invariant-parameters-each
@@ -161,5 +161,5 @@ invariant-parameters-each l =
           (map param_of (drop l.i l.params.items.items)) (bound_arguments_in (drop l.i l.open.items)) l.evaluation.turns);
       count : length l.open.items ≡ length l.params.items.items;
       got : length l.values.items.items ≡ l.i;
-      kept : Keeps l.fn.evaluation l.evaluation;
+      kept : KeepsEvaluation l.fn.evaluation l.evaluation;
     }

@@ -3,7 +3,7 @@ use Rattle.scad_ast.specs.Terms.{args_from}
 use Rattle.scad_ast.specs.ExprView.{arg_of, args_of}
 use Rattle.scad_definitions.specs.Arguments.{no_arguments_of}
 use Rattle.scad_func.specs.View.{arguments_of}
-use Rattle.scad_func.specs.Evaluations.{Keeps, setting_here}
+use Rattle.scad_func.specs.Evaluations.{KeepsEvaluation, setting_here}
 use Rattle.scad_meaning.specs.Meaning.{each_echo_argument}
 use Rattle.scad_instances.proofs.arguments.echo_arguments.Given as goal
 
@@ -14,5 +14,5 @@ invariant-each l =
     record {
       told : each_echo_argument here (args_from (args_of l.args)) (no_arguments_of 0) old.turns
           ≡ each_echo_argument here (args_from (map arg_of (drop l.arg-index l.args.items.items))) (arguments_of l.so_far.given) l.evaluation.turns;
-      kept : Keeps old l.evaluation;
+      kept : KeepsEvaluation old l.evaluation;
     }

@@ -1,6 +1,6 @@
 use Rattle.std.proofs.Common.{◌≡◌, pos, false, Some, Ok, rules, refl, sym, subst, ap, ◌∙◌, to_z, of_z, to_z-of_z, FitsSigned, w64}
 use Rattle.text_place.specs.declared.fault.FaultKind.TheVariants.{WrongDimension}
-use Rattle.scad_modules.specs.Reading.{bound_argument, number_in, truth_in, or_default, of_type, refused_where}
+use Rattle.scad_modules.specs.Reading.{bound_argument, number_in_value, truth_in, or_default, of_type, refused_where}
 use Rattle.scad_modules.specs.ArgumentView.{bound_arguments_in}
 use Rattle.scad_modules.specs.Effects.{a_solid, cylinder_call}
 use Rattle.scad_modules.specs.Shapes.{cylinder_effect, with_four}
@@ -18,8 +18,8 @@ read c =
     let bound = bound_arguments_in c.args.bound.now in
     sizes_read c.args.inside (fragments_of c.args.fragments) bound c.in_ok-height.height c.in_ok-radius.radius c.in_ok-low.low c.in_ok-high.high
     c.if-is_given.ensures c.if-is_given-2.ensures c.if-is_given-3.ensures c.if-has_two_radii.ensures c.in_ok-height.ensures.value c.in_ok-radius.ensures.value
-    (subst (λ d. or_default d number_in (bound_argument bound 1) ≡ Some c.in_ok-low.low) (to_z-of_z fits) c.in_ok-low.ensures.value)
-    (subst (λ d. or_default d number_in (bound_argument bound 2) ≡ Some c.in_ok-high.high) (to_z-of_z fits) c.in_ok-high.ensures.value)
+    (subst (λ d. or_default d number_in_value (bound_argument bound 1) ≡ Some c.in_ok-low.low) (to_z-of_z fits) c.in_ok-low.ensures.value)
+    (subst (λ d. or_default d number_in_value (bound_argument bound 2) ≡ Some c.in_ok-high.high) (to_z-of_z fits) c.in_ok-high.ensures.value)
 
 pub returns-in_err-center-clause-effect : goal.returns-in_err-center-clause-effect
 returns-in_err-center-clause-effect c =

@@ -3,7 +3,7 @@ use Rattle.std.specs.Prelude.{unsigned_abs}
 use mir.Syntax.{w128}
 use Rattle.scad_value.specs.declared.value.Value.{Value}
 use Rattle.scad_value.specs.Values.{vals_from, parts_in}
-use Rattle.scad_value.specs.Operators.{plus, dot_of}
+use Rattle.scad_value.specs.Operators.{plus_answer, dot_of}
 use Rattle.scad_value.specs.View.{vals_in}
 use Rattle.scad_value.proofs.Integers.{sum_fits, sum_is, sum_size, plus_plus}
 use Rattle.scad_value.proofs.Lists.{dot_more, small_here, length-le_parts, vals_out}
@@ -29,8 +29,8 @@ loop-i-preserved c =
     (l : List Value). get_or l i c.value-item.result) c.deref-value-items.ensures.value in
     record {
       told = c.loop-i.invariant.told
-          ∙ ap (plus _) (dot_more c.args.left.now.items.items c.args.right.now.items.items i c.value-item.result c.index.result.now c.in_ok-sum.field-0 left right here c.index.ensures c.in_ok-sum.ensures.value)
-          ∙ plus_plus _ _ _ ∙ ap (λ x. plus x (dot_of (vals_from (vals_in (drop
+          ∙ ap (plus_answer _) (dot_more c.args.left.now.items.items c.args.right.now.items.items i c.value-item.result c.index.result.now c.in_ok-sum.field-0 left right here c.index.ensures c.in_ok-sum.ensures.value)
+          ∙ plus_plus _ _ _ ∙ ap (λ x. plus_answer x (dot_of (vals_from (vals_in (drop
           (i + 1) c.args.left.now.items.items))) (vals_from (vals_in (drop
           (i + 1) c.args.right.now.items.items))))) (sym (sum_is
           (to_z w128 c.loop-i.sum-bits) c.in_ok-sum.field-0 i c.loop-i.invariant.size c.in_ok-sum.ensures.size less));

@@ -1,7 +1,7 @@
 use Rattle.std.proofs.Common.{◌≡◌, ◌+◌, List, [], ◌∷◌, ◌++◌, drop, get_or, refl, sym, ap, subst, ◌∙◌, append-nil, append_assoc, arith, rules}
 use Rattle.std.proofs.lemmas.List.{drop_all, drop_more}
 use Rattle.script_reader.specs.declared.script.Command.{Command}
-use Rattle.edit_session.specs.Sessions.{start}
+use Rattle.edit_session.specs.Sessions.{start_state}
 use Rattle.reply_text.specs.declared.reply.Reply.{Reply}
 use Rattle.reply_text.specs.Answers.{Fits}
 use Rattle.script_run.specs.Moves.{MovesAlong}
@@ -11,14 +11,14 @@ use Rattle.script_run.proofs.client.serve_client.Goals as goal
 pub returns-clause-fits : goal.returns-clause-fits
 returns-clause-fits g c =
     let ended = drop_all c.loop-command.command-index c.args.commands.now c.loop-command-test.false in
-    subst (λ (rs : List Reply). Fits (g.E.Exporting.exports c.args.unit) start c.args.commands.now rs) (append-nil c.loop-command.replies.items)
+    subst (λ (rs : List Reply). Fits (g.E.Exporting.exports c.args.unit) start_state c.args.commands.now rs) (append-nil c.loop-command.replies.items)
     (c.loop-command.invariant.fits [] (subst (λ (cs : List Command). Fits (g.E.Exporting.exports c.args.unit) c.loop-command.session cs []) (sym ended) tt))
 
 pub returns-clause-moved : goal.returns-clause-moved
 returns-clause-moved g c =
     let moves = g.E.Exporter.moves c.args.unit in
     let ended = drop_all c.loop-command.command-index c.args.commands.now c.loop-command-test.false in
-    subst (λ (rs : List Reply). MovesAlong moves start c.args.commands.now rs c.args.exporter.now c.loop-command.exporter) (append-nil c.loop-command.replies.items)
+    subst (λ (rs : List Reply). MovesAlong moves start_state c.args.commands.now rs c.args.exporter.now c.loop-command.exporter) (append-nil c.loop-command.replies.items)
     (c.loop-command.invariant.moved [] c.loop-command.exporter (subst (λ (cs : List Command). MovesAlong moves c.loop-command.session cs [] c.loop-command.exporter c.loop-command.exporter) (sym ended) refl))
 
 pub loop-command-preserved : goal.loop-command-preserved
@@ -37,12 +37,12 @@ loop-command-preserved g c =
       asked = search rules;
       can_export = search rules;
       fits = λ rest fit.
-          subst (λ rs. Fits exports start cs rs) (added rest)
+          subst (λ rs. Fits exports start_state cs rs) (added rest)
           (c.loop-command.invariant.fits (r ∷ rest)
           (subst (λ left. Fits exports c.loop-command.session left (r ∷ rest)) (sym more)
           (fits_on exports c.loop-command.session c.reply_to-reply.new.session item r (drop (here + 1) cs) rest c.reply_to-reply.ensures.steps fit)));
       moved = λ rest after along.
-          subst (λ rs. MovesAlong moves start cs rs c.args.exporter.now after) (added rest)
+          subst (λ rs. MovesAlong moves start_state cs rs c.args.exporter.now after) (added rest)
           (c.loop-command.invariant.moved (r ∷ rest) after
           (subst (λ left. MovesAlong moves c.loop-command.session left (r ∷ rest) c.loop-command.exporter after) (sym more)
           (moves_on moves c.loop-command.session c.reply_to-reply.new.session item r (drop (here + 1) cs) rest

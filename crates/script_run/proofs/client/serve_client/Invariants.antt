@@ -1,6 +1,6 @@
 use Rattle.std.proofs.Common.{◌≡◌, ◌++◌, ◌+◌, ◌≤◌, List, length, drop, vec_len}
 use Rattle.std.specs.Prelude.{vec_capacity}
-use Rattle.edit_session.specs.Sessions.{start}
+use Rattle.edit_session.specs.Sessions.{start_state}
 use Rattle.reply_text.specs.declared.reply.Reply.{Reply}
 use Rattle.reply_text.specs.Answers.{Fits}
 use Rattle.script_run.specs.Moves.{MovesAlong}
@@ -13,7 +13,7 @@ invariant-loop-command g l = record {
   count : vec_len l.replies ≡ l.command-index;
   asked : g.E.Exporter.asked l.exporter + length (drop l.command-index l.commands) ≤ 8192;
   can_export : g.E.Exporter.can_export l.exporter;
-  fits : (rest : List Reply) → Fits (g.E.Exporting.exports l.unit) l.session (drop l.command-index l.commands) rest → Fits (g.E.Exporting.exports l.unit) start l.commands (l.replies.items ++ rest);
+  fits : (rest : List Reply) → Fits (g.E.Exporting.exports l.unit) l.session (drop l.command-index l.commands) rest → Fits (g.E.Exporting.exports l.unit) start_state l.commands (l.replies.items ++ rest);
   moved : (rest : List Reply) (after : _) → MovesAlong (g.E.Exporter.moves l.unit) l.session (drop l.command-index l.commands) rest l.exporter after →
-      MovesAlong (g.E.Exporter.moves l.unit) start l.commands (l.replies.items ++ rest) l.fn.exporter after;
+      MovesAlong (g.E.Exporter.moves l.unit) start_state l.commands (l.replies.items ++ rest) l.fn.exporter after;
 }

@@ -3,7 +3,7 @@ use Rattle.reply_text.specs.declared.reply.Reply.{Reply}
 use Rattle.memo_core.specs.Views.{marks}
 use Rattle.script_service.specs.Streams.{stream}
 use Rattle.script_service.specs.Serving.{printed_text}
-use Rattle.script_service.specs.Outcomes.{Prints}
+use Rattle.script_service.specs.Outcomes.{PrintsReplies}
 use Rattle.script_server.specs.Books.{weights_of}
 use Rattle.script_server.proofs.Told.{run_written}
 use Rattle.script_server.proofs.server.write_ran.Goals as goal
@@ -15,5 +15,5 @@ returns-in-Ok-clause-told g c =
     let sink = stream g.K.Sink.held g.K.Sink.faults c.args.sink.now c.write_outcome.new.sink in
     let weights = weights_of (length clients) (marks ran.core.entries) in
     run_written c.args.settings clients ran.replies.items ran.tally ran.core ran.claims (length clients) sink c.write_outcome.result c.requires.ran refl
-    (subst (λ (rs : List (List Reply)). Prints c.args.settings sink (printed_text c.args.settings clients rs ran.tally weights) c.write_outcome.result) c.deref.ensures.value
+    (subst (λ (rs : List (List Reply)). PrintsReplies c.args.settings sink (printed_text c.args.settings clients rs ran.tally weights) c.write_outcome.result) c.deref.ensures.value
     (c.write_outcome.ensures.told weights (λ p. c.as_slice.ensures.value ∙ c.in-Ok.ensures.weights p)))

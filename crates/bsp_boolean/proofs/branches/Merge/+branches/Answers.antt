@@ -5,7 +5,7 @@ use Rattle.link_forest.specs.declared.link.Link.{Link}
 use Rattle.link_forest.specs.declared.link.Link.TheVariants.{To}
 use Rattle.bsp_tree.specs.declared.growing.GrowStop.{GrowStop}
 use Rattle.plane_table.specs.Faces.{outline_of}
-use Rattle.bsp_tree.specs.Trees.{Tree, make}
+use Rattle.bsp_tree.specs.Trees.{BspTree, make}
 use Rattle.bsp_tree.specs.Links.{is_alike}
 use Rattle.bsp_tree.specs.Growths.{Sheet, with_sides_exchanged, tree_on, GrowsBy, HasGrown}
 use Rattle.bsp_tree.proofs.Growths.{leaf_grows, make_size, stops, stops_after}
@@ -52,9 +52,9 @@ node-returns-in_err-behind-clause-grows t c =
     let parts = ap (λ (ps : List Coefficients). divide (tree_on c.args.scratch.now (To c.args.right)) (outline_of ps face)) c.requires.tables.right_planes ∙ ap (λ (s : Outline). divide (tree_on c.args.scratch.now (To c.args.right)) s) moved.outline in
     let low = c.in_ok-low.ensures.low.same ∙ ap (λ p. p.0) parts in
     let stopped = stops c.args.growing.now c.branch-self.new.growing c.branch-self.new.growing _ _ c.in_err-behind.field-0.0 (below_left _ _ _)
-    (subst (λ (u : Tree). GrowsBy c.args.growing.now c.branch-self.new.growing (combination m.in_decides (tree_on m.left.now.own c.in_ok-face.behind) (with_sides_exchanged m.is_exchanged u)) (Err c.in_err-behind.field-0.0)) low c.in_err-behind.ensures.grows) in
+    (subst (λ (u : BspTree). GrowsBy c.args.growing.now c.branch-self.new.growing (combination m.in_decides (tree_on m.left.now.own c.in_ok-face.behind) (with_sides_exchanged m.is_exchanged u)) (Err c.in_err-behind.field-0.0)) low c.in_err-behind.ensures.grows) in
     subst (λ (r : Result Link GrowStop). GrowsBy c.args.growing.now c.branch-self.new.growing (combination m.in_decides (tree_on m.left.now.own (To c.args.left)) (with_sides_exchanged m.is_exchanged (tree_on c.args.scratch.now (To c.args.right)))) r) (sym given)
-    (subst (λ (u : Tree). GrowsBy c.args.growing.now c.branch-self.new.growing u (Err c.in_err-behind.field-0.0)) (sym whole) stopped)
+    (subst (λ (u : BspTree). GrowsBy c.args.growing.now c.branch-self.new.growing u (Err c.in_err-behind.field-0.0)) (sym whole) stopped)
 
 pub node-returns-in_err-ahead-clause-grows : goal.node-returns-in_err-ahead-clause-grows
 node-returns-in_err-ahead-clause-grows t c =
@@ -66,11 +66,11 @@ node-returns-in_err-ahead-clause-grows t c =
     let parts = ap (λ (ps : List Coefficients). divide (tree_on c.args.scratch.now (To c.args.right)) (outline_of ps face)) c.requires.tables.right_planes ∙ ap (λ (s : Outline). divide (tree_on c.args.scratch.now (To c.args.right)) s) moved.outline in
     let low = c.in_ok-low.ensures.low.same ∙ ap (λ p. p.0) parts in
     let high = ap (λ (s : Sheet). tree_on s c.in_ok-low.high) c.in_ok-behind.ensures.scratch ∙ c.in_ok-low.ensures.high.same ∙ ap (λ p. p.1) parts in
-    let before = subst (λ (u : Tree). HasGrown c.args.growing.now c.branch-self.new.growing c.in_ok-behind.behind (combination m.in_decides (tree_on m.left.now.own c.in_ok-face.behind) (with_sides_exchanged m.is_exchanged u))) low c.in_ok-behind.ensures.grows in
+    let before = subst (λ (u : BspTree). HasGrown c.args.growing.now c.branch-self.new.growing c.in_ok-behind.behind (combination m.in_decides (tree_on m.left.now.own c.in_ok-face.behind) (with_sides_exchanged m.is_exchanged u))) low c.in_ok-behind.ensures.grows in
     let stopped = stops_after c.args.growing.now c.branch-self.new.growing c.branch-self-2.new.growing c.branch-self-2.new.growing _ _ _ _ c.in_err-ahead.field-0.0 (make_size _ _ _) before
-    (subst (λ (u : Tree). GrowsBy c.branch-self.new.growing c.branch-self-2.new.growing (combination m.in_decides (tree_on m.left.now.own c.in_ok-face.ahead) (with_sides_exchanged m.is_exchanged u)) (Err c.in_err-ahead.field-0.0)) high c.in_err-ahead.ensures.grows) in
+    (subst (λ (u : BspTree). GrowsBy c.branch-self.new.growing c.branch-self-2.new.growing (combination m.in_decides (tree_on m.left.now.own c.in_ok-face.ahead) (with_sides_exchanged m.is_exchanged u)) (Err c.in_err-ahead.field-0.0)) high c.in_err-ahead.ensures.grows) in
     subst (λ (r : Result Link GrowStop). GrowsBy c.args.growing.now c.branch-self-2.new.growing (combination m.in_decides (tree_on m.left.now.own (To c.args.left)) (with_sides_exchanged m.is_exchanged (tree_on c.args.scratch.now (To c.args.right)))) r) (sym given)
-    (subst (λ (u : Tree). GrowsBy c.args.growing.now c.branch-self-2.new.growing u (Err c.in_err-ahead.field-0.0)) (sym whole) stopped)
+    (subst (λ (u : BspTree). GrowsBy c.args.growing.now c.branch-self-2.new.growing u (Err c.in_err-ahead.field-0.0)) (sym whole) stopped)
 
 pub node-returns-clause-grows : goal.node-returns-clause-grows
 node-returns-clause-grows t c =
@@ -81,8 +81,8 @@ node-returns-clause-grows t c =
     let parts = ap (λ (ps : List Coefficients). divide (tree_on c.args.scratch.now (To c.args.right)) (outline_of ps face)) c.requires.tables.right_planes ∙ ap (λ (s : Outline). divide (tree_on c.args.scratch.now (To c.args.right)) s) moved.outline in
     let low = c.in_ok-low.ensures.low.same ∙ ap (λ p. p.0) parts in
     let high = ap (λ (s : Sheet). tree_on s c.in_ok-low.high) c.in_ok-behind.ensures.scratch ∙ c.in_ok-low.ensures.high.same ∙ ap (λ p. p.1) parts in
-    let before = subst (λ (u : Tree). HasGrown c.args.growing.now c.branch-self.new.growing c.in_ok-behind.behind (combination m.in_decides (tree_on m.left.now.own c.in_ok-face.behind) (with_sides_exchanged m.is_exchanged u))) low c.in_ok-behind.ensures.grows in
-    let after = subst (λ (u : Tree). HasGrown c.branch-self.new.growing c.branch-self-2.new.growing c.in_ok-ahead.ahead (combination m.in_decides (tree_on m.left.now.own c.in_ok-face.ahead) (with_sides_exchanged m.is_exchanged u))) high c.in_ok-ahead.ensures.grows in
+    let before = subst (λ (u : BspTree). HasGrown c.args.growing.now c.branch-self.new.growing c.in_ok-behind.behind (combination m.in_decides (tree_on m.left.now.own c.in_ok-face.behind) (with_sides_exchanged m.is_exchanged u))) low c.in_ok-behind.ensures.grows in
+    let after = subst (λ (u : BspTree). HasGrown c.branch-self.new.growing c.branch-self-2.new.growing c.in_ok-ahead.ahead (combination m.in_decides (tree_on m.left.now.own c.in_ok-face.ahead) (with_sides_exchanged m.is_exchanged u))) high c.in_ok-ahead.ensures.grows in
     let planes = after.longer.planes ∙ before.longer.planes ∙ c.requires.tables.growing_planes in
     let outline = ap (λ (ps : List Coefficients). outline_of ps face) planes ∙ moved.outline in
     rw whole (subst (λ (s : Outline). GrowsBy c.args.growing.now c.make.new.self (make s (combination m.in_decides (tree_on m.left.now.own c.in_ok-face.behind) (with_sides_exchanged m.is_exchanged (divide (tree_on c.args.scratch.now (To c.args.right)) (outline_of m.left.now.own.planes moved.own)).0)) (combination m.in_decides (tree_on m.left.now.own c.in_ok-face.ahead) (with_sides_exchanged m.is_exchanged (divide (tree_on c.args.scratch.now (To c.args.right)) (outline_of m.left.now.own.planes moved.own)).1))) c.make.result)

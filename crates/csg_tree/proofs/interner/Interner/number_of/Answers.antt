@@ -3,7 +3,7 @@ use Rattle.std.specs.BTreeMap.{get}
 use Rattle.csg_tree.specs.Numberings.{HasNumber}
 use Rattle.csg_tree.specs.declared.node.StoredNode.{StoredNode}
 use Rattle.csg_tree.specs.Nodes.{node_of, tree_over, trees_of}
-use Rattle.csg_tree.specs.Interned.{key_cmp, AreInterned, TheyStay}
+use Rattle.csg_tree.specs.Interned.{key_cmp, AreInterned, TreesStay}
 use Rattle.csg_tree.proofs.Linked.{behind_more}
 use Rattle.csg_tree.proofs.Interning.{known_number, no_number, interned_push, new_number, they_stay}
 use Rattle.csg_tree.proofs.Distinct.{distinct_known, distinct_new}
@@ -45,7 +45,7 @@ returns-in_ok-number-in-None-clause-number c =
 pub returns-in_ok-number-in-None-clause-stay : goal.returns-in_ok-number-in-None-clause-stay
 returns-in_ok-number-in-None-clause-stay c =
     let old = c.args.self.now.nodes.items in
-    subst (λ (nodes : List StoredNode). TheyStay (trees_of old) (trees_of nodes)) (sym c.in_ok-number-in-None.ensures.nodes)
+    subst (λ (nodes : List StoredNode). TreesStay (trees_of old) (trees_of nodes)) (sym c.in_ok-number-in-None.ensures.nodes)
     (they_stay old (node_of c.args.node))
 
 pub returns-in_ok-number-in-None-clause-grown : goal.returns-in_ok-number-in-None-clause-grown

@@ -1,5 +1,5 @@
 use Rattle.std.proofs.Common.{ap, arith, length, subst}
-use Rattle.csg_tree.specs.Numberings.{AreNumbered}
+use Rattle.csg_tree.specs.Numberings.{AreNumberedTrees}
 use Rattle.csg_tree.proofs.EarlierNumbers.{numbered}
 use Rattle.csg_tree.proofs.Linked.{length_trees}
 use Rattle.csg_tree.proofs.store.CsgStore.len.Goals as goal
@@ -10,4 +10,4 @@ returns-clause-is c =
 
 pub returns-clause-numbered : goal.returns-clause-numbered
 returns-clause-numbered c =
-    subst AreNumbered c.self.view_is (numbered c.self.inside.nodes.items c.self.invariant.linked c.self.invariant.once)
+    subst AreNumberedTrees c.self.view_is (numbered c.self.inside.nodes.items c.self.invariant.linked c.self.invariant.once)

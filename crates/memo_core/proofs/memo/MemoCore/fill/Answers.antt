@@ -4,7 +4,7 @@ use Rattle.std.specs.Option.{unwrap_or}
 use Rattle.std.specs.Arc.{arc_value}
 use Rattle.lru.specs.LruCache.{promoted}
 use Rattle.memo_core.specs.Memo.{item, Fill_answer, evicted_by, same_name, brought_to_front, has_key, holds, entries_after_offer, entries_to_place, DropsFrom, StandIn}
-use Rattle.memo_core.specs.Views.{Core, mark_in, new_entry, after_fill, keeps, DropsTheRest}
+use Rattle.memo_core.specs.Views.{MemoView, mark_in, new_entry, after_fill, keeps, DropsTheRest}
 use Rattle.memo_core.specs.Fills.{TellsIfKept, IsAfterFill, FillsBy}
 use Rattle.memo_core.specs.declared.slots.Shelf.{Shelf}
 use Rattle.memo_core.proofs.Fills.{fill_cases, stays_if, filled_by}
@@ -50,7 +50,7 @@ slots_are g c =
     c.in-Ok-offer.ensures.taken.slots (entry_is _ _ _ _ c.args.weight c.args.caller (arc_value c.args.value) (named g c) c.in-Ok-try_clone.ensures) (held_is g c) (front_is g c)
 
 core : (g : _) (c : goal.After-kept_or_not g)
-    → ◌≡◌ {A = Core g.row.F-Key.Denot g.row.F-Value.Denot}
+    → ◌≡◌ {A = MemoView g.row.F-Key.Denot g.row.F-Value.Denot}
     (record { entries = entries_of c.offer.new.shelf.cache.entries; dropped = entries_of c.offer.new.gone.items; budget = c.self.inside.limits.budget; share = c.self.inside.limits.share; journal = items_of c.push_reserved.new.self.items; spare = vec_capacity c.push_reserved.new.self - vec_len c.push_reserved.new.self })
     (record (after_fill g.F.Fit.same_key g.N.Namer.name_of c.args.caller (key g c) (arc_value c.args.value) c.args.weight (record { entries = entries_of c.self.inside.shelf.cache.entries; dropped = entries_of c.self.inside.gone.items; budget = c.self.inside.limits.budget; share = c.self.inside.limits.share; journal = items_of c.self.inside.journal.items; spare = vec_capacity c.self.inside.journal - vec_len c.self.inside.journal })) { dropped = entries_of c.offer.new.gone.items })
 core g c =
@@ -65,7 +65,7 @@ invariant_of-self-2 g c =
     c.self.invariant c.requires.fits c.requires.weight c.in-Ok-offer.ensures.shelf c.in-Ok-offer.ensures.taken.distinct (omega (arith, said, evicted)) (core g c)
 
 -- the memo then, as contracts see it
-abbrev then : (g : _) (c : goal.After-kept_or_not g) → Core g.row.F-Key.Denot g.row.F-Value.Denot
+abbrev then : (g : _) (c : goal.After-kept_or_not g) → MemoView g.row.F-Key.Denot g.row.F-Value.Denot
 then g c = record { entries = entries_of c.offer.new.shelf.cache.entries; dropped = entries_of c.offer.new.gone.items; budget = c.self.inside.limits.budget; share = c.self.inside.limits.share; journal = items_of c.push_reserved.new.self.items; spare = vec_capacity c.push_reserved.new.self - vec_len c.push_reserved.new.self }
 
 filled : (g : _) (c : goal.After-kept_or_not g) → then g c ≡ record (after_fill g.F.Fit.same_key g.N.Namer.name_of c.args.caller (key g c) (arc_value c.args.value) c.args.weight c.args.self.now) { dropped = entries_of c.offer.new.gone.items }
@@ -76,7 +76,7 @@ returns-in_default-offer-clause-reserved g c some owner other l = stand_same mar
 
 pub returns-clause-reserved : goal.returns-clause-reserved
 returns-clause-reserved g c some owner other l =
-    subst (StandIn mark_in owner c.args.self.now.entries) (sym (ap (λ (x : Core g.row.F-Key.Denot g.row.F-Value.Denot). x.entries) (filled g c)))
+    subst (StandIn mark_in owner c.args.self.now.entries) (sym (ap (λ (x : MemoView g.row.F-Key.Denot g.row.F-Value.Denot). x.entries) (filled g c)))
     (stand_filled g.F.Fit.same_key mark_in c.args.self.now.budget c.args.self.now.share (new_entry g.N.Namer.name_of c.args.caller (key g c) (arc_value c.args.value) c.args.weight) c.args.self.now.entries some owner other l)
 
 kept_is : (g : _) (c : goal.After-kept_or_not g) → keeps g.F.Fit.same_key g.N.Namer.name_of c.args.caller (key g c) (arc_value c.args.value) c.args.weight c.args.self.now ≡ is_some c.in-Ok-offer.offered
@@ -86,7 +86,7 @@ kept_is g c =
 
 drops : (g : _) (c : goal.After-kept_or_not g) → DropsTheRest g.F.Fit.same_key g.N.Namer.name_of c.args.caller (key g c) (arc_value c.args.value) c.args.weight c.args.self.now (then g c)
 drops g c =
-    subst (λ (x : Core g.row.F-Key.Denot g.row.F-Value.Denot). DropsFrom (entries_to_place g.F.Fit.same_key mark_in x.budget x.share (new_entry g.N.Namer.name_of c.args.caller (key g c) (arc_value c.args.value) c.args.weight) x.entries) x.dropped (entries_of c.offer.new.gone.items) (entries_of c.offer.new.shelf.cache.entries))
+    subst (λ (x : MemoView g.row.F-Key.Denot g.row.F-Value.Denot). DropsFrom (entries_to_place g.F.Fit.same_key mark_in x.budget x.share (new_entry g.N.Namer.name_of c.args.caller (key g c) (arc_value c.args.value) c.args.weight) x.entries) x.dropped (entries_of c.offer.new.gone.items) (entries_of c.offer.new.shelf.cache.entries))
     c.self.view_is
     (drops_is g.F.Fit.same_key g.N.Namer.name_of c.args.caller (key g c) (arc_value c.args.value) c.args.weight c.self.inside.limits.budget c.self.inside.limits.share (vec_capacity c.self.inside.journal - vec_len c.self.inside.journal) (vec_capacity c.push_reserved.new.self - vec_len c.push_reserved.new.self) (entries_of c.self.inside.gone.items) (entries_of c.offer.new.gone.items) c.self.inside.shelf c.offer.new.shelf (held g c) c.in-Ok-offer.offered (slots_are g c) (held_is g c) c.in-Ok-offer.ensures.taken.refused c.in-Ok-offer.ensures.taken.evicted
     _ c.self.inside.gone.items c.offer.new.gone.items (entry_is _ _ _ _ c.args.weight c.args.caller (arc_value c.args.value) (named g c) c.in-Ok-try_clone.ensures) c.in-Ok-offer.ensures.taken.dropped)
@@ -106,7 +106,7 @@ returns-clause-answer g c =
     (λ h. (
       kept_is g c ∙ h,
       ap (λ (s : Shelf g.row.F-Key.Denot g.row.F-Value.Denot). entries_of s.cache.entries) (stays_if c.in-Ok-offer.offered c.offer.new.shelf c.self.inside.shelf c.in-Ok-offer.ensures.taken.refused h)
-          ∙ ap (λ (x : Core g.row.F-Key.Denot g.row.F-Value.Denot). x.entries) c.self.view_is,
+          ∙ ap (λ (x : MemoView g.row.F-Key.Denot g.row.F-Value.Denot). x.entries) c.self.view_is,
     ))
 
 pub returns-clause-journal : goal.returns-clause-journal
@@ -114,5 +114,5 @@ returns-clause-journal g c =
     let more : items_of c.push_reserved.new.self.items ≡ c.args.self.now.journal ++ item c.args.caller (key g c) (Fill_answer c.args.weight (is_some c.in-Ok-offer.offered) (unwrap_or c.in-Ok-offer.offered 0)) ∷ [] =
     ap items_of c.push_reserved.ensures.items ∙ map-append item_of c.self.inside.journal.items (c.fill_item.result ∷ [])
     ∙ ap (λ x. items_of c.self.inside.journal.items ++ x ∷ []) (search rules)
-    ∙ ap (λ (x : Core g.row.F-Key.Denot g.row.F-Value.Denot). x.journal ++ item c.args.caller (key g c) (Fill_answer c.args.weight (is_some c.in-Ok-offer.offered) (unwrap_or c.in-Ok-offer.offered 0)) ∷ []) c.self.view_is in
+    ∙ ap (λ (x : MemoView g.row.F-Key.Denot g.row.F-Value.Denot). x.journal ++ item c.args.caller (key g c) (Fill_answer c.args.weight (is_some c.in-Ok-offer.offered) (unwrap_or c.in-Ok-offer.offered 0)) ∷ []) c.self.view_is in
     filled_by c.in-Ok-offer.offered c.kept_or_not.result c.args.caller (key g c) c.args.weight c.args.self.now.journal (items_of c.push_reserved.new.self.items) c.kept_or_not.ensures.is more

@@ -2,7 +2,7 @@ use Rattle.std.proofs.Common.{rules, ◌≡◌, ◌∙◌, sym, ap, arith, subst
 use Rattle.std.specs.Prelude.{vec_len, vec_capacity, cond, is_some}
 use Rattle.std.specs.Arc.{arc_value}
 use Rattle.lru.specs.LruCache.{promoted}
-use Rattle.memo_core.specs.Views.{Core, after_probe, mark_in}
+use Rattle.memo_core.specs.Views.{MemoView, after_probe, mark_in}
 use Rattle.memo_core.specs.Fields.{value_at, items_of, entries_of}
 use Rattle.memo_core.specs.Memo.{same_name, brought_to_front, has_key, holds, first_with}
 use Rattle.std.specs.Map.{lookup}
@@ -29,7 +29,7 @@ touch g c = touched g.F.Fit.same_key g.N.Namer.name_of g.met.F.Fit.same_is (arc_
     c.self.invariant.sound.named c.in_ok-held.ensures.distinct (found g c) (c.is_some-is_held.ensures ∙ sym (is_some_map arc_value c.in_ok-held.held)) (entries g c)
 
 core : (g : _) (c : goal.After-push_reserved g)
-    → ◌≡◌ {A = Core g.row.F-Key.Denot g.row.F-Value.Denot}
+    → ◌≡◌ {A = MemoView g.row.F-Key.Denot g.row.F-Value.Denot}
     (record { entries = entries_of c.touch.new.cache.entries; dropped = entries_of c.self.inside.gone.items; budget = c.self.inside.limits.budget; share = c.self.inside.limits.share; journal = items_of c.push_reserved.new.self.items; spare = vec_capacity c.push_reserved.new.self - vec_len c.push_reserved.new.self })
     (after_probe g.F.Fit.same_key c.args.caller (arc_value c.args.key.now) (record { entries = entries_of c.self.inside.shelf.cache.entries; dropped = entries_of c.self.inside.gone.items; budget = c.self.inside.limits.budget; share = c.self.inside.limits.share; journal = items_of c.self.inside.journal.items; spare = vec_capacity c.self.inside.journal - vec_len c.self.inside.journal }))
 core g c = probed_is g.F.Fit.same_key g.N.Namer.name_of g.met.F.Fit.same_is (arc_value c.args.key.now) c.args.caller c.self.inside.limits.budget c.self.inside.limits.share (vec_capacity c.self.inside.journal - vec_len c.self.inside.journal) (vec_capacity c.push_reserved.new.self - vec_len c.push_reserved.new.self)
@@ -48,7 +48,7 @@ value : (g : _) (c : goal.After-push_reserved g) → option_map arc_value c.in_o
 value g c = found g c ∙ value_is g.F.Fit.same_key g.N.Namer.name_of g.met.F.Fit.same_is (arc_value c.args.key.now) c.self.inside.shelf.cache.entries c.self.invariant.sound.named c.in_ok-held.ensures.distinct
 
 pub returns-clause-found : goal.returns-clause-found
-returns-clause-found g c = value g c ∙ ap (λ (x : Core g.row.F-Key.Denot g.row.F-Value.Denot). option_map (λ e. e.value) (first_with (has_key g.F.Fit.same_key mark_in (arc_value c.args.key.now)) x.entries)) c.self.view_is
+returns-clause-found g c = value g c ∙ ap (λ (x : MemoView g.row.F-Key.Denot g.row.F-Value.Denot). option_map (λ e. e.value) (first_with (has_key g.F.Fit.same_key mark_in (arc_value c.args.key.now)) x.entries)) c.self.view_is
 
 pub returns-clause-fits : goal.returns-clause-fits
 returns-clause-fits g c =
@@ -66,4 +66,4 @@ returns-then-not-is_held-clause-found g c =
     subst (λ (n : List ℕ). option_map arc_value c.in_ok-held.held ≡ value_at g.F.Fit.same_key (arc_value c.args.key.now) (lookup (same_name n) c.self.inside.shelf.cache.entries)) called (search rules) in
     none_mapped arc_value c.in_ok-held.held missed
     ∙ (looked ∙ value_is g.F.Fit.same_key g.N.Namer.name_of g.met.F.Fit.same_is (arc_value c.args.key.now) c.self.inside.shelf.cache.entries c.self.invariant.sound.named c.in_ok-held.ensures.distinct)
-    ∙ ap (λ (x : Core g.row.F-Key.Denot g.row.F-Value.Denot). option_map (λ e. e.value) (first_with (has_key g.F.Fit.same_key mark_in (arc_value c.args.key.now)) x.entries)) c.self.view_is
+    ∙ ap (λ (x : MemoView g.row.F-Key.Denot g.row.F-Value.Denot). option_map (λ e. e.value) (first_with (has_key g.F.Fit.same_key mark_in (arc_value c.args.key.now)) x.entries)) c.self.view_is

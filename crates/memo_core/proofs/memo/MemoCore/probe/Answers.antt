@@ -2,7 +2,7 @@ use Rattle.std.proofs.Common.{rules, ◌≡◌, ◌∙◌, sym, ap, arith, subst
 use Rattle.std.specs.Prelude.{vec_len, vec_capacity, cond, is_some}
 use Rattle.std.specs.Arc.{arc_value}
 use Rattle.lru.specs.LruCache.{promoted}
-use Rattle.memo_core.specs.Views.{Core, after_probe, mark_in}
+use Rattle.memo_core.specs.Views.{MemoView, after_probe, mark_in}
 use Rattle.memo_core.specs.Fields.{value_at, value_in, items_of, entries_of}
 use Rattle.memo_core.specs.Memo.{same_name, brought_to_front, has_key, holds, first_with}
 use Rattle.std.specs.Map.{lookup}
@@ -30,7 +30,7 @@ touch g c = touched g.F.Fit.same_key g.N.Namer.name_of g.met.F.Fit.same_is (arc_
     c.self.invariant.sound.named c.in_ok-found.ensures.distinct (found g c) (c.is_some-hit.ensures ∙ sym (is_some_map arc_value c.in_ok-found.found)) (entries g c)
 
 core : (g : _) (c : goal.After-answer g)
-    → ◌≡◌ {A = Core g.row.F-Key.Denot g.row.F-Value.Denot}
+    → ◌≡◌ {A = MemoView g.row.F-Key.Denot g.row.F-Value.Denot}
     (record { entries = entries_of c.touch.new.cache.entries; dropped = entries_of c.self.inside.gone.items; budget = c.self.inside.limits.budget; share = c.self.inside.limits.share; journal = items_of c.push_reserved.new.self.items; spare = vec_capacity c.push_reserved.new.self - vec_len c.push_reserved.new.self })
     (after_probe g.F.Fit.same_key c.args.caller (arc_value c.args.key.now) (record { entries = entries_of c.self.inside.shelf.cache.entries; dropped = entries_of c.self.inside.gone.items; budget = c.self.inside.limits.budget; share = c.self.inside.limits.share; journal = items_of c.self.inside.journal.items; spare = vec_capacity c.self.inside.journal - vec_len c.self.inside.journal }))
 core g c = probed_is g.F.Fit.same_key g.N.Namer.name_of g.met.F.Fit.same_is (arc_value c.args.key.now) c.args.caller c.self.inside.limits.budget c.self.inside.limits.share (vec_capacity c.self.inside.journal - vec_len c.self.inside.journal) (vec_capacity c.push_reserved.new.self - vec_len c.push_reserved.new.self)
@@ -49,7 +49,7 @@ value : (g : _) (c : goal.After-answer g) → value_in c.answer.result ≡ optio
 value g c = c.answer.ensures.value ∙ (found g c ∙ value_is g.F.Fit.same_key g.N.Namer.name_of g.met.F.Fit.same_is (arc_value c.args.key.now) c.self.inside.shelf.cache.entries c.self.invariant.sound.named c.in_ok-found.ensures.distinct)
 
 pub returns-clause-found : goal.returns-clause-found
-returns-clause-found g c = value g c ∙ ap (λ (x : Core g.row.F-Key.Denot g.row.F-Value.Denot). option_map (λ e. e.value) (first_with (has_key g.F.Fit.same_key mark_in (arc_value c.args.key.now)) x.entries)) c.self.view_is
+returns-clause-found g c = value g c ∙ ap (λ (x : MemoView g.row.F-Key.Denot g.row.F-Value.Denot). option_map (λ e. e.value) (first_with (has_key g.F.Fit.same_key mark_in (arc_value c.args.key.now)) x.entries)) c.self.view_is
 
 pub returns-clause-fits : goal.returns-clause-fits
 returns-clause-fits g c =
@@ -67,4 +67,4 @@ returns-in_err-key-clause-stand g c owner = stand_same mark_in owner c.args.self
 pub returns-clause-stand : goal.returns-clause-stand
 returns-clause-stand g c owner =
     stand_front mark_in (has_key g.F.Fit.same_key mark_in (arc_value c.args.key.now)) owner c.args.self.now.entries _
-    ((touch g c).0 ∙ ap (λ (x : Core g.row.F-Key.Denot g.row.F-Value.Denot). brought_to_front (has_key g.F.Fit.same_key mark_in (arc_value c.args.key.now)) x.entries) c.self.view_is)
+    ((touch g c).0 ∙ ap (λ (x : MemoView g.row.F-Key.Denot g.row.F-Value.Denot). brought_to_front (has_key g.F.Fit.same_key mark_in (arc_value c.args.key.now)) x.entries) c.self.view_is)

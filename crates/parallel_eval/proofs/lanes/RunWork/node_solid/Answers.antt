@@ -2,7 +2,7 @@ use Rattle.std.proofs.Common.{◌≡◌, ◌+◌, ◌-◌, IsOk, ap, sym, subst,
 use Rattle.csg_tree.specs.Formulas.{Formula}
 use Rattle.csg_tree.specs.Numberings.{tree_numbered}
 use Rattle.bsp_boolean.specs.Solids.{solid_of}
-use Rattle.bsp_boolean.specs.TreeSolids.{is_join}
+use Rattle.bsp_boolean.specs.TreeSolids.{one_if_join}
 use Rattle.parallel_eval.specs.Joins.{Gives}
 use Rattle.parallel_eval.specs.Runs.{joins_to}
 use Rattle.parallel_eval.proofs.Books.{none_asked, asked_at}
@@ -46,7 +46,7 @@ returns-in-Leaf-clause-asked g c =
     let n = c.args.number in
     let is = leaf_of_run trees c.args.self.now.start n c.node.result c.in-Leaf.planes c.node.ensures c.in-Leaf.is in
     let joins : joins_to trees n ≡ joins_to trees (n - 1) + 0 =
-    c.one_tree_more.ensures.joins trees n (omega arith, omega arith) ∙ ap (λ (t : Formula). joins_to trees (n - 1) + is_join t) is.0 in
+    c.one_tree_more.ensures.joins trees n (omega arith, omega arith) ∙ ap (λ (t : Formula). joins_to trees (n - 1) + one_if_join t) is.0 in
     none_asked (IsOk c.leaf.result) (joins_to trees (n - 1)) (joins_to trees n) (g.D.Builder.builds c.args.builder.now) c.args.share.now.share
     (omega (arith, joins)) (λ ok. omega (arith, joins))
 
@@ -56,6 +56,6 @@ returns-in_ok-key-in-Join-clause-asked g c =
     let n = c.args.number in
     let is = join_of_run trees c.args.self.now.start n c.node.result c.in-Join.op c.in-Join.left c.in-Join.right c.node.ensures c.in-Join.is in
     let joins : joins_to trees n ≡ joins_to trees (n - 1) + 1 =
-    c.one_tree_more.ensures.joins trees n (omega arith, omega arith) ∙ ap (λ (t : Formula). joins_to trees (n - 1) + is_join t) is.4 in
+    c.one_tree_more.ensures.joins trees n (omega arith, omega arith) ∙ ap (λ (t : Formula). joins_to trees (n - 1) + one_if_join t) is.4 in
     asked_at (IsOk c.join_solid.result) (joins_to trees (n - 1)) (joins_to trees n) (g.D.Builder.builds c.args.builder.now) (g.D.Builder.builds c.join_solid.new.builder)
     c.args.share.now.share c.join_solid.new.share.share joins c.join_solid.ensures.asked

@@ -1,6 +1,6 @@
 use Rattle.std.proofs.Common.{◌≡◌, ◌∙◌, ◌∷◌, [], length, map, sym, ap, rules}
 use Rattle.std.proofs.lemmas.List.{map-append}
-use Rattle.scad_definitions.specs.Blocks.{place_in}
+use Rattle.scad_definitions.specs.Blocks.{place_of_assignment}
 use Rattle.scad_definitions.specs.PlacesView.{places_of}
 use Rattle.scad_definitions.specs.TextView.{assigned_of}
 use Rattle.scad_definitions.proofs.Held.{assigned_pushed, mapped_length}
@@ -17,7 +17,7 @@ invariant_of-self-in-Ok c =
       placed = λ q.
           placed_more (places_of c.args.self.now.places) (places_of c.push-2.new.self) (map assigned_of bs) a
           c.in_ok-name.name c.len-place.result c.in-Ok.ensures.pushed c.in_ok-name.ensures place c.args.self.now.placed c.requires q
-          ∙ ap (λ l. place_in l q) (sym (ap (map assigned_of) c.in_ok-push.ensures.items ∙ map-append assigned_of bs (c.args.assignment ∷ [])));
+          ∙ ap (λ l. place_of_assignment l q) (sym (ap (map assigned_of) c.in_ok-push.ensures.items ∙ map-append assigned_of bs (c.args.assignment ∷ [])));
     }
 
 pub returns-in-Ok-clause-assignments : goal.returns-in-Ok-clause-assignments

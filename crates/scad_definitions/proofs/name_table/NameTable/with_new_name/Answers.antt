@@ -1,7 +1,7 @@
 use Rattle.std.proofs.Common.{◌≡◌, ◌∙◌, ◌∷◌, [], ◌++◌, ℕ, List, length, take, reverse, Some, cond, ap, rules}
 use Rattle.std.specs.Str.{bytes_eq}
 use Rattle.scad_definitions.specs.Expected.{newest_place}
-use Rattle.scad_definitions.specs.Index.{place_at}
+use Rattle.scad_definitions.specs.Index.{place_of_name}
 use Rattle.scad_definitions.proofs.Expected.{placed_more}
 use Rattle.scad_definitions.proofs.name_table.NameTable.with_new_name.Goals as goal
 
@@ -14,7 +14,7 @@ invariant_of-result c =
       placed = λ k other.
           ap (λ (l : List (List ℕ)). newest_place (reverse (take k l)) other)
           (c.in_ok-push.ensures.items ∙ ap (λ (x : List ℕ). xs ++ x ∷ []) c.in_ok-copy.ensures)
-          ∙ placed_more xs name (place_at c.args.self.index) c.args.self.placed c.requires (place_at c.put.new.index)
+          ∙ placed_more xs name (place_of_name c.args.self.index) c.args.self.placed c.requires (place_of_name c.put.new.index)
           (λ n. c.in_ok-put.ensures.put n
-          ∙ ap (λ (p : ℕ). cond (bytes_eq name n) (Some p) (place_at c.args.self.index n)) behind) k other;
+          ∙ ap (λ (p : ℕ). cond (bytes_eq name n) (Some p) (place_of_name c.args.self.index n)) behind) k other;
     }

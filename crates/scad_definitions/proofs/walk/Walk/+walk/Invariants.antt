@@ -7,17 +7,17 @@ use Rattle.scad_ast.specs.declared.statement.Body.{size-Body}
 use Rattle.scad_ast.specs.Terms.{statements_from}
 use Rattle.scad_ast.specs.StatementView.{statement_of, statements_of}
 use Rattle.scad_definitions.specs.Blocks.{entities_in}
-use Rattle.scad_definitions.specs.Walk.{walked, with_entities, locals_with}
+use Rattle.scad_definitions.specs.Walk.{table_so_far, with_entities, locals_with}
 use Rattle.scad_definitions.specs.TextView.{locals_under_way}
 use Rattle.scad_definitions.proofs.walk.Walk.+walk.Given as goal
 
 abbrev pub invariant-statements-each : goal.invariant-statements-each
 invariant-statements-each l = record {
-  walked_on : with_entities (walked l.self) (entities_in (statements_from (map statement_of (drop l.statement-index l.statements.items.items))))
-      ≡ with_entities (walked l.fn.self) (entities_in (statements_from (statements_of l.statements)));
-  owned : locals_with (locals_under_way l.so_far.local) (length (walked l.self).functions) (length (walked l.self).modules)
+  walked_on : with_entities (table_so_far l.self) (entities_in (statements_from (map statement_of (drop l.statement-index l.statements.items.items))))
+      ≡ with_entities (table_so_far l.fn.self) (entities_in (statements_from (statements_of l.statements)));
+  owned : locals_with (locals_under_way l.so_far.local) (length (table_so_far l.self).functions) (length (table_so_far l.self).modules)
       (statements_from (map statement_of (drop l.statement-index l.statements.items.items)))
-      ≡ locals_with (locals_under_way l.fn.so_far.local) (length (walked l.fn.self).functions) (length (walked l.fn.self).modules)
+      ≡ locals_with (locals_under_way l.fn.so_far.local) (length (table_so_far l.fn.self).functions) (length (table_so_far l.fn.self).modules)
       (statements_from (statements_of l.statements));
 }
 

@@ -11,7 +11,7 @@ use Rattle.scad_ast.specs.StatementView.{binder_of, params_of}
 use Rattle.scad_value.specs.declared.bounded_value.BoundedValue.{BoundedValue}
 use Rattle.scad_value.specs.Values.{Val, Vals, truth_of}
 use Rattle.scad_value.specs.BoundedView.{bounded_val}
-use Rattle.scad_scope.specs.Names.{Row, oldest}
+use Rattle.scad_scope.specs.Names.{Row, oldest_pairs}
 use Rattle.scad_scope.specs.Table.{bindings_of}
 use Rattle.scad_definitions.specs.declared.text.Module.{Module}
 use Rattle.scad_definitions.specs.TextView.{module_of}
@@ -25,7 +25,7 @@ use Rattle.scad_design.specs.Designs.{moved_by}
 use Rattle.scad_func.specs.Limits.{most_calls, most_turns}
 use Rattle.scad_func.specs.Meaning.{Outcome, Gives, Faults, Activation, Within, no_activation, activation, with_value, then_with, or_fault, each_parameter, entered_scope, Arguments, BoundArguments, Setting, Env}
 use Rattle.scad_func.specs.View.{env_seen, table_in, arguments_of, bound_arguments_in, bindings_in, values_seen, IsNoMemory}
-use Rattle.scad_func.specs.Definitions.{statements_at, block_scope, IsWhole}
+use Rattle.scad_func.specs.Definitions.{statements_at, block_scope, IsWholeTable}
 use Rattle.scad_func.specs.Evaluations.{OneCallDeeper, MoreBindings, env_here, setting_in}
 use Rattle.scad_func.specs.Transitions.{IsRefusedCall}
 use Rattle.scad_func.specs.declared.source.Source.{Source}
@@ -39,7 +39,7 @@ use Rattle.scad_instances.specs.Seen.{one_member_of, instance_design_of, member_
 use Rattle.scad_meaning.specs.Verdicts.{Judge}
 use Rattle.scad_meaning.specs.Bodies.{is_child}
 use Rattle.scad_meaning.specs.Loops.{items_of}
-use Rattle.scad_meaning.specs.Meaning.{Context, MemberDesigns, InstanceDesign, Evaluator, joined_members, moved_design, no_design, as_member, and_members, body_design, core_design, core_of_instance, hull_design, loop_design, built_in_design, children_design, effect_design, after_step, after_call, each_member, each_step, each_iteration, in_loop, module_design, module_scope, with_calls_left, with_bindings, inside_scope, setting, as_root, block_members, built_in_given, instances_chosen, module_filled, module_given}
+use Rattle.scad_meaning.specs.Meaning.{Context, MemberDesigns, InstanceDesign, Evaluator, joined_members, moved_design, no_design, as_member, and_members, body_design, core_design, core_of_instance, hull_design, loop_design, built_in_design, children_design, effect_design, turn_after_step, turn_after_call, each_member, each_step, each_iteration, in_loop, module_design, module_scope, with_calls_left, with_bindings, inside_scope, setting, as_root, block_members, built_in_given, instances_chosen, module_filled, module_given}
 use Rattle.scad_eval.specs.declared.evaluator.InstanceEvaluator.{InstanceEvaluator}
 use Rattle.scad_eval.specs.Keeping.{evaluator_at, env_at, context_at, Stays, Enters, meant_at}
 use Rattle.scad_eval.specs.Steps.{one_step}
@@ -102,7 +102,7 @@ members_in_scope-members-requires t c =
 pub members_in_scope-chosen_instances-requires-clause-whole : goal.members_in_scope-chosen_instances-requires-clause-whole
 members_in_scope-chosen_instances-requires-clause-whole t c =
     let a = (c.in_ok-assign_all.ensures c.args.position).kept.older in
-    subst (λ (source : Source). IsWhole (table_in source)) (sym a.same.source) c.requires.position.whole
+    subst (λ (source : Source). IsWholeTable (table_in source)) (sym a.same.source) c.requires.position.whole
 
 pub members_in_scope-pop_bindings-requires : goal.members_in_scope-pop_bindings-requires
 members_in_scope-pop_bindings-requires t c =
@@ -141,7 +141,7 @@ members_in_scope-returns t c =
     (ap (map term_of_numbered) c.deref.ensures.value ∙ c.in_ok-instances.ensures.found)) c.pop_bindings.ensures.turns refl
     (block_bound m c.assign_all.new.self c.members.new.self _ a.kept c.in_ok-members.ensures.kept refl
     c.pop_bindings.ensures.same c.pop_bindings.ensures.rows
-    (c.pop_bindings.ensures.bindings ∙ ap (λ n. oldest n (bindings_of c.members.new.self.evaluation.scopes.now)) c.in_ok-length.ensures))
+    (c.pop_bindings.ensures.bindings ∙ ap (λ n. oldest_pairs n (bindings_of c.members.new.self.evaluation.scopes.now)) c.in_ok-length.ensures))
 
 pub children_made-returns-in-None : goal.children_made-returns-in-None
 children_made-returns-in-None t c =
@@ -165,7 +165,7 @@ children_made-members_in_scope-requires t c =
 
 -- the chosen children of a call that was found
 children_entered : (judge : Judge) (m mid : InstanceEvaluator) (position : Position) (before block : ℕ) (caller : Env) (call : Activation) (chosen : ChosenCall)
-    → IsWhole (table_in m.evaluation.source.now) → call ≡ activation (statements_at (table_in m.evaluation.source.now) block) caller → Enters m mid before
+    → IsWholeTable (table_in m.evaluation.source.now) → call ≡ activation (statements_at (table_in m.evaluation.source.now) block) caller → Enters m mid before
     → env_here mid.evaluation ≡ block_scope (table_in m.evaluation.source.now) block no_activation caller → mid.evaluation.turns ≡ m.evaluation.turns
     → children_design (evaluator_at m judge) (context_at m position) call chosen m.evaluation.turns m.leaves
     ≡ then_with (meant_at mid position judge (λ evaluator. block_members evaluator (Some chosen) (statements_at (table_in mid.evaluation.source.now) block)))
@@ -242,7 +242,7 @@ pub children_called-returns-in_err-made : goal.children_called-returns-in_err-ma
 children_called-returns-in_err-made t c =
     let p = err_from_is_err_and c.from_residual.result c.from_residual.ensures.1 in
     let m = c.args.self.now in
-    rw (p.1, p.2) (stops (λ judge after made. after_call c.args.place (nat_eq after m.evaluation.turns && nat_eq made.leaves m.leaves) after made)
+    rw (p.1, p.2) (stops (λ judge after made. turn_after_call c.args.place (nat_eq after m.evaluation.turns && nat_eq made.leaves m.leaves) after made)
     c.in_err-made.ensures (λ judge right. refl) tt)
 
 pub built_in_made-returns-in_err-bound : goal.built_in_made-returns-in_err-bound
@@ -823,7 +823,7 @@ each_item-each-preserved t c =
 pub step-returns-in_err-members : goal.step-returns-in_err-members
 step-returns-in_err-members t c =
     let p = err_from_is_err_and c.from_residual.result c.from_residual.ensures.1 in
-    rw (p.1, p.2) (stops (λ judge turns ms. after_step c.args.place ms.designs turns (λ turns. Gives turns ms)) c.in_err-members.ensures (λ judge right. refl) tt)
+    rw (p.1, p.2) (stops (λ judge turns ms. turn_after_step c.args.place ms.designs turns (λ turns. Gives turns ms)) c.in_err-members.ensures (λ judge right. refl) tt)
 
 pub iterations_with-iterations-requires : goal.iterations_with-iterations-requires
 iterations_with-iterations-requires t c =

@@ -1,7 +1,7 @@
 -- The evaluations that are left count first; at one depth each step calls those of a lower rank.
 use Rattle.std.proofs.Common.{◌≡◌, ℕ, ◌+◌, ◌*◌, length, map, drop}
 use Rattle.scad_ast.specs.StatementView.{binder_of}
-use Rattle.scad_meaning.specs.Verdicts.{Judge, IsRight}
+use Rattle.scad_meaning.specs.Verdicts.{Judge, IsRightJudge}
 use Rattle.scad_meaning.specs.Meaning.{MemberDesigns, each_member, each_step, each_iteration, in_loop}
 use Rattle.scad_instances.specs.Positions.{term_of_numbered}
 use Rattle.scad_value.specs.Values.{Val, count_of}
@@ -96,7 +96,7 @@ invariant-members-each l =
     let old = l.fn.self in
     record {
       stays : Stays old l.self;
-      told : (judge : Judge) → IsRight judge →
+      told : (judge : Judge) → IsRightJudge judge →
           meant_at old l.position judge (λ evaluator here. each_member evaluator here (map term_of_numbered l.instances))
           ≡ members_in_front (member_designs_of old.leaves l.members)
           (each_member (evaluator_at old judge) (context_at old l.position) (map term_of_numbered (drop l.instance-index l.instances)) l.self.evaluation.turns l.self.leaves);
@@ -107,7 +107,7 @@ invariant-each_item-each l =
     let old = l.fn.self in
     record {
       stays : Stays old l.self;
-      told : (judge : Judge) → IsRight judge →
+      told : (judge : Judge) → IsRightJudge judge →
           let quarter_turns_about : Val → ℕ → ℕ → Outcome MemberDesigns = λ item. each_iteration (evaluator_at old judge) l.place (map binder_of l.rest) (body_seen l.body) (in_loop (context_at old l.position) l.name item) in
           each_step l.place quarter_turns_about (remaining_in l.fn.items.remaining) old.evaluation.turns old.leaves
           ≡ members_in_front (member_designs_of old.leaves l.members) (each_step l.place quarter_turns_about (remaining_in l.remaining.remaining) l.self.evaluation.turns l.self.leaves);

@@ -1,9 +1,9 @@
 use Rattle.std.proofs.Common.{◌≡◌, ◌+◌, ◌-◌, ◌≤◌, length, drop}
-use Rattle.scad_lexer.specs.Words.{has, run_of}
+use Rattle.scad_lexer.specs.Words.{is_of_class, run_of}
 use Rattle.scad_lexer.proofs.class.ByteClass.run.Given as goal
 
 abbrev pub invariant-loop-n : goal.invariant-loop-n
-invariant-loop-n l = record { within : l.n ≤ length l.text; run : run_of (has l.self) l.text ≡ l.n + run_of (has l.self) (drop l.n l.text) }
+invariant-loop-n l = record { within : l.n ≤ length l.text; run : run_of (is_of_class l.self) l.text ≡ l.n + run_of (is_of_class l.self) (drop l.n l.text) }
 
 abbrev pub decreases-loop-n : goal.decreases-loop-n
 decreases-loop-n l = length l.initial.text - l.n

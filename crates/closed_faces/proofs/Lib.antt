@@ -1,0 +1,7 @@
+pub mod Sums
+pub mod Edges
+pub mod Coplanar
+pub mod Inside
+pub mod Windings
+pub mod Borders
+mod Rows

@@ -1,0 +1,3 @@
+pub mod ShapeHulls
+pub mod PlacedHulls
+pub mod Programs

@@ -1,0 +1,7 @@
+//! Solids of sources: each shape of a program is a hull, and the tree that the program means holds only within reach, as laws that
+//! the program doesn't call.
+#![tactic(auto)]
+
+mod laws;
+
+pub use laws::{designs_are_of_hulls, placed_hulls_keep_within_reach, programs_keep_within_reach};
