@@ -143,7 +143,7 @@ def pieces(loop: Sequence[Flat], accepts: Callable[[Sequence[Flat]], bool] | Non
     accepts = accepts or is_convex
     if accepts(ring):
         return [ring]
-    parts = [[ring[it] for it in piece] for piece in _merged(ring, _triangles(ring), accepts)]
+    parts = [[ring[it] for it in piece] for piece in _merged(ring, triangles(ring), accepts)]
     return [cleaned(it) for it in parts] if accepts is not is_convex else parts
 
 
@@ -180,8 +180,8 @@ def _goes_once(ring: Sequence[Flat]) -> bool:
     return sum(1 for at in range(len(ring)) if falls[at] and not falls[at - 1]) == 1
 
 
-def _triangles(ring: Sequence[Flat]) -> list[list[int]]:
-    """Cuts ears off a simple ring, counterclockwise, until it is cut. Raises NotSimple where it can't be."""
+def triangles(ring: Sequence[Flat]) -> list[list[int]]:
+    """Triangles of a simple ring, counterclockwise, by its corners' numbers, as ears are cut off. Raises NotSimple."""
     left = list(range(len(ring)))
     cut: list[list[int]] = []
     at = 0

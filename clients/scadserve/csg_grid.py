@@ -14,8 +14,9 @@ from fractions import Fraction
 from typing import Iterable, Iterator, List, Mapping, Union
 
 from .csg_frames import Frame, basis, whole
+from .csg_pockets import Carving, NotCarved, carved, flat_faces
 from .csg_reader import Node
-from .csg_tree import UNION, Carved, Join, Leaf, Matrix, Solid, Vector, direction, joined
+from .csg_tree import UNION, Carved, Faced, Join, Leaf, Matrix, Solid, Vector, direction, joined
 from .exact_hull import Hull, Plane, Point, hull
 
 #: Coordinates are at most so many grid steps in size.
@@ -72,18 +73,49 @@ class Rounder:
             return self._tree(solid.hull if self._has_lids(solid, unit, found.frames) else solid.pieces, unit, found)
         if isinstance(solid, Join):
             return joined(solid.operation, [self._tree(it, unit, found) for it in solid.parts])
-        corners = placed(solid, unit, found)
-        body = self._hull(corners)
+        if isinstance(solid, Faced):
+            return self._carved(solid, unit, found)
+        body = self._hull(placed(solid, unit, found))
         if body is None:
             found.vanished.append(solid.node)
             return None
+        return self._bodies(body, solid.node, found)
+
+    def _bodies(self, body: Hull, node: Node, found: Rounded) -> "Grid | None":
+        """A hull as shapes of a source. Raises TooMany."""
         parts = split(body)
         for it in parts:
-            found.planes.update(map(_either, it.facets))
+            self._count(it.facets, found)
             found.shapes += 1 if _is_plain(it) else 2
-        if len(found.planes) > self._planes or found.shapes > SHAPES:
-            raise TooMany("TooManyPlanes" if len(found.planes) > self._planes else "TooManyParts")
-        return joined(UNION, [Body(it, solid.node) for it in parts])
+        if found.shapes > SHAPES:
+            raise TooMany("TooManyParts")
+        return joined(UNION, [Body(it, node) for it in parts])
+
+    def _count(self, planes: "Iterable[Plane]", found: Rounded) -> None:
+        """Notes planes. Raises TooMany."""
+        found.planes.update(map(_either, planes))
+        if len(found.planes) > self._planes:
+            raise TooMany("TooManyPlanes")
+
+    def _carved(self, solid: Faced, unit: float, found: Rounded) -> "Grid | None":
+        """A polyhedron as hulls without bays. Raises TooMany, and CsgFault where it has no such form."""
+        corners = points(solid.leaf, unit, found)
+        node = solid.leaf.node
+        try:
+            faces = list(flat_faces([corners[it] for it in ring] for ring in solid.faces))
+            self._count((plane for plane, _ in faces), found)
+            carving = carved(faces)
+        except NotCarved:
+            raise node.fault("NotConvex", "it isn't convex, and can't be cut into convex parts with its own corners") from None
+        if carving is None:
+            found.vanished.append(node)
+            return None
+        return self._of_carving(carving, node, found)
+
+    def _of_carving(self, carving: Carving, node: Node, found: Rounded) -> "Grid | None":
+        if isinstance(carving, Hull):
+            return self._bodies(carving, node, found)
+        return joined(carving.operation, [self._of_carving(it, node, found) for it in carving.parts])
 
     def _has_lids(self, solid: Carved, unit: float, frames: "Mapping[Matrix, Frame]") -> bool:
         """Whether each lid lies on a side of its hull on the grid: else a thin wall would be left there."""
@@ -117,8 +149,13 @@ def _either(plane: Plane) -> Plane:
 
 
 def placed(leaf: Leaf, unit: float, found: Rounded) -> "set[Point]":
-    """The corners of a leaf on the grid."""
-    corners: set[Point] = set()
+    """The different corners of a leaf on the grid."""
+    return set(points(leaf, unit, found))
+
+
+def points(leaf: Leaf, unit: float, found: Rounded) -> "List[Point]":
+    """The corners of a leaf on the grid, one after the other."""
+    corners: List[Point] = []
     farthest = 0.0
     along = None if leaf.frame is None else direction(leaf.frame)
     frame = None if leaf.frame is None or not found.frames else found.frames.get(basis(leaf.frame))
@@ -130,7 +167,7 @@ def placed(leaf: Leaf, unit: float, found: Rounded) -> "set[Point]":
             point = (whole(x), whole(y), whole(z))
         else:
             point = _along(along, x, y, z)
-        corners.add(point)
+        corners.append(point)
         farthest = max(farthest, (point[0] - x) ** 2 + (point[1] - y) ** 2 + (point[2] - z) ** 2)
     found.moved = max(found.moved, math.sqrt(farthest) * unit)
     return corners

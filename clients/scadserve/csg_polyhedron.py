@@ -1,11 +1,12 @@
 """Polyhedra of OpenSCAD's evaluated form as convex parts: one where they are convex, and else cones from a point that sees all.
 
-A face goes clockwise round its corners as seen from outside. Parts have the polyhedron's own corners, and that one point.
+A face goes clockwise round its corners as seen from outside. Parts have the polyhedron's own corners, and that one point. Where
+no point sees all faces, corners and faces are given, for a carving on the grid.
 """
 
 from __future__ import annotations
 
-from typing import Sequence
+from typing import NamedTuple, Sequence
 
 from . import exact_hull
 from .csg_flat import FINE
@@ -16,6 +17,15 @@ Triangle = tuple[int, int, int]
 # How far a corner may be ahead of a face of a convex polyhedron, which is what its digits leave open, in its own size.
 _FLAT = 1e-5
 _TRIES = 400
+# A polyhedron with more has more planes than a part may have, where it isn't one of large flat sides.
+_MOST_TRIANGLES = 4096
+
+
+class Surface(NamedTuple):
+    """A closed surface that doesn't go through itself: its different corners, and its faces, counterclockwise from outside."""
+
+    places: "list[Vector]"
+    rings: "list[list[int]]"
 
 
 def faces_of(node: Node, count: int) -> list[list[int]]:
@@ -32,8 +42,8 @@ def faces_of(node: Node, count: int) -> list[list[int]]:
     return found
 
 
-def cut(node: Node, places: Sequence[Vector], faces: Sequence[Sequence[int]]) -> list[list[Vector]]:
-    """The corners of the convex parts of a polyhedron; none where it has no faces. Raises CsgFault where it can't be cut."""
+def cut(node: Node, places: Sequence[Vector], faces: Sequence[Sequence[int]]) -> "list[list[Vector]] | Surface":
+    """The corners of the convex parts of a polyhedron, none where it has no faces, or else its surface. Raises CsgFault."""
     points, numbers = _merged(places)
     rings = [[numbers[it] for at, it in enumerate(face) if numbers[it] != numbers[face[at - 1]]] for face in faces]
     # (turned round, so that triangles go counterclockwise as seen from outside)
@@ -50,8 +60,11 @@ def cut(node: Node, places: Sequence[Vector], faces: Sequence[Sequence[int]]) ->
     if all(_height(plane, points[it]) <= _FLAT * size for plane in planes for it in used):
         return [[_place(points[it]) for it in used]]
     eye = _eye(planes, [points[it] for it in used])
+    if eye is None and len(triangles) > _MOST_TRIANGLES:
+        raise node.fault("TooManyPlanes", f"it isn't convex, and has {len(triangles)} triangles: {_MOST_TRIANGLES} are looked at")
     if eye is None:
-        raise node.fault("NotConvex", "it isn't convex, and no point inside it sees all of its faces")
+        _check_uncrossed(node, points, triangles)
+        return Surface([_place(it) for it in points], [ring[::-1] for ring in rings if len(ring) > 2])
     return [[_place(it) for it in part] for part in _cones(eye, points, triangles)]
 
 
@@ -72,6 +85,34 @@ def _check_closed(node: Node, rings: Sequence[Sequence[int]]) -> None:
     known = set(ways)
     if len(known) < len(ways) or any(way[::-1] not in known for way in known):
         raise node.fault("NotClosed", "its faces do not close a body")
+
+
+def _check_uncrossed(node: Node, points: Sequence[exact_hull.Point], triangles: Sequence[Triangle]) -> None:
+    """Raises CsgFault where an edge goes through a triangle; both are taken from left to right."""
+    edges = {(min(way), max(way)) for it in triangles for way in _ways(it)}
+    bodies = [(edge, [points[it] for it in edge]) for edge in edges] + [(it, [points[at] for at in it]) for it in triangles]
+    boxes = [([min(axis) for axis in zip(*corners)], [max(axis) for axis in zip(*corners)]) for _, corners in bodies]
+    there: "list[list[int]]" = [[], []]
+    for number in sorted(range(len(bodies)), key=lambda it: boxes[it][0]):
+        (numbers, _), (low, high) = bodies[number], boxes[number]
+        is_edge = len(numbers) == 2
+        there[is_edge] = [it for it in there[is_edge] if boxes[it][1][0] >= low[0]]
+        for other in there[is_edge]:
+            (other_low, other_high), edge, triangle = boxes[other], *((number, other) if is_edge else (other, number))
+            if all(other_low[it] <= high[it] and low[it] <= other_high[it] for it in (1, 2)):
+                if set(bodies[edge][0]).isdisjoint(bodies[triangle][0]) and _goes_through(bodies[edge][1], bodies[triangle][1]):
+                    raise node.fault("NotConvex", "it isn't convex, and its faces go through one another")
+        there[not is_edge].append(number)
+
+
+def _goes_through(edge: Sequence[exact_hull.Point], triangle: Sequence[exact_hull.Point]) -> bool:
+    """Whether an edge goes through the inside of a triangle, from one side of it to the other."""
+    ends = [_volume6(it, triangle) for it in edge]
+    if ends[0] * ends[1] >= 0:
+        return False
+    a, b, c = triangle
+    sides = [_volume6(edge[0], (edge[1], *two)) for two in ((a, b), (b, c), (c, a))]
+    return all(it > 0 for it in sides) or all(it < 0 for it in sides)
 
 
 def _volume6(eye: Sequence[int], corners: Sequence[exact_hull.Point]) -> int:

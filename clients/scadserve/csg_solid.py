@@ -8,10 +8,10 @@ from typing import Callable, Dict, List, Sequence, Tuple
 from . import exact_hull
 from .csg_extrude import Extrusion, Turned
 from .csg_flat import FINE, Plane, Render
-from .csg_polyhedron import cut, faces_of
+from .csg_polyhedron import Surface, cut, faces_of
 from .csg_reader import Node
-from .csg_tree import DIFFERENCE, IDENTITY, INTERSECTION, UNION, Detail, Leaf, Matrix, Solid, Vector, circle, dimension
-from .csg_tree import frame_of, fragments, is_union, joined, leaves, matrix_of, moved, stretch, times
+from .csg_tree import DIFFERENCE, IDENTITY, INTERSECTION, UNION, Detail, Faced, Leaf, Matrix, Solid, Vector, circle, dimension
+from .csg_tree import frame_of, fragments, is_mirrored, is_union, joined, leaves, matrix_of, moved, stretch, times
 
 #: What renders a node of space: the points and the faces of its boundary.
 RenderSolid = Callable[[Node], Tuple[List[Vector], List[List[int]]]]
@@ -96,8 +96,11 @@ class Space:
         return self._cut(node, matrix, places, faces_of(node, len(places)))
 
     def _cut(self, node: Node, matrix: Matrix, places: list[Vector], faces: list[list[int]]) -> Solid | None:
-        parts = [Leaf(moved(matrix, it), None, node) for it in cut(node, places, faces)]
-        return joined(UNION, parts)
+        found = cut(node, places, faces)
+        if isinstance(found, Surface):
+            rings = [ring[::-1] for ring in found.rings] if is_mirrored(matrix) else found.rings
+            return Faced(Leaf(moved(matrix, found.places), None, node), rings)
+        return joined(UNION, [Leaf(moved(matrix, it), None, node) for it in found])
 
     def _rendered(self, node: Node, matrix: Matrix) -> Solid | None:
         return self._cut(node, matrix, *self._render_solid(node))

@@ -55,7 +55,18 @@ class Carved:
     pieces: "Solid"
 
 
-Solid = Union[Leaf, "Join[Leaf]", Carved]
+@dataclass(frozen=True)
+class Faced:
+    """A closed polyhedron that isn't convex: all its corners, and its faces by their numbers, counterclockwise from outside.
+
+    It is cut into convex parts on the grid, where that is exact.
+    """
+
+    leaf: Leaf
+    faces: "List[List[int]]"
+
+
+Solid = Union[Leaf, "Join[Leaf]", Carved, Faced]
 
 
 def joined(operation: str, parts: "Sequence[Optional[Union[L, Join[L]]]]") -> "Optional[Union[L, Join[L]]]":
@@ -78,9 +89,11 @@ def _flattened(parts: "Sequence[Union[L, Join[L]]]") -> "List[Union[L, Join[L]]]
 
 
 def leaves(tree: "Optional[Union[L, Join[L]]]") -> Iterable[L]:
-    """The leaves, from left to right."""
+    """The leaves, from left to right; of a polyhedron one with all its corners."""
     if isinstance(tree, Carved):
         yield from leaves(tree.pieces)  # type: ignore[misc]
+    elif isinstance(tree, Faced):
+        yield tree.leaf  # type: ignore[misc]
     elif isinstance(tree, Join):
         for it in tree.parts:
             yield from leaves(it)
@@ -92,6 +105,8 @@ def is_union(tree: "Optional[Union[L, Join[L]]]") -> bool:
     """Whether it is a leaf, a union of leaves, or nothing."""
     if isinstance(tree, Carved):
         return is_union(tree.pieces)
+    if isinstance(tree, Faced):
+        return False
     return not isinstance(tree, Join) or (tree.operation == UNION and all(map(is_union, tree.parts)))
 
 
@@ -131,6 +146,12 @@ def stretch(m: Matrix) -> float:
         longest = max(longest, math.sqrt(length))
         way = [it / length for it in way]
     return longest
+
+
+def is_mirrored(m: Matrix) -> bool:
+    """Whether a matrix turns what goes counterclockwise round."""
+    (a, b, c, *_), (d, e, f, *_), (g, h, i, *_) = m
+    return a * (e * i - f * h) - b * (d * i - f * g) + c * (d * h - e * g) < 0
 
 
 def frame_of(m: Matrix) -> Matrix | None:

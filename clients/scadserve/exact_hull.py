@@ -155,14 +155,14 @@ def _tetrahedron(points: Sequence[Point]) -> tuple[int, int, int, int] | None:
     base = points[0]
 
     def away(point: Point) -> Point:
-        return point[0] - base[0], point[1] - base[1], point[2] - base[2]
+        return less(point, base)
 
     numbers = range(len(points))
     second = max(numbers, key=lambda it: _square(away(points[it])))
     along = away(points[second])
-    third = max(numbers, key=lambda it: _square(_cross(along, away(points[it]))))
-    normal = _cross(along, away(points[third]))
-    heights = [_dot(normal, away(it)) for it in points]
+    third = max(numbers, key=lambda it: _square(cross(along, away(points[it]))))
+    normal = cross(along, away(points[third]))
+    heights = [dot(normal, away(it)) for it in points]
     fourth = max(numbers, key=lambda it: abs(heights[it]))
     if heights[fourth] == 0:
         return None
@@ -196,15 +196,33 @@ def _with_facets(points: Sequence[Point], triangles: Sequence[_Triangle]) -> Hul
 
 
 def _square(point: Point) -> int:
-    return _dot(point, point)
+    return dot(point, point)
 
 
-def _dot(u: Sequence[int], v: Sequence[int]) -> int:
+def less(p: Point, q: Point) -> Point:
+    """The way from the second point to the first."""
+    return p[0] - q[0], p[1] - q[1], p[2] - q[2]
+
+
+def dot(u: Sequence[int], v: Sequence[int]) -> int:
+    """The sum of products: 0 where two ways are across each other."""
     return u[0] * v[0] + u[1] * v[1] + u[2] * v[2]
 
 
-def _cross(u: Point, v: Point) -> Point:
+def cross(u: Point, v: Point) -> Point:
+    """A way across two others, counterclockwise from the first to the second as seen from its end; 0 where they are along one line."""
     return u[1] * v[2] - u[2] * v[1], u[2] * v[0] - u[0] * v[2], u[0] * v[1] - u[1] * v[0]
+
+
+def plane_of(a: Point, b: Point, c: Point) -> Plane | None:
+    """The plane of a triangle, which looks to where its corners are seen counterclockwise; None where it has no area."""
+    x, y, z = cross(less(b, a), less(c, a))
+    divisor = gcd(x, y, z)
+    if divisor == 0:
+        return None
+    # (the common factor of all four divides these three)
+    x, y, z = x // divisor, y // divisor, z // divisor
+    return x, y, z, dot((x, y, z), a)
 
 
 def volume6(body: Hull) -> int:
@@ -213,5 +231,5 @@ def volume6(body: Hull) -> int:
     for ring in body.facets.values():
         p = body.corners[ring[0]]
         for second, third in zip(ring[1:], ring[2:]):
-            total += _dot(p, _cross(body.corners[second], body.corners[third]))
+            total += dot(p, cross(body.corners[second], body.corners[third]))
     return total

@@ -1,4 +1,4 @@
-"""What `off2stl`, `off2svg` and `off2html` have in common: their words, the solid that they read, and the file that they write.
+"""What `off2stl`, `off2svg`, `off2html` and `off2in` have in common: their words, the solid that they read, and the file that they write.
 
 Faults are one line on standard error. The status is 0 where all was written, 1 where the solid is empty or all
 lost by rounding, 2 where words or files are faulty, 6 where memory ran out, 130 after Ctrl-C, and 141 where
@@ -73,23 +73,38 @@ def read(file: str, out: str) -> fouroff.Boundary:
     Raises BadCall where the one can't be read or the other not be written, and BadSolid at a text that is no 4OFF text and
     at the empty solid.
     """
-    try:
-        data = read_file(file)
-    except (OSError, ValueError) as error:
-        raise BadCall(f"cannot open {called(file, 'standard input')}: {reason(error)}") from None
+    data = _bytes_of(file)
     refusal = refusal_to_write(out)
     if identity(out, 1) is not None and identity(out, 1) == identity(file, 0):
         refusal = "that is the 4OFF text itself"
     if refusal:
         raise BadCall(f"cannot write {called(out, 'standard output')}: {refusal}")
-    try:
-        boundary = fouroff.read(data)
-    except fouroff.Malformed as fault:
-        hint = ": scad2off makes a 4OFF text of a source" if file.endswith(".scad") else ""
-        raise BadSolid(f"{called(file)}:{fault.line}: error: {fault.reason}{hint}") from None
+    boundary = _parsed(file, data)
     if not boundary.faces:
         raise BadSolid(f"{called(file)}: error: the solid is empty, so nothing is written", PART_FAULT)
     return boundary
+
+
+def boundary_of(file: str) -> fouroff.Boundary:
+    """The boundary of the solid in a file, which may be empty. Raises BadCall, and BadSolid at a text that is no 4OFF text."""
+    return _parsed(file, _bytes_of(file))
+
+
+def _bytes_of(file: str) -> bytes:
+    """What is in the file. Raises BadCall."""
+    try:
+        return read_file(file)
+    except (OSError, ValueError) as error:
+        raise BadCall(f"cannot open {called(file, 'standard input')}: {reason(error)}") from None
+
+
+def _parsed(file: str, data: bytes) -> fouroff.Boundary:
+    """The boundary that the bytes of the file print. Raises BadSolid."""
+    try:
+        return fouroff.read(data)
+    except fouroff.Malformed as fault:
+        hint = ": scad2off makes a 4OFF text of a source" if file.endswith(".scad") else ""
+        raise BadSolid(f"{called(file)}:{fault.line}: error: {fault.reason}{hint}") from None
 
 
 def check(file: str, boundary: fouroff.Boundary, rings: Sequence[closing.Ring]) -> fouroff_measures.Volume:

@@ -15,6 +15,7 @@ from . import fouroff
 from . import fouroff_measures
 from .answering import answered
 from .converting import server_of_environment
+from .crossings import Crossings
 from .meshes import mesh
 from .merging import merged
 from .off2formats import WRITERS
@@ -92,6 +93,10 @@ class Solid:
         corners = (tuple(points[surface.places[node]] for node in surface.triangle(at)) for at in range(len(surface.planes)))
         return [(p, q, r) for p, q, r in corners]
 
+    def place(self, point: Sequence[Fraction | int]) -> str:
+        """Whether a point is in the solid, out of it, or on a face of it: "in", "out" or "on"."""
+        return self._crossings.place(point)
+
     def mesh(self, form: str = "stl", unit: Fraction | int = 1, name: str = "solid") -> bytes:
         """The bytes of a file in a format (stl, binstl, off, obj or 3mf), with corners times the unit in millimetres.
 
@@ -104,6 +109,10 @@ class Solid:
     @cached_property
     def _boundary(self) -> fouroff.Boundary:
         return fouroff.read(self.text)
+
+    @cached_property
+    def _crossings(self) -> Crossings:
+        return Crossings(self._boundary)
 
     @cached_property
     def _points(self) -> list[Point]:

@@ -8,7 +8,7 @@ from typing import Sequence
 from .words import BadCall, Words, say_bad
 
 #: Each is a module of this package that has `main` and `parser`, and a file of the same name that starts it.
-TOOLS = ("scad2off", "scad2stl", "off2stl", "off2svg", "off2html", "csg2scad")
+TOOLS = ("scad2off", "scad2stl", "off2stl", "off2svg", "off2html", "off2in", "csg2scad")
 #: The starter of the program, whose words are read by the program, and told here.
 STARTER = "scadserve"
 STATUSES = (

@@ -29,7 +29,7 @@ SECTION = re.compile(
 # What the words of the answers are read from.
 WORDS = {
     "crates/text_place/src/fault.rt": r'FaultKind::\w+ => "(\w+)"',
-    "crates/reply_text/src/text.rt": r'SessionFault::\w+ => "(\w+)"|Complex::\w+(?:\(node\))? => (?:\{\s*)?push_text\(out, "(\w+)',
+    "crates/reply_text/src/text.rt": r'SessionFault::\w+ => "(\w+)"|PassedLimit::\w+(?:\(node\))? => (?:\{\s*)?push_text\(out, "(\w+)',
     "crates/script_reader/src/fault_line.rt": r'=> b"(\w+)"',
     "crates/script_service/src/status.rt": r"^    (\w+),$",
 }

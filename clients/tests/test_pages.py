@@ -80,6 +80,23 @@ pub fn serve<R: Threads>(rt: &R, word: u8) -> Status
     Status::Done
 }
 """
+LENGTHS = """-- What lengths are.
+use Rattle.std.specs.Prelude.{ℕ, ◌≡◌, true}
+use Rattle.low.specs.Words.{is_word}
+
+-- it is as long as a word
+abbrev pub IsLong : ℕ → Type 0
+IsLong n = is_word n ≡ true
+"""
+LAW = """//! Laws.
+
+ghost use Rattle.law.specs.Lengths.{IsLong};
+
+/// Words are long.
+pub fn words_are_long()
+    ensures { (n : ℕ) → IsLong (suc n) }
+{}
+"""
 
 
 class Written(unittest.TestCase):
@@ -240,7 +257,10 @@ class Statement(unittest.TestCase):
         self.write("low/specs/Words.antt", WORDS)
         self.write("high/specs/Answers.antt", ANSWERS)
         self.write("high/src/server.rt", SERVER)
+        self.write("law/specs/Lengths.antt", LENGTHS)
+        self.write("law/src/lib.rt", LAW)
         changes = {"HEADINGS": self.HEADINGS, "PROMISE": {"told": "It is told."}, "WAY": [("Tells", "what is told")]}
+        changes["MAKER_CALLS"] = {"law": "words_.*"}
         for name, value in changes.items():
             patch = mock.patch.object(statement, name, value)
             patch.start()
@@ -260,6 +280,17 @@ class Statement(unittest.TestCase):
         self.assertNotIn("unused", text)
         self.assertLess(text.index("pub is_word"), text.index("pub Tells"))
         self.assertIn("| [Words](#words) | 3 | 12 | ours |", text)
+
+    def test_laws_for_makers_stand_with_what_they_name_beyond_the_promise(self) -> None:
+        text, _ = statement.page(self.top)
+        law, further = text.index("pub fn words_are_long()"), text.index("pub IsLong")
+        self.assertLess(text.index("## Laws for makers"), law)
+        self.assertLess(law, further)
+        self.assertEqual(text.count("pub is_word"), 1)
+
+    def test_a_crate_without_its_laws_for_makers_is_refused(self) -> None:
+        with mock.patch.object(statement, "MAKER_CALLS", {"low": "words_.*"}), self.assertRaisesRegex(Failure, "low, which has"):
+            statement.page(self.top)
 
     def test_a_definition_without_a_comment_is_told(self) -> None:
         self.write("low/specs/Words.antt", WORDS.replace("-- whether it is a word\n", ""))
