@@ -68,9 +68,9 @@ class Sources:
         found = []
         for crate, path in [(crate, path) for crate in sorted(crates) for path in self.files(crate)]:
             lines = path.read_text(encoding="utf-8").splitlines()
-            scope = {word: target for line in lines for word, target in import_of(line)}
+            scope = {word: target for line in imports(lines) for word, target in import_of(line)}
             for at in [at for at, line in enumerate(lines) if re.match(pattern, line)]:
-                upto = next(it for it in range(at, len(lines)) if lines[it].strip() == "{")
+                upto = next(it for it in range(at, len(lines)) if lines[it].strip() in ("{", "{}"))
                 name = re.split(r"[(<]", lines[at].split("fn ")[1])[0]
                 found.append(Call(name, comment_above(lines, at), tuple(lines[at:upto]), scope, crate, path))
         return found
@@ -114,6 +114,11 @@ def shown(declared: Declared) -> list[str]:
         kept = [it for at in members for it in [*(f"    // {said}" for said in comment_above(lines, at)), lines[at]]]
         return [*comment, lines[0], *kept, "}"]
     return comment + lines
+
+
+def imports(lines: list[str]) -> list[str]:
+    """The ghost imports of a file, each in one line."""
+    return [" ".join(it.split()) for it in re.findall(r"^\s*ghost use [^;]*;", "\n".join(lines), re.MULTILINE)]
 
 
 def comment_above(lines: list[str], at: int) -> tuple[str, ...]:

@@ -1,8 +1,8 @@
 #!/usr/bin/env python3
 """Writes docs/STATEMENT.md, which has all that the program's contract rests on: ./tools/statement.py [--check | --list]
 
-The page begins at the public call `serve`, and has its clauses, each definition that these reach by name, and the laws beside
-it. With --check nothing is written, and the status is 1 where the page is out of date. With --list, too, nothing is written.
+The page begins at the public call `serve`, and has its clauses, each definition that these reach by name, the laws beside it,
+and the laws for makers with the definitions that these name beyond it. With --check nothing is written, and the status is 1 where the page is out of date. With --list, too, nothing is written.
 Each definition without a comment is a line on standard output, and then the status is 1 in any case; so it is where a crate
 has no heading, where a clause has no plain words, and where a definition stands above one that it names.
 """
@@ -17,7 +17,21 @@ from typing import NamedTuple
 
 from definitions import Definition, Failure, Group, Library, SpecFile, Target
 from sources import Call, Declared, Sources, shown
-from statement_words import ASSUMED, BEGINNING, HEAD, HEADINGS, LAWS, LIBRARY, NOTATION, PROMISE, READING, WAY, Heading
+from statement_words import (
+    ASSUMED,
+    BEGINNING,
+    HEAD,
+    HEADINGS,
+    LAWS,
+    LIBRARY,
+    MAKER_CALLS,
+    MAKER_LAWS,
+    NOTATION,
+    PROMISE,
+    READING,
+    WAY,
+    Heading,
+)
 
 TOP = Path(__file__).resolve().parent.parent
 PAGE = "docs/STATEMENT.md"
@@ -29,13 +43,21 @@ EXIT = "serve_to_exit"
 class Reached:
     """All that some calls reach: definitions, types, and names of the toolchain's library."""
 
-    def __init__(self, top: Path) -> None:
+    def __init__(self, library: Library, sources: Sources) -> None:
         """Nothing is reached yet in this repository."""
-        self.library, self.sources = Library(top), Sources(top)
+        self.library, self.sources = library, sources
         self.definitions: dict[Target, Definition] = {}
         self.types: dict[tuple[str, str], Declared] = {}
         self.words: dict[str, None] = {}
         self.seen: set[Target] = set()
+
+    def beyond(self, other: Reached) -> Reached:
+        """What is reached here, and not there."""
+        found = Reached(self.library, self.sources)
+        found.definitions = {it: kept for it, kept in self.definitions.items() if it not in other.definitions}
+        found.types = {it: kept for it, kept in self.types.items() if it not in other.types}
+        found.words = self.words
+        return found
 
     def follow_call(self, call: Call) -> None:
         """Reaches all that the clauses of a call name, and the traits that bound its types."""
@@ -102,7 +124,7 @@ class Reached:
 
         for target in self.definitions:
             visit(target.crate, target.module)
-        return list(found.values())
+        return [it for it in found.values() if self.in_file(it.crate, it.module)]
 
     def in_file(self, crate: str, module: str) -> list[Definition]:
         """The definitions of a file that are reached, in its order."""
@@ -285,6 +307,31 @@ def laws_part(laws: list[Call], exits: list[Call]) -> list[str]:
     return ["## Laws beside it", "", *filled(LAWS), "", *code(lines, "rust"), *above, *code(behind, "rust")]
 
 
+def maker_laws(sources: Sources) -> list[Call]:
+    """The laws for makers in the order of the page. Raises Failure where a crate has none."""
+    found = []
+    for crate, names in MAKER_CALLS.items():
+        laws = sources.calls(rf"pub fn {names}\(\)$", [crate])
+        if not laws:
+            raise Failure(f"tools/statement_words.py has laws for makers of {crate}, which has none")
+        found += laws
+    return found
+
+
+def maker_laws_part(laws: list[Call], further: Reached) -> list[str]:
+    """The laws for makers as they stand, each crate's in one block, and the definitions that they name beyond the promise."""
+    lines = ["## Laws for makers", "", *filled(MAKER_LAWS), ""]
+    for crate in MAKER_CALLS:
+        of_crate = [it for it in laws if it.crate == crate]
+        shown_laws = [line for it in of_crate for line in [*call_lines(it), ""]][:-1]
+        lines += [f"### Laws of `{crate}`", "", *code(shown_laws, "rust")]
+    for crate in dict.fromkeys(crate for crate, _ in further.types):
+        lines += types_part([it for it in further.types.values() if it.target.crate == crate]).lines
+    for file in further.files():
+        lines += file_part(further, file).lines
+    return lines
+
+
 def way(reached: Reached) -> list[str]:
     """The definitions with which a reader from above begins. Raises Failure where it isn't just one."""
     rows: list[tuple[str, ...]] = [("Definition", "Says", "Stands below")]
@@ -322,7 +369,7 @@ def head(found: list[tuple[Heading, Part]]) -> list[str]:
 
 def page(top: Path) -> tuple[str, list[str]]:
     """The whole page, and what has no comment on it."""
-    reached = Reached(top)
+    reached = Reached(Library(top), Sources(top))
     calls = reached.sources.calls(rf"pub fn {CALL}<", reached.library.crates)
     if len(calls) != 1:
         raise Failure(f"{len(calls)} public calls are named {CALL}, and not 1")
@@ -331,6 +378,10 @@ def page(top: Path) -> tuple[str, list[str]]:
     exits = [*reached.sources.calls(rf"pub fn {EXIT}<", [calls[0].crate]), *numbers]
     for call in [*calls, *laws, *exits]:
         reached.follow_call(call)
+    for_makers = maker_laws(reached.sources)
+    whole = Reached(reached.library, reached.sources)
+    for call in [*calls, *laws, *exits, *for_makers]:
+        whole.follow_call(call)
     found = parts(reached)
     check_order(reached)
     assumed = ["## What is assumed", "", *points([f"**{name}.** {said}" for name, said in ASSUMED]), ""]
@@ -338,8 +389,8 @@ def page(top: Path) -> tuple[str, list[str]]:
     lines = [*head(found), *promise(calls[0]), *assumed, *sizes(found), *notation, *way(reached)]
     for heading, part in found:
         lines += [f"## {heading.title}", "", heading.about, "", *part.lines]
-    lines += [*laws_part(laws, exits), *library_words(reached)]
-    return "\n".join(lines).rstrip() + "\n", reached.without_comment()
+    lines += [*laws_part(laws, exits), *maker_laws_part(for_makers, whole.beyond(reached)), *library_words(whole)]
+    return "\n".join(lines).rstrip() + "\n", whole.without_comment()
 
 
 def main(words: list[str]) -> int:

@@ -63,7 +63,7 @@ HEADINGS: list[Heading] = [
         "Solids, faces, text",
         "What a tree is as a solid, what bounds it, and which text has these faces.",
         "that of the geometry",
-        "plane_polygon bsp_tree bsp_partition bsp_boolean facet_cut closed_surface off_text tree_export",
+        "plane_polygon bsp_tree bsp_partition bsp_boolean facet_cut closed_surface off_text watertight tree_export",
     ),
     Heading(
         "The memo's books",
@@ -83,7 +83,8 @@ HEAD = (
     "This page is the whole of what `serve` promises: the contract of the public call `serve`, and each definition "
     "that its clauses reach. Whoever trusts the theorem trusts this page and what is assumed below, and needs no other file. "
     "These are {definitions} definitions and types in {lines} lines, of which most are the language's own. The prover has "
-    "checked that the code meets these words. That they say what is meant, only a reader can judge."
+    "checked that the code meets these words. That they say what is meant, only a reader can judge. At the end stand the laws: "
+    "those that leave nothing open, and those for makers, with what these name beyond the promise."
 )
 
 READING = (
@@ -102,12 +103,31 @@ LAWS = (
     "is right, of which `IsMeaning` asks."
 )
 
+# The laws for makers: their crates in the order of the page, each with the names of its laws that count, as a pattern.
+MAKER_CALLS: dict[str, str] = {
+    "csg_tree": "joins_keep_within_reach",
+    "scad_meaning": "programs_mean_proper_trees",
+    "closed_faces": r"\w+",
+    "shape_hulls": r"\w+",
+    "source_solids": r"\w+",
+    "watertight": r"\w+",
+    "ray_crossings": r"\w+",
+}
+
+MAKER_LAWS = (
+    "These say what a maker may rely on in a text that `serve` answers, and what each shape of a source is. They, too, are public "
+    "calls that do nothing when they run, and their clauses are proved over the definitions above. The definitions that they name "
+    "beyond those stand behind them, each file behind those that it names."
+)
+
 # The promise in plain words, clause by clause. A clause of the call that has no words here is an error, and so is the opposite.
 PROMISE: dict[str, str] = {
-    "told": "The status tells what was done. At `Done` the words chose settings, the whole input was read, and just its output "
-    "was written. The replies of each client are those that its own commands define. Each solid is the boundary of the tree "
-    "that the client's source means. Each other status says which fault there was, and what was written before it.",
-    "unread": "Where the words are outside the grammar, or choose the demonstration, nothing is read.",
+    "told": "The status tells what was done. At `Done` the words chose settings, the whole input was read, and just its "
+    "output was written. The replies of each client are those that its own commands define. Each solid is the "
+    "boundary of the tree that the client's source means, and so it is watertight, by a law below. Each other "
+    "status says which fault there was, and what was written before it.",
+    "reads": "Where the words are outside the grammar, or choose the demonstration, nothing is read. Whatever the status, no more "
+    "bytes are read than a script may have, and those of one read more.",
     "causes": "A source that failed is told as that, and so is a sink. The counts of their faults never fall.",
     "complete": "Where neither count rose and the words choose settings, the status is `Done`, `BadScript` or `NoMemory`.",
     "script": "Where the source tells its bytes and these are a script, the status is not `BadScript`.",
@@ -166,6 +186,8 @@ WAY: list[tuple[str, str]] = [
     ("IsMeaning", "what a program means"),
     ("IsBoundary", "when a text is the boundary of a tree"),
     ("IsClosedSurface", "when faces leave no hole along their edges"),
+    ("IsWatertightBoundary", "and when it keeps within reach and is watertight"),
+    ("AreWatertight", "when faces leave none at any point of space"),
     ("AreBooks", "what the printed tally tells"),
 ]
 
