@@ -28,7 +28,7 @@ from scadserve import csg_reader, openscad_front  # noqa: E402
 from tests.against_openscad import differences, of_4off, of_off  # noqa: E402
 
 EXAMPLES = "/usr/share/openscad/examples/*/*.scad"
-# A solid that takes OpenSCAD longer isn't waited for.
+# A solid for which OpenSCAD takes more processor seconds isn't waited for.
 LONGEST = 600
 
 
@@ -38,10 +38,17 @@ def spent():
     return used.ru_utime + used.ru_stime
 
 
-def timed(words, **how):
+def limited():
+    """Ends a program of which no end is near, however busy the machine is."""
+    resource.setrlimit(resource.RLIMIT_CPU, (LONGEST, LONGEST))
+
+
+def timed(words):
     """How many processor seconds a program takes, its status and what it says on standard error and output."""
     began = spent()
-    done = subprocess.run(words, stdin=subprocess.DEVNULL, stdout=subprocess.PIPE, stderr=subprocess.PIPE, check=False, **how)
+    done = subprocess.run(
+        words, stdin=subprocess.DEVNULL, stdout=subprocess.PIPE, stderr=subprocess.PIPE, check=False, preexec_fn=limited
+    )
     return spent() - began, done.returncode, done.stderr.decode("utf-8", "replace"), done.stdout.decode("utf-8", "replace")
 
 
@@ -56,13 +63,13 @@ def theirs(file, kept):
     """OpenSCAD's mesh of a source as a text, "" where it makes none, and how long it takes; whether the source is a plan."""
     base = os.path.join(kept, os.path.splitext(os.path.basename(file))[0])
     if not os.path.exists(base + ".time"):
-        took, status, said, _ = timed(["openscad", "--render", "-o", base + ".off", file], timeout=LONGEST)
+        took, status, said, _ = timed(["openscad", "--render", "-o", base + ".off", file])
         is_plan = status != 0 and "not a 3D object" in said
         if is_plan:
             wrapped = base + "-plan.scad"
             with open(wrapped, "w", encoding="utf-8") as it:
                 it.write(f"linear_extrude(1) {{ {evaluated_form(file)} }}\n")
-            took, status, _, _ = timed(["openscad", "--render", "-o", base + ".off", wrapped], timeout=LONGEST)
+            took, status, _, _ = timed(["openscad", "--render", "-o", base + ".off", wrapped])
         with open(base + ".time", "w", encoding="utf-8") as it:
             it.write(f"{took:.2f} {is_plan}")
     with open(base + ".time", encoding="utf-8") as it:
@@ -124,7 +131,7 @@ def compared(file, kept):
             what = refusal[1] if refusal else said.strip()[-100:]
             passes = not mesh
         elif not mesh:
-            what = "OpenSCAD makes no solid"
+            what = f"OpenSCAD makes no solid within {LONGEST} s of a processor"
         else:
             distance, unit = off_and_unit(said)
             found = differences(of_4off(text, unit), of_off(mesh), distance)

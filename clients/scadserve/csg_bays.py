@@ -20,10 +20,13 @@ class Carving:
     hull: Loop
     bays: "list[tuple[Carving, tuple[Flat, Flat]]]"
 
+    def rings(self) -> "list[Loop]":
+        """The convex outlines that it is made of."""
+        return [self.hull, *(ring for bay, _ in self.bays for ring in bay.rings())]
+
     def lines(self) -> "set[frozenset[Flat]]":
         """Its different sides, by their ends; a lid is one with the side of the hull that it lies on."""
-        found = sides(self.hull)
-        return found.union(*(bay.lines() for bay, _ in self.bays))
+        return {side for ring in self.rings() for side in sides(ring)}
 
 
 def sides(ring: Sequence[Flat]) -> "set[frozenset[Flat]]":

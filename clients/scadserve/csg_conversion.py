@@ -16,6 +16,7 @@ from dataclasses import dataclass
 from fractions import Fraction
 from typing import Sequence
 
+from .csg_extrude import turns
 from .csg_frames import frames
 from .csg_grid import PLANES, ROOM, Rounded, Rounder, TooMany, placed, written
 from .csg_reader import CsgFault, Node
@@ -86,7 +87,9 @@ class _Converter:
         try:
             rounded = self._rounder.rounded(solid, unit)
         except TooMany as many:
-            unit, detail, rounded = self._within(solid, unit, many)
+            unit, detail, rounded = self._within(solid, unit, detail, many)
+        if self._wanted.is_exact and detail.hulls:
+            raise detail.hulls[0].fault("NotConvex", "a slice of it has hollow sides, and isn't cut into convex parts")
         if rounded.tree is None:
             raise self._fault("Empty", "this design makes no solid at all" + "".join(_vanished(rounded)))
         told = [_unit_told(unit, rounded), *_fewer_told(detail), *_vanished(rounded), *self._front.said]
@@ -115,28 +118,28 @@ class _Converter:
             raise self._fault("OutOfRange", f"a corner is {greatest:.6g} from the origin, and with units of {units[-1]} {ROOM} have room")
         return next((it for it in fitting[:6] if _is_still(all_leaves, it)), fitting[0])
 
-    def _within(self, solid: Solid, unit: Fraction, many: TooMany) -> tuple[Fraction, Detail, Rounded]:
-        """The design with no more planes and shapes than a part may have. Raises CsgFault where there is none."""
+    def _within(self, solid: Solid, unit: Fraction, whole: Detail, many: TooMany) -> tuple[Fraction, Detail, Rounded]:
+        """The design, which is of all detail, with no more planes and shapes than a part may have. Raises CsgFault."""
         framed = None
         turned = frames(leaves(solid), float(unit))
         with contextlib.suppress(TooMany):
             framed = self._rounder.rounded(solid, unit, turned) if turned else None
         try:
-            found = self._coarser(solid, unit) if self._wanted.is_exact else self._fewer(solid, unit, many)
+            found = self._coarser(solid, unit, whole) if self._wanted.is_exact else self._fewer(solid, unit, many)
         except CsgFault:
             if framed is None:
                 raise
-            return unit, Detail(), framed
-        if framed is not None and framed.moved < found[2].moved + found[1].off:
-            return unit, Detail(), framed
+            return unit, whole, framed
+        if framed is not None and framed.moved + whole.off < found[2].moved + found[1].off:
+            return unit, whole, framed
         return found
 
-    def _coarser(self, solid: Solid, unit: Fraction) -> tuple[Fraction, Detail, Rounded]:
+    def _coarser(self, solid: Solid, unit: Fraction, whole: Detail) -> tuple[Fraction, Detail, Rounded]:
         """A coarser grid on which planes suffice, since they come to lie on one another. Raises CsgFault."""
         units = [] if self._wanted.unit is not None else [it for it in UNITS if it > unit][:6]
         for it in units:
             try:
-                return it, Detail(), self._rounder.rounded(solid, it)
+                return it, whole, self._rounder.rounded(solid, it)
             except TooMany:
                 pass
         raise self._fault("TooManyPlanes", "with all corners of its curves it has more planes or shapes than a part may have")
@@ -145,30 +148,39 @@ class _Converter:
         """The design with the least detail left out by which planes and shapes suffice. Raises CsgFault."""
         corners = [corner for leaf in leaves(solid) for corner in leaf.corners]
         size = math.dist([min(axis) for axis in zip(*corners)], [max(axis) for axis in zip(*corners)])
+        has_turns = any(it.name == "linear_extrude" and turns(it) for node in self._nodes for it in node.all())
+        ways = [Detail(), *([Detail(cuts=False)] if has_turns else [])]
+        tried = [it for it in (self._least(math.log2(size), unit, way) for way in ways) if it is not None]
+        if not tried:
+            tried = [it for it in [self._least(math.log2(size), unit, Detail(may_step=True, cuts=False))] if it is not None]
+        if tried:
+            return unit, *min(tried, key=lambda it: it[0].off)
+        what = "planes" if many.args[0] == "TooManyPlanes" else "shapes"
+        raise self._fault(many.args[0], f"it has more {what} than a part may have, also with few corners on its curves")
+
+    def _least(self, size: float, unit: Fraction, way: Detail) -> tuple[Detail, Rounded] | None:
+        """The design with the least detail left out in some way, by the size as a power of two; None where all of it is too much."""
         # (between what is known to be too little and what suffices; nothing at all is too little)
-        low = high = math.log2(size) - _LEAST_BELOW
+        low = high = size - _LEAST_BELOW
         best, below = None, _STEPS_BELOW[0]
-        coarsest = Detail(size / 2 ** _STEPS_BELOW[-1])
+        coarsest = Detail(2 ** (size - _STEPS_BELOW[-1]), way.may_step, way.cuts)
         self._solid(coarsest)
-        for below in _STEPS_BELOW if coarsest.fewer else ():
-            low, high = high, math.log2(size) - below
-            best = self._tried(high, unit)
+        for below in _STEPS_BELOW if coarsest.fewer or coarsest.steps or coarsest.off else ():
+            low, high = high, size - below
+            best = self._tried(high, unit, way)
             if best is not None:
                 break
-        if best is None:
-            what = "planes" if many.args[0] == "TooManyPlanes" else "shapes"
-            raise self._fault(many.args[0], f"it has more {what} than a part may have, also with few corners on its curves")
-        for _ in range(1 if below >= _FINE_BELOW else _HALVINGS):
+        for _ in range(0 if best is None else 1 if below >= _FINE_BELOW else _HALVINGS):
             middle = (low + high) / 2
-            found = self._tried(middle, unit)
+            found = self._tried(middle, unit, way)
             if found is None:
                 low = middle
             else:
                 best, high = found, middle
-        return unit, *best
+        return best
 
-    def _tried(self, power: float, unit: Fraction) -> tuple[Detail, Rounded] | None:
-        detail = Detail(2**power)
+    def _tried(self, power: float, unit: Fraction, way: Detail) -> tuple[Detail, Rounded] | None:
+        detail = Detail(2**power, way.may_step, way.cuts)
         try:
             return detail, self._rounder.rounded(self._solid(detail), unit)
         except TooMany:
@@ -192,12 +204,17 @@ def _unit_told(unit: Fraction, rounded: Rounded) -> str:
 
 
 def _fewer_told(detail: Detail) -> list[str]:
-    if not detail.fewer:
-        return []
+    """What is otherwise than OpenSCAD's, and how far that is off."""
     kinds = ", ".join(
         f"{count} {name} ({detail.fewest[name][0]} of {detail.fewest[name][1]} at least)" for name, count in sorted(detail.fewer.items())
     )
-    return [f"fewer corners on curves, since a part has at most {PLANES} planes: {kinds}; nothing is off by more than {detail.off:.2g}"]
+    steps = ", ".join(f"{node.name} at {node.line}:{node.column} ({count} steps)" for node, count in detail.steps)
+    hulls = ", ".join(f"{node.name} at {node.line}:{node.column}" for node in detail.hulls)
+    since = f", since a part has at most {PLANES} planes"
+    told = [f"fewer corners on curves{since}: {kinds}"] if kinds else []
+    told += [f"what turns on the way in straight steps{since}: {steps}"] if steps else []
+    told += [f"slices with hollow sides as hulls: {hulls}"] if hulls else []
+    return ["; ".join([*told, f"nothing is off by more than {detail.off:.2g}"])] if told else []
 
 
 def _vanished(rounded: Rounded) -> list[str]:

@@ -11,12 +11,14 @@ from typing import Callable, List, Sequence, Tuple, Union
 
 from . import convex_pieces
 from .convex_pieces import Loop, NotSimple
-from .csg_reader import Node
+from .csg_reader import CsgFault, Node
 from .csg_tree import DIFFERENCE, INTERSECTION, UNION, Detail, Join, Matrix, Solid, circle, fragments, is_union, joined
 from .csg_tree import leaves, matrix_of, stretch, times
 
 #: Points are taken in millionths, since OpenSCAD writes six digits.
 FINE = 1_000_000
+#: By which part of its height, or of a side, what cuts a slanted shape goes on past both ends, since these may not stay flat.
+PAST = 1 / 16
 Place = Tuple[float, float]
 #: What renders a node of the plane: its outlines.
 Render = Callable[[Node], List[List[Place]]]
@@ -44,6 +46,19 @@ class Plane:
     def plan(self, nodes: Sequence[Node], matrix: Matrix) -> Plan | None:
         """The union of nodes, moved by a matrix of which x and y count. Raises CsgFault."""
         return joined(UNION, [self._plan(it, matrix) for it in nodes])
+
+    def as_one(self, nodes: Sequence[Node]) -> Outline | None:
+        """The union of nodes as the outlines that OpenSCAD makes of it; None where it makes none."""
+        union = Node("union", {}, "", nodes[0].line, nodes[0].column, list(nodes))
+        try:
+            loops = self._render(union)
+        except CsgFault:
+            return None
+        return Outline(loops, union) if loops else None
+
+    def aside(self) -> Plane:
+        """One of the same detail that notes nothing."""
+        return Plane(Detail(self._detail.most), self._render)
 
     def _plan(self, node: Node, matrix: Matrix) -> Plan | None:
         if node.name == "multmatrix":
@@ -147,3 +162,21 @@ def built(plan: Plan | None, solid_of: Callable[[Outline, bool], "Solid | None"]
         return None if plan is None else solid_of(plan, is_cut)
     cuts = plan.operation != UNION
     return joined(plan.operation, [built(it, solid_of, is_cut or (cuts and at > 0)) for at, it in enumerate(plan.parts)])
+
+
+def pieces_of(outline: Outline, loop: Loop) -> list[Loop]:
+    """The convex pieces of a closed line of an outline. Raises CsgFault."""
+    try:
+        return convex_pieces.pieces(loop)
+    except NotSimple:
+        raise outline.node.fault("NotConvex", "its outline can't be cut into convex pieces") from None
+
+
+def greatest(plan: Plan | None, of: Callable[[float, float], float]) -> float:
+    """The greatest of a function over the corners of a plan, without those that are cut off."""
+    if plan is None:
+        return 0.0
+    if not isinstance(plan, Join):
+        return max((of(x, y) for loop in plan.loops for x, y in loop), default=0.0)
+    found = [greatest(it, of) for it in (plan.parts[:1] if plan.operation == DIFFERENCE else plan.parts)]
+    return min(found) if plan.operation == INTERSECTION else max(found)

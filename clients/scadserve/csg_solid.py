@@ -6,12 +6,14 @@ import math
 from typing import Callable, Dict, List, Sequence, Tuple
 
 from . import exact_hull
-from .csg_extrude import Extrusion, Turned
-from .csg_flat import FINE, Plane, Render
+from .csg_extrude import Extrusion, turns
+from .csg_flat import FINE, Plan, Plane, Render
 from .csg_polyhedron import Surface, cut, faces_of
 from .csg_reader import Node
-from .csg_tree import DIFFERENCE, IDENTITY, INTERSECTION, UNION, Detail, Faced, Leaf, Matrix, Solid, Vector, circle, dimension
+from .csg_steps import OF_OUTLINES
+from .csg_tree import DIFFERENCE, IDENTITY, INTERSECTION, UNION, Detail, Faced, Join, Leaf, Matrix, Solid, Vector, circle, dimension
 from .csg_tree import frame_of, fragments, is_mirrored, is_union, joined, leaves, matrix_of, moved, stretch, times
+from .csg_turned import Turned
 
 #: What renders a node of space: the points and the faces of its boundary.
 RenderSolid = Callable[[Node], Tuple[List[Vector], List[List[int]]]]
@@ -106,9 +108,25 @@ class Space:
         return self._cut(node, matrix, *self._render_solid(node))
 
     def _extruded(self, node: Node, matrix: Matrix) -> Solid | None:
-        with self._detail.moving(stretch(matrix)):
-            plan = self._plane.plan(_flat_children(node), IDENTITY)
+        share = OF_OUTLINES if self._detail.may_step and node.number("twist", 0.0) else 1.0
+        with self._detail.moving(stretch(matrix), share):
+            plan = self._extruded_plan(node, matrix)
             return None if plan is None else Extrusion(node, matrix, self._plane, self._detail, plan).solid()
+
+    def _extruded_plan(self, node: Node, matrix: Matrix) -> Plan | None:
+        """What is extruded, as the outlines that OpenSCAD makes of it where these turn on the way, or have fewer planes."""
+        children = _flat_children(node)
+        if not self._detail.most and children and turns(node):
+            plan = self._plane.plan(children, IDENTITY)
+            return (self._plane.as_one(children) or plan) if isinstance(plan, Join) else plan
+        aside = self._plane.aside()
+        plan = aside.plan(children, IDENTITY) if self._detail.may_step else None
+        outline = aside.as_one(children) if isinstance(plan, Join) else None
+        if plan is not None and outline is not None:
+            own, as_one = (Extrusion(node, matrix, aside, self._detail, it).planes() for it in (plan, outline))
+            if as_one < own:
+                return outline
+        return self._plane.plan(children, IDENTITY)
 
     def _turned(self, node: Node, matrix: Matrix) -> Solid | None:
         with self._detail.moving(stretch(matrix)):

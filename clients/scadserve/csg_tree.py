@@ -19,6 +19,8 @@ Vector = tuple[float, float, float]
 Matrix = tuple[tuple[float, ...], ...]
 IDENTITY: Matrix = ((1.0, 0.0, 0.0, 0.0), (0.0, 1.0, 0.0, 0.0), (0.0, 0.0, 1.0, 0.0))
 UNION, DIFFERENCE, INTERSECTION = "union", "difference", "intersection"
+# More sides of slices than these have more planes than a part may have.
+_MOST_SIDES = 512
 
 
 @dataclass(frozen=True)
@@ -183,11 +185,19 @@ class Detail:
     """How far a shape may be off where corners of its curves are left out, how far it is, and what was left out."""
 
     most: float = 0.0
+    #: Whether extrusions that turn on the way may be straight steps, and plans the outlines that OpenSCAD makes of them.
+    may_step: bool = False
+    #: Whether slices with hollow sides are cut into convex parts, which have more planes than their hulls.
+    cuts: bool = True
     off: float = 0.0
     #: By the name of a node: how often, and the fewest that were kept of how many.
     fewer: Counter[str] = field(default_factory=Counter)
     fewest: dict[str, tuple[int, int]] = field(default_factory=dict)
+    steps: list[tuple[Node, int]] = field(default_factory=list)
+    #: Extrusions of which slices are the hulls of their corners, though their sides are hollow.
+    hulls: list[Node] = field(default_factory=list)
     _besides: float = 0.0
+    _sides: int = 0
 
     def is_off(self, distance: float) -> None:
         """Notes that some point is so far off."""
@@ -198,10 +208,10 @@ class Detail:
         self._besides = max(self._besides, distance)
 
     @contextmanager
-    def moving(self, longer: float) -> Iterator[None]:
-        """Within this, shapes are made that are then moved so that ways get so many times as long."""
+    def moving(self, longer: float, share: float = 1.0) -> Iterator[None]:
+        """Within this, shapes are made that are then moved so that ways get so many times as long, with a share of what may be off."""
         before, self.off, self._besides = (self.off, self._besides, self.most), 0.0, 0.0
-        self.most = self.most / longer if longer > 0 else self.most
+        self.most = self.most * share / longer if longer > 0 else self.most
         yield
         self.off = max(before[0], (self.off + self._besides) * longer)
         self._besides, self.most = before[1], before[2]
@@ -211,6 +221,20 @@ class Detail:
         if kept < count:
             self.fewer[node.name] += 1
             self.fewest[node.name] = min(self.fewest.get(node.name, (kept, count)), (kept, count))
+
+    def note_steps(self, node: Node, steps: int) -> None:
+        """Notes that an extrusion that turns on the way is so many straight steps."""
+        self.steps.append((node, steps))
+
+    def note_hull(self, node: Node) -> None:
+        """Notes that slices of an extrusion are the hulls of their corners, though their sides are hollow."""
+        if node not in self.hulls:
+            self.hulls.append(node)
+
+    def may_cut(self, sides: int) -> bool:
+        """Whether slices with so many sides may be cut into convex parts: where so few are that two planes for each may suffice."""
+        self._sides += sides
+        return self.cuts and self._sides <= _MOST_SIDES
 
     def ring(self, count: int, radius: float, share: float = 1.0) -> tuple[list[int], float]:
         """Which of so many corners of a circle are kept, and how far that is off, up to a share of what it may be.

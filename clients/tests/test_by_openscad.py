@@ -4,6 +4,7 @@ import os
 import shutil
 import subprocess
 import sys
+import tempfile
 import unittest
 from fractions import Fraction
 
@@ -105,6 +106,51 @@ class Rendered(unittest.TestCase):
 
 
 @needs_openscad
+class NoSolid(unittest.TestCase):
+    """What is flat, or nothing: OpenSCAD exports no solid of it, and we make none."""
+
+    SHIPPED = "/usr/share/openscad/examples"
+
+    def assert_none(self, file, theirs, word, ours):
+        with tempfile.TemporaryDirectory() as folder:
+            out = os.path.join(folder, "part.off")
+            done = subprocess.run(["openscad", "-o", out, file], capture_output=True, text=True, check=False)
+            self.assertEqual((done.returncode, os.path.exists(out)), (1, False))
+            self.assertIn(theirs, done.stderr)
+        with self.assertRaises(CsgFault) as caught:
+            converted(read(openscad_front.evaluated(file)[0]), Wanted(), openscad_front.Front(os.path.dirname(file)))
+        self.assertEqual(caught.exception.word, word)
+        self.assertIn(ours, caught.exception.said)
+
+    def assert_flat(self, file):
+        said = "the design is flat, which OpenSCAD makes no solid of either: --flat 1 makes it 1 high"
+        self.assert_none(file, "Current top level object is not a 3D object.", "WrongDimension", said)
+
+    def assert_empty(self, file):
+        self.assert_none(file, "Current top level object is empty.", "Empty", "this design makes no solid at all")
+
+    def test_plans_and_nothing(self):
+        with tempfile.TemporaryDirectory() as folder:
+            file = os.path.join(folder, "part.scad")
+            for source, check in (
+                ("square(3);", self.assert_flat),
+                ("translate([1, 2, 3]) difference() { circle(3); square(1); }", self.assert_flat),
+                ('echo("nothing");', self.assert_empty),
+                ("*cube(1); %cube(2);", self.assert_empty),
+            ):
+                with open(file, "w", encoding="ascii") as it:
+                    it.write(source)
+                check(file)
+
+    def test_those_of_the_shipped_examples(self):
+        if not os.path.isdir(self.SHIPPED):
+            self.skipTest("OpenSCAD's examples are not there")
+        self.assert_empty(f"{self.SHIPPED}/Functions/echo.scad")
+        for name in ("Functions/list_comprehensions", "Functions/polygon_areas", "Functions/recursion", "Advanced/module_recursion", "Old/example015"):
+            self.assert_flat(f"{self.SHIPPED}/{name}.scad")
+
+
+@needs_openscad
 @needs_program
 class Compared(Calls):
     """With OpenSCAD and the program: small parts of which each is quick."""
@@ -137,6 +183,10 @@ class Compared(Calls):
         self.assert_same("rotate_extrude($fn = 12) translate([5, 0]) polygon([[0, 0], [3, 0], [1, 2], [3, 4], [0, 4]]);")
         self.assert_same("rotate_extrude(angle = 200, $fn = 12) translate([5, 0]) square([2, 3]);")
         self.assert_same("linear_extrude(height = 6, twist = 60, slices = 3) difference() { square(8, center = true); square(3); }")
+
+    def test_sides_that_are_hollow_on_the_way(self):
+        self.assert_same("linear_extrude(height = 6, twist = 60, slices = 2) translate([3, 1]) square([4, 2]);")
+        self.assert_same("linear_extrude(height = 3, scale = [0.5, 1.5]) translate([1, 1]) square([4, 3]);")
 
     def test_texts_and_slanted_parts(self):
         self.assert_same('rotate([30, 20, 10]) difference() { cube([9, 6, 3]); translate([2, 2, -1]) cylinder(h = 9, r = 1.5, $fn = 8); }')

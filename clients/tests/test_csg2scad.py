@@ -178,11 +178,11 @@ class Limits(unittest.TestCase):
         self.assertTrue(0 < found.off < 0.7)
 
     def test_as_little_as_suffices_is_left_out(self):
-        # (200 slices have twice as many planes as a part may have, and half of them are off by little)
+        # (200 slices have twice as many planes as a part may have, and a quarter of them are off by little)
         text = "linear_extrude(height = 40, center = true, twist = -360, slices = 200, scale = [0, 0]) { square(size = [20, 10]); }"
         found = converted(read(text), Wanted(), Front("."))
-        self.assertIn("1 linear_extrude (100 of 200 at least)", "".join(found.told))
-        self.assertLess(found.off, 1.5)
+        self.assertIn("1 linear_extrude (45 of 200 at least)", "".join(found.told))
+        self.assertLess(found.off, 0.25)
 
     def test_the_kept_corners_of_a_circle_have_its_box_and_are_as_near_as_told(self):
         for count in (30, 31, 32, 100, 360):

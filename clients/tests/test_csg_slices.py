@@ -1,0 +1,108 @@
+"""Slices of extrusions that turn on the way: the diagonals of their sides, and the convex parts that they come to."""
+
+import math
+import unittest
+from fractions import Fraction
+
+from scadserve.csg_conversion import Wanted, converted
+from scadserve.csg_grid import Rounder
+from scadserve.csg_reader import CsgFault, read
+from scadserve.csg_slices import Slice, rising
+from scadserve.csg_solid import Space
+from scadserve.csg_tree import IDENTITY, Detail, leaves
+from scadserve.exact_hull import volume6
+from scadserve.openscad_front import Front
+
+NODE = read("group();")[0]
+
+
+def turned(ring, degrees, height):
+    cos, sin = math.cos(math.radians(degrees)), math.sin(math.radians(degrees))
+    return [(x * cos + y * sin, y * cos - x * sin, height) for x, y in ring]
+
+
+def hulls(text, unit=Fraction(1, 100)):
+    detail = Detail()
+    solid = Space(detail, Front(".").flat, Front(".").solid).solid(read(text), IDENTITY)
+    return [it.hull for it in leaves(Rounder(1024).rounded(solid, unit).tree)], detail
+
+
+class Sides(unittest.TestCase):
+    def test_the_shorter_diagonal_is_taken(self):
+        # (as OpenSCAD writes linear_extrude(5, twist = 30, slices = 1) translate([3, 1]) square([4, 2]): on the first side from (7, 1)
+        # to the place of (3, 1), on the second from (7, 1) to that of (7, 3), and so on)
+        ring = [(3, 1), (7, 1), (7, 3), (3, 3)]
+        below, above = turned(ring, 0, 0), turned(ring, 30, 5)
+        self.assertEqual(rising(below, above, True, False), [False, True, True, False])
+        # (and the other way round at an end without an area)
+        self.assertEqual(rising(below, above, True, True), [True, False, False, True])
+
+    def test_of_two_that_are_as_long_the_turn_decides(self):
+        ring = [(0, 0), (4, 0), (4, 4), (0, 4)]
+        for degrees in (20, -20):
+            found = rising(turned(ring, 0, 0), turned(ring, degrees, 1), degrees > 0, False)
+            self.assertEqual((found[0], found[3]), (degrees > 0, degrees > 0))
+
+
+class Parts(unittest.TestCase):
+    SQUARE = [(-3, -3), (3, -3), (3, 3), (-3, 3)]
+
+    def test_one_that_bulges_is_the_hull_of_its_corners(self):
+        # (a square that turns by 45 degrees round its middle is an antiprism)
+        below, above = turned(self.SQUARE, 0, 0), turned(self.SQUARE, 44, 2)
+        found = Slice(below, above, rising(below, above, True, False))
+        self.assertTrue(found.is_hull())
+
+    def test_one_with_hollow_sides_is_less(self):
+        # (the other diagonals: on each side the tetrahedron of its four corners is missing)
+        below, above = turned(self.SQUARE, 0, 0), turned(self.SQUARE, 44, 2)
+        ways = rising(below, above, True, False)
+        bulging, hollow = (Slice(below, above, it) for it in (ways, [not it for it in ways]))
+        self.assertFalse(hollow.is_hull())
+
+        def volume(slice_):
+            parts = slice_.parts(NODE)
+            scaled = [[tuple(round(at * 1000) for at in corner) for corner in part] for part in parts]
+            return sum(volume6(Rounder(1024)._hull(set(part))) for part in scaled) / 6e9
+
+        (ax, ay, az), (bx, by, bz), (cx, cy, cz) = ([q - p for p, q in zip(below[0], it)] for it in (below[1], above[0], above[1]))
+        missing = abs(ax * (by * cz - bz * cy) - ay * (bx * cz - bz * cx) + az * (bx * cy - by * cx)) / 6
+        self.assertAlmostEqual(volume(bulging) - volume(hollow), 4 * missing, 1)
+        # (the middles of two diagonals of a side of 6 are 6 sin 22 degrees = 2.25 from one another)
+        self.assertAlmostEqual(hollow.sides_off(), 6 * math.sin(math.radians(22)), 5)
+        self.assertGreaterEqual(hollow.hull_off(), hollow.sides_off())
+
+
+class Designs(unittest.TestCase):
+    # A bar whose middle is away from the axis turns so that two of its sides are hollow.
+    BAR = "linear_extrude(height = 5, twist = {0}, slices = {1}) {{ polygon(points = [[3, 1], [7, 1], [7, 3], [3, 3]]); }}"
+
+    def test_a_slice_has_openscads_volume(self):
+        # (those of the meshes which OpenSCAD writes; the hulls of the corners have 46.5 and 47.8)
+        for degrees, volume in ((30, 38.21), (60, 33.33)):
+            found, detail = hulls(self.BAR.format(degrees, 1), Fraction(1, 400))
+            self.assertAlmostEqual(sum(map(volume6, found)) / 6 / 400**3, volume, 1)
+            self.assertEqual((detail.off, detail.hulls), (0, []))
+
+    def test_what_no_inner_point_sees_is_a_hull_and_that_is_told(self):
+        text = self.BAR.format(200, 1)
+        found = converted(read(text), Wanted(), Front("."))
+        self.assertIn("slices with hollow sides as hulls: linear_extrude at 1:1; nothing is off by more than", found.told[1])
+        with self.assertRaises(CsgFault) as caught:
+            converted(read(text), Wanted(is_exact=True), Front("."))
+        self.assertEqual(caught.exception.word, "NotConvex")
+
+    def test_levels_that_are_left_out_count_with_their_scale(self):
+        # (two slices, of which one is kept: at the middle a corner is at 1.5 times its place, turned by 15 degrees; the straight way
+        # is there at half of it and the whole of twice it turned by 30, which is off by 1.5 (1 - cos 15) and 0.5 sin 15 across)
+        text = "linear_extrude(height = 5, twist = 30, slices = 2, scale = [2, 2]) { polygon(points = [[9, 0], [10, 0], [9, 1]]); }"
+        detail = Detail(2.0)
+        Space(detail, Front(".").flat, Front(".").solid).solid(read(text), IDENTITY)
+        off = 10 * math.hypot(1.5 * (1 - math.cos(math.radians(15))), 0.5 * math.sin(math.radians(15)))
+        self.assertEqual(detail.fewest["linear_extrude"], (1, 2))
+        self.assertGreaterEqual(detail.off, off)
+        self.assertLess(detail.off, off + 1)
+
+
+if __name__ == "__main__":
+    unittest.main()
