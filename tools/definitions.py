@@ -23,7 +23,7 @@ MODULE = re.compile(r"\s*(?:pub )?mod \w+$")
 NAME = re.compile(r"[^\W\d][\w'-]*")
 # Words of the language itself, and what is built into it.
 LANGUAGE = set("data record where elim as let in Type λ refl then else pub abbrev unfoldable mutual module".split())
-LANGUAGE |= set("× → ¬ ⊥ = : | ↦ _ Unit tt absurd".split())
+LANGUAGE |= set("× → ¬ ⊥ ∥ ∥₁ = : | ↦ _ Unit tt absurd".split())
 # Names of the toolchain's library that stand for values in patterns; any other name there is a variable.
 VALUES = set("zero suc [] ∷ Some None Ok Err true false pos negsuc tt inl inr Less Equal Greater".split())
 

@@ -26,7 +26,7 @@ HEADINGS: list[Heading] = [
         "Scripts and sessions",
         "A script is a list of clients with their commands. A session is the state of one client. A reply answers one command.",
         "the program's own",
-        "script_reader edit_session reply_text big_input",
+        "script_reader edit_session reply_text script_run big_input",
     ),
     Heading(
         "Syntax",
@@ -69,7 +69,7 @@ HEADINGS: list[Heading] = [
         "The memo's books",
         "The clients share one memo of solids. Its tally is that of a memo which one client after another uses.",
         "the program's own",
-        "memo_core subtree_memo",
+        "memo_core subtree_memo parallel_eval",
     ),
     Heading(
         "Statuses",
@@ -124,8 +124,8 @@ MAKER_LAWS = (
 PROMISE: dict[str, str] = {
     "told": "The status tells what was done. At `Done` the words chose settings, the whole input was read, and just its "
     "output was written. The replies of each client are those that its own commands define. Each solid is the "
-    "boundary of the tree that the client's source means, and so it is watertight, by a law below. Each other "
-    "status says which fault there was, and what was written before it.",
+    "watertight boundary of the tree that the client's source means. Each other status says which fault there was, and "
+    "what was written before it.",
     "reads": "Where the words are outside the grammar, or choose the demonstration, nothing is read. Whatever the status, no more "
     "bytes are read than a script may have, and those of one read more.",
     "causes": "A source that failed is told as that, and so is a sink. The counts of their faults never fall.",
@@ -139,7 +139,8 @@ ASSUMED: list[tuple[str, str]] = [
     (
         "The run ends",
         "A contract speaks of a call that returns. That `serve` returns is not claimed, and nothing is claimed of time, of "
-        "fairness or of how much memory is used. Memory may run out at any command: the answer says so, and the state stays.",
+        "fairness or of how much memory is used. Memory may run out at any command but a `cut` and one that is refused: the "
+        "answer says so, and the state stays.",
     ),
     (
         "The toolchain",
@@ -188,7 +189,7 @@ WAY: list[tuple[str, str]] = [
     ("IsClosedSurface", "when faces leave no hole along their edges"),
     ("IsWatertightBoundary", "and when it keeps within reach and is watertight"),
     ("AreWatertight", "when faces leave none at any point of space"),
-    ("AreBooks", "what the printed tally tells"),
+    ("HaveLegalJournal", "what the printed tally tells"),
 ]
 
 NOTATION: list[tuple[str, str]] = [
@@ -196,6 +197,7 @@ NOTATION: list[tuple[str, str]] = [
     ("`(x : A) × P`", "there is an `x` of the type `A` with `P`; without a name, `P × Q`: both hold, or a pair"),
     ("`P ⊎ Q`", "one of the two holds"),
     ("`⊥`, `P → ⊥`", "never; `P` doesn't hold"),
+    ("`∥ P ∥₁`", "`P` holds, and no more is told of how"),
     ("`Unit {0}`, `⊤`", "always"),
     ("`x ≡ y`, `x ≢ y`", "equal, not equal"),
     ("`f x y`", "the function `f` of `x` and `y`; `λ x. t` is the function that gives `t` for `x`"),
@@ -267,6 +269,7 @@ LIBRARY: dict[str, str] = {
     "[]": "the empty list",
     "∷": "an item in front of a list",
     "++": "two lists, one behind the other",
+    "slice_get": "the item at a place, where the first one is 0, or `None`",
     "length": "how many items a list has",
     "map": "a function applied to each item",
     "filter": "the items that pass a test",

@@ -5,14 +5,15 @@ use Rattle.std.specs.Str.{bytes_eq}
 use Rattle.std.proofs.lemmas.Bool.{ltb-true}
 use Rattle.std.proofs.lemmas.Bool.Decides.{eqb_tells}
 use Rattle.std.proofs.lemmas.List.Elements.{All-nil, All-cons, All-push, All-append, All-weaker, All-same, All-head, All-tail}
-use Rattle.text_place.specs.Decimals.{digits_within, numeral}
+use Rattle.text_place.specs.Decimals.{digits_within, numeral, IsNumeralOf}
 use Rattle.script_reader.specs.declared.script.Command.{Command}
 use Rattle.script_reader.specs.declared.script.Command.TheVariants.{Put, Export}
 use Rattle.script_reader.specs.declared.script.Script.{Script}
-use Rattle.script_reader.specs.Lines.{newline, IsFirstLine, BeginsWith}
-use Rattle.script_reader.specs.Spelling.{IsNameByte, IsName, WritesNumber}
-use Rattle.script_reader.specs.Scripts.{ClientLine, IsEntry, IsSoundLine, AreSound, EndsScript, IsScript, clients_of, commands_of}
+use Rattle.script_reader.specs.Lines.{IsFirstLine, StartsWithLines}
+use Rattle.script_reader.specs.Spelling.{IsNameByte, IsName}
+use Rattle.script_reader.specs.Scripts.{ClientLine, IsClientLine, IsSoundLine, AreSound, EndsScript, IsScript, clients_of, commands_of}
 use Rattle.big_input.specs.DemoScript.{client_name, client_lines, demo_script}
+use Rattle.text_place.specs.Separators.{newline}
 
 -- ---- numerals
 digits_lack : (a divisions n : ℕ) → a < 48 → All (λ b. b ≢ a) (digits_within divisions n)
@@ -81,7 +82,7 @@ first_is bytes line rest plain whole e = record {
 abbrev put_line : List ℕ → ℕ → List ℕ → List ℕ
 put_line name digit text = name ++ (codes " put " ++ (digit ∷ (32 ∷ text)))
 
-put_is : (name text : List ℕ) (digit number : ℕ) → IsName name → WritesNumber (digit ∷ []) number → IsEntry (put_line name digit text) (record { name = name; command = Put number text })
+put_is : (name text : List ℕ) (digit number : ℕ) → IsName name → IsNumeralOf (digit ∷ []) number → IsClientLine (put_line name digit text) (record { name = name; command = Put number text })
 put_is name text digit number named written = (
   codes " put " ++ digit ∷ 32 ∷ text,
   record { spelled = refl; named = named; ended = inr (codes "put " ++ digit ∷ 32 ∷ text, refl) },
@@ -91,17 +92,17 @@ put_is name text digit number named written = (
 abbrev export_line : List ℕ → List ℕ
 export_line name = name ++ codes " export"
 
-export_is : (name : List ℕ) → IsName name → IsEntry (export_line name) (record { name = name; command = Export })
+export_is : (name : List ℕ) → IsName name → IsClientLine (export_line name) (record { name = name; command = Export })
 export_is name named = (
   codes " export",
   record { spelled = refl; named = named; ended = inr (codes "export", refl) },
   inl (codes "export", refl, refl),
 )
 
-one : WritesNumber (codes "1") 1
+one : IsNumeralOf (codes "1") 1
 one = (record { some = omega arith; short = omega arith; digits = (omega arith, tt) }, refl)
 
-two : WritesNumber (codes "2") 2
+two : IsNumeralOf (codes "2") 2
 two = (record { some = omega arith; short = omega arith; digits = (omega arith, tt) }, refl)
 
 -- ---- the lines of one client
@@ -172,8 +173,8 @@ regrouped_lines n client rest =
     regroup (client_name client) (codes " put 1 module part(i) { translate([7*i, 0, 0]) difference() { cube(4); translate([1, 1, 0]) cube([2, 2, ") (numeral (1 + client % 3)) (codes "]); } }")
     (codes " put 2 for (i = [1 : ") (numeral n) (codes "]) part(i);") (codes " export") rest
 
-client_begins : (n client : ℕ) (rest more : List ℕ) (lines : List (List ℕ)) → IsName (client_name client) → BeginsWith rest lines more
-    → BeginsWith (client_lines n client ++ rest) (lines_of n client ++ lines) more
+client_begins : (n client : ℕ) (rest more : List ℕ) (lines : List (List ℕ)) → IsName (client_name client) → StartsWithLines rest lines more
+    → StartsWithLines (client_lines n client ++ rest) (lines_of n client ++ lines) more
 client_begins n client rest more lines named h =
     let name : List ℕ = client_name client in
     let third : List ℕ = export_line name ++ newline ++ rest in
@@ -214,7 +215,7 @@ record HasRoomFor (n : ℕ) (before : List ClientLine) (client : ℕ) : Type 0 w
   second : ltb (length (clients_of (with_module before client))) 16 ≡ true
   third : ltb (length (clients_of (with_loop n before client))) 16 ≡ true
 
-sound_by : (before : List ClientLine) (line : List ℕ) (e : ClientLine) → length line ≤ 1024 → IsEntry line e → length before ≤ 102 → ltb (length (clients_of before)) 16 ≡ true → IsSoundLine before line e
+sound_by : (before : List ClientLine) (line : List ℕ) (e : ClientLine) → length line ≤ 1024 → IsClientLine line e → length before ≤ 102 → ltb (length (clients_of before)) 16 ≡ true → IsSoundLine before line e
 sound_by before line e short entry few room = record {
   short = short;
   entry = entry;

@@ -23,7 +23,7 @@ use Rattle.plane_table.proofs.Orders.{ascending_apart}
 use Rattle.bsp_tree.specs.Shapes.{SolidParts}
 use Rattle.bsp_tree.specs.Trees.{BspTree, inside}
 use Rattle.bsp_boolean.specs.declared.leaf_building.BuildStop.{BuildStop}
-use Rattle.bsp_boolean.specs.Chains.{behind_all, chain_of, outlines_of}
+use Rattle.bsp_boolean.specs.Chains.{part_behind_all, chain_of, outlines_of}
 use Rattle.bsp_boolean.specs.LeafSolids.{solid_of_leaf, IsBuilt}
 use Rattle.bsp_boolean.specs.UprightBoxes.{upright_box_faces, table_of, wall, HasRoomBetween, IsBox, IsPair}
 use Rattle.bsp_boolean.proofs.Rectangles.{lies_behind}
@@ -219,7 +219,7 @@ face_over planes n a b c d ten hn ha hb hc hd p = record {
 
 -- ---- all of it, by the six offsets
 record IsKnown (a b c d e f : ℤ) : Type 0 where
-  pub tree : behind_all (map box_outline (x_low a ∷ x_high b ∷ y_low c ∷ y_high d ∷ z_low e ∷ z_high f ∷ [])) ≡ chain_of (outlines_of (table a b c d e f) upright_box_faces) inside
+  pub tree : part_behind_all (map box_outline (x_low a ∷ x_high b ∷ y_low c ∷ y_high d ∷ z_low e ∷ z_high f ∷ [])) ≡ chain_of (outlines_of (table a b c d e f) upright_box_faces) inside
   pub faces : All (IsFaceOver (table a b c d e f)) upright_box_faces
   pub apart : HasNoTwoAlike (table a b c d e f)
 
@@ -271,7 +271,7 @@ known a b c d e f hx hy hz =
     let planes = table a b c d e f in
     let ten : length planes ≡ 10 = refl in
     record {
-      tree = ap behind_all outlines ∙ box.tree;
+      tree = ap part_behind_all outlines ∙ box.tree;
       faces =
           six_all (IsFaceOver planes) (side 16 8 6 14 0) (side 18 8 0 14 6) (side 10 0 18 6 16) (side 12 6 18 0 16) (side 2 12 18 10 16) (side 4 10 18 12 16)
           (face_over planes 16 8 6 14 0 ten (omega arith) (omega arith) (omega arith) (omega arith) (omega arith) p1)
@@ -301,7 +301,7 @@ pub record HasKnownFaces (planes : List Coefficients) : Type 0 where
   pub apart : HasNoTwoAlike (table_of planes)
 
 pub record HasKnownWalls (m n o p q k : Coefficients) : Type 0 where
-  pub tree : behind_all (map box_outline (m ∷ n ∷ o ∷ p ∷ q ∷ k ∷ [])) ≡ chain_of (outlines_of (low_z ∷ q ∷ k ∷ high_z ∷ low_y ∷ o ∷ p ∷ high_y ∷ m ∷ n ∷ []) upright_box_faces) inside
+  pub tree : part_behind_all (map box_outline (m ∷ n ∷ o ∷ p ∷ q ∷ k ∷ [])) ≡ chain_of (outlines_of (low_z ∷ q ∷ k ∷ high_z ∷ low_y ∷ o ∷ p ∷ high_y ∷ m ∷ n ∷ []) upright_box_faces) inside
   pub faces : All (IsFaceOver (low_z ∷ q ∷ k ∷ high_z ∷ low_y ∷ o ∷ p ∷ high_y ∷ m ∷ n ∷ [])) upright_box_faces
   pub apart : HasNoTwoAlike (low_z ∷ q ∷ k ∷ high_z ∷ low_y ∷ o ∷ p ∷ high_y ∷ m ∷ n ∷ [])
 
@@ -324,7 +324,7 @@ known_walls m n o p q k x y z =
 pub box_known : (planes : List Coefficients) → IsBox planes → HasKnownFaces planes
 box_known planes h =
     let walls = known_walls (wall planes 0) (wall planes 1) (wall planes 2) (wall planes 3) (wall planes 4) (wall planes 5) h.x h.y h.z in record {
-      tree = sym walls.tree ∙ ap (λ (ms : List Coefficients). behind_all (map box_outline ms)) (sym (six_items planes h.six)) ∙ all_is_convex planes;
+      tree = sym walls.tree ∙ ap (λ (ms : List Coefficients). part_behind_all (map box_outline ms)) (sym (six_items planes h.six)) ∙ all_is_convex planes;
       faces = walls.faces;
       apart = walls.apart;
     }

@@ -7,9 +7,9 @@ use Rattle.plane_polygon.specs.Parallels.{HasAllOn}
 use Rattle.plane_polygon.specs.Polygons.{Outline, IsPolygon}
 use Rattle.plane_polygon.specs.Parts.{class_of, part_behind}
 use Rattle.plane_polygon.proofs.BoxStarts.{four}
-use Rattle.bsp_tree.specs.Trees.{BspTree, inside, outside, node, make}
-use Rattle.bsp_tree.specs.Partitions.{divide, rows}
-use Rattle.bsp_boolean.specs.Chains.{behind_all}
+use Rattle.bsp_tree.specs.Trees.{BspTree, inside, outside, node, node_or_leaf}
+use Rattle.bsp_tree.specs.Partitions.{divide, parts_by_class}
+use Rattle.bsp_boolean.specs.Chains.{part_behind_all}
 use Rattle.bsp_boolean.proofs.Rectangles.{CutsTo, cut_first, cut_second, cut_third, cut_fourth, lies_behind}
 
 -- neither the same nor opposite numbers
@@ -19,24 +19,24 @@ pub record IsApart (t s : Coefficients) : Type 0 where
 
 -- ---- the first face of a chain, behind the plane of one more face
 across : (t s u v : Outline) (b c : BspTree) → IsApart t.plane s.plane → CutsTo s t.plane v → CutsTo t s.plane u → (divide b v).0 ≡ c →
-    (divide (node t b outside) s).0 ≡ make u c outside
+    (divide (node t b outside) s).0 ≡ node_or_leaf u c outside
 across t s u v b c k p q e =
-    let row : (divide (node t b outside) s).0 ≡ make (part_behind t s.plane) (divide b (part_behind s t.plane)).0 outside =
+    let row : (divide (node t b outside) s).0 ≡ node_or_leaf (part_behind t s.plane) (divide b (part_behind s t.plane)).0 outside =
     λ i. (if k.same i then (b, outside) else (if k.opposite i then (outside, b) else
-    rows (p.across i) (q.across i) s t b outside (divide b s) (outside, outside) (divide b (part_behind s t.plane)) (outside, outside))).0 in
-    row ∙ ap₂ (λ (r : Outline) (w : BspTree). make r w outside) q.part (ap (λ (r : Outline). (divide b r).0) p.part ∙ e)
+    parts_by_class (p.across i) (q.across i) s t b outside (divide b s) (outside, outside) (divide b (part_behind s t.plane)) (outside, outside))).0 in
+    row ∙ ap₂ (λ (r : Outline) (w : BspTree). node_or_leaf r w outside) q.part (ap (λ (r : Outline). (divide b r).0) p.part ∙ e)
 
 passes : (t s : Outline) (b c : BspTree) → IsApart t.plane s.plane → class_of s t.plane ≡ Behind → class_of t s.plane ≡ Behind → (divide b s).0 ≡ c →
-    (divide (node t b outside) s).0 ≡ make t c outside
+    (divide (node t b outside) s).0 ≡ node_or_leaf t c outside
 passes t s b c k p q e =
-    let row : (divide (node t b outside) s).0 ≡ make t (divide b s).0 outside =
+    let row : (divide (node t b outside) s).0 ≡ node_or_leaf t (divide b s).0 outside =
     λ i. (if k.same i then (b, outside) else (if k.opposite i then (outside, b) else
-    rows (p i) (q i) s t b outside (divide b s) (outside, outside) (divide b (part_behind s t.plane)) (outside, outside))).0 in
-    row ∙ ap (λ (w : BspTree). make t w outside) e
+    parts_by_class (p i) (q i) s t b outside (divide b s) (outside, outside) (divide b (part_behind s t.plane)) (outside, outside))).0 in
+    row ∙ ap (λ (w : BspTree). node_or_leaf t w outside) e
 
 -- one face more
-before : (s : Outline) (b c d : BspTree) → b ≡ c → (divide c s).0 ≡ d → make s (divide b s).0 outside ≡ make s d outside
-before s b c d e k = ap (λ (w : BspTree). make s w outside) (ap (λ (w : BspTree). (divide w s).0) e ∙ k)
+before : (s : Outline) (b c d : BspTree) → b ≡ c → (divide c s).0 ≡ d → node_or_leaf s (divide b s).0 outside ≡ node_or_leaf s d outside
+before s b c d e k = ap (λ (w : BspTree). node_or_leaf s w outside) (ap (λ (w : BspTree). (divide w s).0) e ∙ k)
 
 -- ---- four parallel planes: of the world box, the low and the high one of a box, and of the world box. The low ones face
 -- one way, and the high ones the other
@@ -61,7 +61,7 @@ pub record AreApartPairs (m n u v : Coefficients) : Type 0 where
 
 -- ---- the faces along z, behind those along y
 record BehindY (lx hx ly yl yh hy lz zl zh hz : Coefficients) : Type 0 where
-  pub tree : behind_all (four yl lx lz hx hz ∷ four yh lx hz hx lz ∷ four zl lx hy hx ly ∷ four zh lx ly hx hy ∷ [])
+  pub tree : part_behind_all (four yl lx lz hx hz ∷ four yh lx hz hx lz ∷ four zl lx hy hx ly ∷ four zh lx ly hx hy ∷ [])
       ≡ node (four yl lx lz hx hz) (node (four yh lx hz hx lz) (node (four zl lx yh hx yl) (node (four zh lx yl hx yh) inside outside) outside) outside) outside
   pub low : IsPolygon (four zl lx yh hx yl)
   pub high : IsPolygon (four zh lx yl hx yh)
@@ -76,7 +76,7 @@ behind_y lx hx ly yl yh hy lz zl zh hz y z ay az k p3 p4 p5 p6 =
     let s5 : Outline = four zl lx hy hx ly in
     let s6 : Outline = four zh lx ly hx hy in
     -- the low face along z before the high one
-    let five = before s5 (behind_all (s6 ∷ [])) (node s6 inside outside) (node s6 inside outside) refl
+    let five = before s5 (part_behind_all (s6 ∷ [])) (node s6 inside outside) (node s6 inside outside) refl
     (passes s6 s5 inside inside az (lies_behind zl lx hy hx ly zh p5 z.m_n) (lies_behind zh lx ly hx hy zl p6 z.n_m) refl) in
     -- the high face along y
     let c4 = cut_fourth yh lx hz hx lz zl p4 z.h_m z.l_m in
@@ -87,7 +87,7 @@ behind_y lx hx ly yl yh hy lz zl zh hz y z ay az k p3 p4 p5 p6 =
     let s6b : Outline = four zh lx ly hx yh in
     let four_six = across s6 (four yh lx hz hx zl) s6b (four yh lx zh hx zl) inside inside k.n_v d4 c6 refl in
     let four_five = across s5 s4 s5b (four yh lx hz hx zl) (node s6 inside outside) (node s6b inside outside) k.m_v c4 c5 four_six in
-    let four_all = before s4 (behind_all (s5 ∷ s6 ∷ [])) (node s5 (node s6 inside outside) outside) (node s5b (node s6b inside outside) outside) five four_five in
+    let four_all = before s4 (part_behind_all (s5 ∷ s6 ∷ [])) (node s5 (node s6 inside outside) outside) (node s5b (node s6b inside outside) outside) five four_five in
     -- the low face along y
     let c3 = cut_second yl lx lz hx hz zl p3 z.l_m z.h_m in
     let d3 = cut_fourth yl lx zl hx hz zh c3.polygon z.m_n z.h_n in
@@ -100,7 +100,7 @@ behind_y lx hx ly yl yh hy lz zl zh hz y z ay az k p3 p4 p5 p6 =
     let three_four = passes s4 s3 (node s5b (node s6b inside outside) outside) (node s5c (node s6c inside outside) outside) ay
     (lies_behind yl lx lz hx hz yh p3 y.m_n) (lies_behind yh lx hz hx lz yl p4 y.n_m) three_five in
     record {
-      tree = before s3 (behind_all (s4 ∷ s5 ∷ s6 ∷ [])) (node s4 (node s5b (node s6b inside outside) outside) outside)
+      tree = before s3 (part_behind_all (s4 ∷ s5 ∷ s6 ∷ [])) (node s4 (node s5b (node s6b inside outside) outside) outside)
           (node s4 (node s5c (node s6c inside outside) outside) outside) four_all three_four;
       low = e5.polygon;
       high = e6.polygon;
@@ -108,7 +108,7 @@ behind_y lx hx ly yl yh hy lz zl zh hz y z ay az k p3 p4 p5 p6 =
 
 -- ---- and all of them behind those along x
 pub record IsBoxed (lx xl xh hx ly yl yh hy lz zl zh hz : Coefficients) : Type 0 where
-  pub tree : behind_all (four xl ly hz hy lz ∷ four xh ly lz hy hz ∷ four yl lx lz hx hz ∷ four yh lx hz hx lz ∷ four zl lx hy hx ly ∷ four zh lx ly hx hy ∷ [])
+  pub tree : part_behind_all (four xl ly hz hy lz ∷ four xh ly lz hy hz ∷ four yl lx lz hx hz ∷ four yh lx hz hx lz ∷ four zl lx hy hx ly ∷ four zh lx ly hx hy ∷ [])
       ≡ node (four xl ly hz hy lz) (node (four xh ly lz hy hz) (node (four yl lz xh hz xl) (node (four yh hz xh lz xl)
       (node (four zl yh xh yl xl) (node (four zh yl xh yh xl) inside outside) outside) outside) outside) outside) outside
   pub y_low : IsPolygon (four yl lz xh hz xl)
@@ -148,7 +148,7 @@ boxed lx xl xh hx ly yl yh hy lz zl zh hz x y z ax ay az kyx kzx kzy p1 p2 p3 p4
     let two_five = across t5 (four xh lz yh hz yl) s5b (four xh yh hz yl zl) (node t6 inside outside) b6 kzx.m_v e2 c5 two_six in
     let two_four = across s4 (four xh lz hy hz yl) s4b (four xh lz yh hz yl) (node t5 (node t6 inside outside) outside) b5 kyx.n_v d2 c4 two_five in
     let two_three = across s3 s2 s3b (four xh lz hy hz yl) (node s4 (node t5 (node t6 inside outside) outside) outside) b4 kyx.m_v c2 c3 two_four in
-    let two_all = before s2 (behind_all (s3 ∷ s4 ∷ four zl lx hy hx ly ∷ four zh lx ly hx hy ∷ [])) (node s3 (node s4 (node t5 (node t6 inside outside) outside) outside) outside)
+    let two_all = before s2 (part_behind_all (s3 ∷ s4 ∷ four zl lx hy hx ly ∷ four zh lx ly hx hy ∷ [])) (node s3 (node s4 (node t5 (node t6 inside outside) outside) outside) outside)
     (node s3b b4 outside) rest.tree two_three in
     -- the low face along x
     let c1 = cut_first xl ly hz hy lz yl p1 y.l_m y.h_m in
@@ -169,7 +169,7 @@ boxed lx xl xh hx ly yl yh hy lz zl zh hz x y z ax ay az kyx kzx kzy p1 p2 p3 p4
     let one_three = across s3b s1 (four yl lz xh hz xl) (four xl hz hy lz yl) b4 a4 kyx.m_u c1 e3 one_four in
     let one_two = passes s2 s1 (node s3b b4 outside) a3 ax (lies_behind xl ly hz hy lz xh p1 x.m_n) (lies_behind xh ly lz hy hz xl p2 x.n_m) one_three in
     record {
-      tree = before s1 (behind_all (s2 ∷ s3 ∷ s4 ∷ four zl lx hy hx ly ∷ four zh lx ly hx hy ∷ [])) (node s2 (node s3b b4 outside) outside) (node s2 a3 outside) two_all one_two;
+      tree = before s1 (part_behind_all (s2 ∷ s3 ∷ s4 ∷ four zl lx hy hx ly ∷ four zh lx ly hx hy ∷ [])) (node s2 (node s3b b4 outside) outside) (node s2 a3 outside) two_all one_two;
       y_low = e3.polygon;
       y_high = e4.polygon;
       z_low = e5.polygon;

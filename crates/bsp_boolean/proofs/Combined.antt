@@ -3,8 +3,8 @@ use Rattle.std.proofs.Common.{◌≡◌, ◌⊎◌, inl, inr, Bool, true, false,
 use Rattle.plane_predicate.specs.Space.{Coefficients, Coordinates, value, opposite_of}
 use Rattle.plane_predicate.proofs.Signs.{signs}
 use Rattle.plane_polygon.specs.Polygons.{Outline}
-use Rattle.bsp_tree.specs.Trees.{BspTree, inside, outside, node, walk, make}
-use Rattle.bsp_tree.specs.Cells.{IsInCell, IsOfCell, IsOffPlanesOf, IsPlaneOf}
+use Rattle.bsp_tree.specs.Trees.{BspTree, inside, outside, node, walk, node_or_leaf}
+use Rattle.bsp_tree.specs.Cells.{IsInCell, IsOfCell, IsOffPlanesOf, IsNodePlaneOf}
 use Rattle.bsp_tree.proofs.Opposites.{opposite_below}
 use Rattle.bsp_tree.proofs.Walks.{make_walk, walk_behind, walk_ahead}
 use Rattle.bsp_tree.specs.Partitions.{divide}
@@ -60,7 +60,7 @@ on_a_side : (d : Bool) (s : Outline) (b a x y : BspTree) (r : Bool) (p : Coordin
     (value s.plane p ≡ pos 0 → ⊥) →
     (value s.plane p <ℤ pos 0 → walk x p ≡ either_or_both d (walk b p) r) →
     (pos 0 <ℤ value s.plane p → walk y p ≡ either_or_both d (walk a p) r) →
-    walk (make s x y) p ≡ either_or_both d (walk (node s b a) p) r
+    walk (node_or_leaf s x y) p ≡ either_or_both d (walk (node s b a) p) r
 on_a_side d s b a x y r p off low high = make_walk s x y p ∙ (elim (signs (value s.plane p)) [
   | inl h ↦ walk_behind s x y p h ∙ low h
       ∙ ap (λ (w : Bool). either_or_both d w r) (sym (walk_behind s b a p h))
@@ -94,7 +94,7 @@ combined_walks d (node s b a) (node t c e) cell hl hr p hp ol or =
     ∙ ap (either_or_both d (walk a p)) (keeps.high h))
 
 -- what holds of the leaves and of a node holds of what is made of the node
-made : (P : BspTree → Type 0) (s : Outline) (b a : BspTree) → P inside → P outside → P (node s b a) → P (make s b a)
+made : (P : BspTree → Type 0) (s : Outline) (b a : BspTree) → P inside → P outside → P (node s b a) → P (node_or_leaf s b a)
 made P s inside inside hi ho hn = hi
 made P s outside outside hi ho hn = ho
 made P s inside outside hi ho hn = hn
@@ -124,8 +124,8 @@ combined_cells d (node s b a) (node t c e) cell hl hr =
       combined_cells d a parts.1 (opposite_of s.plane ∷ cell) hl.2 halves.1,
     )
 
-either_plane : (d : Bool) (x y : BspTree) (m : Coefficients) → IsPlaneOf m (if d then x else y) →
-    IsPlaneOf m x ⊎ IsPlaneOf m y
+either_plane : (d : Bool) (x y : BspTree) (m : Coefficients) → IsNodePlaneOf m (if d then x else y) →
+    IsNodePlaneOf m x ⊎ IsNodePlaneOf m y
 either_plane true x y m h = inl h
 either_plane false x y m h = inr h
 
@@ -134,8 +134,8 @@ exchanged (inl h) = inr h
 exchanged (inr h) = inl h
 
 -- no plane is new
-pub combined_planes : (d : Bool) (l r : BspTree) (m : Coefficients) → IsPlaneOf m (combination d l r) →
-    IsPlaneOf m l ⊎ IsPlaneOf m r
+pub combined_planes : (d : Bool) (l r : BspTree) (m : Coefficients) → IsNodePlaneOf m (combination d l r) →
+    IsNodePlaneOf m l ⊎ IsNodePlaneOf m r
 combined_planes d inside r m h = either_plane d inside r m h
 combined_planes d outside r m h = exchanged (either_plane d r outside m h)
 combined_planes d (node s b a) inside m h = exchanged (either_plane d inside (node s b a) m h)
@@ -144,7 +144,7 @@ combined_planes d (node s b a) (node t c e) m h =
     let r = node t c e in
     let parts = divide r s in
     let planes = divide_planes r s in
-    elim (made (λ t. IsPlaneOf m t → IsPlaneOf m (node s (combination d b parts.0) (combination d a parts.1))) s
+    elim (made (λ t. IsNodePlaneOf m t → IsNodePlaneOf m (node s (combination d b parts.0) (combination d a parts.1))) s
     (combination d b parts.0) (combination d a parts.1)
     (λ k. absurd k) (λ k. absurd k) (λ k. k) h) [
       | inl e ↦ inl (inl e)

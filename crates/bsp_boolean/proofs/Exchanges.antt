@@ -8,7 +8,7 @@ use Rattle.plane_polygon.specs.declared.classes.Class.TheVariants.{Behind, Ahead
 use Rattle.plane_polygon.specs.Parts.{class_of, part_ahead, part_behind}
 use Rattle.csg_tree.specs.declared.op.Op.{Op}
 use Rattle.csg_tree.specs.declared.op.Op.TheVariants.{Union, Intersection, Difference}
-use Rattle.bsp_tree.specs.Trees.{BspTree, inside, outside, node, make, complement, size}
+use Rattle.bsp_tree.specs.Trees.{BspTree, inside, outside, node, node_or_leaf, complement, size}
 use Rattle.link_forest.specs.declared.link.Link.{Link}
 use Rattle.link_forest.specs.declared.link.Link.TheVariants.{End, To}
 use Rattle.link_forest.specs.declared.link.NodeId.{NodeId}
@@ -21,7 +21,7 @@ use Rattle.bsp_tree.specs.Links.{is_alike, exchanged_leaf}
 use Rattle.bsp_tree.specs.Shapes.{leaf_of}
 use Rattle.bsp_tree.specs.Growths.{Sheet, tree_on, with_sides_exchanged}
 use Rattle.bsp_tree.proofs.Wholes.{leaf_tree, end_exchanged}
-use Rattle.bsp_tree.specs.Partitions.{divide, rows}
+use Rattle.bsp_tree.specs.Partitions.{divide, parts_by_class}
 use Rattle.bsp_boolean.specs.Combined.{combination}
 use Rattle.bsp_boolean.specs.Merges.{merge_of}
 use Rattle.bsp_boolean.specs.Branches.{inside_decides, exchanges_right_sides}
@@ -30,7 +30,7 @@ use Rattle.bsp_boolean.specs.Branches.{inside_decides, exchanges_right_sides}
 abbrev pub both : BspTree × BspTree → BspTree × BspTree
 both parts = (complement parts.0, complement parts.1)
 
-make_complement : (s : Outline) (b a : BspTree) → make s (complement b) (complement a) ≡ complement (make s b a)
+make_complement : (s : Outline) (b a : BspTree) → node_or_leaf s (complement b) (complement a) ≡ complement (node_or_leaf s b a)
 make_complement s inside inside = refl
 make_complement s inside outside = refl
 make_complement s inside (node t c d) = refl
@@ -44,8 +44,8 @@ pairs {x} {y} {u} {v} e f = ap₂ (λ (p q : BspTree). (p, q)) e f
 
 -- the rows of parts whose leaves are exchanged
 rows_complement : (first second : Class) (s t : Outline) (b a : BspTree) (low high low_part high_part : BspTree × BspTree) →
-    rows first second s t (complement b) (complement a) (both low) (both high) (both low_part) (both high_part)
-    ≡ both (rows first second s t b a low high low_part high_part)
+    parts_by_class first second s t (complement b) (complement a) (both low) (both high) (both low_part) (both high_part)
+    ≡ both (parts_by_class first second s t b a low high low_part high_part)
 rows_complement Across Across s t b a low high low_part high_part =
     pairs (make_complement (part_behind t s.plane) low_part.0 high_part.0) (make_complement (part_ahead t s.plane) low_part.1 high_part.1)
 rows_complement Behind Behind s t b a low high low_part high_part = pairs (make_complement t low.0 a) refl
@@ -75,8 +75,8 @@ divide_complement outside s = refl
 divide_complement (node t b a) s =
     choose (is_same t.plane s.plane) _ _ _ _ refl
     (choose (is_same t.plane (opposite_of s.plane)) _ _ _ _ refl
-    (ap₂ (λ (low high : BspTree × BspTree). rows (class_of s t.plane) (class_of t s.plane) s t (complement b) (complement a) low high (divide (complement b) (part_behind s t.plane)) (divide (complement a) (part_ahead s t.plane))) (divide_complement b s) (divide_complement a s)
-    ∙ ap₂ (λ (low high : BspTree × BspTree). rows (class_of s t.plane) (class_of t s.plane) s t (complement b) (complement a) (both (divide b s)) (both (divide a s)) low high) (divide_complement b (part_behind s t.plane)) (divide_complement a (part_ahead s t.plane))
+    (ap₂ (λ (low high : BspTree × BspTree). parts_by_class (class_of s t.plane) (class_of t s.plane) s t (complement b) (complement a) low high (divide (complement b) (part_behind s t.plane)) (divide (complement a) (part_ahead s t.plane))) (divide_complement b s) (divide_complement a s)
+    ∙ ap₂ (λ (low high : BspTree × BspTree). parts_by_class (class_of s t.plane) (class_of t s.plane) s t (complement b) (complement a) (both (divide b s)) (both (divide a s)) low high) (divide_complement b (part_behind s t.plane)) (divide_complement a (part_ahead s t.plane))
     ∙ rows_complement (class_of s t.plane) (class_of t s.plane) s t b a (divide b s) (divide a s) (divide b (part_behind s t.plane)) (divide a (part_ahead s t.plane))))
 
 -- both parts, exchanged or not
@@ -151,21 +151,21 @@ right_end_gives sheet side turn d l e =
 -- two nodes: the left one's polygon divides the right tree
 pub nodes_combined : (d turn : Bool) (s t : Outline) (b a c e right : BspTree) → right ≡ node t c e →
     combination d (node s b a) (with_sides_exchanged turn right)
-    ≡ make s (combination d b (with_sides_exchanged turn (divide right s).0)) (combination d a (with_sides_exchanged turn (divide right s).1))
+    ≡ node_or_leaf s (combination d b (with_sides_exchanged turn (divide right s).0)) (combination d a (with_sides_exchanged turn (divide right s).1))
 nodes_combined d turn s t b a c e right same =
     ap (λ (r : BspTree). combination d (node s b a) (with_sides_exchanged turn r)) same ∙ of_node d turn s t b a c e
-    ∙ sym (ap (λ (r : BspTree). make s (combination d b (with_sides_exchanged turn (divide r s).0)) (combination d a (with_sides_exchanged turn (divide r s).1))) same)
+    ∙ sym (ap (λ (r : BspTree). node_or_leaf s (combination d b (with_sides_exchanged turn (divide r s).0)) (combination d a (with_sides_exchanged turn (divide r s).1))) same)
   where
     of_node : (d turn : Bool) (s t : Outline) (b a c e : BspTree) → combination d (node s b a) (with_sides_exchanged turn (node t c e))
-        ≡ make s (combination d b (with_sides_exchanged turn (divide (node t c e) s).0)) (combination d a (with_sides_exchanged turn (divide (node t c e) s).1))
-    of_node d true s t b a c e = ap (λ (p : BspTree × BspTree). make s (combination d b p.0) (combination d a p.1)) (divide_exchanged true (node t c e) s)
+        ≡ node_or_leaf s (combination d b (with_sides_exchanged turn (divide (node t c e) s).0)) (combination d a (with_sides_exchanged turn (divide (node t c e) s).1))
+    of_node d true s t b a c e = ap (λ (p : BspTree × BspTree). node_or_leaf s (combination d b p.0) (combination d a p.1)) (divide_exchanged true (node t c e) s)
     of_node d false s t b a c e = refl
 
 -- two nodes on two sheets
 pub node_merged : (d turn : Bool) (left right : Sheet) (first second : NodeId) (face : Face) (behind ahead : Link) →
     IsNode left.nodes first face behind ahead → AreLinked right.nodes → second.index < length right.nodes →
     combination d (tree_on left (To first)) (with_sides_exchanged turn (tree_on right (To second)))
-    ≡ make (outline_of left.planes face)
+    ≡ node_or_leaf (outline_of left.planes face)
     (combination d (tree_on left behind) (with_sides_exchanged turn (divide (tree_on right (To second)) (outline_of left.planes face)).0))
     (combination d (tree_on left ahead) (with_sides_exchanged turn (divide (tree_on right (To second)) (outline_of left.planes face)).1))
 node_merged d turn left right first second face behind ahead n l below =
@@ -175,5 +175,5 @@ node_merged d turn left right first second face behind ahead n l below =
     (tree_on right (To second)) fork.same
 
 -- a part behind is no larger than the node
-pub below_left : (s : Outline) (b a : BspTree) → size b ≤ size (make s b a)
+pub below_left : (s : Outline) (b a : BspTree) → size b ≤ size (node_or_leaf s b a)
 below_left s b a = omega (arith, make_size s b a)

@@ -2,12 +2,12 @@
 use Rattle.std.proofs.Common.{◌≡◌, inl, inr, Bool, true, false, ◌&&◌, if◌then◌else◌, List, [], ◌∷◌, refl, sym, ap, ap₂, ◌∙◌, All, suc, arith}
 use Rattle.std.specs.Prelude.{Contains}
 use Rattle.plane_predicate.specs.Space.{Coefficients, Coordinates}
-use Rattle.csg_tree.specs.Formulas.{leaf, sides_of}
+use Rattle.csg_tree.specs.HalfSpaceTrees.{leaf, sides_of}
 use Rattle.csg_tree.specs.ProperTrees.{IsLeafPlane}
 use Rattle.plane_polygon.specs.Boxes.{box_outline}
 use Rattle.plane_polygon.specs.Parts.{is_behind}
 use Rattle.bsp_tree.specs.Trees.{walk, half_space}
-use Rattle.bsp_tree.specs.Cells.{world_box, IsOfWorld, IsPlaneOf}
+use Rattle.bsp_tree.specs.Cells.{world_box, IsOfWorld, IsNodePlaneOf}
 use Rattle.bsp_tree.proofs.Worlds.{open_world, half_of_world, box_plane}
 use Rattle.bsp_boolean.specs.LeafSolids.{solid_of_leaf, IsSolidOf}
 use Rattle.bsp_boolean.proofs.Combined.{combined_walks, combined_cells, combined_planes}
@@ -28,7 +28,7 @@ half_walk : (m : Coefficients) (p : Coordinates) → walk (half_space m) p ≡ s
 half_walk m p = itself (is_behind (box_outline m).plane p)
     ∙ ap (λ (n : Coefficients). is_behind n p) (box_plane m)
 
-half_planes : (m n : Coefficients) → IsPlaneOf n (half_space m) → n ≡ m
+half_planes : (m n : Coefficients) → IsNodePlaneOf n (half_space m) → n ≡ m
 half_planes m n (inl e) = e ∙ box_plane m
 half_planes m n (inr (inl k)) = absurd k
 half_planes m n (inr (inr k)) = absurd k

@@ -3,8 +3,8 @@ use Rattle.std.proofs.Common.{◌≡◌, ◌⊎◌, inl, inr, Bool, true, false,
 use Rattle.plane_predicate.specs.Space.{Coefficients, Coordinates}
 use Rattle.csg_tree.specs.declared.op.Op.{Op}
 use Rattle.csg_tree.specs.declared.op.Op.TheVariants.{Union, Intersection, Difference}
-use Rattle.csg_tree.specs.Formulas.{truth_of_join}
-use Rattle.bsp_tree.specs.Cells.{IsInCell, IsOfCell, IsOffPlanesOf, IsPlaneOf}
+use Rattle.csg_tree.specs.HalfSpaceTrees.{truth_of_join}
+use Rattle.bsp_tree.specs.Cells.{IsInCell, IsOfCell, IsOffPlanesOf, IsNodePlaneOf}
 use Rattle.bsp_tree.specs.Trees.{BspTree, inside, outside, node, walk, size, complement}
 use Rattle.bsp_tree.proofs.Complements.{complement_walks, complement_planes, complement_cells}
 use Rattle.bsp_boolean.specs.Merges.{merge_of, AreSolidsOfOneCell, IsOperationOn}
@@ -28,8 +28,8 @@ merged_cells Intersection l r cell h = combined_cells false l r cell h.left_cell
 merged_cells Difference l r cell h =
     combined_cells false l (complement r) cell h.left_cell (complement_cells r cell h.right_cell)
 
-merged_planes : (op : Op) (l r : BspTree) (m : Coefficients) → IsPlaneOf m (merge_of op l r) →
-    IsPlaneOf m l ⊎ IsPlaneOf m r
+merged_planes : (op : Op) (l r : BspTree) (m : Coefficients) → IsNodePlaneOf m (merge_of op l r) →
+    IsNodePlaneOf m l ⊎ IsNodePlaneOf m r
 merged_planes Union l r m h = combined_planes true l r m h
 merged_planes Intersection l r m h = combined_planes false l r m h
 merged_planes Difference l r m h =

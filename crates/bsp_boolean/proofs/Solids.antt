@@ -1,6 +1,6 @@
 -- The solids of trees: they are of the world box, and hold where their trees do.
 use Rattle.std.proofs.Common.{inl, inr, refl, ap₂, ◌∙◌}
-use Rattle.csg_tree.specs.Formulas.{Formula, nothing, leaf, joined, truth_of_join}
+use Rattle.csg_tree.specs.HalfSpaceTrees.{Tree, nothing, leaf, tree_join, truth_of_join}
 use Rattle.csg_tree.specs.ProperTrees.{HasFullLeaves}
 use Rattle.bsp_tree.specs.Cells.{world_box}
 use Rattle.bsp_tree.proofs.Worlds.{open_world}
@@ -10,10 +10,10 @@ use Rattle.bsp_boolean.specs.Solids.{solid_of}
 use Rattle.bsp_boolean.proofs.Merged.{merge_is}
 
 -- the solid of a tree
-pub tree_is_solid : (f : Formula) → HasFullLeaves f → IsSolidOf f (solid_of f)
+pub tree_is_solid : (f : Tree) → HasFullLeaves f → IsSolidOf f (solid_of f)
 tree_is_solid nothing h = record { world = tt; planes = λ m k. absurd k; walks = λ p hw off. refl }
 tree_is_solid (leaf planes) h = leaf_is_solid planes h.1
-tree_is_solid (joined op left right) h =
+tree_is_solid (tree_join op left right) h =
     let l = tree_is_solid left h.0 in
     let r = tree_is_solid right h.1 in
     let k = merge_is op (solid_of left) (solid_of right) in record {

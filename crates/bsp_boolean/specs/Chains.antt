@@ -4,30 +4,30 @@ use Rattle.plane_predicate.specs.Space.{Coefficients}
 use Rattle.plane_polygon.specs.Polygons.{Outline}
 use Rattle.plane_table.specs.declared.faces.Face.{Face}
 use Rattle.plane_table.specs.Faces.{outline_of, IsFaceOver}
-use Rattle.bsp_tree.specs.Trees.{BspTree, inside, outside, make}
+use Rattle.bsp_tree.specs.Trees.{BspTree, inside, outside, node_or_leaf}
 use Rattle.bsp_tree.specs.Partitions.{divide}
 use Rattle.bsp_boolean.specs.declared.chains.Step.{Step}
 use Rattle.bsp_boolean.specs.declared.chains.Step.TheVariants.{On, Whole, Nothing}
 
 -- what lies behind the planes of all of some polygons: behind the first one's plane, the part there of what lies behind
 -- the others
-abbrev pub behind_all : List Outline → BspTree
-behind_all [] = inside
-behind_all (s ∷ others) = make s (divide (behind_all others) s).0 outside
+abbrev pub part_behind_all : List Outline → BspTree
+part_behind_all [] = inside
+part_behind_all (s ∷ others) = node_or_leaf s (divide (part_behind_all others) s).0 outside
 
 -- a solid behind some faces, one behind another, with nothing ahead of any
 abbrev pub chain_of : List Outline → BspTree → BspTree
 chain_of [] t = t
-chain_of (s ∷ others) t = make s (chain_of others t) outside
+chain_of (s ∷ others) t = node_or_leaf s (chain_of others t) outside
 
 -- the outlines of faces
 abbrev pub outlines_of : List Coefficients → List Face → List Outline
 outlines_of planes faces = map (λ (face : Face). outline_of planes face) faces
 
 -- a solid behind a face, if there is one
-abbrev pub behind_kept : List Coefficients → Option Face → BspTree → BspTree
-behind_kept planes None t = t
-behind_kept planes (Some face) t = make (outline_of planes face) t outside
+abbrev pub solid_behind_face : List Coefficients → Option Face → BspTree → BspTree
+solid_behind_face planes None t = t
+solid_behind_face planes (Some face) t = node_or_leaf (outline_of planes face) t outside
 
 -- a face as a list, if there is one
 abbrev pub kept_items : Option Face → List Face
@@ -35,14 +35,14 @@ kept_items None = []
 kept_items (Some face) = face ∷ []
 
 -- the part of a solid behind a face's plane, if there is a face
-abbrev pub part_by : List Coefficients → Option Face → BspTree → BspTree
-part_by planes None t = t
-part_by planes (Some face) t = (divide t (outline_of planes face)).0
+abbrev pub part_behind_face : List Coefficients → Option Face → BspTree → BspTree
+part_behind_face planes None t = t
+part_behind_face planes (Some face) t = (divide t (outline_of planes face)).0
 
 -- what a step gives, with a solid t behind the face
 abbrev pub solid_after_step : List Coefficients → Step → BspTree → BspTree
-solid_after_step planes (On kept by) t = behind_kept planes kept (part_by planes (Some by) t)
-solid_after_step planes (Whole kept) t = behind_kept planes kept t
+solid_after_step planes (On kept by) t = solid_behind_face planes kept (part_behind_face planes (Some by) t)
+solid_after_step planes (Whole kept) t = solid_behind_face planes kept t
 solid_after_step planes Nothing t = outside
 
 -- a face over the planes, if there is one

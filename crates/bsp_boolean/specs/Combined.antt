@@ -1,6 +1,6 @@
 -- Two solids as one (Bernstein and Fussell).
 use Rattle.std.specs.Prelude.{Bool, if◌then◌else◌}
-use Rattle.bsp_tree.specs.Trees.{BspTree, inside, outside, node, make}
+use Rattle.bsp_tree.specs.Trees.{BspTree, inside, outside, node, node_or_leaf}
 use Rattle.bsp_tree.specs.Partitions.{divide}
 
 -- two solids as one. The leaf that decides, inside in a union and outside in an intersection, gives itself, and the other leaf
@@ -12,4 +12,4 @@ combination in_decides (node s b a) inside = if in_decides then inside else node
 combination in_decides (node s b a) outside = if in_decides then node s b a else outside
 combination in_decides (node s b a) (node t c d) =
     let parts = divide (node t c d) s in
-    make s (combination in_decides b parts.0) (combination in_decides a parts.1)
+    node_or_leaf s (combination in_decides b parts.0) (combination in_decides a parts.1)

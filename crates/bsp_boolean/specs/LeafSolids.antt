@@ -1,11 +1,11 @@
 -- The solids of leaves, when a solid is built, and when it is a tree.
 use Rattle.std.specs.Prelude.{◌≡◌, ℕ, ◌<◌, ◌≤◌, false, List, [], ◌∷◌, Result, Ok, Err, pos}
 use Rattle.plane_predicate.specs.Space.{Coefficients, Coordinates, value, IsInWorld}
-use Rattle.csg_tree.specs.Formulas.{Formula, holds, sides_of}
-use Rattle.csg_tree.specs.Formulas as formulas
+use Rattle.csg_tree.specs.HalfSpaceTrees.{Tree, holds, sides_of}
+use Rattle.csg_tree.specs.HalfSpaceTrees as trees
 use Rattle.bsp_tree.specs.Shapes.{SolidParts}
 use Rattle.bsp_tree.specs.Trees.{BspTree, inside, walk, size, half_space}
-use Rattle.bsp_tree.specs.Cells.{IsOfWorld, IsPlaneOf}
+use Rattle.bsp_tree.specs.Cells.{IsOfWorld, IsNodePlaneOf}
 use Rattle.bsp_tree.specs.Shapes.{tree_of}
 use Rattle.bsp_tree.specs.declared.growing.GrowStop.{GrowStop}
 use Rattle.bsp_tree.specs.declared.growing.GrowStop.TheVariants as growing
@@ -27,11 +27,11 @@ IsBuilt wanted most (Err NoMemory) = Unit {0}
 
 -- a solid is the tree's: of the world box, with planes of the tree alone, and inside at a point of the box off the tree's
 -- planes exactly where the tree holds with the point's sides
-pub record IsSolidOf (f : Formula) (t : BspTree) : Type 0 where
+pub record IsSolidOf (f : Tree) (t : BspTree) : Type 0 where
   pub world : IsOfWorld t
-  pub planes : (m : Coefficients) → IsPlaneOf m t → formulas.IsPlaneOf m f
+  pub planes : (m : Coefficients) → IsNodePlaneOf m t → trees.IsPlaneOf m f
   pub walks : (p : Coordinates) → IsInWorld p →
-      ((m : Coefficients) → formulas.IsPlaneOf m f → value m p ≡ pos 0 → ⊥) →
+      ((m : Coefficients) → trees.IsPlaneOf m f → value m p ≡ pos 0 → ⊥) →
       walk t p ≡ holds f (sides_of p)
 
 -- what stops a solid from growing stops it from being built

@@ -3,9 +3,9 @@ use Rattle.std.specs.Prelude.{◌≡◌, true, false, List, ◌⊎◌}
 use Rattle.plane_predicate.specs.Space.{Coefficients, Coordinates}
 use Rattle.csg_tree.specs.declared.op.Op.{Op}
 use Rattle.csg_tree.specs.declared.op.Op.TheVariants.{Union, Intersection, Difference}
-use Rattle.csg_tree.specs.Formulas.{truth_of_join}
+use Rattle.csg_tree.specs.HalfSpaceTrees.{truth_of_join}
 use Rattle.bsp_tree.specs.Trees.{BspTree, walk, complement}
-use Rattle.bsp_tree.specs.Cells.{IsInCell, IsOfCell, IsOffPlanesOf, IsPlaneOf}
+use Rattle.bsp_tree.specs.Cells.{IsInCell, IsOfCell, IsOffPlanesOf, IsNodePlaneOf}
 use Rattle.bsp_boolean.specs.Combined.{combination}
 
 -- the merge of two solids. A difference is the intersection with the inside and the outside of the right
@@ -27,4 +27,4 @@ pub record IsOperationOn (op : Op) (left right t : BspTree) : Type 0 where
       (p : Coordinates) → IsInCell cell p → IsOffPlanesOf left p → IsOffPlanesOf right p →
       walk t p ≡ truth_of_join op (walk left p) (walk right p)
   pub cells : (cell : List Coefficients) → AreSolidsOfOneCell cell left right → IsOfCell cell t
-  pub planes : (m : Coefficients) → IsPlaneOf m t → IsPlaneOf m left ⊎ IsPlaneOf m right
+  pub planes : (m : Coefficients) → IsNodePlaneOf m t → IsNodePlaneOf m left ⊎ IsNodePlaneOf m right

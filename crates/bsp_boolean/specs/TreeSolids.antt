@@ -3,7 +3,7 @@ use Rattle.std.specs.Prelude.{◌≡◌, ℕ, ◌-◌, ◌≤◌, ◌<◌, List,
 use Rattle.plane_predicate.specs.Space.{ComesInReach}
 use Rattle.csg_tree.specs.declared.node.CsgNode.{CsgNode}
 use Rattle.csg_tree.specs.declared.node.CsgNode.TheVariants.{Leaf, Join}
-use Rattle.csg_tree.specs.Formulas.{Formula, nothing, leaf, joined}
+use Rattle.csg_tree.specs.HalfSpaceTrees.{Tree, nothing, leaf, tree_join}
 use Rattle.csg_tree.specs.Numberings.{tree_numbered, IsNumberIn}
 use Rattle.bsp_tree.specs.Shapes.{SolidParts}
 use Rattle.bsp_tree.specs.Trees.{BspTree, outside, size}
@@ -16,47 +16,47 @@ use Rattle.bsp_boolean.specs.declared.tree_solids.TreeStop.TheVariants.{TooBig, 
 use Rattle.bsp_boolean.specs.declared.tree_solids.FirstSolids.{FirstSolids}
 
 -- the most that the size of one node's solid may be
-abbrev pub most_of_one : ℕ
-most_of_one = 50000
+abbrev pub most_solid_size : ℕ
+most_solid_size = 50000
 
 -- the most that the sizes of all nodes' solids may be together
-abbrev pub most_of_all : ℕ
-most_of_all = 500000
+abbrev pub most_total_size : ℕ
+most_total_size = 500000
 
 -- the size of a tree's solid
-abbrev pub solid_size : Formula → ℕ
+abbrev pub solid_size : Tree → ℕ
 solid_size tree = size (solid_of tree)
 
 -- what the solids of some trees are in size together
-abbrev pub total_size : List Formula → ℕ
+abbrev pub total_size : List Tree → ℕ
 total_size trees = sum_by solid_size trees
 
 -- the solids of some trees are within both limits
-pub record AreWithinSizeLimits (trees : List Formula) : Type 0 where
-  pub each : All (λ tree. solid_size tree ≤ most_of_one) trees
-  pub together : total_size trees ≤ most_of_all
+pub record AreWithinSizeLimits (trees : List Tree) : Type 0 where
+  pub each : All (λ tree. solid_size tree ≤ most_solid_size) trees
+  pub together : total_size trees ≤ most_total_size
 
 -- 1 where the tree is a join, else 0
-abbrev pub one_if_join : Formula → ℕ
+abbrev pub one_if_join : Tree → ℕ
 one_if_join nothing = 0
 one_if_join (leaf planes) = 0
-one_if_join (joined op left right) = 1
+one_if_join (tree_join op left right) = 1
 
 -- how many joins there are among trees
-abbrev pub joins : List Formula → ℕ
-joins trees = sum_by one_if_join trees
+abbrev pub join_count : List Tree → ℕ
+join_count trees = sum_by one_if_join trees
 
 -- Why the nodes of a tree, in order of number, give no solid: at the first node at which a limit is passed, its own
 -- solid is too big, or it isn't and the sum up to it is.
-abbrev pub IsTreeStop : List Formula → TreeStop → Type 0
+abbrev pub IsTreeStop : List Tree → TreeStop → Type 0
 IsTreeStop trees (TooBig number) = IsNumberIn trees number × AreWithinSizeLimits (take (number - 1) trees)
-    × (most_of_one < solid_size (tree_numbered trees number))
+    × (most_solid_size < solid_size (tree_numbered trees number))
 IsTreeStop trees (SumTooBig number) = IsNumberIn trees number × AreWithinSizeLimits (take (number - 1) trees)
-    × (solid_size (tree_numbered trees number) ≤ most_of_one) × (most_of_all < total_size (take number trees))
+    × (solid_size (tree_numbered trees number) ≤ most_solid_size) × (most_total_size < total_size (take number trees))
 IsTreeStop trees NoMemory = Unit {0}
 
 -- the first n nodes have their solids, which are within the limits
-pub record HasFirstSolids (trees : List Formula) (n : ℕ) (growth : FirstSolids) : Type 0 where
+pub record HasFirstSolids (trees : List Tree) (n : ℕ) (growth : FirstSolids) : Type 0 where
   pub solids : map tree_of growth.solids.items ≡ map solid_of (take n trees)
   pub sum : growth.sum ≡ total_size (take n trees)
   pub within : AreWithinSizeLimits (take n trees)

@@ -4,7 +4,7 @@ ghost use Rattle.std.specs.Prelude.{◌≡◌, ◌+◌, ◌<◌, length, All, If
 ghost use Rattle.plane_predicate.specs.Space.{ComesInReach, IsPlane};
 ghost use Rattle.plane_polygon.specs.Parallels.{HasSameDirection};
 ghost use Rattle.plane_table.specs.Faces.{IsFaceOver};
-ghost use Rattle.csg_tree.specs.Formulas.{leaf};
+ghost use Rattle.csg_tree.specs.HalfSpaceTrees.{leaf};
 ghost use Rattle.bsp_tree.specs.Trees.{inside};
 ghost use Rattle.bsp_tree.specs.Shapes.{tree_of};
 ghost use Rattle.bsp_boolean.specs.Chains.{chain_of, outlines_of};

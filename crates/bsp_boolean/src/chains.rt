@@ -2,10 +2,10 @@
 
 ghost use Rattle.std.specs.Prelude.{◌≡◌, ◌++◌, [], ◌∷◌, map, All, IfOk, OnOk};
 ghost use Rattle.plane_table.specs.Faces.{outline_of, IsFaceOver};
-ghost use Rattle.bsp_tree.specs.Trees.{BspTree, inside, make, node, outside};
+ghost use Rattle.bsp_tree.specs.Trees.{BspTree, inside, node_or_leaf, node, outside};
 ghost use Rattle.bsp_tree.specs.Growths.{GrowsBy};
 ghost use Rattle.bsp_tree.specs.Partitions.{divide};
-ghost use Rattle.bsp_boolean.specs.Chains.{solid_after_step, behind_all, chain_of, kept_items, outlines_of, part_by, IsChainOf, IsKeptOver, IsStepOver};
+ghost use Rattle.bsp_boolean.specs.Chains.{solid_after_step, part_behind_all, chain_of, kept_items, outlines_of, part_behind_face, IsChainOf, IsKeptOver, IsStepOver};
 
 use bsp_tree::{GrowStop, Growing, Link};
 use plane_polygon::Class;
@@ -33,7 +33,7 @@ fn chain_behind(
 ) -> Result<Option<Vec<Face>>, NoMemory>
     requires { All (IsFaceOver table.now) faces.now }
     ensures { IfOk result
-        (IsChainOf table.now (behind_all (map (outline_of table.now) faces.now))) }
+        (IsChainOf table.now (part_behind_all (map (outline_of table.now) faces.now))) }
 {
     match faces {
         [] => Ok(Some(Vec::new(alloc))),
@@ -102,7 +102,7 @@ fn next_step(
     ensures over { IfOk result (IsStepOver table.now) }
     ensures gives { IfOk result
         (λ r. (t : BspTree) →
-        part_by table.now by (make (outline_of table.now face) t outside)
+        part_behind_face table.now by (node_or_leaf (outline_of table.now face) t outside)
         ≡ solid_after_step table.now r t) }
 {
     match by {
@@ -163,7 +163,7 @@ pub fn grow_behind(
     requires table { growing.old.sheet.planes ≡ table.now }
     requires faces { All (IsFaceOver table.now) faces.now }
     ensures { GrowsBy growing.old growing.new
-        (behind_all (map (outline_of table.now) faces.now)) result }
+        (part_behind_all (map (outline_of table.now) faces.now)) result }
 {
     let chain = chain_behind(alloc, table, faces)?;
     grow_chain(alloc, growing, &chain)

@@ -2,10 +2,10 @@
 
 ghost use Rattle.std.specs.Prelude.{◌≡◌, ◌<◌, length, map, All, IfOk};
 ghost use Rattle.plane_predicate.specs.Space.{ComesInReach};
-ghost use Rattle.csg_tree.specs.Formulas.{leaf};
+ghost use Rattle.csg_tree.specs.HalfSpaceTrees.{leaf};
 ghost use Rattle.plane_table.specs.Faces.{outline_of, IsFaceOver};
 ghost use Rattle.bsp_tree.specs.Shapes.{tree_of};
-ghost use Rattle.bsp_boolean.specs.Chains.{behind_all};
+ghost use Rattle.bsp_boolean.specs.Chains.{part_behind_all};
 ghost use Rattle.bsp_boolean.specs.LeafSolids.{solid_of_leaf, IsBuilt, IsSolidOf};
 
 use crate::boxes::{box_solid, is_box};
@@ -55,7 +55,7 @@ fn behind_all(
     most: u64,
 ) -> Result<Solid, BuildStop>
     requires { All (IsFaceOver table.now) faces.now }
-    ensures { IsBuilt (behind_all (map (outline_of table.now) faces.now)) most result }
+    ensures { IsBuilt (part_behind_all (map (outline_of table.now) faces.now)) most result }
 {
     let mut growing = Growing::new(alloc, table, most);
     let root = grow_behind(alloc, &mut growing, table, faces)?;

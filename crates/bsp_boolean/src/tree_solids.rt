@@ -1,14 +1,14 @@
 //! The solid of a tree, node by node.
 
 ghost use Rattle.std.specs.Prelude.{◌≡◌, ◌+◌, ◌-◌, ◌^◌, ◌≤◌, ◌<◌, List, map, take, length, All, IfOk, IfErr, OnOk};
-ghost use Rattle.csg_tree.specs.Formulas.{Formula};
+ghost use Rattle.csg_tree.specs.HalfSpaceTrees.{Tree};
 ghost use Rattle.csg_tree.specs.ProperTrees.{IsProper};
 ghost use Rattle.csg_tree.specs.Numberings.{tree_numbered, IsNumberIn};
 ghost use Rattle.csg_tree.specs.Nodes.{IsNodeOf};
 ghost use Rattle.bsp_tree.specs.Shapes.{tree_of};
 ghost use Rattle.bsp_boolean.specs.LeafSolids.{IsBuilt};
 ghost use Rattle.bsp_boolean.specs.Solids.{solid_of};
-ghost use Rattle.bsp_boolean.specs.TreeSolids.{most_of_one, joins, merges_of, solid_over, AreWithinSizeLimits, HasFirstSolids, IsOverSolids, IsTreeStop};
+ghost use Rattle.bsp_boolean.specs.TreeSolids.{most_solid_size, join_count, merges_of, solid_over, AreWithinSizeLimits, HasFirstSolids, IsOverSolids, IsTreeStop};
 
 use crate::building::Builder;
 use crate::{BuildStop, leaf_solid};
@@ -64,8 +64,8 @@ pub fn tree_solid<B: Builder>(
         (λ s. tree_of s ≡ solid_of (tree_numbered store.now (length store.now))) }
     ensures within { OnOk result (AreWithinSizeLimits store.now) }
     ensures stop { IfErr result (IsTreeStop store.now) }
-    ensures counted { OnOk result (B.builds builder.new ≡ B.builds builder.old + joins store.now) }
-    ensures bounded { B.builds builder.new ≤ B.builds builder.old + joins store.now }
+    ensures counted { OnOk result (B.builds builder.new ≡ B.builds builder.old + join_count store.now) }
+    ensures bounded { B.builds builder.new ≤ B.builds builder.old + join_count store.now }
 {
     let mut growth = FirstSolids {
         solids: Vec::new(alloc),
@@ -90,8 +90,8 @@ fn grow<B: Builder>(
     requires counts { B.builds builder.old < 2 ^ 48 }
     ensures grown { OnOk result (HasFirstSolids store.now number growth.new) }
     ensures stop { IfErr result (IsTreeStop store.now) }
-    ensures counted { B.builds builder.new + joins (take (number - 1) store.now)
-        ≡ B.builds builder.old + joins (take number store.now) }
+    ensures counted { B.builds builder.new + join_count (take (number - 1) store.now)
+        ≡ B.builds builder.old + join_count (take number store.now) }
 {
     let solid = match node_solid(alloc, store.node(number), &growth.solids, builder) {
         Ok(solid) => solid,
@@ -118,7 +118,7 @@ fn node_solid<B: Builder>(
 ) -> Result<Solid, BuildStop>
     requires over { IsOverSolids solids.now node }
     requires counts { B.builds builder.old < 2 ^ 48 }
-    ensures built { IsBuilt (solid_over (map tree_of solids.now) node.entry) most_of_one result }
+    ensures built { IsBuilt (solid_over (map tree_of solids.now) node.entry) most_solid_size result }
     ensures counted { B.builds builder.new ≡ B.builds builder.old + merges_of node.entry }
 {
     match node {

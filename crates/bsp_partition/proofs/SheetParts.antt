@@ -5,17 +5,17 @@ use Rattle.plane_polygon.specs.Polygons.{Outline}
 use Rattle.link_forest.specs.declared.link.Link.{Link}
 use Rattle.link_forest.specs.declared.link.Link.TheVariants.{End, To}
 use Rattle.link_forest.specs.declared.link.NodeId.{NodeId}
-use Rattle.link_forest.specs.Forests.{Adds, IsLinkOf}
+use Rattle.link_forest.specs.Forests.{AddsNode, IsLinkOf}
 use Rattle.plane_table.specs.declared.faces.Face.{Face}
 use Rattle.plane_table.specs.Faces.{outline_of}
-use Rattle.bsp_tree.specs.Trees.{BspTree, node, make}
+use Rattle.bsp_tree.specs.Trees.{BspTree, node, node_or_leaf}
 use Rattle.bsp_tree.specs.Links.{same_leaf}
 use Rattle.bsp_tree.specs.Shapes.{leaf_of}
 use Rattle.bsp_tree.specs.Growths.{Sheet, tree_on, HasTree}
 use Rattle.bsp_tree.proofs.Sheets.{longer_itself, longer_twice, still, stood_on, adds_longer, adds_tree}
 use Rattle.bsp_tree.proofs.Wholes.{leaf_tree}
 use Rattle.bsp_tree.specs.declared.part.Part.TheVariants.{Low, High}
-use Rattle.bsp_tree.specs.Partitions.{across_row, ahead_row, behind_row, divide}
+use Rattle.bsp_tree.specs.Partitions.{parts_where_across, parts_where_ahead, parts_where_behind, divide}
 use Rattle.bsp_partition.specs.Parts.{trees_on, AreLinksOf, HasAddedTree, HasParts, HasSideParts}
 
 -- the tree at a link stands there
@@ -41,16 +41,16 @@ pub end_parts : (sheet : Sheet) (side : Bool) (s : Outline) → HasParts sheet s
 end_parts sheet side s = links_are_parts sheet (End side, End side) (divide (tree_on sheet (End side)) s) (omega arith) (omega arith) (end_divided sheet side s)
 
 -- two leaves of one kind are put together in that leaf
-make_leaf : (s : Outline) (side : Bool) → leaf_of side ≡ make s (leaf_of side) (leaf_of side)
+make_leaf : (s : Outline) (side : Bool) → leaf_of side ≡ node_or_leaf s (leaf_of side) (leaf_of side)
 make_leaf s true = refl
 make_leaf s false = refl
 
-same_ends : (sheet : Sheet) (side : Bool) (s : Outline) → tree_on sheet (End side) ≡ make s (tree_on sheet (End side)) (tree_on sheet (End side))
+same_ends : (sheet : Sheet) (side : Bool) (s : Outline) → tree_on sheet (End side) ≡ node_or_leaf s (tree_on sheet (End side)) (tree_on sheet (End side))
 same_ends sheet side s =
-    let e = leaf_tree sheet.planes sheet.nodes side in e ∙ make_leaf s side ∙ sym (ap (λ (t : BspTree). make s t t) e)
+    let e = leaf_tree sheet.planes sheet.nodes side in e ∙ make_leaf s side ∙ sym (ap (λ (t : BspTree). node_or_leaf s t t) e)
 
 pub same_tree : (sheet : Sheet) (behind ahead : Link) (s : Outline) → same_leaf behind ahead ≡ true →
-    tree_on sheet behind ≡ make s (tree_on sheet behind) (tree_on sheet ahead)
+    tree_on sheet behind ≡ node_or_leaf s (tree_on sheet behind) (tree_on sheet ahead)
 same_tree sheet (End true) (End true) s e = same_ends sheet true s
 same_tree sheet (End false) (End false) s e = same_ends sheet false s
 same_tree sheet (End true) (End false) s e = absurd (false≢true e)
@@ -59,7 +59,7 @@ same_tree sheet (End side) (To id) s e = absurd (false≢true e)
 same_tree sheet (To id) ahead s e = absurd (false≢true e)
 
 pub same_made : (sheet : Sheet) (behind ahead : Link) (s : Outline) → IsLinkOf sheet.nodes behind → same_leaf behind ahead ≡ true →
-    HasAddedTree sheet sheet behind (make s (tree_on sheet behind) (tree_on sheet ahead))
+    HasAddedTree sheet sheet behind (node_or_leaf s (tree_on sheet behind) (tree_on sheet ahead))
 same_made sheet behind ahead s h e = record {
   longer = longer_itself sheet;
   stands = record { there = h; same = same_tree sheet behind ahead s e };
@@ -67,7 +67,7 @@ same_made sheet behind ahead s h e = record {
 
 -- a node that was added
 pub node_made : (old new : Sheet) (face : Face) (behind ahead : Link) (id : NodeId) → new.planes ≡ old.planes →
-    Adds old.nodes new.nodes face behind ahead id →
+    AddsNode old.nodes new.nodes face behind ahead id →
     HasAddedTree old new (To id) (node (outline_of old.planes face) (tree_on old behind) (tree_on old ahead))
 node_made old new face behind ahead id p d = record {
   longer = adds_longer old new face behind ahead id p d;
@@ -77,56 +77,56 @@ node_made old new face behind ahead id p d = record {
 -- the part in which the node's own face lies is made of one part of its side and of its other side
 pub low_made : (old middle new : Sheet) (links : Link × Link) (parts : BspTree × BspTree) (made : Link) (s : Outline) (ahead : Link) →
     HasParts old middle links parts → IsLinkOf old.nodes ahead →
-    HasAddedTree middle new made (make s (tree_on middle links.0) (tree_on middle ahead)) →
-    HasParts old new (made, links.1) (behind_row Low s parts (tree_on old ahead))
+    HasAddedTree middle new made (node_or_leaf s (tree_on middle links.0) (tree_on middle ahead)) →
+    HasParts old new (made, links.1) (parts_where_behind Low s parts (tree_on old ahead))
 low_made old middle new links parts made s ahead h k m = record {
   longer = longer_twice old middle new h.longer m.longer;
-  low = record { there = m.stands.there; same = m.stands.same ∙ ap₂ (make s) h.low.same (stood_on old middle ahead h.longer k) };
+  low = record { there = m.stands.there; same = m.stands.same ∙ ap₂ (node_or_leaf s) h.low.same (stood_on old middle ahead h.longer k) };
   high = still middle new links.1 parts.1 m.longer h.high;
 }
 
 pub high_made : (old middle new : Sheet) (links : Link × Link) (parts : BspTree × BspTree) (made : Link) (s : Outline) (ahead : Link) →
     HasParts old middle links parts → IsLinkOf old.nodes ahead →
-    HasAddedTree middle new made (make s (tree_on middle links.1) (tree_on middle ahead)) →
-    HasParts old new (links.0, made) (behind_row High s parts (tree_on old ahead))
+    HasAddedTree middle new made (node_or_leaf s (tree_on middle links.1) (tree_on middle ahead)) →
+    HasParts old new (links.0, made) (parts_where_behind High s parts (tree_on old ahead))
 high_made old middle new links parts made s ahead h k m = record {
   longer = longer_twice old middle new h.longer m.longer;
   low = still middle new links.0 parts.0 m.longer h.low;
-  high = record { there = m.stands.there; same = m.stands.same ∙ ap₂ (make s) h.high.same (stood_on old middle ahead h.longer k) };
+  high = record { there = m.stands.there; same = m.stands.same ∙ ap₂ (node_or_leaf s) h.high.same (stood_on old middle ahead h.longer k) };
 }
 
 pub low_made_ahead : (old middle new : Sheet) (links : Link × Link) (parts : BspTree × BspTree) (made : Link) (s : Outline) (behind : Link) →
     HasParts old middle links parts → IsLinkOf old.nodes behind →
-    HasAddedTree middle new made (make s (tree_on middle behind) (tree_on middle links.0)) →
-    HasParts old new (made, links.1) (ahead_row Low s (tree_on old behind) parts)
+    HasAddedTree middle new made (node_or_leaf s (tree_on middle behind) (tree_on middle links.0)) →
+    HasParts old new (made, links.1) (parts_where_ahead Low s (tree_on old behind) parts)
 low_made_ahead old middle new links parts made s behind h k m = record {
   longer = longer_twice old middle new h.longer m.longer;
-  low = record { there = m.stands.there; same = m.stands.same ∙ ap₂ (make s) (stood_on old middle behind h.longer k) h.low.same };
+  low = record { there = m.stands.there; same = m.stands.same ∙ ap₂ (node_or_leaf s) (stood_on old middle behind h.longer k) h.low.same };
   high = still middle new links.1 parts.1 m.longer h.high;
 }
 
 pub high_made_ahead : (old middle new : Sheet) (links : Link × Link) (parts : BspTree × BspTree) (made : Link) (s : Outline) (behind : Link) →
     HasParts old middle links parts → IsLinkOf old.nodes behind →
-    HasAddedTree middle new made (make s (tree_on middle behind) (tree_on middle links.1)) →
-    HasParts old new (links.0, made) (ahead_row High s (tree_on old behind) parts)
+    HasAddedTree middle new made (node_or_leaf s (tree_on middle behind) (tree_on middle links.1)) →
+    HasParts old new (links.0, made) (parts_where_ahead High s (tree_on old behind) parts)
 high_made_ahead old middle new links parts made s behind h k m = record {
   longer = longer_twice old middle new h.longer m.longer;
   low = still middle new links.0 parts.0 m.longer h.low;
-  high = record { there = m.stands.there; same = m.stands.same ∙ ap₂ (make s) (stood_on old middle behind h.longer k) h.high.same };
+  high = record { there = m.stands.there; same = m.stands.same ∙ ap₂ (node_or_leaf s) (stood_on old middle behind h.longer k) h.high.same };
 }
 
 -- two nodes that were added one after the other
 pub both_made : (old middle new : Sheet) (first second : Link) (s t : Outline) (links : (Link × Link) × (Link × Link)) →
     AreLinksOf old links →
-    HasAddedTree old middle first (make s (tree_on old links.0.0) (tree_on old links.1.0)) →
-    HasAddedTree middle new second (make t (tree_on middle links.0.1) (tree_on middle links.1.1)) →
-    HasParts old new (first, second) (make s (tree_on old links.0.0) (tree_on old links.1.0), make t (tree_on old links.0.1) (tree_on old links.1.1))
+    HasAddedTree old middle first (node_or_leaf s (tree_on old links.0.0) (tree_on old links.1.0)) →
+    HasAddedTree middle new second (node_or_leaf t (tree_on middle links.0.1) (tree_on middle links.1.1)) →
+    HasParts old new (first, second) (node_or_leaf s (tree_on old links.0.0) (tree_on old links.1.0), node_or_leaf t (tree_on old links.0.1) (tree_on old links.1.1))
 both_made old middle new first second s t links h f g = record {
   longer = longer_twice old middle new f.longer g.longer;
-  low = still middle new first (make s (tree_on old links.0.0) (tree_on old links.1.0)) g.longer f.stands;
+  low = still middle new first (node_or_leaf s (tree_on old links.0.0) (tree_on old links.1.0)) g.longer f.stands;
   high = record {
     there = g.stands.there;
-    same = g.stands.same ∙ ap₂ (make t) (stood_on old middle links.0.1 f.longer h.low_ahead) (stood_on old middle links.1.1 f.longer h.high_ahead);
+    same = g.stands.same ∙ ap₂ (node_or_leaf t) (stood_on old middle links.0.1 f.longer h.low_ahead) (stood_on old middle links.1.1 f.longer h.high_ahead);
   };
 }
 
@@ -151,12 +151,12 @@ side_links old new links low high h = record {
 
 -- the parts of a node by a polygon that is across its plane
 pub across_parted : (old middle new : Sheet) (links : (Link × Link) × (Link × Link)) (low high : BspTree × BspTree) (made : Link × Link) (s t : Outline) →
-    HasSideParts old middle links low high → HasParts middle new made (across_row s t (trees_on middle links.0) (trees_on middle links.1)) →
-    HasParts old new made (across_row s t low high)
+    HasSideParts old middle links low high → HasParts middle new made (parts_where_across s t (trees_on middle links.0) (trees_on middle links.1)) →
+    HasParts old new made (parts_where_across s t low high)
 across_parted old middle new links low high made s t h m =
     let el = ap₂ (λ (x y : BspTree). (x, y)) h.low_behind.same h.low_ahead.same in
     let eh = ap₂ (λ (x y : BspTree). (x, y)) h.high_behind.same h.high_ahead.same in
-    subst (HasParts old new made) (ap₂ (across_row s t) el eh)
+    subst (HasParts old new made) (ap₂ (parts_where_across s t) el eh)
     (record { longer = longer_twice old middle new h.longer m.longer; low = m.low; high = m.high })
 
 -- two leaves are both their parts

@@ -12,12 +12,12 @@ use Rattle.plane_table.specs.Tables.{plane_named}
 use Rattle.plane_table.specs.Cuts.{part_in}
 use Rattle.plane_table.specs.Faces.{outline_of, IsFaceOver}
 use Rattle.bsp_partition.specs.declared.fork.Fork.{Fork}
-use Rattle.bsp_tree.specs.Partitions.{divide, rows}
+use Rattle.bsp_tree.specs.Partitions.{divide, parts_by_class}
 
 -- the parts of a node with the polygon t and the solids b and a, on another plane than s
-abbrev pub row_parts : Outline → Outline → BspTree → BspTree → BspTree × BspTree
-row_parts s t b a =
-    rows (class_of s t.plane) (class_of t s.plane) s t b a
+abbrev pub parts_off_plane : Outline → Outline → BspTree → BspTree → BspTree × BspTree
+parts_off_plane s t b a =
+    parts_by_class (class_of s t.plane) (class_of t s.plane) s t b a
     (divide b s) (divide a s) (divide b (part_behind s t.plane)) (divide a (part_ahead s t.plane))
 
 -- the outline of a face over a sheet's planes

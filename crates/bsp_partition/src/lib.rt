@@ -34,6 +34,7 @@ pub fn partition(alloc: Global, solid: &Solid, by: &Polygon) -> Result<(Solid, S
 fn parts_of(alloc: Global, solid: &Solid, by: &Polygon) -> Result<(Solid, Solid), NoMemory>
     ensures { IfOk result (λ r. (tree_of r.0, tree_of r.1) ≡ divide (tree_of solid.now) by.now) }
 {
+    // Brings a law alone: where all planes of a list have numbers, so have those of a face.
     faces_are_found();
     let own = face_of(alloc, by)?;
     let (planes, _, root) = solid.parts();

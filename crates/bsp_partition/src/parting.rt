@@ -7,10 +7,10 @@ ghost use Rattle.plane_polygon.specs.declared.classes.Class.TheVariants.{Across}
 ghost use Rattle.plane_table.specs.Tables.{plane_named};
 ghost use Rattle.plane_table.specs.Cuts.{IsCrossing};
 ghost use Rattle.plane_table.specs.Faces.{AreSidesWhereAcross, IsFaceOver};
-ghost use Rattle.bsp_tree.specs.Trees.{make};
+ghost use Rattle.bsp_tree.specs.Trees.{node_or_leaf};
 ghost use Rattle.bsp_tree.specs.Growths.{tree_on};
-ghost use Rattle.bsp_tree.specs.Partitions.{across_row, ahead_row, behind_row, divide};
-ghost use Rattle.bsp_partition.specs.Parts.{half_on, high_division, low_division, outline_on, row_parts, trees_on, AreLinksOf, HasAddedTree, HasParts, HasSideParts, IsForkOn};
+ghost use Rattle.bsp_tree.specs.Partitions.{parts_where_across, parts_where_ahead, parts_where_behind, divide};
+ghost use Rattle.bsp_partition.specs.Parts.{half_on, high_division, low_division, outline_on, parts_off_plane, trees_on, AreLinksOf, HasAddedTree, HasParts, HasSideParts, IsForkOn};
 
 use crate::fork::Fork;
 use bsp_tree::{Face, Link, NodeId, Nodes, Part, is_same_leaf};
@@ -84,7 +84,7 @@ fn other_parts(
     requires face { IsFaceOver nodes.old.planes by.now }
     ensures { IfOk result
         (λ r. HasParts nodes.old nodes.new r
-        (row_parts (outline_on nodes.old by.now) (outline_on nodes.old node.face)
+        (parts_off_plane (outline_on nodes.old by.now) (outline_on nodes.old node.face)
         (tree_on nodes.old node.behind) (tree_on nodes.old node.ahead))) }
 {
     let table = nodes.table();
@@ -173,7 +173,7 @@ fn made_across(
     requires links { AreLinksOf nodes.old parts }
     ensures { IfOk result
         (λ r. HasParts nodes.old nodes.new r
-        (across_row (outline_on nodes.old by.now) (outline_on nodes.old face.now)
+        (parts_where_across (outline_on nodes.old by.now) (outline_on nodes.old face.now)
         (trees_on nodes.old parts.0) (trees_on nodes.old parts.1))) }
 {
     let (low, high) = parts;
@@ -201,7 +201,7 @@ fn make_half(
     requires ahead { IsLinkOf nodes.old.nodes ahead }
     ensures { IfOk result
         (λ l. HasAddedTree nodes.old nodes.new l
-        (make (half_on nodes.old half own.entry) (tree_on nodes.old behind)
+        (node_or_leaf (half_on nodes.old half own.entry) (tree_on nodes.old behind)
         (tree_on nodes.old ahead))) }
 {
     if is_same_leaf(behind, ahead) {
@@ -224,7 +224,7 @@ fn behind_parts(
     requires face { IsFaceOver nodes.old.planes by.now }
     ensures { IfOk result
         (λ r. HasParts nodes.old nodes.new r
-        (behind_row part (outline_on nodes.old node.face)
+        (parts_where_behind part (outline_on nodes.old node.face)
         (divide (tree_on nodes.old node.behind) (outline_on nodes.old by.now))
         (tree_on nodes.old node.ahead))) }
 {
@@ -248,7 +248,7 @@ fn ahead_parts(
     requires face { IsFaceOver nodes.old.planes by.now }
     ensures { IfOk result
         (λ r. HasParts nodes.old nodes.new r
-        (ahead_row part (outline_on nodes.old node.face) (tree_on nodes.old node.behind)
+        (parts_where_ahead part (outline_on nodes.old node.face) (tree_on nodes.old node.behind)
         (divide (tree_on nodes.old node.ahead) (outline_on nodes.old by.now)))) }
 {
     let (low, high) = add_parts(alloc, nodes, node.ahead, by)?;
@@ -265,7 +265,7 @@ fn make_node(nodes: &mut Nodes<'_>, face: Face, behind: Link, ahead: Link) -> Re
     requires ahead { IsLinkOf nodes.old.nodes ahead }
     ensures { IfOk result
         (λ l. HasAddedTree nodes.old nodes.new l
-        (make (outline_on nodes.old face) (tree_on nodes.old behind) (tree_on nodes.old ahead))) }
+        (node_or_leaf (outline_on nodes.old face) (tree_on nodes.old behind) (tree_on nodes.old ahead))) }
 {
     if is_same_leaf(behind, ahead) {
         return Ok(behind);

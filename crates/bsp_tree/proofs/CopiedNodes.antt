@@ -8,7 +8,7 @@ use Rattle.link_forest.specs.declared.link.Link.{Link}
 use Rattle.link_forest.specs.declared.link.Link.TheVariants.{End, To}
 use Rattle.link_forest.specs.declared.link.NodeId.{NodeId}
 use Rattle.link_forest.specs.declared.forest.Entry.{Entry}
-use Rattle.link_forest.specs.Forests.{entry, least_nodes, Adds, IsNode, IsReached, itself, by_behind, by_ahead}
+use Rattle.link_forest.specs.Forests.{entry, least_nodes, AddsNode, IsNode, IsReached, itself, by_behind, by_ahead}
 use Rattle.link_forest.proofs.Numbers.{stays, behind_all}
 use Rattle.plane_table.specs.declared.faces.Face.{Face}
 use Rattle.plane_table.specs.Faces.{outline_of}
@@ -32,7 +32,7 @@ none_copied planes nodes sheet none = record {
 
 -- the tree of the node that was added
 added_tree : (planes : List Coefficients) (nodes : List (Entry Face)) (old new : Sheet) (face copy : Face) (behind ahead : Link) (at id : NodeId) →
-    AreCopied planes nodes at.index old → IsNode nodes at face behind ahead → Adds old.nodes new.nodes copy behind ahead id →
+    AreCopied planes nodes at.index old → IsNode nodes at face behind ahead → AddsNode old.nodes new.nodes copy behind ahead id →
     new.planes ≡ old.planes → outline_of old.planes copy ≡ outline_of planes face → tree_on new (To id) ≡ tree_at_link planes nodes (To at)
 added_tree planes nodes old new face copy behind ahead at id h n d p same =
     ap₂ tree_of_branch p d.tree
@@ -46,7 +46,7 @@ same_node nodes at index face behind ahead node same first second =
     let both : Some (entry face behind ahead) ≡ Some node = sym first ∙ ap (slice_get nodes) same ∙ second in cc
 
 pub copied_more : (planes : List Coefficients) (nodes : List (Entry Face)) (old new : Sheet) (face copy : Face) (behind ahead : Link) (at id : NodeId) →
-    AreCopied planes nodes at.index old → IsNode nodes at face behind ahead → Adds old.nodes new.nodes copy behind ahead id →
+    AreCopied planes nodes at.index old → IsNode nodes at face behind ahead → AddsNode old.nodes new.nodes copy behind ahead id →
     new.planes ≡ old.planes → outline_of old.planes copy ≡ outline_of planes face → AreCopied planes nodes (at.index + 1) new
 copied_more planes nodes old new face copy behind ahead at id h n d p same = record {
   count_is = rw d.nodes (length_push old.nodes (entry copy behind ahead)) ∙ ap (λ (k : ℕ). k + 1) h.count_is;

@@ -6,7 +6,7 @@ use Rattle.plane_polygon.specs.declared.classes.Class.{Class}
 use Rattle.plane_polygon.specs.declared.classes.Class.TheVariants.{Behind, Ahead, On, Across}
 use Rattle.plane_polygon.specs.Parts.{class_of, part_behind, part_ahead}
 use Rattle.plane_polygon.proofs.CornerSides.{across_opposite}
-use Rattle.bsp_tree.specs.Trees.{BspTree, inside, outside, node, make}
+use Rattle.bsp_tree.specs.Trees.{BspTree, inside, outside, node, node_or_leaf}
 use Rattle.bsp_tree.specs.Cells.{IsInCell, IsPolygonOfCell, IsOfCell}
 use Rattle.bsp_tree.proofs.Opposites.{opposite_zero, opposite_back, opposite_above, behind_opposite_above, opposite_twice}
 use Rattle.bsp_tree.proofs.SameNumbers.{same_equal}
@@ -14,7 +14,7 @@ use Rattle.bsp_tree.proofs.SamePoints.{same_of_cell, same_exchanged, same_implie
 use Rattle.bsp_tree.proofs.PolygonsOfCells.{across_part}
 use Rattle.bsp_tree.proofs.Halves.{lying}
 use Rattle.bsp_tree.proofs.Sides.{LiesBehind, lies_behind, lies_ahead}
-use Rattle.bsp_tree.specs.Partitions.{divide, rows, AreOfHalves}
+use Rattle.bsp_tree.specs.Partitions.{divide, parts_by_class, AreOfHalves}
 use Rattle.bsp_tree.proofs.Apart.{apart}
 use Rattle.bsp_tree.proofs.Ways.{is_way, way_of}
 
@@ -34,7 +34,7 @@ without_plane t m n cell f h = same_of_cell t (n ∷ m ∷ cell) (n ∷ cell)
 
 -- folding equal leaves keeps the cell
 make_cell : (cell : List Coefficients) (t : Outline) (b a : BspTree) → IsPolygonOfCell cell t →
-    IsOfCell (t.plane ∷ cell) b → IsOfCell (opposite_of t.plane ∷ cell) a → IsOfCell cell (make t b a)
+    IsOfCell (t.plane ∷ cell) b → IsOfCell (opposite_of t.plane ∷ cell) a → IsOfCell cell (node_or_leaf t b a)
 make_cell cell t inside inside h hb ha = tt
 make_cell cell t outside outside h hb ha = tt
 make_cell cell t inside outside h hb ha = (h, hb, ha)
@@ -56,7 +56,7 @@ row_cells : (cell : List Coefficients) (s t : Outline) (b a : BspTree) (low high
     OfHalves (opposite_of t.plane ∷ cell) s.plane high) →
     (x ≡ Across → OfHalves (t.plane ∷ cell) s.plane low_part) →
     (x ≡ Across → OfHalves (opposite_of t.plane ∷ cell) s.plane high_part) →
-    OfHalves cell s.plane (rows x y s t b a low high low_part high_part)
+    OfHalves cell s.plane (parts_by_class x y s t b a low high low_part high_part)
 row_cells cell s t b a low high low_part high_part Across Across ex ey r hs ht hb ha kb ka kbp kap =
     let m = s.plane in let n = opposite_of s.plane in let q = t.plane in let o = opposite_of t.plane in
     let l = kbp refl in let h = kap refl in (
@@ -151,7 +151,7 @@ halves inside cell s h hs = (tt, tt)
 halves outside cell s h hs = (tt, tt)
 halves (node t b a) cell s h hs =
     let q = t.plane in let o = opposite_of t.plane in
-    node_cells cell s t b a (rows (class_of s q) (class_of t s.plane) s t b a (divide b s) (divide a s)
+    node_cells cell s t b a (parts_by_class (class_of s q) (class_of t s.plane) s t b a (divide b s) (divide a s)
     (divide b (part_behind s q)) (divide a (part_ahead s q))) (is_same q s.plane)
     (is_same q (opposite_of s.plane)) refl refl h.1 h.2
     (λ ex ey. row_cells cell s t b a (divide b s) (divide a s) (divide b (part_behind s q))

@@ -5,12 +5,12 @@ use Rattle.plane_polygon.specs.Polygons.{Outline}
 use Rattle.plane_polygon.specs.declared.classes.Class.{Class}
 use Rattle.plane_polygon.specs.declared.classes.Class.TheVariants.{Behind, Ahead, On, Across}
 use Rattle.plane_polygon.specs.Parts.{class_of, part_behind, part_ahead}
-use Rattle.bsp_tree.specs.Trees.{BspTree, inside, outside, node, make}
+use Rattle.bsp_tree.specs.Trees.{BspTree, inside, outside, node, node_or_leaf}
 use Rattle.bsp_tree.specs.Cells.{HasPlanesOf}
-use Rattle.bsp_tree.specs.Partitions.{divide, rows, HaveNoNewPlane}
+use Rattle.bsp_tree.specs.Partitions.{divide, parts_by_class, HaveNoNewPlane}
 
 -- folding equal leaves adds no plane
-make_planes : (t : Outline) (b a : BspTree) → HasPlanesOf (make t b a) (node t b a)
+make_planes : (t : Outline) (b a : BspTree) → HasPlanesOf (node_or_leaf t b a) (node t b a)
 make_planes t inside inside m h = absurd h
 make_planes t outside outside m h = absurd h
 make_planes t inside outside m h = h
@@ -27,7 +27,7 @@ node_planes s t c d b a e hb ha m (inr (inl k)) = inr (inl (hb m k))
 node_planes s t c d b a e hb ha m (inr (inr k)) = inr (inr (ha m k))
 
 made_planes : (s t : Outline) (c d b a : BspTree) → s.plane ≡ t.plane → HasPlanesOf c b → HasPlanesOf d a →
-    HasPlanesOf (make s c d) (node t b a)
+    HasPlanesOf (node_or_leaf s c d) (node t b a)
 made_planes s t c d b a e hb ha m k = node_planes s t c d b a e hb ha m (make_planes s c d m k)
 
 behind_planes : (t : Outline) (c b a : BspTree) → HasPlanesOf c b → HasPlanesOf c (node t b a)
@@ -44,7 +44,7 @@ both_sides t b a = (behind_planes t b b a (own_planes b), ahead_planes t a b a (
 
 row_planes : (s t : Outline) (b a : BspTree) (low high low_part high_part : BspTree × BspTree) (x y : Class) →
     HaveNoNewPlane b low → HaveNoNewPlane a high → HaveNoNewPlane b low_part → HaveNoNewPlane a high_part →
-    HaveNoNewPlane (node t b a) (rows x y s t b a low high low_part high_part)
+    HaveNoNewPlane (node t b a) (parts_by_class x y s t b a low high low_part high_part)
 row_planes s t b a low high low_part high_part Across Across l h lp hp = (
   made_planes (part_behind t s.plane) t low_part.0 high_part.0 b a refl lp.0 hp.0,
   made_planes (part_ahead t s.plane) t low_part.1 high_part.1 b a refl lp.1 hp.1,
@@ -80,7 +80,7 @@ divide_planes inside s = (own_planes inside, own_planes inside)
 divide_planes outside s = (own_planes outside, own_planes outside)
 divide_planes (node t b a) s =
     let q = t.plane in
-    chosen_planes t b a (rows (class_of s q) (class_of t s.plane) s t b a (divide b s) (divide a s)
+    chosen_planes t b a (parts_by_class (class_of s q) (class_of t s.plane) s t b a (divide b s) (divide a s)
     (divide b (part_behind s q)) (divide a (part_ahead s q))) (is_same q s.plane)
     (is_same q (opposite_of s.plane))
     (row_planes s t b a (divide b s) (divide a s) (divide b (part_behind s q)) (divide a (part_ahead s q))

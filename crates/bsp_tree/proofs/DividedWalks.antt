@@ -15,7 +15,7 @@ use Rattle.bsp_tree.proofs.PolygonsOfCells.{across_part}
 use Rattle.bsp_tree.proofs.Halves.{lying}
 use Rattle.bsp_tree.proofs.Sides.{LiesBehind, lies_behind, lies_ahead}
 use Rattle.bsp_tree.proofs.Walks.{make_walk, walk_behind, walk_ahead}
-use Rattle.bsp_tree.specs.Partitions.{divide, rows, KeepsWalkAt, KeepWalks}
+use Rattle.bsp_tree.specs.Partitions.{divide, parts_by_class, KeepsWalkAt, KeepWalks}
 use Rattle.bsp_tree.proofs.Apart.{excluded}
 use Rattle.bsp_tree.proofs.Ways.{is_way, way_of}
 
@@ -31,7 +31,7 @@ row_behind : (cell : List Coefficients) (s t : Outline) (b a : BspTree) (low hig
     class_of s t.plane ≡ x → class_of t s.plane ≡ y → is_way x y ≡ true → IsPolygonOfCell cell s → IsPolygonOfCell cell t →
     IsInCell cell p → value t.plane p <ℤ pos 0 →
     (LiesBehind s t.plane → KeepsWalkAt b s.plane low p) → (x ≡ Across → KeepsWalkAt b s.plane low_part p) →
-    KeepsWalkAt (node t b a) s.plane (rows x y s t b a low high low_part high_part) p
+    KeepsWalkAt (node t b a) s.plane (parts_by_class x y s t b a low high low_part high_part) p
 row_behind cell s t b a low high low_part high_part p Across Across ex ey r hs ht hp q k kp =
     let i = kp refl in record {
       low = λ m. make_walk (part_behind t s.plane) low_part.0 high_part.0 p ∙
@@ -86,7 +86,7 @@ row_ahead : (cell : List Coefficients) (s t : Outline) (b a : BspTree) (low high
     IsInCell cell p → pos 0 <ℤ value t.plane p →
     (LiesBehind s (opposite_of t.plane) → KeepsWalkAt a s.plane high p) →
     (x ≡ Across → KeepsWalkAt a s.plane high_part p) →
-    KeepsWalkAt (node t b a) s.plane (rows x y s t b a low high low_part high_part) p
+    KeepsWalkAt (node t b a) s.plane (parts_by_class x y s t b a low high low_part high_part) p
 row_ahead cell s t b a low high low_part high_part p Across Across ex ey r hs ht hp q k kp =
     let i = kp refl in record {
       low = λ m. make_walk (part_behind t s.plane) low_part.0 high_part.0 p ∙
@@ -158,7 +158,7 @@ keeps inside cell s h hs p hp off = record { low = λ _. refl; high = λ _. refl
 keeps outside cell s h hs p hp off = record { low = λ _. refl; high = λ _. refl }
 keeps (node t b a) cell s h hs p hp off =
     let q = t.plane in
-    node_keeps s t b a p (rows (class_of s q) (class_of t s.plane) s t b a (divide b s) (divide a s)
+    node_keeps s t b a p (parts_by_class (class_of s q) (class_of t s.plane) s t b a (divide b s) (divide a s)
     (divide b (part_behind s q)) (divide a (part_ahead s q))) (is_same q s.plane)
     (is_same q (opposite_of s.plane)) refl refl
     (λ ex ey. elim (signs (value q p)) [

@@ -8,13 +8,13 @@ use Rattle.link_forest.specs.declared.link.Link.{Link}
 use Rattle.link_forest.specs.declared.link.NodeId.{NodeId}
 use Rattle.link_forest.specs.declared.link.Link.TheVariants.{End, To}
 use Rattle.link_forest.specs.declared.forest.Entry.{Entry}
-use Rattle.link_forest.specs.Forests.{Adds, AreLinked, IsLinkOf}
+use Rattle.link_forest.specs.Forests.{AddsNode, AreLinked, IsLinkOf}
 use Rattle.link_forest.proofs.Longer.{is_node}
 use Rattle.link_forest.proofs.Reaching.{ends_reach_none, reached_by_added}
 use Rattle.plane_table.specs.declared.faces.Face.{Face}
 use Rattle.plane_table.specs.Tables.{plane_named}
 use Rattle.plane_table.specs.Faces.{outline_of, face_size}
-use Rattle.bsp_tree.specs.Trees.{BspTree, inside, outside, node, make, size}
+use Rattle.bsp_tree.specs.Trees.{BspTree, inside, outside, node, node_or_leaf, size}
 use Rattle.bsp_tree.specs.Links.{same_leaf}
 use Rattle.bsp_tree.specs.Shapes.{leaf_of, tree_of_branch, tree_at_link}
 use Rattle.bsp_tree.specs.Growths.{Sheet, SolidGrowth, tree_on, HasTree, HasGrown, GrowsBy}
@@ -39,7 +39,7 @@ leaf_grows growth side = record {
 -- a node over two trees that have grown
 pub node_grows : (start middle old new : SolidGrowth) (face : Face) (behind ahead : Link) (b a : BspTree) (id : NodeId) →
     HasGrown start middle behind b → HasGrown middle old ahead a →
-    Adds old.sheet.nodes new.sheet.nodes face behind ahead id → new.sheet.planes ≡ old.sheet.planes →
+    AddsNode old.sheet.nodes new.sheet.nodes face behind ahead id → new.sheet.planes ≡ old.sheet.planes →
     new.size ≡ old.size + face_size face → new.most ≡ old.most →
     HasGrown start new (To id) (node (outline_of old.sheet.planes face) b a)
 node_grows start middle old new face behind ahead b a id hb ha d p s m = record {
@@ -63,17 +63,17 @@ node_stops start middle old face behind ahead b a hb ha h =
 leaf_tree : (sheet : Sheet) (side : Bool) (t : BspTree) → HasTree sheet (End side) t → t ≡ leaf_of side
 leaf_tree sheet side t h = sym h.same ∙ (leaf_stands sheet side).same
 
-make_leaf : (s : Outline) (side : Bool) → make s (leaf_of side) (leaf_of side) ≡ leaf_of side
+make_leaf : (s : Outline) (side : Bool) → node_or_leaf s (leaf_of side) (leaf_of side) ≡ leaf_of side
 make_leaf s true = refl
 make_leaf s false = refl
 
 leaves_grow : (start middle old : SolidGrowth) (side : Bool) (s : Outline) (b a : BspTree) →
     HasGrown start middle (End side) b → HasGrown middle old (End side) a →
-    HasGrown start old (End side) (make s b a)
+    HasGrown start old (End side) (node_or_leaf s b a)
 leaves_grow start middle old side s b a hb ha =
     let eb = leaf_tree middle.sheet side b hb.stands in
     let ea = leaf_tree old.sheet side a ha.stands in
-    let whole : make s b a ≡ leaf_of side = ap₂ (make s) eb ea ∙ make_leaf s side in
+    let whole : node_or_leaf s b a ≡ leaf_of side = ap₂ (node_or_leaf s) eb ea ∙ make_leaf s side in
     subst (λ (t : BspTree). HasGrown start old (End side) t) (sym whole) (record {
       longer = longer_twice start.sheet middle.sheet old.sheet hb.longer ha.longer;
       stands = leaf_stands old.sheet side;
@@ -87,7 +87,7 @@ leaves_grow start middle old side s b a hb ha =
 
 pub same_grows : (start middle old : SolidGrowth) (behind ahead : Link) (s : Outline) (b a : BspTree) →
     same_leaf behind ahead ≡ true → HasGrown start middle behind b → HasGrown middle old ahead a →
-    HasGrown start old behind (make s b a)
+    HasGrown start old behind (node_or_leaf s b a)
 same_grows start middle old (End true) (End true) s b a e hb ha = leaves_grow start middle old true s b a hb ha
 same_grows start middle old (End false) (End false) s b a e hb ha = leaves_grow start middle old false s b a hb ha
 same_grows start middle old (End true) (End false) s b a e hb ha = absurd (false≢true e)
@@ -96,7 +96,7 @@ same_grows start middle old (End side) (To id) s b a e hb ha = absurd (false≢t
 same_grows start middle old (To id) ahead s b a e hb ha = absurd (false≢true e)
 
 -- other trees are put together in a node
-make_node : (s : Outline) (b a : BspTree) → (make s b a ≡ node s b a) ⊎ ((side : Bool) × (b ≡ leaf_of side) × (a ≡ leaf_of side))
+make_node : (s : Outline) (b a : BspTree) → (node_or_leaf s b a ≡ node s b a) ⊎ ((side : Bool) × (b ≡ leaf_of side) × (a ≡ leaf_of side))
 make_node s inside inside = inr (true, refl, refl)
 make_node s outside outside = inr (false, refl, refl)
 make_node s inside outside = inl refl
@@ -106,7 +106,7 @@ make_node s outside (node t c d) = inl refl
 make_node s (node t c d) a = inl refl
 
 -- a node is as large as its two trees together, and larger
-pub make_size : (s : Outline) (b a : BspTree) → size b + size a ≤ size (make s b a)
+pub make_size : (s : Outline) (b a : BspTree) → size b + size a ≤ size (node_or_leaf s b a)
 make_size s inside inside = omega arith
 make_size s outside outside = omega arith
 make_size s inside outside = omega arith
@@ -183,7 +183,7 @@ leaf_is_end sheet (To id) side l h = absurd (no_leaf sheet.planes sheet.nodes id
 
 -- two trees that are no leaves of one kind are put together in a node
 pub other_make : (sheet : Sheet) (behind ahead : Link) (s : Outline) → AreLinked sheet.nodes → IsLinkOf sheet.nodes behind → IsLinkOf sheet.nodes ahead →
-    same_leaf behind ahead ≡ false → node s (tree_on sheet behind) (tree_on sheet ahead) ≡ make s (tree_on sheet behind) (tree_on sheet ahead)
+    same_leaf behind ahead ≡ false → node s (tree_on sheet behind) (tree_on sheet ahead) ≡ node_or_leaf s (tree_on sheet behind) (tree_on sheet ahead)
 other_make sheet behind ahead s l kb ka e = elim (make_node s (tree_on sheet behind) (tree_on sheet ahead)) [
   | inl h ↦ sym h
   | inr h ↦
@@ -193,8 +193,8 @@ other_make sheet behind ahead s l kb ka e = elim (make_node s (tree_on sheet beh
 ]
 
 pub other_grows : (start middle old : SolidGrowth) (behind ahead : Link) (s : Outline) (b a : BspTree) → AreLinked old.sheet.nodes →
-    same_leaf behind ahead ≡ false → HasGrown start middle behind b → HasGrown middle old ahead a → node s b a ≡ make s b a
+    same_leaf behind ahead ≡ false → HasGrown start middle behind b → HasGrown middle old ahead a → node s b a ≡ node_or_leaf s b a
 other_grows start middle old behind ahead s b a l e hb ha =
     let there = still middle.sheet old.sheet behind b ha.longer hb.stands in
     sym (ap₂ (node s) there.same ha.stands.same) ∙ other_make old.sheet behind ahead s l there.there ha.stands.there e
-    ∙ ap₂ (make s) there.same ha.stands.same
+    ∙ ap₂ (node_or_leaf s) there.same ha.stands.same

@@ -5,7 +5,7 @@ use Rattle.plane_predicate.proofs.Identities.{combine, value_combine}
 use Rattle.plane_predicate.proofs.Polynomials.{num, ring}
 use Rattle.plane_predicate.proofs.Vectors.{form, of_plane, valueP, innerP}
 use Rattle.bsp_tree.specs.Trees.{BspTree, inside, outside, node}
-use Rattle.bsp_tree.specs.Cells.{IsPlaneOf}
+use Rattle.bsp_tree.specs.Cells.{IsNodePlaneOf}
 use Rattle.bsp_tree.proofs.Openness.{more_below, more_above}
 
 -- the direction of a plane, as what is added to a point that moves ahead of it
@@ -40,7 +40,7 @@ often_in inside v u = 0
 often_in outside v u = 0
 often_in (node t b a) v u = unsigned_abs (v *ℤ value t.plane u) + often_in b v u + often_in a v u
 
-pub often_each : (t : BspTree) (v : ℤ) (u : Coordinates) (m : Coefficients) → IsPlaneOf m t →
+pub often_each : (t : BspTree) (v : ℤ) (u : Coordinates) (m : Coefficients) → IsNodePlaneOf m t →
     unsigned_abs (v *ℤ value m u) ≤ often_in t v u
 often_each inside v u m h = absurd h
 often_each outside v u m h = absurd h

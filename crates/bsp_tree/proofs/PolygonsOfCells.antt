@@ -6,7 +6,7 @@ use Rattle.plane_predicate.specs.Space.{Coefficients, Coordinates, value}
 use Rattle.plane_predicate.proofs.IntegerRing.{sums}
 use Rattle.plane_predicate.proofs.Identities.{combine, value_combine}
 use Rattle.plane_predicate.proofs.Sizes.{size_parts}
-use Rattle.plane_polygon.specs.Polygons.{Outline, sides, corner, IsPolygon, Covers}
+use Rattle.plane_polygon.specs.Polygons.{Outline, edge_count, corner, IsPolygon, Covers}
 use Rattle.plane_polygon.specs.Parts.{class_of, part_behind}
 use Rattle.plane_polygon.specs.declared.classes.Class.TheVariants.{Across}
 use Rattle.plane_polygon.proofs.Hull.{corner_on, hull}
@@ -18,7 +18,7 @@ use Rattle.bsp_tree.specs.Cells.{IsInCell, IsPolygonOfCell}
 use Rattle.bsp_tree.proofs.Convexity.{in_combine}
 
 -- a polygon has its corners
-pub corner_covered : (s : Outline) → IsPolygon s → (i : ℕ) → i < sides s → Covers s (corner s i)
+pub corner_covered : (s : Outline) → IsPolygon s → (i : ℕ) → i < edge_count s → Covers s (corner s i)
 corner_covered s h i l = record {
   weight = h.turns_left i l;
   on = corner_on s i;
@@ -43,7 +43,7 @@ on_both x y k hx hy = rw (hx, hy, *ℤ-zero (pos 1), *ℤ-zero k) refl
 
 -- a point of the open cell on the polygon, strictly behind q, from a corner strictly behind q
 pub inner_point : (cell : List Coefficients) (s : Outline) (q : Coefficients) → IsPolygonOfCell cell s → (i : ℕ) →
-    i < sides s →
+    i < edge_count s →
     value q (corner s i) <ℤ pos 0 → (y : Coordinates) × IsInCell cell y × (value s.plane y ≡ pos 0) ×
     (value q y <ℤ pos 0)
 inner_point cell s q h i l b =
@@ -87,8 +87,8 @@ across_part cell s q h e =
 
 -- a polygon of a cell that has no corner ahead of q, and one strictly behind q, is a polygon of the half of the cell
 pub across_behind : (cell : List Coefficients) (s : Outline) (q : Coefficients) → IsPolygonOfCell cell s → (i : ℕ) →
-    i < sides s →
-    value q (corner s i) <ℤ pos 0 → ((j : ℕ) → j < sides s → value q (corner s j) ≤ℤ pos 0) →
+    i < edge_count s →
+    value q (corner s i) <ℤ pos 0 → ((j : ℕ) → j < edge_count s → value q (corner s j) ≤ℤ pos 0) →
     IsPolygonOfCell (q ∷ cell) s
 across_behind cell s q h i l b all =
     let y = inner_point cell s q h i l b in

@@ -6,14 +6,14 @@ use Rattle.text_place.specs.declared.memory.NoMemory.{NoMemory}
 use Rattle.link_forest.specs.declared.link.Link.{Link}
 use Rattle.link_forest.specs.declared.link.NodeId.{NodeId}
 use Rattle.link_forest.specs.declared.forest.Entry.{Entry}
-use Rattle.link_forest.specs.Forests.{entry, StoredForest, Adds, Extends, IsNode}
+use Rattle.link_forest.specs.Forests.{entry, StoredForest, AddsNode, Extends, IsNode}
 use Rattle.link_forest.proofs.Numbers.{stays, which}
 use Rattle.plane_table.specs.declared.faces.Face.{Face}
 use Rattle.plane_table.specs.Faces.{IsFaceOver}
 use Rattle.bsp_tree.specs.Shapes.{AreFacesOver}
 
 pub faces_more : (planes : List Coefficients) (old new : List (Entry Face)) (face : Face) (behind ahead : Link) (id : NodeId) →
-    AreFacesOver planes old → IsFaceOver planes face → Adds old new face behind ahead id → AreFacesOver planes new
+    AreFacesOver planes old → IsFaceOver planes face → AddsNode old new face behind ahead id → AreFacesOver planes new
 faces_more planes old new face behind ahead id faces h d = record {
   each = λ index other there. elim (which old (entry face behind ahead) index other (rw d.nodes at there)) [
     | inl earlier ↦ faces.each index other earlier
@@ -33,7 +33,7 @@ face_is planes nodes id face behind ahead faces n = faces.each id.index (entry f
 
 -- whether a node was added or not
 pub faces_after : (planes : List Coefficients) (old new : StoredForest Face) (face : Face) (behind ahead : Link) (result : Result NodeId NoMemory) →
-    AreFacesOver planes old.nodes → IsFaceOver planes face → IfOk result (Adds old.nodes new.nodes face behind ahead) →
+    AreFacesOver planes old.nodes → IsFaceOver planes face → IfOk result (AddsNode old.nodes new.nodes face behind ahead) →
     OnErr result (new ≡ old) → AreFacesOver planes new.nodes
 faces_after planes old new face behind ahead (Ok id) faces h ok err = faces_more planes old.nodes new.nodes face behind ahead id faces h ok
 faces_after planes old new face behind ahead (Err stop) faces h ok err = rw err faces

@@ -5,7 +5,7 @@ use Rattle.link_forest.specs.declared.link.Link.{Link}
 use Rattle.link_forest.specs.declared.link.NodeId.{NodeId}
 use Rattle.link_forest.specs.declared.link.Link.TheVariants.{End, To}
 use Rattle.link_forest.specs.declared.forest.Entry.{Entry}
-use Rattle.link_forest.specs.Forests.{fork, tree_at, IsLinkOf, Adds}
+use Rattle.link_forest.specs.Forests.{fork, tree_at, IsLinkOf, AddsNode}
 use Rattle.link_forest.proofs.Longer.{extends_itself, extends_twice, tree_of_end}
 use Rattle.plane_table.specs.declared.faces.Face.{Face}
 use Rattle.plane_table.specs.Faces.{outline_of}
@@ -45,11 +45,11 @@ node_shown planes nodes id face behind ahead e = ap (tree_of_branch planes) e
 
 -- a node that was added
 pub adds_longer : (old new : Sheet) (face : Face) (behind ahead : Link) (id : NodeId) → new.planes ≡ old.planes →
-    Adds old.nodes new.nodes face behind ahead id → ExtendsSheet old new
+    AddsNode old.nodes new.nodes face behind ahead id → ExtendsSheet old new
 adds_longer old new face behind ahead id p d = record { planes = p; extends = d.extends }
 
 pub adds_tree : (old new : Sheet) (face : Face) (behind ahead : Link) (id : NodeId) (b a : BspTree) → new.planes ≡ old.planes →
-    Adds old.nodes new.nodes face behind ahead id → tree_on old behind ≡ b → tree_on old ahead ≡ a →
+    AddsNode old.nodes new.nodes face behind ahead id → tree_on old behind ≡ b → tree_on old ahead ≡ a →
     HasTree new (To id) (node (outline_of old.planes face) b a)
 adds_tree old new face behind ahead id b a p d eb ea = record {
   there = d.link;

@@ -4,13 +4,14 @@ use Rattle.std.proofs.lemmas.List.{map-append}
 use Rattle.std.proofs.lemmas.Int.{ints}
 use Rattle.plane_predicate.specs.Space.{Coefficients, Coordinates, value, opposite_of}
 use Rattle.plane_predicate.proofs.Vectors.{value-opposite}
-use Rattle.plane_polygon.specs.Polygons.{Outline, sides, corner}
+use Rattle.plane_polygon.specs.Polygons.{Outline, edge_count, corner}
 use Rattle.plane_polygon.specs.declared.classes.Class.TheVariants.{Behind, Ahead, On, Across}
-use Rattle.plane_polygon.specs.Parts.{class_by_sides, class_of, is_behind, is_ahead, some_of, corners, indices_below}
+use Rattle.plane_polygon.specs.Parts.{class_by_sides, class_of, is_behind, is_ahead, some_of, corners}
 use Rattle.plane_polygon.proofs.Hull.{hull}
 use Rattle.plane_polygon.proofs.PartPoints.{some_index}
 use Rattle.plane_polygon.proofs.PartCovers.{between_within}
 use Rattle.bsp_tree.specs.Cells.{IsInClosedCell, IsPolygonOfCell}
+use Rattle.plane_predicate.specs.Indices.{indices_below}
 
 -- ---- where no item passes a test
 or_left : (x y : Bool) → (x || y) ≡ false → (x ≡ false) × (y ≡ false)
@@ -87,23 +88,23 @@ of_across false false e = cc
 -- a corner strictly behind q
 pub record HasBehind (s : Outline) (q : Coefficients) : Type 0 where
   pub index : ℕ
-  pub index_below : index < sides s
+  pub index_below : index < edge_count s
   pub strict : value q (corner s index) <ℤ pos 0
 
 -- and no corner ahead of it
 pub record LiesBehind (s : Outline) (q : Coefficients) : Type 0 where
   pub some : HasBehind s q
-  pub all : (j : ℕ) → j < sides s → value q (corner s j) ≤ℤ pos 0
+  pub all : (j : ℕ) → j < edge_count s → value q (corner s j) ≤ℤ pos 0
 
 found_behind : (s : Outline) (q : Coefficients) → some_of (is_behind q) (corners s) ≡ true → HasBehind s q
 found_behind s q e =
-    let i = some_index (is_behind q) (corner s) (sides s) e in
+    let i = some_index (is_behind q) (corner s) (edge_count s) e in
     record { index = i.0; index_below = i.1; strict = negative_now (value q (corner s i.0)) i.2 }
 
 found_ahead : (s : Outline) (q : Coefficients) → some_of (is_ahead q) (corners s) ≡ true →
     HasBehind s (opposite_of q)
 found_ahead s q e =
-    let i = some_index (is_ahead q) (corner s) (sides s) e in
+    let i = some_index (is_ahead q) (corner s) (edge_count s) e in
     record {
       index = i.0;
       index_below = i.1;
@@ -115,7 +116,7 @@ pub lies_behind : (s : Outline) (q : Coefficients) → class_of s q ≡ Behind �
 lies_behind s q e =
     let b = of_behind (some_of (is_behind q) (corners s)) (some_of (is_ahead q) (corners s)) e in record {
       some = found_behind s q b.0;
-      all = λ j l. most_now (value q (corner s j)) (none_index (is_ahead q) (corner s) (sides s) b.1 j l);
+      all = λ j l. most_now (value q (corner s j)) (none_index (is_ahead q) (corner s) (edge_count s) b.1 j l);
     }
 
 pub lies_ahead : (s : Outline) (q : Coefficients) → class_of s q ≡ Ahead → LiesBehind s (opposite_of q)
@@ -123,15 +124,15 @@ lies_ahead s q e =
     let b = of_ahead (some_of (is_behind q) (corners s)) (some_of (is_ahead q) (corners s)) e in record {
       some = found_ahead s q b.1;
       all = λ j l. turned_most (value q (corner s j)) (value (opposite_of q) (corner s j))
-          (value-opposite q (corner s j)) (none_index (is_behind q) (corner s) (sides s) b.0 j l);
+          (value-opposite q (corner s j)) (none_index (is_behind q) (corner s) (edge_count s) b.0 j l);
     }
 
-pub lies_on : (s : Outline) (q : Coefficients) → class_of s q ≡ On → (j : ℕ) → j < sides s →
+pub lies_on : (s : Outline) (q : Coefficients) → class_of s q ≡ On → (j : ℕ) → j < edge_count s →
     value q (corner s j) ≡ pos 0
 lies_on s q e j l =
     let b = of_on (some_of (is_behind q) (corners s)) (some_of (is_ahead q) (corners s)) e in
-    zero_now (value q (corner s j)) (none_index (is_behind q) (corner s) (sides s) b.0 j l)
-    (none_index (is_ahead q) (corner s) (sides s) b.1 j l)
+    zero_now (value q (corner s j)) (none_index (is_behind q) (corner s) (edge_count s) b.0 j l)
+    (none_index (is_ahead q) (corner s) (edge_count s) b.1 j l)
 
 pub lies_across : (s : Outline) (q : Coefficients) → class_of s q ≡ Across → HasBehind s q × HasBehind s
     (opposite_of q)

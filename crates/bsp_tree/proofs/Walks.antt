@@ -5,14 +5,14 @@ use Rattle.plane_predicate.proofs.IntegerRing.{sums}
 use Rattle.plane_polygon.specs.Polygons.{Outline}
 use Rattle.plane_polygon.specs.Parts.{is_behind}
 use Rattle.plane_polygon.proofs.CornerSides.{less, not_less}
-use Rattle.bsp_tree.specs.Trees.{BspTree, inside, outside, node, walk, make}
+use Rattle.bsp_tree.specs.Trees.{BspTree, inside, outside, node, walk, node_or_leaf}
 
 if_same : (b c : Bool) → (if b then c else c) ≡ c
 if_same true c = refl
 if_same false c = refl
 
 -- folding equal leaves keeps each walk
-pub make_walk : (t : Outline) (b a : BspTree) (p : Coordinates) → walk (make t b a) p ≡ walk (node t b a) p
+pub make_walk : (t : Outline) (b a : BspTree) (p : Coordinates) → walk (node_or_leaf t b a) p ≡ walk (node t b a) p
 make_walk t inside inside p = sym (if_same (is_behind t.plane p) true)
 make_walk t outside outside p = sym (if_same (is_behind t.plane p) false)
 make_walk t inside outside p = refl

@@ -6,7 +6,7 @@ use Rattle.plane_predicate.proofs.IntegerRing.{sums}
 use Rattle.plane_predicate.proofs.Identities.{combine, value_combine}
 use Rattle.plane_predicate.proofs.Signs.{zero_cancel, neg_neg}
 use Rattle.plane_predicate.proofs.SamePlanes.{equal_or_opposite}
-use Rattle.plane_polygon.specs.Polygons.{Outline, sides, corner, IsPolygon}
+use Rattle.plane_polygon.specs.Polygons.{Outline, edge_count, corner, IsPolygon}
 use Rattle.plane_polygon.specs.declared.classes.Class.{Class}
 use Rattle.plane_polygon.specs.declared.classes.Class.TheVariants.{Behind, Ahead, On, Across}
 use Rattle.plane_polygon.specs.Parts.{class_of}
@@ -42,11 +42,11 @@ fourth_zero t u v w a b c d ha hb hc e =
     omega (arith, sums, *ℤ-zero t, *ℤ-zero u, *ℤ-zero v)
 
 -- where three corners are on q, all points of the polygon's plane are
-on_points : (s : Outline) (q : Coefficients) → IsPolygon s → ((j : ℕ) → j < sides s →
+on_points : (s : Outline) (q : Coefficients) → IsPolygon s → ((j : ℕ) → j < edge_count s →
     value q (corner s j) ≡ pos 0) → HasItsPointsOn s.plane q
 on_points s q h e =
     let three = h.three in
-    let k = sides s in
+    let k = edge_count s in
     let a = corner_from s 0 0 in
     let b = corner_from s 0 1 in
     let c = corner_from s 0 2 in

@@ -8,7 +8,7 @@ use Rattle.link_forest.specs.declared.link.Link.{Link}
 use Rattle.link_forest.specs.declared.link.Link.TheVariants.{End, To}
 use Rattle.link_forest.specs.declared.link.NodeId.{NodeId}
 use Rattle.link_forest.specs.declared.forest.Entry.{Entry}
-use Rattle.link_forest.specs.Forests.{entry, node_id, Adds, itself}
+use Rattle.link_forest.specs.Forests.{entry, node_id, AddsNode, itself}
 use Rattle.link_forest.proofs.Longer.{tree_of_end}
 use Rattle.plane_table.specs.declared.faces.Face.{Face}
 use Rattle.plane_table.specs.Tables.{HasNoTwoAlike}
@@ -81,7 +81,7 @@ node_same {s} {t} {b} {c} {a} {d} e eb ea = ap₂ (λ (u : Outline) (v : BspTree
 
 -- a solid of one node with two leaves
 pub one_node_whole : (s : Outline) (own : OwnFace) (old new : List (Entry Face)) (id : NodeId) → IsOwnFaceOf s own → old ≡ [] →
-    Adds old new own.face (End true) (End false) id →
+    AddsNode old new own.face (End true) (End false) id →
     IsWholeSolid (record { planes = own.planes.items; nodes = new; root = To id })
 one_node_whole s own old new id h none d =
     let none_faces : AreFacesOver own.planes.items old = record { each = λ index entry there. absurd (omega (arith, slice_get_within old index entry there, ap length none)) } in
@@ -96,7 +96,7 @@ one_node_whole s own old new id h none d =
     }
 
 pub one_node_tree : (s : Outline) (own : OwnFace) (old new : List (Entry Face)) (id : NodeId) (solid : SolidParts) → IsOwnFaceOf s own → old ≡ [] →
-    Adds old new own.face (End true) (End false) id →
+    AddsNode old new own.face (End true) (End false) id →
     solid ≡ record { planes = own.planes.items; nodes = new; root = To id } → tree_of solid ≡ node s inside outside
 unfolding tree_of
 one_node_tree s own old new id solid h none d e =

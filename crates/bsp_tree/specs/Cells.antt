@@ -50,15 +50,15 @@ abbrev pub IsOfWorld : BspTree → Type 0
 IsOfWorld t = IsOfCell world_box t
 
 -- the plane of some node
-abbrev pub IsPlaneOf : Coefficients → BspTree → Type 0
-IsPlaneOf m inside = ⊥
-IsPlaneOf m outside = ⊥
-IsPlaneOf m (node s b a) = (m ≡ s.plane) ⊎ (IsPlaneOf m b ⊎ IsPlaneOf m a)
+abbrev pub IsNodePlaneOf : Coefficients → BspTree → Type 0
+IsNodePlaneOf m inside = ⊥
+IsNodePlaneOf m outside = ⊥
+IsNodePlaneOf m (node s b a) = (m ≡ s.plane) ⊎ (IsNodePlaneOf m b ⊎ IsNodePlaneOf m a)
 
 -- no plane of the first solid is new: each is one of the second
 abbrev pub HasPlanesOf : BspTree → BspTree → Type 0
-HasPlanesOf r t = (m : Coefficients) → IsPlaneOf m r → IsPlaneOf m t
+HasPlanesOf r t = (m : Coefficients) → IsNodePlaneOf m r → IsNodePlaneOf m t
 
 -- the point is on no plane of the solid
 abbrev pub IsOffPlanesOf : BspTree → Coordinates → Type 0
-IsOffPlanesOf t p = (m : Coefficients) → IsPlaneOf m t → value m p ≡ pos 0 → ⊥
+IsOffPlanesOf t p = (m : Coefficients) → IsNodePlaneOf m t → value m p ≡ pos 0 → ⊥

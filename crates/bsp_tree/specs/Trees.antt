@@ -1,7 +1,7 @@
 -- Solids as binary space partitions (Bernstein and Fussell).
 use Rattle.std.specs.Prelude.{ℕ, ◌+◌, Bool, true, false, if◌then◌else◌}
 use Rattle.plane_predicate.specs.Space.{Coefficients, Coordinates}
-use Rattle.plane_polygon.specs.Polygons.{Outline, sides}
+use Rattle.plane_polygon.specs.Polygons.{Outline, edge_count}
 use Rattle.plane_polygon.specs.Parts.{is_behind}
 use Rattle.plane_polygon.specs.Boxes.{box_outline}
 
@@ -21,7 +21,7 @@ walk (node t b a) p = if is_behind t.plane p then walk b p else walk a p
 abbrev pub size : BspTree → ℕ
 size inside = 0
 size outside = 0
-size (node t b a) = 1 + sides t + size b + size a
+size (node t b a) = 1 + edge_count t + size b + size a
 
 -- inside and outside exchanged
 abbrev pub complement : BspTree → BspTree
@@ -30,10 +30,10 @@ complement outside = inside
 complement (node t b a) = node t (complement b) (complement a)
 
 -- a node, or the leaf where both sides are the same leaf
-abbrev pub make : Outline → BspTree → BspTree → BspTree
-make t inside inside = inside
-make t outside outside = outside
-make t b a = node t b a
+abbrev pub node_or_leaf : Outline → BspTree → BspTree → BspTree
+node_or_leaf t inside inside = inside
+node_or_leaf t outside outside = outside
+node_or_leaf t b a = node t b a
 
 -- the points behind a plane, in the world box
 abbrev pub half_space : Coefficients → BspTree

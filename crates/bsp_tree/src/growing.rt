@@ -52,7 +52,7 @@ impl<'t> Growing<'t> {
     ghost use Rattle.std.specs.Prelude.{◌≡◌, [], length, IfOk};
     ghost use Rattle.link_forest.specs.Forests.{IsLinkOf};
     ghost use Rattle.plane_table.specs.Faces.{outline_of, IsFaceOver};
-    ghost use Rattle.bsp_tree.specs.Trees.{BspTree, make, node};
+    ghost use Rattle.bsp_tree.specs.Trees.{BspTree, node_or_leaf, node};
     ghost use Rattle.bsp_tree.specs.Growths.{SolidGrowth, GrowsBy, HasGrown};
     ghost use Rattle.bsp_tree.specs.Ranges.{HasOneNodeMore};
 
@@ -93,7 +93,8 @@ impl<'t> Growing<'t> {
         requires face { IsFaceOver self.old.sheet.planes face }
         requires behind { IsLinkOf self.old.sheet.nodes behind }
         requires ahead { IsLinkOf self.old.sheet.nodes ahead }
-        ensures grows { (start middle : SolidGrowth) (b a : BspTree) → HasGrown start middle behind b →
+        ensures grows { (start middle : SolidGrowth) (b a : BspTree) →
+            HasGrown start middle behind b →
             HasGrown middle self.old ahead a →
             GrowsBy start self.new (node (outline_of self.old.sheet.planes face) b a) result }
         ensures next { IfOk result (HasOneNodeMore self.old self.new) }
@@ -114,7 +115,7 @@ impl<'t> Growing<'t> {
         requires ahead { IsLinkOf self.old.sheet.nodes ahead }
         ensures { (start middle : SolidGrowth) (b a : BspTree) → HasGrown start middle behind b →
             HasGrown middle self.old ahead a →
-            GrowsBy start self.new (make (outline_of self.old.sheet.planes face) b a) result }
+            GrowsBy start self.new (node_or_leaf (outline_of self.old.sheet.planes face) b a) result }
     {
         if is_same_leaf(behind, ahead) {
             return Ok(behind);

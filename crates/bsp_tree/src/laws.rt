@@ -18,11 +18,15 @@ pub fn world_box_is_a_cell()
 /// A polygon that lies to one side of the plane is a polygon of the half on its side.
 pub fn parts_are_of_halves()
     ensures part_behind { (cell : List Coefficients) (s : Outline) (m : Coefficients) →
-        IsPolygonOfCell cell s → class_of s m ≡ Across → IsPolygonOfCell (m ∷ cell) (part_behind s m) }
+        IsPolygonOfCell cell s → class_of s m ≡ Across →
+        IsPolygonOfCell (m ∷ cell) (part_behind s m) }
     ensures part_ahead { (cell : List Coefficients) (s : Outline) (m : Coefficients) →
-        IsPolygonOfCell cell s → class_of s m ≡ Across → IsPolygonOfCell (opposite_of m ∷ cell) (part_ahead s m) }
-    ensures behind { (cell : List Coefficients) (s : Outline) (m : Coefficients) → IsPolygonOfCell cell s →
+        IsPolygonOfCell cell s → class_of s m ≡ Across →
+        IsPolygonOfCell (opposite_of m ∷ cell) (part_ahead s m) }
+    ensures behind { (cell : List Coefficients) (s : Outline) (m : Coefficients) →
+        IsPolygonOfCell cell s →
         class_of s m ≡ Behind → IsPolygonOfCell (m ∷ cell) s }
-    ensures ahead { (cell : List Coefficients) (s : Outline) (m : Coefficients) → IsPolygonOfCell cell s →
+    ensures ahead { (cell : List Coefficients) (s : Outline) (m : Coefficients) →
+        IsPolygonOfCell cell s →
         class_of s m ≡ Ahead → IsPolygonOfCell (opposite_of m ∷ cell) s }
 {}

@@ -31,7 +31,10 @@ impl<'a> Model for MovedNodes<'a> {
 
     ghost Value = { MovedSheet };
 
-    ghost view = { λ m. record { own = record { planes = m.planes.now; nodes = m.nodes }; planes = m.table.now } };
+    ghost view = { λ m. record {
+      own = record { planes = m.planes.now; nodes = m.nodes };
+      planes = m.table.now;
+    } };
 
     ghost invariant = { λ m. AreMoved m.table.now m.numbers.now m.planes.now m.nodes };
 }

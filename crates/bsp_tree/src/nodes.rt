@@ -28,7 +28,7 @@ impl<'t> Model for Nodes<'t> {
 }
 
 impl<'t> Nodes<'t> {
-    ghost use Rattle.link_forest.specs.Forests.{Adds, AreLinked, IsLinkOf, IsNode};
+    ghost use Rattle.link_forest.specs.Forests.{AddsNode, AreLinked, IsLinkOf, IsNode};
     ghost use Rattle.plane_table.specs.Faces.{outline_of, IsFaceOver};
     ghost use Rattle.bsp_tree.specs.Shapes.{AreFacesOver};
 
@@ -74,7 +74,7 @@ impl<'t> Nodes<'t> {
         requires behind { IsLinkOf self.old.nodes behind }
         requires ahead { IsLinkOf self.old.nodes ahead }
         ensures planes { self.new.planes ≡ self.old.planes }
-        ensures adds { IfOk result (Adds self.old.nodes self.new.nodes face behind ahead) }
+        ensures adds { IfOk result (AddsNode self.old.nodes self.new.nodes face behind ahead) }
     {
         self.forest.reserve(1)?;
         Ok(self.forest.add_reserved(face, behind, ahead))

@@ -35,7 +35,11 @@ impl Model for Solid {
 
     ghost view = { λ s. record { planes = s.planes.items; nodes = s.forest.nodes; root = s.root } };
 
-    ghost invariant = { λ s. KeepsItsSize (record { planes = s.planes.items; nodes = s.forest.nodes; root = s.root }) s.size };
+    ghost invariant = { λ s. KeepsItsSize (record {
+      planes = s.planes.items;
+      nodes = s.forest.nodes;
+      root = s.root;
+    }) s.size };
 }
 
 impl Solid {
@@ -61,7 +65,11 @@ impl Solid {
     /// The solid with just these parts: a table without two planes that are equal or opposite, faces over
     /// it, and the link from which each node is reached. Takes no memory, and the time of the tree's size.
     pub fn of_parts(planes: Vec<Plane>, forest: Forest<Face>, root: Link) -> Solid
-        requires { IsWholeSolid (record { planes = planes.items; nodes = forest.nodes; root = root }) }
+        requires { IsWholeSolid (record {
+          planes = planes.items;
+          nodes = forest.nodes;
+          root = root;
+        }) }
         ensures { result ≡ record { planes = planes.items; nodes = forest.nodes; root = root } }
     {
         let size = size_at(&forest, root);

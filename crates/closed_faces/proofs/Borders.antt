@@ -8,19 +8,20 @@ use Rattle.std.proofs.lemmas.Bool.{true≢false}
 use Rattle.std.proofs.lemmas.Bool.Decides.{Decides-and, Decides-int_eq}
 use Rattle.std.proofs.lemmas.List.{map-append}
 use Rattle.std.proofs.lemmas.List.Elements.{recursion_from_All}
-use Rattle.plane_predicate.specs.Space.{Coefficients, Coordinates, inner_product, orientation_seen_from, value}
+use Rattle.plane_predicate.specs.Space.{Coefficients, Coordinates, inner_product, orientation_seen_from, value, has_same_numbers}
 use Rattle.plane_predicate.proofs.IntegerRing.{sums}
 use Rattle.plane_predicate.proofs.Polynomials.{var, num, times, minus, ring}
 use Rattle.plane_predicate.proofs.SamePlanes.{directed_above}
 use Rattle.plane_predicate.proofs.Signs.{signs, neg_pos, pos_neg, pos_pos, zero_cancel}
-use Rattle.primitives.specs.Ways.{next_in_face, numbers_below}
-use Rattle.closed_faces.specs.Crossings.{crossing_with_face, crossings_with_faces, edge_at, edges_of_face, goes_ahead, is_left_of_all, is_same_edge, is_same_point, meeting_point, passage, opposite_edge, sides, vertex, volume, HavePairedEdges, Edge, Face, IsConvexFace, IsCutByPlane, ArePolygonsInGeneralPosition}
-use Rattle.closed_faces.specs.Sums.{total}
+use Rattle.primitives.specs.DirectedEdges.{next_in_face}
+use Rattle.closed_faces.specs.Crossings.{crossing_with_face, crossings_with_faces, edge_of_face, edges_of_face, goes_ahead, is_left_of_all, is_same_segment, meeting_point, passage, reversed_segment, count_of_corners, vertex, volume, HavePairedEdges, Segment, Face, IsConvexFace, IsCutByPlane, ArePolygonsInGeneralPosition}
+use Rattle.plane_predicate.specs.Sums.{sum_over}
 use Rattle.closed_faces.proofs.Coplanar.{turn_meeting, value_meeting, volume_back, volume_pairs}
 use Rattle.closed_faces.proofs.Edges.{after_in}
 use Rattle.closed_faces.proofs.Inside.{above_decides, ahead_decides, below_decides, lean, sum_none, IsSpot}
 use Rattle.closed_faces.proofs.Sums.{cancelled_total, same_below, same_bool, sum_below, sum_of_differences, sum_of_sums, total_append, total_flat}
 use Rattle.closed_faces.proofs.Windings.{downs, one, ups, winding}
+use Rattle.plane_predicate.specs.Indices.{indices_below}
 
 -- ---- one side and one edge
 -- 1 where the way from a to b goes ahead of n, that from p to q goes ahead of m, and they pass each other on the one side
@@ -39,12 +40,12 @@ mark_swapped n m a b p q = swapped_test (goes_ahead n a b) (goes_ahead m p q) (i
 -- a way whose ends are on a plane m that holds no corner of a face, and off the face's plane
 record IsWayOn (f : Face) (m : Coefficients) (a b : Coordinates) : Type 0 where
   convex : IsConvexFace f
-  off : (j : ℕ) → j < sides f → value m (vertex f j) ≢ pos 0
+  off : (j : ℕ) → j < count_of_corners f → value m (vertex f j) ≢ pos 0
   first_weight : pos 0 <ℤ a.w
   second_weight : pos 0 <ℤ b.w
   first_on : value m a ≡ pos 0
   second_on : value m b ≡ pos 0
-  apart : (j : ℕ) → j < sides f → goes_ahead f.plane a b ≡ true → IsCutByPlane m (edge_at f j) → volume a b (vertex f j) (vertex f (next_in_face j (sides f))) ≢ pos 0
+  apart : (j : ℕ) → j < count_of_corners f → goes_ahead f.plane a b ≡ true → IsCutByPlane m (edge_of_face f j) → volume a b (vertex f j) (vertex f (next_in_face j (count_of_corners f))) ≢ pos 0
 
 weight_of : (u v s t : ℤ) → v <ℤ pos 0 → pos 0 <ℤ u → pos 0 <ℤ s → pos 0 <ℤ t → pos 0 <ℤ (u *ℤ s -ℤ v *ℤ t)
 weight_of u v s t hv hu hs ht = omega (arith, sums, pos_pos u s hu hs, neg_pos v t hv ht)
@@ -69,8 +70,8 @@ spot f m a b w ahead =
       on = value_meeting n n a b ∙ no_difference (value n b) (value n a);
       level = value_meeting m n a b ∙ both_none (value n b) (value n a) (value m a) (value m b) w.first_on w.second_on;
       apart = λ j lt cut none. w.apart j lt ahead cut
-          (no_lean (inner_product n n) (volume a b (vertex f j) (vertex f (next_in_face j (sides f)))) (lean f (meeting_point n a b) j)
-          (turn_meeting n a b (vertex f j) (vertex f (next_in_face j (sides f))) (w.convex.on j lt) (w.convex.on (next_in_face j (sides f)) (after_in j (sides f) lt))) (directed_above n w.convex.directed) none);
+          (no_lean (inner_product n n) (volume a b (vertex f j) (vertex f (next_in_face j (count_of_corners f)))) (lean f (meeting_point n a b) j)
+          (turn_meeting n a b (vertex f j) (vertex f (next_in_face j (count_of_corners f))) (w.convex.on j lt) (w.convex.on (next_in_face j (count_of_corners f)) (after_in j (count_of_corners f) lt))) (directed_above n w.convex.directed) none);
     }
 
 -- the sign of a orientation_seen_from is the opposite of the determinant's
@@ -105,7 +106,7 @@ test_right k v l w e f hk =
 
 -- what a way through a face's plane has to do with one edge
 abbrev share : Face → Coefficients → Coordinates → Coordinates → ℕ → ℤ
-share f m a b j = mark f.plane m a b (vertex f j) (vertex f (next_in_face j (sides f))) -ℤ mark f.plane m a b (vertex f (next_in_face j (sides f))) (vertex f j)
+share f m a b j = mark f.plane m a b (vertex f j) (vertex f (next_in_face j (count_of_corners f))) -ℤ mark f.plane m a b (vertex f (next_in_face j (count_of_corners f))) (vertex f j)
 
 first_test : (a c : Bool) → a ≡ true → one (a && c) ≡ one c
 first_test true c e = refl
@@ -122,32 +123,32 @@ second_test false b c d e f = absurd (true≢false (sym e))
 zero_less_zero : (a b : ℤ) → a ≡ pos 0 → b ≡ pos 0 → a -ℤ b ≡ pos 0
 zero_less_zero a b e f = omega (arith, sums, e, f)
 
-passage_by : (f : Face) (m : Coefficients) (a b : Coordinates) → IsWayOn f m a b → (t : Bool) → goes_ahead f.plane a b ≡ t → passage f a b ≡ sum_below (share f m a b) (sides f)
+passage_by : (f : Face) (m : Coefficients) (a b : Coordinates) → IsWayOn f m a b → (t : Bool) → goes_ahead f.plane a b ≡ t → passage f a b ≡ sum_below (share f m a b) (count_of_corners f)
 passage_by f m a b w false e =
     no_test (goes_ahead f.plane a b) (is_left_of_all f (meeting_point f.plane a b)) e
-    ∙ sym (sum_none (share f m a b) (sides f) (λ j lt. zero_less_zero (mark f.plane m a b (vertex f j) (vertex f (next_in_face j (sides f)))) (mark f.plane m a b (vertex f (next_in_face j (sides f))) (vertex f j)) (no_test (goes_ahead f.plane a b) _ e) (no_test (goes_ahead f.plane a b) _ e)))
+    ∙ sym (sum_none (share f m a b) (count_of_corners f) (λ j lt. zero_less_zero (mark f.plane m a b (vertex f j) (vertex f (next_in_face j (count_of_corners f)))) (mark f.plane m a b (vertex f (next_in_face j (count_of_corners f))) (vertex f j)) (no_test (goes_ahead f.plane a b) _ e) (no_test (goes_ahead f.plane a b) _ e)))
 passage_by f m a b w true e =
     let n = f.plane in
     let x = meeting_point n a b in
     let k = directed_above n w.convex.directed in
-    let tilt : (j : ℕ) → j < sides f → lean f x j ≡ pos 0 -ℤ inner_product n n *ℤ volume a b (vertex f j) (vertex f (next_in_face j (sides f))) = λ j lt.
-    turn_meeting n a b (vertex f j) (vertex f (next_in_face j (sides f))) (w.convex.on j lt) (w.convex.on (next_in_face j (sides f)) (after_in j (sides f) lt)) in
-    let same : (j : ℕ) → j < sides f → ups f m x j -ℤ downs f m x j ≡ share f m a b j = λ j lt.
-    (let p = vertex f j in let q = vertex f (next_in_face j (sides f)) in
+    let tilt : (j : ℕ) → j < count_of_corners f → lean f x j ≡ pos 0 -ℤ inner_product n n *ℤ volume a b (vertex f j) (vertex f (next_in_face j (count_of_corners f))) = λ j lt.
+    turn_meeting n a b (vertex f j) (vertex f (next_in_face j (count_of_corners f))) (w.convex.on j lt) (w.convex.on (next_in_face j (count_of_corners f)) (after_in j (count_of_corners f) lt)) in
+    let same : (j : ℕ) → j < count_of_corners f → ups f m x j -ℤ downs f m x j ≡ share f m a b j = λ j lt.
+    (let p = vertex f j in let q = vertex f (next_in_face j (count_of_corners f)) in
     ap₂ (λ (u v : ℤ). u -ℤ v)
     (second_test (goes_ahead n a b) (goes_ahead m p q) (int_lt (pos 0) (lean f x j)) (int_lt (volume a b p q) (pos 0)) e (test_left (inner_product n n) (volume a b p q) (lean f x j) (tilt j lt) k))
     (second_test (goes_ahead n a b) (goes_ahead m q p) (int_lt (lean f x j) (pos 0)) (int_lt (volume a b q p) (pos 0)) e (test_right (inner_product n n) (volume a b p q) (lean f x j) (volume a b q p) (tilt j lt) (volume_back a b p q) k))) in
-    first_test (goes_ahead n a b) (is_left_of_all f x) e ∙ winding f m x (spot f m a b w e) ∙ same_below (λ j. ups f m x j -ℤ downs f m x j) (share f m a b) (sides f) same
+    first_test (goes_ahead n a b) (is_left_of_all f x) e ∙ winding f m x (spot f m a b w e) ∙ same_below (λ j. ups f m x j -ℤ downs f m x j) (share f m a b) (count_of_corners f) same
 
 -- ---- one polygon and one face
-way_on : (t f : Face) → IsConvexFace t → IsConvexFace f → ArePolygonsInGeneralPosition t f → (i : ℕ) → i < sides t → IsWayOn f t.plane (vertex t i) (vertex t (next_in_face i (sides t)))
+way_on : (t f : Face) → IsConvexFace t → IsConvexFace f → ArePolygonsInGeneralPosition t f → (i : ℕ) → i < count_of_corners t → IsWayOn f t.plane (vertex t i) (vertex t (next_in_face i (count_of_corners t)))
 way_on t f ct cf g i lt = record {
   convex = cf;
   off = g.edges_off;
   first_weight = ct.weights i lt;
-  second_weight = ct.weights (next_in_face i (sides t)) (after_in i (sides t) lt);
+  second_weight = ct.weights (next_in_face i (count_of_corners t)) (after_in i (count_of_corners t) lt);
   first_on = ct.on i lt;
-  second_on = ct.on (next_in_face i (sides t)) (after_in i (sides t) lt);
+  second_on = ct.on (next_in_face i (count_of_corners t)) (after_in i (count_of_corners t) lt);
   apart = λ j lj ahead cut. g.apart i j lt lj (inl ahead) cut;
 }
 
@@ -157,34 +158,34 @@ volume_first_back a b p q = sym (volume_pairs b a p q) ∙ volume_back p q a b �
 zero_by_minus : (v w : ℤ) → w ≡ pos 0 -ℤ v → w ≡ pos 0 → v ≡ pos 0
 zero_by_minus v w e f = omega (arith, sums, e, f)
 
-way_back_on : (t f : Face) → IsConvexFace t → IsConvexFace f → ArePolygonsInGeneralPosition t f → (i : ℕ) → i < sides t → IsWayOn f t.plane (vertex t (next_in_face i (sides t))) (vertex t i)
+way_back_on : (t f : Face) → IsConvexFace t → IsConvexFace f → ArePolygonsInGeneralPosition t f → (i : ℕ) → i < count_of_corners t → IsWayOn f t.plane (vertex t (next_in_face i (count_of_corners t))) (vertex t i)
 way_back_on t f ct cf g i lt =
-    let a = vertex t i in let b = vertex t (next_in_face i (sides t)) in
+    let a = vertex t i in let b = vertex t (next_in_face i (count_of_corners t)) in
     record {
       convex = cf;
       off = g.edges_off;
-      first_weight = ct.weights (next_in_face i (sides t)) (after_in i (sides t) lt);
+      first_weight = ct.weights (next_in_face i (count_of_corners t)) (after_in i (count_of_corners t) lt);
       second_weight = ct.weights i lt;
-      first_on = ct.on (next_in_face i (sides t)) (after_in i (sides t) lt);
+      first_on = ct.on (next_in_face i (count_of_corners t)) (after_in i (count_of_corners t) lt);
       second_on = ct.on i lt;
-      apart = λ j lj ahead cut none. g.apart i j lt lj (inr ahead) cut (zero_by_minus (volume a b (vertex f j) (vertex f (next_in_face j (sides f)))) (volume b a (vertex f j) (vertex f (next_in_face j (sides f)))) (volume_first_back a b (vertex f j) (vertex f (next_in_face j (sides f)))) none);
+      apart = λ j lj ahead cut none. g.apart i j lt lj (inr ahead) cut (zero_by_minus (volume a b (vertex f j) (vertex f (next_in_face j (count_of_corners f)))) (volume b a (vertex f j) (vertex f (next_in_face j (count_of_corners f)))) (volume_first_back a b (vertex f j) (vertex f (next_in_face j (count_of_corners f)))) none);
     }
 
 -- the number for side i of a polygon and edge j of a face
 abbrev meets : Face → Face → ℕ → ℕ → ℤ
-meets t f i j = share f t.plane (vertex t i) (vertex t (next_in_face i (sides t))) j -ℤ share f t.plane (vertex t (next_in_face i (sides t))) (vertex t i) j
+meets t f i j = share f t.plane (vertex t i) (vertex t (next_in_face i (count_of_corners t))) j -ℤ share f t.plane (vertex t (next_in_face i (count_of_corners t))) (vertex t i) j
 
-side_crossing : (t f : Face) → IsConvexFace t → IsConvexFace f → ArePolygonsInGeneralPosition t f → (i : ℕ) → i < sides t → crossing_with_face f (vertex t i) (vertex t (next_in_face i (sides t))) ≡ sum_below (meets t f i) (sides f)
+side_crossing : (t f : Face) → IsConvexFace t → IsConvexFace f → ArePolygonsInGeneralPosition t f → (i : ℕ) → i < count_of_corners t → crossing_with_face f (vertex t i) (vertex t (next_in_face i (count_of_corners t))) ≡ sum_below (meets t f i) (count_of_corners f)
 side_crossing t f ct cf g i lt =
-    let a = vertex t i in let b = vertex t (next_in_face i (sides t)) in
+    let a = vertex t i in let b = vertex t (next_in_face i (count_of_corners t)) in
     ap₂ (λ (u v : ℤ). u -ℤ v) (passage_by f t.plane a b (way_on t f ct cf g i lt) (goes_ahead f.plane a b) refl) (passage_by f t.plane b a (way_back_on t f ct cf g i lt) (goes_ahead f.plane b a) refl)
-    ∙ sym (sum_of_differences (share f t.plane a b) (share f t.plane b a) (sides f))
+    ∙ sym (sum_of_differences (share f t.plane a b) (share f t.plane b a) (count_of_corners f))
 
 exchanged : (t f : Face) → ArePolygonsInGeneralPosition t f → ArePolygonsInGeneralPosition f t
 exchanged t f g = record {
   sides_off = g.edges_off;
   edges_off = g.sides_off;
-  apart = λ j i lj li cut also none. g.apart i j li lj also cut (sym (volume_pairs (vertex t i) (vertex t (next_in_face i (sides t))) (vertex f j) (vertex f (next_in_face j (sides f)))) ∙ none);
+  apart = λ j i lj li cut also none. g.apart i j li lj also cut (sym (volume_pairs (vertex t i) (vertex t (next_in_face i (count_of_corners t))) (vertex f j) (vertex f (next_in_face j (count_of_corners f)))) ∙ none);
 }
 
 four_parts : (a b c d e f g h : ℤ) → a ≡ e → b ≡ f → c ≡ g → d ≡ h → (a -ℤ b) -ℤ (c -ℤ d) ≡ (e -ℤ g) -ℤ (f -ℤ h)
@@ -193,7 +194,7 @@ four_parts a b c d e f g h p q r s = omega (arith, sums, p, q, r, s)
 meets_exchanged : (t f : Face) (i j : ℕ) → meets t f i j ≡ meets f t j i
 meets_exchanged t f i j =
     let n = f.plane in let m = t.plane in
-    let a = vertex t i in let b = vertex t (next_in_face i (sides t)) in let p = vertex f j in let q = vertex f (next_in_face j (sides f)) in
+    let a = vertex t i in let b = vertex t (next_in_face i (count_of_corners t)) in let p = vertex f j in let q = vertex f (next_in_face j (count_of_corners f)) in
     four_parts (mark n m a b p q) (mark n m a b q p) (mark n m b a p q) (mark n m b a q p) (mark m n p q a b) (mark m n q p a b) (mark m n p q b a) (mark m n q p b a)
     (mark_swapped n m a b p q) (mark_swapped n m a b q p) (mark_swapped n m b a p q) (mark_swapped n m b a q p)
 
@@ -205,42 +206,42 @@ sum_exchanged k (suc n) l = ap (λ (z : ℤ). z +ℤ sum_below (k n) l) (sum_exc
 plus_nothing : (x : ℤ) → x +ℤ pos 0 ≡ x
 plus_nothing x = omega (arith, sums)
 
-edges_total : (f : Face) (g : Edge → ℤ) (n : ℕ) → total g (map (edge_at f) (numbers_below n)) ≡ sum_below (λ k. g (edge_at f k)) n
+edges_total : (f : Face) (g : Segment → ℤ) (n : ℕ) → sum_over g (map (edge_of_face f) (indices_below n)) ≡ sum_below (λ k. g (edge_of_face f k)) n
 edges_total f g zero = refl
 edges_total f g (suc n) =
-    ap (total g) (map-append (edge_at f) (numbers_below n) (n ∷ [])) ∙ total_append g (map (edge_at f) (numbers_below n)) (edge_at f n ∷ [])
-    ∙ ap₂ (λ (a b : ℤ). a +ℤ b) (edges_total f g n) (plus_nothing (g (edge_at f n)))
+    ap (sum_over g) (map-append (edge_of_face f) (indices_below n) (n ∷ [])) ∙ total_append g (map (edge_of_face f) (indices_below n)) (edge_of_face f n ∷ [])
+    ∙ ap₂ (λ (a b : ℤ). a +ℤ b) (edges_total f g n) (plus_nothing (g (edge_of_face f n)))
 
 -- the crossings of a polygon's sides with a face are those of the face's edges with the polygon
-one_face : (t f : Face) → IsConvexFace t → IsConvexFace f → ArePolygonsInGeneralPosition t f → total (λ e. crossing_with_face f e.from e.to) (edges_of_face t) ≡ total (λ e. crossing_with_face t e.from e.to) (edges_of_face f)
+one_face : (t f : Face) → IsConvexFace t → IsConvexFace f → ArePolygonsInGeneralPosition t f → sum_over (λ e. crossing_with_face f e.from e.to) (edges_of_face t) ≡ sum_over (λ e. crossing_with_face t e.from e.to) (edges_of_face f)
 one_face t f ct cf g =
-    edges_total t (λ e. crossing_with_face f e.from e.to) (sides t)
-    ∙ same_below _ _ (sides t) (side_crossing t f ct cf g)
-    ∙ sum_exchanged (meets t f) (sides t) (sides f)
-    ∙ same_below _ _ (sides f) (λ j lt. same_below _ _ (sides t) (λ i li. meets_exchanged t f i j) ∙ sym (side_crossing f t cf ct (exchanged t f g) j lt))
-    ∙ sym (edges_total f (λ e. crossing_with_face t e.from e.to) (sides f))
+    edges_total t (λ e. crossing_with_face f e.from e.to) (count_of_corners t)
+    ∙ same_below _ _ (count_of_corners t) (side_crossing t f ct cf g)
+    ∙ sum_exchanged (meets t f) (count_of_corners t) (count_of_corners f)
+    ∙ same_below _ _ (count_of_corners f) (λ j lt. same_below _ _ (count_of_corners t) (λ i li. meets_exchanged t f i j) ∙ sym (side_crossing f t cf ct (exchanged t f g) j lt))
+    ∙ sym (edges_total f (λ e. crossing_with_face t e.from e.to) (count_of_corners f))
 
 -- ---- all faces
-no_totals : {A : Type 0} (xs : List A) → total (λ (x : A). pos 0) xs ≡ pos 0
+no_totals : {A : Type 0} (xs : List A) → sum_over (λ (x : A). pos 0) xs ≡ pos 0
 no_totals [] = refl
 no_totals (x ∷ xs) = ap (λ (z : ℤ). pos 0 +ℤ z) (no_totals xs)
 
 four_sums : (a b c d s : ℤ) → s ≡ c +ℤ d → (a +ℤ b) +ℤ s ≡ (a +ℤ c) +ℤ (b +ℤ d)
 four_sums a b c d s e = omega (arith, sums, e)
 
-total_sum : {A : Type 0} (f g : A → ℤ) (xs : List A) → total (λ x. f x +ℤ g x) xs ≡ total f xs +ℤ total g xs
+total_sum : {A : Type 0} (f g : A → ℤ) (xs : List A) → sum_over (λ x. f x +ℤ g x) xs ≡ sum_over f xs +ℤ sum_over g xs
 total_sum f g [] = refl
-total_sum f g (x ∷ xs) = four_sums (f x) (g x) (total f xs) (total g xs) (total (λ y. f y +ℤ g y) xs) (total_sum f g xs)
+total_sum f g (x ∷ xs) = four_sums (f x) (g x) (sum_over f xs) (sum_over g xs) (sum_over (λ y. f y +ℤ g y) xs) (total_sum f g xs)
 
-by_faces : (es : List Edge) (faces : List Face) → total (crossings_with_faces faces) es ≡ total (λ f. total (λ e. crossing_with_face f e.from e.to) es) faces
+by_faces : (es : List Segment) (faces : List Face) → sum_over (crossings_with_faces faces) es ≡ sum_over (λ f. sum_over (λ e. crossing_with_face f e.from e.to) es) faces
 by_faces es [] = no_totals es
-by_faces es (f ∷ faces) = total_sum (λ e. crossing_with_face f e.from e.to) (crossings_with_faces faces) es ∙ ap (λ (z : ℤ). total (λ e. crossing_with_face f e.from e.to) es +ℤ z) (by_faces es faces)
+by_faces es (f ∷ faces) = total_sum (λ e. crossing_with_face f e.from e.to) (crossings_with_faces faces) es ∙ ap (λ (z : ℤ). sum_over (λ e. crossing_with_face f e.from e.to) es +ℤ z) (by_faces es faces)
 
-each_face : (t : Face) (faces : List Face) → IsConvexFace t → AllByRecursion IsConvexFace faces → AllByRecursion (ArePolygonsInGeneralPosition t) faces → total (λ f. total (λ e. crossing_with_face f e.from e.to) (edges_of_face t)) faces ≡ total (λ f. total (λ e. crossing_with_face t e.from e.to) (edges_of_face f)) faces
+each_face : (t : Face) (faces : List Face) → IsConvexFace t → AllByRecursion IsConvexFace faces → AllByRecursion (ArePolygonsInGeneralPosition t) faces → sum_over (λ f. sum_over (λ e. crossing_with_face f e.from e.to) (edges_of_face t)) faces ≡ sum_over (λ f. sum_over (λ e. crossing_with_face t e.from e.to) (edges_of_face f)) faces
 each_face t [] ct cs gs = refl
 each_face t (f ∷ faces) ct cs gs = ap₂ (λ (a b : ℤ). a +ℤ b) (one_face t f ct cs.0 gs.0) (each_face t faces ct cs.1 gs.1)
 
-point_decides : (p q : Coordinates) → Decides (is_same_point p q) (p ≡ q)
+point_decides : (p q : Coordinates) → Decides (has_same_numbers p q) (p ≡ q)
 point_decides p q =
     let d = Decides-and (int_eq p.x q.x) (int_eq p.y q.y && (int_eq p.z q.z && int_eq p.w q.w)) (Decides-int_eq p.x q.x)
     (Decides-and (int_eq p.y q.y) (int_eq p.z q.z && int_eq p.w q.w) (Decides-int_eq p.y q.y) (Decides-and (int_eq p.z q.z) (int_eq p.w q.w) (Decides-int_eq p.z q.z) (Decides-int_eq p.w q.w))) in (
@@ -248,17 +249,17 @@ point_decides p q =
       λ e. d.1 (ap (λ (r : Coordinates). r.x) e, (ap (λ (r : Coordinates). r.y) e, (ap (λ (r : Coordinates). r.z) e, ap (λ (r : Coordinates). r.w) e))),
     )
 
-pub edge_decides : (e g : Edge) → Decides (is_same_edge e g) (e ≡ g)
+pub edge_decides : (e g : Segment) → Decides (is_same_segment e g) (e ≡ g)
 edge_decides e g =
-    let d = Decides-and (is_same_point e.from g.from) (is_same_point e.to g.to) (point_decides e.from g.from) (point_decides e.to g.to) in
-    (λ h. (let both = d.0 h in λ i. record { from = both.0 i; to = both.1 i }), λ s. d.1 (ap (λ (r : Edge). r.from) s, ap (λ (r : Edge). r.to) s))
+    let d = Decides-and (has_same_numbers e.from g.from) (has_same_numbers e.to g.to) (point_decides e.from g.from) (point_decides e.to g.to) in
+    (λ h. (let both = d.0 h in λ i. record { from = both.0 i; to = both.1 i }), λ s. d.1 (ap (λ (r : Segment). r.from) s, ap (λ (r : Segment). r.to) s))
 
 turned_difference : (a b : ℤ) → b -ℤ a ≡ pos 0 -ℤ (a -ℤ b)
 turned_difference a b = omega (arith, sums)
 
-pub winding_number : (faces : List Face) (t : Face) → All IsConvexFace faces → HavePairedEdges faces → IsConvexFace t → All (ArePolygonsInGeneralPosition t) faces → total (crossings_with_faces faces) (edges_of_face t) ≡ pos 0
+pub winding_number : (faces : List Face) (t : Face) → All IsConvexFace faces → HavePairedEdges faces → IsConvexFace t → All (ArePolygonsInGeneralPosition t) faces → sum_over (crossings_with_faces faces) (edges_of_face t) ≡ pos 0
 winding_number faces t convex closed ct general =
     by_faces (edges_of_face t) faces
     ∙ each_face t faces ct (recursion_from_All IsConvexFace faces convex) (recursion_from_All (ArePolygonsInGeneralPosition t) faces general)
     ∙ sym (total_flat (λ e. crossing_with_face t e.from e.to) edges_of_face faces)
-    ∙ cancelled_total is_same_edge edge_decides opposite_edge (λ e. refl) (λ e. crossing_with_face t e.from e.to) (λ e. turned_difference (passage t e.from e.to) (passage t e.to e.from)) (flat_map edges_of_face faces) closed
+    ∙ cancelled_total is_same_segment edge_decides reversed_segment (λ e. refl) (λ e. crossing_with_face t e.from e.to) (λ e. turned_difference (passage t e.from e.to) (passage t e.to e.from)) (flat_map edges_of_face faces) closed

@@ -2,11 +2,12 @@
 use Rattle.std.proofs.Common.{◌≡◌, ◌≢◌, ◌∙◌, ◌+◌, ◌<◌, ℕ, zero, suc, List, [], ◌∷◌, map, flat_map, refl, arith, ℤ, pos, negsuc, ◌<ℤ◌, unsigned_abs}
 use Rattle.plane_predicate.specs.Space.{Coefficients, Coordinates, orientation_seen_from, value}
 use Rattle.plane_predicate.proofs.IntegerRing.{sums}
-use Rattle.primitives.specs.Ways.{next_in_face}
-use Rattle.closed_faces.specs.Crossings.{crossing_with_face, crossings_with_faces, edges_of_face, is_same_edge, opposite_edge, vertex, volume, HavePairedEdges, Edge, Face, IsConvexFace, ArePolygonsInGeneralPosition}
-use Rattle.closed_faces.specs.Sums.{times_in, total}
+use Rattle.primitives.specs.DirectedEdges.{next_in_face}
+use Rattle.closed_faces.specs.Crossings.{crossing_with_face, crossings_with_faces, edges_of_face, is_same_segment, reversed_segment, vertex, volume, HavePairedEdges, Segment, Face, IsConvexFace, ArePolygonsInGeneralPosition}
+use Rattle.closed_faces.specs.Sums.{times_in}
 use Rattle.closed_faces.proofs.Borders.{edge_decides}
 use Rattle.closed_faces.proofs.Sums.{times_map}
+use Rattle.plane_predicate.specs.Sums.{sum_over}
 
 abbrev at : ℤ → ℤ → ℤ → Coordinates
 at x y z = record { x = x; y = y; z = z; w = pos 1 }
@@ -14,7 +15,7 @@ at x y z = record { x = x; y = y; z = z; w = pos 1 }
 abbrev plane : ℤ → ℤ → ℤ → ℤ → Coefficients
 plane a b c d = record { a = a; b = b; c = c; d = d }
 
-abbrev way : Coordinates → Coordinates → Edge
+abbrev way : Coordinates → Coordinates → Segment
 way a b = record { from = a; to = b }
 
 -- the cube from 0 to 4: low x, high x, low y, high y, low z, high z
@@ -51,18 +52,18 @@ stays_outside = refl
 comes_in_by_y : crossings_with_faces cube (way beyond_y inside) ≡ negsuc 0
 comes_in_by_y = refl
 
-round_the_triangle : total (crossings_with_faces cube) (edges_of_face triangle) ≡ pos 0
+round_the_triangle : sum_over (crossings_with_faces cube) (edges_of_face triangle) ≡ pos 0
 round_the_triangle = refl
 
 -- the edges of the cube that cross the triangle: one of them goes through it, once each way
-edges_through : total (λ e. crossing_with_face triangle e.from e.to) (flat_map edges_of_face cube) ≡ pos 0
+edges_through : sum_over (λ e. crossing_with_face triangle e.from e.to) (flat_map edges_of_face cube) ≡ pos 0
 edges_through = refl
 
 -- a way right through the cube comes in once and leaves once
 right_through : crossings_with_faces cube (way (at (negsuc 2) (pos 1) (pos 2)) (at (pos 9) (pos 3) (pos 1))) ≡ pos 0
 right_through = refl
 
-comes_in_by_low_x : total (λ f. crossing_with_face f (at (negsuc 2) (pos 1) (pos 2)) inside) cube ≡ negsuc 0
+comes_in_by_low_x : sum_over (λ f. crossing_with_face f (at (negsuc 2) (pos 1) (pos 2)) inside) cube ≡ negsuc 0
 comes_in_by_low_x = refl
 
 -- a way that meets a face's plane beside the face
@@ -71,7 +72,7 @@ misses = refl
 
 -- each edge of the cube stands once in each direction
 cube_closed : HavePairedEdges cube
-cube_closed e = (let back : times_in is_same_edge (flat_map edges_of_face cube) e ≡ times_in is_same_edge (map opposite_edge (flat_map edges_of_face cube)) e = omega arith in back) ∙ times_map is_same_edge edge_decides opposite_edge (λ g. refl) (flat_map edges_of_face cube) e
+cube_closed e = (let back : times_in is_same_segment (flat_map edges_of_face cube) e ≡ times_in is_same_segment (map reversed_segment (flat_map edges_of_face cube)) e = omega arith in back) ∙ times_map is_same_segment edge_decides reversed_segment (λ g. refl) (flat_map edges_of_face cube) e
 
 -- the tetrahedron with corners at 0 and at 4 along each axis
 abbrev tetrahedron : List Face
@@ -92,7 +93,7 @@ past_slanted : crossings_with_faces tetrahedron (way (at (negsuc 0) (pos 1) (pos
 past_slanted = refl
 
 tetrahedron_closed : HavePairedEdges tetrahedron
-tetrahedron_closed e = (let back : times_in is_same_edge (flat_map edges_of_face tetrahedron) e ≡ times_in is_same_edge (map opposite_edge (flat_map edges_of_face tetrahedron)) e = omega arith in back) ∙ times_map is_same_edge edge_decides opposite_edge (λ g. refl) (flat_map edges_of_face tetrahedron) e
+tetrahedron_closed e = (let back : times_in is_same_segment (flat_map edges_of_face tetrahedron) e ≡ times_in is_same_segment (map reversed_segment (flat_map edges_of_face tetrahedron)) e = omega arith in back) ∙ times_map is_same_segment edge_decides reversed_segment (λ g. refl) (flat_map edges_of_face tetrahedron) e
 
 -- ---- the premises of the law
 for_three : (P : ℕ → Type 0) → P 0 → P 1 → P 2 → (k : ℕ) → k < 3 → P k

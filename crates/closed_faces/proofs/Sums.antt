@@ -5,16 +5,17 @@ use Rattle.std.proofs.Math.Seq.{get_or-append_seam}
 use Rattle.std.proofs.lemmas.List.{length-append}
 use Rattle.std.specs.List.{flat_map, AllByRecursion}
 use Rattle.plane_predicate.proofs.IntegerRing.{sums}
-use Rattle.closed_faces.specs.Sums.{total, times_in}
+use Rattle.closed_faces.specs.Sums.{times_in}
+use Rattle.plane_predicate.specs.Sums.{sum_over}
 
 -- ---- sums over lists
-pub total_append : {A : Type 0} (f : A → ℤ) (xs ys : List A) → total f (xs ++ ys) ≡ total f xs +ℤ total f ys
+pub total_append : {A : Type 0} (f : A → ℤ) (xs ys : List A) → sum_over f (xs ++ ys) ≡ sum_over f xs +ℤ sum_over f ys
 total_append f [] ys = omega (arith, sums)
 total_append f (x ∷ xs) ys = omega (arith, sums, total_append f xs ys)
 
-pub total_flat : {X A : Type 0} (f : A → ℤ) (g : X → List A) (xs : List X) → total f (flat_map g xs) ≡ total (λ x. total f (g x)) xs
+pub total_flat : {X A : Type 0} (f : A → ℤ) (g : X → List A) (xs : List X) → sum_over f (flat_map g xs) ≡ sum_over (λ x. sum_over f (g x)) xs
 total_flat f g [] = refl
-total_flat f g (x ∷ xs) = total_append f (g x) (flat_map g xs) ∙ ap (λ (n : ℤ). total f (g x) +ℤ n) (total_flat f g xs)
+total_flat f g (x ∷ xs) = total_append f (g x) (flat_map g xs) ∙ ap (λ (n : ℤ). sum_over f (g x) +ℤ n) (total_flat f g xs)
 
 no_less : (x y : ℤ) → x +ℤ y ≡ pos 0 → pos 0 ≤ℤ x → pos 0 ≤ℤ y → (x ≡ pos 0) × (y ≡ pos 0)
 no_less x y e h k = (omega (arith, sums, e, h, k), omega (arith, sums, e, h, k))
@@ -22,13 +23,13 @@ no_less x y e h k = (omega (arith, sums, e, h, k), omega (arith, sums, e, h, k))
 least_sum : (x y : ℤ) → pos 0 ≤ℤ x → pos 0 ≤ℤ y → pos 0 ≤ℤ (x +ℤ y)
 least_sum x y h k = omega (arith, sums, h, k)
 
-pub total_least : {A : Type 0} (f : A → ℤ) (xs : List A) → AllByRecursion (λ x. pos 0 ≤ℤ f x) xs → pos 0 ≤ℤ total f xs
+pub total_least : {A : Type 0} (f : A → ℤ) (xs : List A) → AllByRecursion (λ x. pos 0 ≤ℤ f x) xs → pos 0 ≤ℤ sum_over f xs
 total_least f [] h = omega (arith, sums)
-total_least f (x ∷ xs) h = least_sum (f x) (total f xs) h.0 (total_least f xs h.1)
+total_least f (x ∷ xs) h = least_sum (f x) (sum_over f xs) h.0 (total_least f xs h.1)
 
 -- where numbers of at least 0 sum to 0, the first is 0
-pub first_zero : {A : Type 0} (f : A → ℤ) (x : A) (xs : List A) → AllByRecursion (λ y. pos 0 ≤ℤ f y) (x ∷ xs) → total f (x ∷ xs) ≡ pos 0 → f x ≡ pos 0
-first_zero f x xs h e = (no_less (f x) (total f xs) e h.0 (total_least f xs h.1)).0
+pub first_zero : {A : Type 0} (f : A → ℤ) (x : A) (xs : List A) → AllByRecursion (λ y. pos 0 ≤ℤ f y) (x ∷ xs) → sum_over f (x ∷ xs) ≡ pos 0 → f x ≡ pos 0
+first_zero f x xs h e = (no_less (f x) (sum_over f xs) e h.0 (total_least f xs h.1)).0
 
 -- ---- sums over the numbers below n
 abbrev pub sum_below : (ℕ → ℤ) → ℕ → ℤ
@@ -107,7 +108,7 @@ middle : (f x b a t : ℤ) → t ≡ b +ℤ a → f +ℤ t ≡ b +ℤ (f +ℤ a)
 middle f x b a t e = omega (arith, sums, e)
 
 -- lists that hold each item as often have the same sums
-pub same_totals : {A : Type 0} (e : A → A → Bool) → ((x y : A) → Decides (e x y) (x ≡ y)) → (f : A → ℤ) (xs ys : List A) → ((x : A) → times_in e xs x ≡ times_in e ys x) → total f xs ≡ total f ys
+pub same_totals : {A : Type 0} (e : A → A → Bool) → ((x y : A) → Decides (e x y) (x ≡ y)) → (f : A → ℤ) (xs ys : List A) → ((x : A) → times_in e xs x ≡ times_in e ys x) → sum_over f xs ≡ sum_over f ys
 same_totals e d f [] [] h = refl
 same_totals e d f [] (y ∷ ys) h = absurd (omega (arith, h y, once e d y ys))
 same_totals e d f (x ∷ xs) ys h =
@@ -115,15 +116,15 @@ same_totals e d f (x ∷ xs) ys h =
     let rest : (y : _) → times_in e xs y ≡ times_in e (s.before ++ s.more) y = λ y.
     (let whole : times_in e (x ∷ xs) y ≡ times_in e (s.before ++ x ∷ s.more) y = h y ∙ ap (λ (zs : List _). times_in e zs y) s.is in
     omega (arith, whole, times_append e s.before (x ∷ s.more) y, times_append e s.before s.more y)) in
-    middle (f x) (f x) (total f s.before) (total f s.more) (total f xs) (same_totals e d f xs (s.before ++ s.more) rest ∙ total_append f s.before s.more)
-    ∙ sym (ap (total f) s.is ∙ total_append f s.before (x ∷ s.more))
+    middle (f x) (f x) (sum_over f s.before) (sum_over f s.more) (sum_over f xs) (same_totals e d f xs (s.before ++ s.more) rest ∙ total_append f s.before s.more)
+    ∙ sym (ap (sum_over f) s.is ∙ total_append f s.before (x ∷ s.more))
 
 -- ---- sums of opposite numbers
-total_map : {A : Type 0} (f : A → ℤ) (r : A → A) (xs : List A) → total f (map r xs) ≡ total (λ x. f (r x)) xs
+total_map : {A : Type 0} (f : A → ℤ) (r : A → A) (xs : List A) → sum_over f (map r xs) ≡ sum_over (λ x. f (r x)) xs
 total_map f r [] = refl
 total_map f r (x ∷ xs) = ap (λ (n : ℤ). f (r x) +ℤ n) (total_map f r xs)
 
-total_opposite : {A : Type 0} (f g : A → ℤ) → ((x : A) → g x ≡ pos 0 -ℤ f x) → (xs : List A) → total g xs ≡ pos 0 -ℤ total f xs
+total_opposite : {A : Type 0} (f g : A → ℤ) → ((x : A) → g x ≡ pos 0 -ℤ f x) → (xs : List A) → sum_over g xs ≡ pos 0 -ℤ sum_over f xs
 total_opposite f g h [] = omega (arith, sums)
 total_opposite f g h (x ∷ xs) = omega (arith, sums, h x, total_opposite f g h xs)
 
@@ -144,6 +145,6 @@ no_half : (t : ℤ) → t ≡ pos 0 -ℤ t → t ≡ pos 0
 no_half t e = omega (arith, sums, e)
 
 -- numbers that are opposite for an item and its reverse sum to 0 where each item stands as often as its reverse
-pub cancelled_total : {A : Type 0} (e : A → A → Bool) → ((x y : A) → Decides (e x y) (x ≡ y)) → (r : A → A) → ((x : A) → r (r x) ≡ x) → (f : A → ℤ) → ((x : A) → f (r x) ≡ pos 0 -ℤ f x) → (xs : List A) → ((x : A) → times_in e xs x ≡ times_in e xs (r x)) → total f xs ≡ pos 0
+pub cancelled_total : {A : Type 0} (e : A → A → Bool) → ((x y : A) → Decides (e x y) (x ≡ y)) → (r : A → A) → ((x : A) → r (r x) ≡ x) → (f : A → ℤ) → ((x : A) → f (r x) ≡ pos 0 -ℤ f x) → (xs : List A) → ((x : A) → times_in e xs x ≡ times_in e xs (r x)) → sum_over f xs ≡ pos 0
 cancelled_total e d r twice f odd xs even =
-    no_half (total f xs) (same_totals e d f xs (map r xs) (λ x. even x ∙ sym (times_map e d r twice xs x)) ∙ total_map f r xs ∙ total_opposite f (λ x. f (r x)) odd xs)
+    no_half (sum_over f xs) (same_totals e d f xs (map r xs) (λ x. even x ∙ sym (times_map e d r twice xs x)) ∙ total_map f r xs ∙ total_opposite f (λ x. f (r x)) odd xs)

@@ -1,10 +1,5 @@
 -- Sums over lists, and how often an item stands in one.
-use Rattle.std.specs.Prelude.{ℕ, ◌+◌, Bool, cond, ℤ, pos, ◌+ℤ◌, List, [], ◌∷◌}
-
--- the sum of a number for each item of a list
-abbrev pub total : {A : Type 0} → (A → ℤ) → List A → ℤ
-total f [] = pos 0
-total f (x ∷ xs) = f x +ℤ total f xs
+use Rattle.std.specs.Prelude.{ℕ, ◌+◌, Bool, cond, List, [], ◌∷◌}
 
 -- how often an item stands in a list, by a test of sameness
 abbrev pub times_in : {A : Type 0} → (A → A → Bool) → List A → A → ℕ

@@ -10,7 +10,7 @@ ghost use Rattle.closed_faces.specs.Crossings.{
   IsConvexFace,
   ArePolygonsInGeneralPosition,
 };
-ghost use Rattle.closed_faces.specs.Sums.{total};
+ghost use Rattle.plane_predicate.specs.Sums.{sum_over};
 
 /// Convex faces in which each directed edge stands as often as its reverse have a winding number:
 /// the crossings along the border of a triangle, or of any convex polygon, in general position sum
@@ -19,5 +19,5 @@ pub fn closed_faces_have_a_winding_number()
     ensures { (faces : List Face) (polygon : Face) →
         All IsConvexFace faces → HavePairedEdges faces → IsConvexFace polygon →
         All (ArePolygonsInGeneralPosition polygon) faces →
-        total (crossings_with_faces faces) (edges_of_face polygon) ≡ pos 0 }
+        sum_over (crossings_with_faces faces) (edges_of_face polygon) ≡ pos 0 }
 {}

@@ -6,13 +6,13 @@ use Rattle.plane_predicate.proofs.Signs.{signs}
 use Rattle.plane_polygon.specs.Polygons.{Outline, IsPolygon}
 use Rattle.plane_polygon.specs.Parts.{is_behind, corners}
 use Rattle.bsp_tree.specs.Trees.{BspTree}
-use Rattle.bsp_tree.specs.Cells.{world_box, IsInCell, AllBehind, IsPlaneOf}
+use Rattle.bsp_tree.specs.Cells.{world_box, IsInCell, AllBehind, IsNodePlaneOf}
 use Rattle.bsp_tree.proofs.Opposites.{opposite_twice, opposite_zero, opposite_back}
 use Rattle.facet_cut.specs.Facets.{facets_of}
 use Rattle.facet_cut.specs.Sides.{walk_by, IsOnOneNodePlane, BoundSolid}
 use Rattle.closed_surface.specs.Ways.{Direction, dot_product, slope}
-use Rattle.closed_surface.specs.Around.{triple_product_of, sides_at, IsParallelToNone, HaveNoParallels, fall, sum_over}
-use Rattle.closed_surface.specs.Closed.{edges_of, edges_along, edges_against}
+use Rattle.closed_surface.specs.Around.{triple_product_of, sides_at, IsParallelToNone, HaveNoParallels, fall}
+use Rattle.closed_surface.specs.Closed.{edges_of, count_of_edges_along, count_of_edges_against}
 use Rattle.closed_surface.proofs.Turns.{turn_exchanged, turn_itself, turn_opposite, opposite_turn}
 use Rattle.closed_surface.proofs.Sectors.{round}
 use Rattle.closed_surface.proofs.Numbers.{below, not_below, false_by, at_least, not_zero_below, not_zero_above, negative_apart, negative_zero}
@@ -23,6 +23,7 @@ use Rattle.closed_surface.proofs.Each.{Each, each_weaker, each_both, Member, mem
 use Rattle.closed_surface.proofs.Lines.{IsEither, AmongEither, planes_of, each_of, pick, pick_each, pick_among, Holds, pick_apart}
 use Rattle.closed_surface.proofs.Walks.{walk_alike, sides_beside, just_behind, just_ahead, opposite_behind, opposite_ahead, extend, KeepsSide, Fits, extended}
 use Rattle.closed_surface.proofs.Shares.{covering, counted, number_differs, share, gain, shares_are_gain, shares_are_none}
+use Rattle.plane_predicate.specs.Sums.{sum_over}
 
 -- ---- what is known at the line
 -- a plane of the solid: where it goes through the point it holds the direction
@@ -45,7 +46,7 @@ pub record EnoughBeside (t : BspTree) (number : ℕ) (v : Direction) (n : Coeffi
 -- a facet of the solid
 pub record FacetAt (t : BspTree) (q : Coordinates) (v : Direction) (f : Outline) : Type 0 where
   pub polygon : IsPolygon f
-  pub plane : IsPlaneOf f.plane t ⊎ IsPlaneOf (opposite_of f.plane) t
+  pub plane : IsNodePlaneOf f.plane t ⊎ IsNodePlaneOf (opposite_of f.plane) t
   pub clear : IsClear f q v
 
 -- ---- planes that are apart, seen from each of them
@@ -140,7 +141,7 @@ module _ (t : BspTree) (bounded : BoundSolid world_box t (facets_of t)) (q : Coo
   apart : HaveNoParallels v through
   apart = pick_apart q hq.weight v hv (planes_of t) holds_where
 
-  among : (m : Coefficients) → IsPlaneOf m t → value m q ≡ pos 0 → AmongEither m through
+  among : (m : Coefficients) → IsNodePlaneOf m t → value m q ≡ pos 0 → AmongEither m through
   among m k e = each_of (λ n. value n q ≡ pos 0 → AmongEither n through) t (pick_among q (planes_of t)) m k e
 
   -- ---- a half of one of the planes through the line
@@ -174,7 +175,7 @@ module _ (t : BspTree) (bounded : BoundSolid world_box t (facets_of t)) (q : Coo
     find (k ∷ ms) s h m (inl e) z = found k m s.0 h.0 e z
     find (k ∷ ms) s h m (inr e) z = find ms s.1 h.1 m e z
 
-    alone : (m : Coefficients) → IsPlaneOf m t → value m (spot half) ≡ pos 0 → IsEither m n
+    alone : (m : Coefficients) → IsNodePlaneOf m t → value m (spot half) ≡ pos 0 → IsEither m n
     alone m k z =
         let on_q = zero_near m number q (direction_beside half v) (each_of (λ x. unsigned_abs (slope x (direction_beside half v)) ≤ number) t sizes.tree m k) z in
         find through all_seen held m (among m k on_q) z
@@ -205,7 +206,7 @@ module _ (t : BspTree) (bounded : BoundSolid world_box t (facets_of t)) (q : Coo
     fits b [] s h = tt
     fits b (m ∷ ms) s h = (fit b m s.0 h.0, fits b ms s.1 h.1)
 
-    keeps : (m : Coefficients) → IsPlaneOf m t → KeepsSide n q (spot half) m ⊎ AmongEither m through
+    keeps : (m : Coefficients) → IsNodePlaneOf m t → KeepsSide n q (spot half) m ⊎ AmongEither m through
     keeps m k = elim (zero_or_not (value m q)) [
       | inl e ↦ inr (among m k e)
       | inr off ↦ inl (record {
@@ -270,13 +271,13 @@ module _ (t : BspTree) (bounded : BoundSolid world_box t (facets_of t)) (q : Coo
       (Value (sides_at v through n (opposite_of n) true)) (Value (sides_at v through n (opposite_of n) false)) (difference n h.held_n h.proper_n h.seen_n (opposite_of n) (inr refl) h.sizes_n.second)
 
   -- ---- each facet
-  sizes_of : (f : Outline) → FacetAt t q v f → (x : IsPlaneOf f.plane t ⊎ IsPlaneOf (opposite_of f.plane) t) → EnoughBeside t number v f.plane
+  sizes_of : (f : Outline) → FacetAt t q v f → (x : IsNodePlaneOf f.plane t ⊎ IsNodePlaneOf (opposite_of f.plane) t) → EnoughBeside t number v f.plane
   sizes_of f h (inl k) = each_of (EnoughBeside t number v) t enough f.plane k
   sizes_of f h (inr k) =
       let e : EnoughBeside t number v (opposite_of f.plane) = each_of (EnoughBeside t number v) t enough (opposite_of f.plane) k in
       record { first = subst (λ (x : Coefficients). Enough t number (direction_beside x v)) (opposite_twice f.plane) e.second; second = e.first }
 
-  plane_among : (f : Outline) → (IsPlaneOf f.plane t ⊎ IsPlaneOf (opposite_of f.plane) t) → value f.plane q ≡ pos 0 → AmongEither f.plane through
+  plane_among : (f : Outline) → (IsNodePlaneOf f.plane t ⊎ IsNodePlaneOf (opposite_of f.plane) t) → value f.plane q ≡ pos 0 → AmongEither f.plane through
   plane_among f (inl k) e = among f.plane k e
   plane_among f (inr k) e = opposite_among f.plane through (among (opposite_of f.plane) k (opposite_zero f.plane q e))
 
@@ -295,7 +296,7 @@ module _ (t : BspTree) (bounded : BoundSolid world_box t (facets_of t)) (q : Coo
       (not_within f (direction_beside f.plane v) off (each_member (λ s. BoundsSlopes number s (direction_beside f.plane v)) (facets_of t) e.first.facets f m))
       (not_within f (direction_beside (opposite_of f.plane) v) off (each_member (λ s. BoundsSlopes number s (direction_beside (opposite_of f.plane) v)) (facets_of t) e.second.facets f m)))
 
-  facet_shares : (f : Outline) → Member f (facets_of t) × FacetAt t q v f → pos (edges_along (edges_of (corners f)) q v) -ℤ pos (edges_against (edges_of (corners f)) q v) ≡ sum_over (share v spot f) through
+  facet_shares : (f : Outline) → Member f (facets_of t) × FacetAt t q v f → pos (count_of_edges_along (edges_of (corners f)) q v) -ℤ pos (count_of_edges_against (edges_of (corners f)) q v) ≡ sum_over (share v spot f) through
   facet_shares f (m, h) =
       let e = sizes_of f h h.plane in
       balance f h.polygon number q hq.weight v hv h.clear
@@ -303,7 +304,7 @@ module _ (t : BspTree) (bounded : BoundSolid world_box t (facets_of t)) (q : Coo
       (each_member (λ s. BoundsSlopes number s (direction_beside (opposite_of f.plane) v)) (facets_of t) e.second.facets f m)
       ∙ sym (gain_by f m h e (zero_or_not (value f.plane q)))
 
-  pub balanced : sum_over (λ f. pos (edges_along (edges_of (corners f)) q v) -ℤ pos (edges_against (edges_of (corners f)) q v)) (facets_of t) ≡ pos 0
+  pub balanced : sum_over (λ f. pos (count_of_edges_along (edges_of (corners f)) q v) -ℤ pos (count_of_edges_against (edges_of (corners f)) q v)) (facets_of t) ≡ pos 0
   balanced =
       total_same (λ f. Member f (facets_of t) × FacetAt t q v f) _ (λ f. sum_over (share v spot f) through) facet_shares (facets_of t) (each_both (λ f. Member f (facets_of t)) (FacetAt t q v) (facets_of t) (members (facets_of t)) facets)
       ∙ total_exchanged (λ f n. share v spot f n) (facets_of t) through

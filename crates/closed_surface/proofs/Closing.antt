@@ -12,17 +12,17 @@ use Rattle.plane_predicate.proofs.InUnits.{whole_steps}
 use Rattle.plane_predicate.proofs.Signs.{signs}
 use Rattle.plane_predicate.proofs.SamePlanes.{directed_above}
 use Rattle.plane_predicate.proofs.Vectors.{value-opposite}
-use Rattle.plane_polygon.specs.Polygons.{Outline, sides, edge, corner, missing_plane}
-use Rattle.plane_polygon.specs.Parts.{indices_below, corners}
+use Rattle.plane_polygon.specs.Polygons.{Outline, edge_count, edge_plane, corner, missing_plane}
+use Rattle.plane_polygon.specs.Parts.{corners}
 use Rattle.bsp_tree.specs.Trees.{BspTree}
 use Rattle.bsp_tree.specs.Cells.{world_box, IsInCell, IsOfWorld}
 use Rattle.bsp_tree.proofs.NearPoints.{direction, value_direction}
 use Rattle.bsp_tree.proofs.Worlds.{open_world}
 use Rattle.facet_cut.specs.Facets.{facets_of}
 use Rattle.facet_cut.specs.Sides.{IsFacetOf, BoundSolid}
-use Rattle.closed_surface.specs.Ways.{Direction, way, dot_product, slope, is_same_place, is_same_way, is_opposite_way}
-use Rattle.closed_surface.specs.Around.{sum_over}
-use Rattle.closed_surface.specs.Closed.{Edge, edges_of, runs_through, edges_along, edges_against, is_corner, AreClosed}
+use Rattle.closed_surface.specs.Ways.{Direction, displacement, dot_product, slope, is_same_point_of_space, is_same_direction, is_opposite_direction}
+use Rattle.plane_predicate.specs.Sums.{sum_over}
+use Rattle.closed_surface.specs.Closed.{Edge, edges_of, runs_through, count_of_edges_along, count_of_edges_against, is_corner, AreClosed}
 use Rattle.closed_surface.proofs.Parallels.{dot_above, same_way_parts, opposite_way_parts}
 use Rattle.closed_surface.proofs.Numbers.{false_by, not_both, not_zero_below, not_zero_above}
 use Rattle.closed_surface.specs.Near.{near_point, direction_beside, BoundsSlopes, IsNoCorner}
@@ -32,6 +32,7 @@ use Rattle.closed_surface.proofs.Slides.{along_near, against_near}
 use Rattle.closed_surface.proofs.Each.{Each, each_weaker, each_both, each_from_all, total_same}
 use Rattle.closed_surface.proofs.Lines.{planes_of, each_plane}
 use Rattle.closed_surface.proofs.Balanced.{TreePlane, Enough, EnoughBeside, FacetAt, in_near, balanced}
+use Rattle.plane_predicate.specs.Indices.{indices_below}
 
 -- ---- numbers that are large enough
 abbrev size_planes : List Coefficients → Direction → ℕ
@@ -122,23 +123,23 @@ any_last p g (suc k) h i l =
 no_corners : (fs : List Outline) (q : Coordinates) → is_corner (map corners fs) q ≡ false → Each (λ f. IsNoCorner f q) fs
 no_corners [] q h = tt
 no_corners (f ∷ fs) q h =
-    let w = any_none (λ p. is_same_place p q) (corners f) (flat_map (λ c. c) (map corners fs)) h in
-    (any_last (λ p. is_same_place p q) (corner f) (sides f) w.0, no_corners fs q w.1)
+    let w = any_none (λ p. is_same_point_of_space p q) (corners f) (flat_map (λ c. c) (map corners fs)) h in
+    (any_last (λ p. is_same_point_of_space p q) (corner f) (edge_count f) w.0, no_corners fs q w.1)
 
 -- ---- the edges of all facets
 abbrev difference_at : Coordinates → Direction → Outline → ℤ
-difference_at q v f = pos (edges_along (edges_of (corners f)) q v) -ℤ pos (edges_against (edges_of (corners f)) q v)
+difference_at q v f = pos (count_of_edges_along (edges_of (corners f)) q v) -ℤ pos (count_of_edges_against (edges_of (corners f)) q v)
 
 more_apart : (a b c d : ℕ) (s : ℤ) → pos c -ℤ pos d ≡ s → pos (a + c) -ℤ pos (b + d) ≡ (pos a -ℤ pos b) +ℤ s
 more_apart a b c d s e = omega (arith, sums)
 
-all_edges : (fs : List Outline) (q : Coordinates) (v : Direction) → pos (edges_along (flat_map edges_of (map corners fs)) q v) -ℤ pos (edges_against (flat_map edges_of (map corners fs)) q v) ≡ sum_over (difference_at q v) fs
+all_edges : (fs : List Outline) (q : Coordinates) (v : Direction) → pos (count_of_edges_along (flat_map edges_of (map corners fs)) q v) -ℤ pos (count_of_edges_against (flat_map edges_of (map corners fs)) q v) ≡ sum_over (difference_at q v) fs
 all_edges [] q v = refl
 all_edges (f ∷ fs) q v =
     ap₂ (λ (m n : ℕ). pos m -ℤ pos n)
-    (sum_by-append (λ e. cond (runs_through e q && is_same_way (way e.0 e.1) v) 1 0) (edges_of (corners f)) (flat_map edges_of (map corners fs)))
-    (sum_by-append (λ e. cond (runs_through e q && is_opposite_way (way e.0 e.1) v) 1 0) (edges_of (corners f)) (flat_map edges_of (map corners fs)))
-    ∙ more_apart (edges_along (edges_of (corners f)) q v) (edges_against (edges_of (corners f)) q v) (edges_along (flat_map edges_of (map corners fs)) q v) (edges_against (flat_map edges_of (map corners fs)) q v) (sum_over (difference_at q v) fs) (all_edges fs q v)
+    (sum_by-append (λ e. cond (runs_through e q && is_same_direction (displacement e.0 e.1) v) 1 0) (edges_of (corners f)) (flat_map edges_of (map corners fs)))
+    (sum_by-append (λ e. cond (runs_through e q && is_opposite_direction (displacement e.0 e.1) v) 1 0) (edges_of (corners f)) (flat_map edges_of (map corners fs)))
+    ∙ more_apart (count_of_edges_along (edges_of (corners f)) q v) (count_of_edges_against (edges_of (corners f)) q v) (count_of_edges_along (flat_map edges_of (map corners fs)) q v) (count_of_edges_against (flat_map edges_of (map corners fs)) q v) (sum_over (difference_at q v) fs) (all_edges fs q v)
 
 same_number : (m n : ℕ) → pos m -ℤ pos n ≡ pos 0 → m ≡ n
 same_number m n e = omega (arith, sums)
@@ -155,12 +156,12 @@ count_none_by p [] h = refl
 count_none_by p (x ∷ xs) h =
     sum_by-append (λ y. cond (p y) 1 0) (x ∷ []) xs ∙ ap₂ (λ (m n : ℕ). m + n) (ap (λ (b : Bool). 0 + cond b 1 0) (h x)) (count_none_by p xs h)
 
-nothing_runs : (edges : List Edge) (q : Coordinates) (v : Direction) → (pos 0 <ℤ dot_product v v → ⊥) → edges_along edges q v ≡ edges_against edges q v
+nothing_runs : (edges : List Edge) (q : Coordinates) (v : Direction) → (pos 0 <ℤ dot_product v v → ⊥) → count_of_edges_along edges q v ≡ count_of_edges_against edges q v
 nothing_runs edges q v none =
-    count_none_by (λ e. runs_through e q && is_same_way (way e.0 e.1) v) edges
-    (λ e. false_by _ (λ r. none (dot_above v (way e.0 e.1) (λ z. not_zero_above _ (same_way_parts (way e.0 e.1) v (and_parts (runs_through e q) (is_same_way (way e.0 e.1) v) r).1).1 (dot_exchanged (way e.0 e.1) v ∙ z)))))
-    ∙ sym (count_none_by (λ e. runs_through e q && is_opposite_way (way e.0 e.1) v) edges
-    (λ e. false_by _ (λ r. none (dot_above v (way e.0 e.1) (λ z. not_zero_below _ (opposite_way_parts (way e.0 e.1) v (and_parts (runs_through e q) (is_opposite_way (way e.0 e.1) v) r).1).1 (dot_exchanged (way e.0 e.1) v ∙ z))))))
+    count_none_by (λ e. runs_through e q && is_same_direction (displacement e.0 e.1) v) edges
+    (λ e. false_by _ (λ r. none (dot_above v (displacement e.0 e.1) (λ z. not_zero_above _ (same_way_parts (displacement e.0 e.1) v (and_parts (runs_through e q) (is_same_direction (displacement e.0 e.1) v) r).1).1 (dot_exchanged (displacement e.0 e.1) v ∙ z)))))
+    ∙ sym (count_none_by (λ e. runs_through e q && is_opposite_direction (displacement e.0 e.1) v) edges
+    (λ e. false_by _ (λ r. none (dot_above v (displacement e.0 e.1) (λ z. not_zero_below _ (opposite_way_parts (displacement e.0 e.1) v (and_parts (runs_through e q) (is_opposite_direction (displacement e.0 e.1) v) r).1).1 (dot_exchanged (displacement e.0 e.1) v ∙ z))))))
 
 -- ---- from the point to one beside it on the line, which is on no plane that doesn't hold the line
 module _ (t : BspTree) (h : IsOfWorld t) (bounded : BoundSolid world_box t (facets_of t)) (facets : All (IsFacetOf world_box t) (facets_of t))
@@ -185,7 +186,7 @@ module _ (t : BspTree) (h : IsOfWorld t) (bounded : BoundSolid world_box t (face
   facets_there : Each (FacetAt t on_it v) (facets_of t)
   facets_there =
       each_weaker (λ f. IsFacetOf world_box t f × BoundsSlopes steps f v) (FacetAt t on_it v)
-      (λ f k. record { polygon = k.0.polygon; plane = k.0.plane; clear = record { plane = clear_beside f.plane k.1.plane; edges = λ l m. clear_beside (edge f l) (k.1.edges l m) } })
+      (λ f k. record { polygon = k.0.polygon; plane = k.0.plane; clear = record { plane = clear_beside f.plane k.1.plane; edges = λ l m. clear_beside (edge_plane f l) (k.1.edges l m) } })
       (facets_of t) (each_both (IsFacetOf world_box t) (λ f. BoundsSlopes steps f v) (facets_of t) (each_from_all (IsFacetOf world_box t) (facets_of t) facets) enough.facets)
 
   there : sum_over (difference_at on_it v) (facets_of t) ≡ pos 0

@@ -5,8 +5,8 @@ use Rattle.std.proofs.lemmas.Bool.Decides.{eqb_tells}
 use Rattle.std.proofs.lemmas.List.{map-append, length-map}
 use Rattle.std.proofs.lemmas.List.Sums.{sum_by-append}
 use Rattle.plane_predicate.specs.Space.{Coordinates}
-use Rattle.plane_polygon.specs.Polygons.{index_after}
-use Rattle.plane_polygon.specs.Parts.{indices_below}
+use Rattle.plane_predicate.specs.Indices.{index_after}
+use Rattle.plane_predicate.specs.Indices.{indices_below}
 use Rattle.plane_polygon.proofs.Hull.{after_inside, after_last}
 use Rattle.closed_surface.specs.Closed.{Edge, edges_of}
 

@@ -6,7 +6,7 @@ use Rattle.plane_predicate.specs.Space.{Coefficients, Coordinates, value, meetin
 use Rattle.plane_predicate.proofs.IntegerRing.{sums, mul_comm_ℤ}
 use Rattle.plane_predicate.proofs.Identities.{cramer_on_first, cramer_on_second, cramer_on_third, weight_swapped}
 use Rattle.plane_predicate.proofs.Signs.{signs, pos_pos, pos_neg, neg_neg, least_least, least_most, pos_cancel, neg_cancel, zero_cancel}
-use Rattle.closed_surface.specs.Ways.{Direction, way, dot_product, cross_product, slope, line_of, is_same_place, is_same_way, is_opposite_way}
+use Rattle.closed_surface.specs.Ways.{Direction, displacement, dot_product, cross_product, slope, line_of, is_same_point_of_space, is_same_direction, is_opposite_direction}
 use Rattle.closed_surface.specs.Around.{triple_product_of}
 use Rattle.closed_surface.proofs.Numbers.{at_least, not_zero_above, not_zero_below, negative_below}
 use Rattle.closed_surface.proofs.Parallels.{IsZero, slope_way, line_turn, line_slope, along_dot, along_slope, along_cross, in_planes, dot_above, same_place_is, same_way_is, same_way_parts, opposite_way_is, opposite_way_parts}
@@ -104,26 +104,26 @@ between_behind k l aw bw qw first last x hk hl ha hb hq e hf hz one = elim (sign
 ]
 
 -- what a plane says of a point through which the way from a to b runs
-pub between : (p : Coefficients) (a b q : Coordinates) → IsZero (cross_product (way a q) (way q b)) →
-    dot_product (way a q) (way a q) *ℤ (q.w *ℤ value p b -ℤ b.w *ℤ value p q) ≡ dot_product (way a q) (way q b) *ℤ (a.w *ℤ value p q -ℤ q.w *ℤ value p a)
+pub between : (p : Coefficients) (a b q : Coordinates) → IsZero (cross_product (displacement a q) (displacement q b)) →
+    dot_product (displacement a q) (displacement a q) *ℤ (q.w *ℤ value p b -ℤ b.w *ℤ value p q) ≡ dot_product (displacement a q) (displacement q b) *ℤ (a.w *ℤ value p q -ℤ q.w *ℤ value p a)
 between p a b q h =
-    ap (λ (x : ℤ). dot_product (way a q) (way a q) *ℤ x) (sym (slope_way p q b))
-    ∙ along_slope p (way a q) (way q b) h
-    ∙ ap (λ (x : ℤ). dot_product (way a q) (way q b) *ℤ x) (slope_way p a q)
+    ap (λ (x : ℤ). dot_product (displacement a q) (displacement a q) *ℤ x) (sym (slope_way p q b))
+    ∙ along_slope p (displacement a q) (displacement q b) h
+    ∙ ap (λ (x : ℤ). dot_product (displacement a q) (displacement q b) *ℤ x) (slope_way p a q)
 
-pub runs_zero : (p : Coefficients) (a b q : Coordinates) → pos 0 <ℤ a.w → pos 0 <ℤ b.w → is_same_way (way a q) (way q b) ≡ true →
+pub runs_zero : (p : Coefficients) (a b q : Coordinates) → pos 0 <ℤ a.w → pos 0 <ℤ b.w → is_same_direction (displacement a q) (displacement q b) ≡ true →
     value p a ≡ pos 0 → value p b ≡ pos 0 → value p q ≡ pos 0
 runs_zero p a b q ha hb r za zb =
-    let w = same_way_parts (way a q) (way q b) r in
-    between_zero (dot_product (way a q) (way a q)) (dot_product (way a q) (way q b)) a.w b.w q.w (value p a) (value p b) (value p q)
-    (dot_above (way a q) (way q b) (not_zero_above _ w.1)) w.1 ha hb (between p a b q w.0) za zb
+    let w = same_way_parts (displacement a q) (displacement q b) r in
+    between_zero (dot_product (displacement a q) (displacement a q)) (dot_product (displacement a q) (displacement q b)) a.w b.w q.w (value p a) (value p b) (value p q)
+    (dot_above (displacement a q) (displacement q b) (not_zero_above _ w.1)) w.1 ha hb (between p a b q w.0) za zb
 
-pub runs_behind : (p : Coefficients) (a b q : Coordinates) → pos 0 <ℤ a.w → pos 0 <ℤ b.w → pos 0 <ℤ q.w → is_same_way (way a q) (way q b) ≡ true →
+pub runs_behind : (p : Coefficients) (a b q : Coordinates) → pos 0 <ℤ a.w → pos 0 <ℤ b.w → pos 0 <ℤ q.w → is_same_direction (displacement a q) (displacement q b) ≡ true →
     value p a ≤ℤ pos 0 → value p b ≤ℤ pos 0 → (value p a <ℤ pos 0) ⊎ (value p b <ℤ pos 0) → value p q <ℤ pos 0
 runs_behind p a b q ha hb hq r la lb one =
-    let w = same_way_parts (way a q) (way q b) r in
-    between_behind (dot_product (way a q) (way a q)) (dot_product (way a q) (way q b)) a.w b.w q.w (value p a) (value p b) (value p q)
-    (dot_above (way a q) (way q b) (not_zero_above _ w.1)) w.1 ha hb hq (between p a b q w.0) la lb one
+    let w = same_way_parts (displacement a q) (displacement q b) r in
+    between_behind (dot_product (displacement a q) (displacement a q)) (dot_product (displacement a q) (displacement q b)) a.w b.w q.w (value p a) (value p b) (value p q)
+    (dot_above (displacement a q) (displacement q b) (not_zero_above _ w.1)) w.1 ha hb hq (between p a b q w.0) la lb one
 
 -- ---- the edge
 pub record IsSide (n i j m : Coefficients) : Type 0 where
@@ -151,68 +151,68 @@ module _ (n i j m : Coefficients) (h : IsSide n i j m) where
   long : pos 0 <ℤ dot_product g g
   long = dot_above g (record { x = m.a; y = m.b; z = m.c }) (λ e. not_zero_above (slope m g) ahead (exchanged g m ∙ e))
 
-  way_along : (p q : Coordinates) → value n p ≡ pos 0 → value n q ≡ pos 0 → value j p ≡ pos 0 → value j q ≡ pos 0 → IsZero (cross_product g (way p q))
+  way_along : (p q : Coordinates) → value n p ≡ pos 0 → value n q ≡ pos 0 → value j p ≡ pos 0 → value j q ≡ pos 0 → IsZero (cross_product g (displacement p q))
   way_along p q np nq jp jq =
-      in_planes n j (way p q) (slope_way n p q ∙ both_zero p.w (value n q) q.w (value n p) nq np) (slope_way j p q ∙ both_zero p.w (value j q) q.w (value j p) jq jp)
+      in_planes n j (displacement p q) (slope_way n p q ∙ both_zero p.w (value n q) q.w (value n p) nq np) (slope_way j p q ∙ both_zero p.w (value j q) q.w (value j p) jq jp)
 
-  edge_along : IsZero (cross_product g (way a b))
+  edge_along : IsZero (cross_product g (displacement a b))
   edge_along = way_along a b (cramer_on_first n i j) (cramer_on_first n j m) (cramer_on_third n i j) (cramer_on_second n j m)
 
-  edge_forward : pos 0 <ℤ dot_product g (way a b)
+  edge_forward : pos 0 <ℤ dot_product g (displacement a b)
   edge_forward =
-      above_factor (dot_product g g) (slope m (way a b)) (dot_product g (way a b)) (slope m g) long (along_slope m g (way a b) edge_along) ahead
+      above_factor (dot_product g g) (slope m (displacement a b)) (dot_product g (displacement a b)) (slope m g) long (along_slope m g (displacement a b) edge_along) ahead
       (subst (λ (x : ℤ). pos 0 <ℤ x) (sym (slope_way m a b ∙ grown_to_zero a.w (value m b) b.w (value m a) (cramer_on_third n j m))) (negated_above _ (pos_neg b.w (value m a) h.second h.far)))
 
   -- a point on both planes, strictly behind the planes of the neighbours
-  pub runs : (q : Coordinates) → pos 0 <ℤ q.w → value n q ≡ pos 0 → value j q ≡ pos 0 → value i q <ℤ pos 0 → value m q <ℤ pos 0 → is_same_way (way a q) (way q b) ≡ true
+  pub runs : (q : Coordinates) → pos 0 <ℤ q.w → value n q ≡ pos 0 → value j q ≡ pos 0 → value i q <ℤ pos 0 → value m q <ℤ pos 0 → is_same_direction (displacement a q) (displacement q b) ≡ true
   runs q hw nq jq iq mq =
       let u = way_along a q (cramer_on_first n i j) nq (cramer_on_third n i j) jq in
       let v = way_along q b nq (cramer_on_first n j m) jq (cramer_on_second n j m) in
-      let gu = below_factor (dot_product g g) (slope i (way a q)) (dot_product g (way a q)) (slope i g) long (along_slope i g (way a q) u) behind
+      let gu = below_factor (dot_product g g) (slope i (displacement a q)) (dot_product g (displacement a q)) (slope i g) long (along_slope i g (displacement a q) u) behind
       (subst (λ (x : ℤ). x <ℤ pos 0) (sym (slope_way i a q ∙ grown_from_zero a.w (value i q) q.w (value i a) (cramer_on_second n i j))) (pos_neg a.w (value i q) h.first iq)) in
-      let gv = above_factor (dot_product g g) (slope m (way q b)) (dot_product g (way q b)) (slope m g) long (along_slope m g (way q b) v) ahead
+      let gv = above_factor (dot_product g g) (slope m (displacement q b)) (dot_product g (displacement q b)) (slope m g) long (along_slope m g (displacement q b) v) ahead
       (subst (λ (x : ℤ). pos 0 <ℤ x) (sym (slope_way m q b ∙ grown_to_zero q.w (value m b) b.w (value m q) (cramer_on_third n j m))) (negated_above _ (pos_neg b.w (value m q) h.second mq))) in
-      same_way_is (way a q) (way q b) (along_cross g (way a q) (way q b) long u v)
-      (product_above (dot_product g g) (dot_product (way a q) (way q b)) (dot_product g (way a q)) (dot_product g (way q b)) long (along_dot g (way a q) (way q b) u) gu gv)
+      same_way_is (displacement a q) (displacement q b) (along_cross g (displacement a q) (displacement q b) long u v)
+      (product_above (dot_product g g) (dot_product (displacement a q) (displacement q b)) (dot_product g (displacement a q)) (dot_product g (displacement q b)) long (along_dot g (displacement a q) (displacement q b) u) gu gv)
 
   -- ---- the way of the edge
   pub record IsInPlanes (v : Direction) : Type 0 where
     pub plane : slope n v ≡ pos 0
     pub edge : slope j v ≡ pos 0
 
-  parallel_in : (v : Direction) → IsZero (cross_product (way a b) v) → pos 0 <ℤ dot_product (way a b) (way a b) → IsInPlanes v
+  parallel_in : (v : Direction) → IsZero (cross_product (displacement a b) v) → pos 0 <ℤ dot_product (displacement a b) (displacement a b) → IsInPlanes v
   parallel_in v z l = record {
-    plane = second_zero (dot_product (way a b) (way a b)) (slope n v) (dot_product (way a b) v) (slope n (way a b)) l (along_slope n (way a b) v z)
+    plane = second_zero (dot_product (displacement a b) (displacement a b)) (slope n v) (dot_product (displacement a b) v) (slope n (displacement a b)) l (along_slope n (displacement a b) v z)
         (slope_way n a b ∙ both_zero a.w (value n b) b.w (value n a) (cramer_on_first n j m) (cramer_on_first n i j));
-    edge = second_zero (dot_product (way a b) (way a b)) (slope j v) (dot_product (way a b) v) (slope j (way a b)) l (along_slope j (way a b) v z)
+    edge = second_zero (dot_product (displacement a b) (displacement a b)) (slope j v) (dot_product (displacement a b) v) (slope j (displacement a b)) l (along_slope j (displacement a b) v z)
         (slope_way j a b ∙ both_zero a.w (value j b) b.w (value j a) (cramer_on_second n j m) (cramer_on_third n i j));
   }
 
-  pub same_way_turns : (v : Direction) → is_same_way (way a b) v ≡ true → IsInPlanes v × (pos 0 <ℤ triple_product_of v n j)
+  pub same_way_turns : (v : Direction) → is_same_direction (displacement a b) v ≡ true → IsInPlanes v × (pos 0 <ℤ triple_product_of v n j)
   same_way_turns v r =
-      let w = same_way_parts (way a b) v r in (
-        parallel_in v w.0 (dot_above (way a b) v (not_zero_above _ w.1)),
+      let w = same_way_parts (displacement a b) v r in (
+        parallel_in v w.0 (dot_above (displacement a b) v (not_zero_above _ w.1)),
         subst (λ (x : ℤ). pos 0 <ℤ x) (line_turn n j v)
-            (second_above (dot_product g g) (dot_product (way a b) v) (dot_product g (way a b)) (dot_product g v) long (along_dot g (way a b) v edge_along) edge_forward w.1),
+            (second_above (dot_product g g) (dot_product (displacement a b) v) (dot_product g (displacement a b)) (dot_product g v) long (along_dot g (displacement a b) v edge_along) edge_forward w.1),
       )
 
-  pub opposite_way_turns : (v : Direction) → is_opposite_way (way a b) v ≡ true → IsInPlanes v × (triple_product_of v n j <ℤ pos 0)
+  pub opposite_way_turns : (v : Direction) → is_opposite_direction (displacement a b) v ≡ true → IsInPlanes v × (triple_product_of v n j <ℤ pos 0)
   opposite_way_turns v r =
-      let w = opposite_way_parts (way a b) v r in (
-        parallel_in v w.0 (dot_above (way a b) v (not_zero_below _ w.1)),
+      let w = opposite_way_parts (displacement a b) v r in (
+        parallel_in v w.0 (dot_above (displacement a b) v (not_zero_below _ w.1)),
         subst (λ (x : ℤ). x <ℤ pos 0) (line_turn n j v)
-            (second_below (dot_product g g) (dot_product (way a b) v) (dot_product g (way a b)) (dot_product g v) long (along_dot g (way a b) v edge_along) edge_forward w.1),
+            (second_below (dot_product g g) (dot_product (displacement a b) v) (dot_product g (displacement a b)) (dot_product g v) long (along_dot g (displacement a b) v edge_along) edge_forward w.1),
       )
 
-  pub turns_same_way : (v : Direction) → IsInPlanes v → pos 0 <ℤ triple_product_of v n j → is_same_way (way a b) v ≡ true
+  pub turns_same_way : (v : Direction) → IsInPlanes v → pos 0 <ℤ triple_product_of v n j → is_same_direction (displacement a b) v ≡ true
   turns_same_way v p t =
-      same_way_is (way a b) v (along_cross g (way a b) v long edge_along (in_planes n j v p.plane p.edge))
-      (product_above (dot_product g g) (dot_product (way a b) v) (dot_product g (way a b)) (dot_product g v) long (along_dot g (way a b) v edge_along) edge_forward (subst (λ (x : ℤ). pos 0 <ℤ x) (sym (line_turn n j v)) t))
+      same_way_is (displacement a b) v (along_cross g (displacement a b) v long edge_along (in_planes n j v p.plane p.edge))
+      (product_above (dot_product g g) (dot_product (displacement a b) v) (dot_product g (displacement a b)) (dot_product g v) long (along_dot g (displacement a b) v edge_along) edge_forward (subst (λ (x : ℤ). pos 0 <ℤ x) (sym (line_turn n j v)) t))
 
-  pub turns_opposite_way : (v : Direction) → IsInPlanes v → triple_product_of v n j <ℤ pos 0 → is_opposite_way (way a b) v ≡ true
+  pub turns_opposite_way : (v : Direction) → IsInPlanes v → triple_product_of v n j <ℤ pos 0 → is_opposite_direction (displacement a b) v ≡ true
   turns_opposite_way v p t =
-      opposite_way_is (way a b) v (along_cross g (way a b) v long edge_along (in_planes n j v p.plane p.edge))
-      (product_below (dot_product g g) (dot_product (way a b) v) (dot_product g (way a b)) (dot_product g v) long (along_dot g (way a b) v edge_along) edge_forward (subst (λ (x : ℤ). x <ℤ pos 0) (sym (line_turn n j v)) t))
+      opposite_way_is (displacement a b) v (along_cross g (displacement a b) v long edge_along (in_planes n j v p.plane p.edge))
+      (product_below (dot_product g g) (dot_product (displacement a b) v) (dot_product g (displacement a b)) (dot_product g v) long (along_dot g (displacement a b) v edge_along) edge_forward (subst (λ (x : ℤ). x <ℤ pos 0) (sym (line_turn n j v)) t))
 
   -- ---- the ends of the edge
   -- a way that all three planes of an end hold is none
@@ -229,16 +229,16 @@ module _ (n i j m : Coefficients) (h : IsSide n i j m) where
   none_held_second u un uj um = none_held u m un uj um (λ e. not_zero_above (slope m g) ahead e)
 
   -- a point on all three planes of an end is that end
-  pub meets_at_first : (q : Coordinates) → pos 0 <ℤ q.w → value n q ≡ pos 0 → value j q ≡ pos 0 → value i q ≡ pos 0 → is_same_place a q ≡ true
+  pub meets_at_first : (q : Coordinates) → pos 0 <ℤ q.w → value n q ≡ pos 0 → value j q ≡ pos 0 → value i q ≡ pos 0 → is_same_point_of_space a q ≡ true
   meets_at_first q hw nq jq iq =
-      same_place_is a q (none_held_first (way a q)
+      same_place_is a q (none_held_first (displacement a q)
       (slope_way n a q ∙ both_zero a.w (value n q) q.w (value n a) nq (cramer_on_first n i j))
       (slope_way i a q ∙ both_zero a.w (value i q) q.w (value i a) iq (cramer_on_second n i j))
       (slope_way j a q ∙ both_zero a.w (value j q) q.w (value j a) jq (cramer_on_third n i j)))
 
-  pub meets_at_second : (q : Coordinates) → pos 0 <ℤ q.w → value n q ≡ pos 0 → value j q ≡ pos 0 → value m q ≡ pos 0 → is_same_place b q ≡ true
+  pub meets_at_second : (q : Coordinates) → pos 0 <ℤ q.w → value n q ≡ pos 0 → value j q ≡ pos 0 → value m q ≡ pos 0 → is_same_point_of_space b q ≡ true
   meets_at_second q hw nq jq mq =
-      same_place_is b q (none_held_second (way b q)
+      same_place_is b q (none_held_second (displacement b q)
       (slope_way n b q ∙ both_zero b.w (value n q) q.w (value n b) nq (cramer_on_first n j m))
       (slope_way j b q ∙ both_zero b.w (value j q) q.w (value j b) jq (cramer_on_second n j m))
       (slope_way m b q ∙ both_zero b.w (value m q) q.w (value m b) mq (cramer_on_third n j m)))

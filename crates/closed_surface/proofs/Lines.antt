@@ -10,8 +10,8 @@ use Rattle.plane_predicate.proofs.IntegerRing.{sums, mul_comm_ℤ}
 use Rattle.plane_predicate.proofs.Signs.{zero_cancel}
 use Rattle.plane_predicate.proofs.SamePlanes.{directed_above, equal_or_opposite}
 use Rattle.bsp_tree.specs.Trees.{BspTree, inside, outside, node}
-use Rattle.bsp_tree.specs.Cells.{IsOfCell, IsPlaneOf}
-use Rattle.closed_surface.specs.Ways.{Direction, way, dot_product, slope, line_of}
+use Rattle.bsp_tree.specs.Cells.{IsOfCell, IsNodePlaneOf}
+use Rattle.closed_surface.specs.Ways.{Direction, displacement, dot_product, slope, line_of}
 use Rattle.closed_surface.specs.Around.{triple_product_of, IsParallelToNone, HaveNoParallels}
 use Rattle.closed_surface.proofs.Parallels.{IsZero, in_planes, along_dot, line_turn, slope_way, zero_by_length}
 use Rattle.closed_surface.proofs.Sectors.{same_plane, same_itself}
@@ -55,7 +55,7 @@ each_plane inside cell h = tt
 each_plane outside cell h = tt
 each_plane (node s b a) cell h = (h.0.plane, each_append IsPlane (planes_of b) (planes_of a) (each_plane b _ h.1) (each_plane a _ h.2))
 
-pub each_of : (P : Coefficients → Type 0) (t : BspTree) → Each P (planes_of t) → (m : Coefficients) → IsPlaneOf m t → P m
+pub each_of : (P : Coefficients → Type 0) (t : BspTree) → Each P (planes_of t) → (m : Coefficients) → IsNodePlaneOf m t → P m
 each_of P inside e m k = absurd k
 each_of P outside e m k = absurd k
 each_of P (node s b a) e m (inl k) = subst P (sym k) e.0
@@ -154,7 +154,7 @@ module _ (q : Coordinates) (hw : pos 0 <ℤ q.w) (v : Direction) (hv : pos 0 <�
     points = λ p pw e.
         let a : Direction = record { x = m.a; y = m.b; z = m.c } in
         let b : Direction = record { x = n.a; y = n.b; z = n.c } in
-        let u = way q p in
+        let u = displacement q p in
         let flat : slope m u ≡ pos 0 = slope_way m q p ∙ minus_zero q.w (value m p) p.w (value m q) e hm.on in
         let same : slope n u ≡ pos 0 = zero_cancel (dot_product a a) (dot_product b u) (directed_above m hm.plane.directed) (along_dot a b u z ∙ ap (λ (x : ℤ). dot_product a b *ℤ x) flat ∙ *ℤ-zero (dot_product a b)) in
         zero_cancel q.w (value n p) hw (only_first q.w (value n p) p.w (value n q) (sym (slope_way n q p) ∙ same) hn.on);

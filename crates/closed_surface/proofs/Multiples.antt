@@ -6,12 +6,12 @@ use Rattle.std.proofs.lemmas.Bool.Decides.{Decides-int_eq}
 use Rattle.plane_predicate.specs.declared.unit.Unit.{Unit as LengthUnit}
 use Rattle.plane_predicate.specs.Space.{Coordinates, IsPointTimes}
 use Rattle.plane_predicate.specs.InUnits.{in_units, in_steps}
-use Rattle.plane_predicate.specs.Units.{steps_of}
+use Rattle.plane_predicate.specs.Units.{grid_steps_per_unit}
 use Rattle.plane_predicate.proofs.IntegerRing.{sums}
 use Rattle.plane_predicate.proofs.InUnits.{steps_above}
 use Rattle.plane_predicate.proofs.Polynomials.{var, plus, times, minus, ring}
 use Rattle.plane_predicate.proofs.Signs.{pos_pos, pos_neg, pos_cancel, neg_cancel, zero_cancel}
-use Rattle.closed_surface.specs.Ways.{Direction, way, is_same_place, is_parallel, is_same_way, is_opposite_way}
+use Rattle.closed_surface.specs.Ways.{Direction, displacement, is_same_point_of_space, is_parallel, is_same_direction, is_opposite_direction}
 use Rattle.closed_surface.specs.Closed.{runs_through}
 use Rattle.closed_surface.proofs.Numbers.{below, below_back, same_tests}
 
@@ -80,19 +80,19 @@ parallel_second k u v w h =
     (zero_times k _ _ h.above (minor_second k u.z u.x v.z v.x w.z w.x h.z h.x))
     (zero_times k _ _ h.above (minor_second k u.x u.y v.x v.y w.x w.y h.x h.y))
 
-pub same_first : (k : ℤ) (u v w : Direction) → IsMultiple k u v → is_same_way u w ≡ is_same_way v w
+pub same_first : (k : ℤ) (u v w : Direction) → IsMultiple k u v → is_same_direction u w ≡ is_same_direction v w
 same_first k u v w h = ap₂ (λ (a b : Bool). a && b) (parallel_first k u v w h) (above_times k _ _ h.above (three_first k u.x u.y u.z v.x v.y v.z w.x w.y w.z h.x h.y h.z))
 
-pub same_second : (k : ℤ) (u v w : Direction) → IsMultiple k u v → is_same_way w u ≡ is_same_way w v
+pub same_second : (k : ℤ) (u v w : Direction) → IsMultiple k u v → is_same_direction w u ≡ is_same_direction w v
 same_second k u v w h = ap₂ (λ (a b : Bool). a && b) (parallel_second k u v w h) (above_times k _ _ h.above (three_second k u.x u.y u.z v.x v.y v.z w.x w.y w.z h.x h.y h.z))
 
-pub opposite_first : (k : ℤ) (u v w : Direction) → IsMultiple k u v → is_opposite_way u w ≡ is_opposite_way v w
+pub opposite_first : (k : ℤ) (u v w : Direction) → IsMultiple k u v → is_opposite_direction u w ≡ is_opposite_direction v w
 opposite_first k u v w h = ap₂ (λ (a b : Bool). a && b) (parallel_first k u v w h) (below_times k _ _ h.above (three_first k u.x u.y u.z v.x v.y v.z w.x w.y w.z h.x h.y h.z))
 
 -- ---- points in units and in grid steps
 module _ (unit : LengthUnit) where
   abbrev steps : ℤ
-  steps = steps_of unit
+  steps = grid_steps_per_unit unit
 
   -- a coordinate of the way to a point, of the way from it, and of the way between two
   to_point : (u aw ax k aw' ax' qw qx : ℤ) → ax ≡ k *ℤ ax' → u *ℤ aw ≡ k *ℤ aw' → aw *ℤ (u *ℤ qx) -ℤ qw *ℤ ax ≡ k *ℤ (aw' *ℤ qx -ℤ qw *ℤ ax')
@@ -117,7 +117,7 @@ module _ (unit : LengthUnit) where
       (minus (times (times (var 0) (var 2)) (times (var 1) (var 5))) (times (times (var 1) (var 4)) (times (var 0) (var 3))))
       (times (times (var 0) (var 1)) (minus (times (var 2) (var 5)) (times (var 4) (var 3)))) refl
 
-  to_it : (a a' q : Coordinates) (h : IsPointTimes (in_units unit a) a') → IsMultiple h.by (way a (in_steps unit q)) (way a' q)
+  to_it : (a a' q : Coordinates) (h : IsPointTimes (in_units unit a) a') → IsMultiple h.by (displacement a (in_steps unit q)) (displacement a' q)
   to_it a a' q h = record {
     above = h.above;
     x = to_point steps a.w a.x h.by a'.w a'.x q.w q.x h.x h.w;
@@ -125,7 +125,7 @@ module _ (unit : LengthUnit) where
     z = to_point steps a.w a.z h.by a'.w a'.z q.w q.z h.z h.w;
   }
 
-  from_it : (b b' q : Coordinates) (h : IsPointTimes (in_units unit b) b') → IsMultiple h.by (way (in_steps unit q) b) (way q b')
+  from_it : (b b' q : Coordinates) (h : IsPointTimes (in_units unit b) b') → IsMultiple h.by (displacement (in_steps unit q) b) (displacement q b')
   from_it b b' q h = record {
     above = h.above;
     x = from_point steps b.w b.x h.by b'.w b'.x q.w q.x h.x h.w;
@@ -139,7 +139,7 @@ module _ (unit : LengthUnit) where
   several_is : (u : Direction) → IsMultiple steps (several u) u
   several_is u = record { above = steps_above unit; x = refl; y = refl; z = refl }
 
-  way_is : (a a' b b' : Coordinates) (h : IsPointTimes (in_units unit a) a') (k : IsPointTimes (in_units unit b) b') → IsMultiple (h.by *ℤ k.by) (several (way a b)) (way a' b')
+  way_is : (a a' b b' : Coordinates) (h : IsPointTimes (in_units unit a) a') (k : IsPointTimes (in_units unit b) b') → IsMultiple (h.by *ℤ k.by) (several (displacement a b)) (displacement a' b')
   way_is a a' b b' h k = record {
     above = pos_pos h.by k.by h.above k.above;
     x = between_points steps a.w a.x b.w b.x h.by a'.w a'.x k.by b'.w b'.x h.x h.w k.x k.w;
@@ -148,21 +148,21 @@ module _ (unit : LengthUnit) where
   }
 
   -- ---- the tests of an edge and of a corner
-  pub place_alike : (a a' q : Coordinates) → IsPointTimes (in_units unit a) a' → is_same_place a (in_steps unit q) ≡ is_same_place a' q
+  pub place_alike : (a a' q : Coordinates) → IsPointTimes (in_units unit a) a' → is_same_point_of_space a (in_steps unit q) ≡ is_same_point_of_space a' q
   place_alike a a' q h =
       let m = to_it a a' q h in three_tests _ _ _ _ _ _ (zero_times h.by _ _ m.above m.x) (zero_times h.by _ _ m.above m.y) (zero_times h.by _ _ m.above m.z)
 
   runs_alike : (a a' b b' q : Coordinates) → IsPointTimes (in_units unit a) a' → IsPointTimes (in_units unit b) b' → runs_through (a, b) (in_steps unit q) ≡ runs_through (a', b') q
-  runs_alike a a' b b' q h k = same_first h.by _ _ (way (in_steps unit q) b) (to_it a a' q h) ∙ same_second k.by _ _ (way a' q) (from_it b b' q k)
+  runs_alike a a' b b' q h k = same_first h.by _ _ (displacement (in_steps unit q) b) (to_it a a' q h) ∙ same_second k.by _ _ (displacement a' q) (from_it b b' q k)
 
   pub along_alike : (a a' b b' q : Coordinates) (v : Direction) → IsPointTimes (in_units unit a) a' → IsPointTimes (in_units unit b) b' →
-      (runs_through (a, b) (in_steps unit q) && is_same_way (way a b) v) ≡ (runs_through (a', b') q && is_same_way (way a' b') v)
+      (runs_through (a, b) (in_steps unit q) && is_same_direction (displacement a b) v) ≡ (runs_through (a', b') q && is_same_direction (displacement a' b') v)
   along_alike a a' b b' q v h k =
       ap₂ (λ (x y : Bool). x && y) (runs_alike a a' b b' q h k)
-      (sym (same_first steps (several (way a b)) (way a b) v (several_is (way a b))) ∙ same_first (h.by *ℤ k.by) (several (way a b)) (way a' b') v (way_is a a' b b' h k))
+      (sym (same_first steps (several (displacement a b)) (displacement a b) v (several_is (displacement a b))) ∙ same_first (h.by *ℤ k.by) (several (displacement a b)) (displacement a' b') v (way_is a a' b b' h k))
 
   pub against_alike : (a a' b b' q : Coordinates) (v : Direction) → IsPointTimes (in_units unit a) a' → IsPointTimes (in_units unit b) b' →
-      (runs_through (a, b) (in_steps unit q) && is_opposite_way (way a b) v) ≡ (runs_through (a', b') q && is_opposite_way (way a' b') v)
+      (runs_through (a, b) (in_steps unit q) && is_opposite_direction (displacement a b) v) ≡ (runs_through (a', b') q && is_opposite_direction (displacement a' b') v)
   against_alike a a' b b' q v h k =
       ap₂ (λ (x y : Bool). x && y) (runs_alike a a' b b' q h k)
-      (sym (opposite_first steps (several (way a b)) (way a b) v (several_is (way a b))) ∙ opposite_first (h.by *ℤ k.by) (several (way a b)) (way a' b') v (way_is a a' b b' h k))
+      (sym (opposite_first steps (several (displacement a b)) (displacement a b) v (several_is (displacement a b))) ∙ opposite_first (h.by *ℤ k.by) (several (displacement a b)) (displacement a' b') v (way_is a a' b b' h k))

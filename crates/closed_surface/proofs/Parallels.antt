@@ -9,7 +9,7 @@ use Rattle.plane_predicate.proofs.IntegerRing.{sums}
 use Rattle.plane_predicate.proofs.Polynomials.{Poly, var, plus, times, minus, ring}
 use Rattle.plane_predicate.proofs.Vectors.{Form, Place, form, place, of_plane, of_point, valueP, minorP, determinantP}
 use Rattle.plane_predicate.proofs.Signs.{signs, pos_pos, neg_neg, least_least, most_most, zero_cancel}
-use Rattle.closed_surface.specs.Ways.{Direction, way, dot_product, cross_product, slope, line_of, is_same_place, is_parallel, is_same_way, is_opposite_way}
+use Rattle.closed_surface.specs.Ways.{Direction, displacement, dot_product, cross_product, slope, line_of, is_same_point_of_space, is_parallel, is_same_direction, is_opposite_direction}
 use Rattle.closed_surface.specs.Around.{triple_product_of}
 use Rattle.closed_surface.proofs.Numbers.{below, below_back}
 
@@ -42,7 +42,7 @@ abbrev wayP : Place → Place → Line
 wayP p q = record { x = minus (times p.w q.x) (times q.w p.x); y = minus (times p.w q.y) (times q.w p.y); z = minus (times p.w q.z) (times q.w p.z) }
 
 -- ---- identities
-pub slope_way : (m : Coefficients) (p q : Coordinates) → slope m (way p q) ≡ p.w *ℤ value m q -ℤ q.w *ℤ value m p
+pub slope_way : (m : Coefficients) (p q : Coordinates) → slope m (displacement p q) ≡ p.w *ℤ value m q -ℤ q.w *ℤ value m p
 slope_way m p q =
     ring (of_plane m (of_point p (of_point q []))) (slopeP (form 0) (wayP (place 4) (place 8)))
     (minus (times (var 7) (valueP (form 0) (place 8))) (times (var 11) (valueP (form 0) (place 4)))) refl
@@ -178,17 +178,17 @@ parallel_parts u v h =
     let b = and_parts (int_eq (cross_product u v).y (pos 0)) (int_eq (cross_product u v).z (pos 0)) a.1 in
     record { x = (Decides-int_eq (cross_product u v).x (pos 0)).0 a.0; y = (Decides-int_eq (cross_product u v).y (pos 0)).0 b.0; z = (Decides-int_eq (cross_product u v).z (pos 0)).0 b.1 }
 
-pub same_way_is : (u v : Direction) → IsZero (cross_product u v) → pos 0 <ℤ dot_product u v → is_same_way u v ≡ true
+pub same_way_is : (u v : Direction) → IsZero (cross_product u v) → pos 0 <ℤ dot_product u v → is_same_direction u v ≡ true
 same_way_is u v h k = and_from _ _ (parallel_is u v h) (below (pos 0) (dot_product u v) k)
 
-pub same_way_parts : (u v : Direction) → is_same_way u v ≡ true → IsZero (cross_product u v) × (pos 0 <ℤ dot_product u v)
+pub same_way_parts : (u v : Direction) → is_same_direction u v ≡ true → IsZero (cross_product u v) × (pos 0 <ℤ dot_product u v)
 same_way_parts u v h =
     let a = and_parts (is_parallel u v) (int_lt (pos 0) (dot_product u v)) h in (parallel_parts u v a.0, below_back (pos 0) (dot_product u v) a.1)
 
-pub opposite_way_is : (u v : Direction) → IsZero (cross_product u v) → dot_product u v <ℤ pos 0 → is_opposite_way u v ≡ true
+pub opposite_way_is : (u v : Direction) → IsZero (cross_product u v) → dot_product u v <ℤ pos 0 → is_opposite_direction u v ≡ true
 opposite_way_is u v h k = and_from _ _ (parallel_is u v h) (below (dot_product u v) (pos 0) k)
 
-pub opposite_way_parts : (u v : Direction) → is_opposite_way u v ≡ true → IsZero (cross_product u v) × (dot_product u v <ℤ pos 0)
+pub opposite_way_parts : (u v : Direction) → is_opposite_direction u v ≡ true → IsZero (cross_product u v) × (dot_product u v <ℤ pos 0)
 opposite_way_parts u v h =
     let a = and_parts (is_parallel u v) (int_lt (dot_product u v) (pos 0)) h in (parallel_parts u v a.0, below_back (dot_product u v) (pos 0) a.1)
 
@@ -198,6 +198,6 @@ zero_by_length u h =
     record { x = no_square u.x (omega (arith, sums)); y = no_square u.y (omega (arith, sums)); z = no_square u.z (omega (arith, sums)) }
 
 -- a way of no length leads to the same place
-pub same_place_is : (p q : Coordinates) → dot_product (way p q) (way p q) ≡ pos 0 → is_same_place p q ≡ true
+pub same_place_is : (p q : Coordinates) → dot_product (displacement p q) (displacement p q) ≡ pos 0 → is_same_point_of_space p q ≡ true
 same_place_is p q h =
-    let z = zero_by_length (way p q) h in and_from _ _ (is_int (way p q).x z.x) (and_from _ _ (is_int (way p q).y z.y) (is_int (way p q).z z.z))
+    let z = zero_by_length (displacement p q) h in and_from _ _ (is_int (displacement p q).x z.x) (and_from _ _ (is_int (displacement p q).y z.y) (is_int (displacement p q).z z.z))

@@ -10,7 +10,7 @@ use Rattle.plane_predicate.specs.declared.unit.Unit.TheVariants.{Whole}
 use Rattle.plane_predicate.specs.Space.{Coordinates, IsPointTimes, IsInWorld}
 use Rattle.plane_predicate.specs.InUnits.{in_units, in_steps}
 use Rattle.plane_predicate.proofs.InUnits.{whole_steps}
-use Rattle.closed_surface.specs.Ways.{way, is_same_place, is_same_way, is_opposite_way}
+use Rattle.closed_surface.specs.Ways.{displacement, is_same_point_of_space, is_same_direction, is_opposite_direction}
 use Rattle.closed_surface.specs.Closed.{Edge, edges_of, runs_through, is_corner, AreClosed}
 use Rattle.closed_surface.specs.Printing.{AreInUnits, IsRoundOf, AreRoundsOf}
 use Rattle.closed_surface.proofs.Multiples.{place_alike, along_alike, against_alike}
@@ -112,27 +112,27 @@ module _ (unit : LengthUnit) where
       ∙ sym (count_append g (edges_of p) (flat_map edges_of printed))
 
   -- ---- corners
-  units_any : (q : Coordinates) (ps ps' : List Coordinates) → AreInUnits unit ps ps' → list_any (λ p. is_same_place p (in_steps unit q)) ps ≡ list_any (λ p. is_same_place p q) ps'
+  units_any : (q : Coordinates) (ps ps' : List Coordinates) → AreInUnits unit ps ps' → list_any (λ p. is_same_point_of_space p (in_steps unit q)) ps ≡ list_any (λ p. is_same_point_of_space p q) ps'
   units_any q [] [] h = refl
   units_any q [] (p' ∷ ps') h = absurd h
   units_any q (p ∷ ps) [] h = absurd h
   units_any q (p ∷ ps) (p' ∷ ps') h = ap₂ (λ (a b : Bool). a || b) (place_alike unit p p' q h.0) (units_any q ps ps' h.1)
 
-  round_any : (q : Coordinates) (corners printed : List Coordinates) → IsRoundOf unit corners printed → list_any (λ p. is_same_place p (in_steps unit q)) corners ≡ list_any (λ p. is_same_place p q) printed
+  round_any : (q : Coordinates) (corners printed : List Coordinates) → IsRoundOf unit corners printed → list_any (λ p. is_same_point_of_space p (in_steps unit q)) corners ≡ list_any (λ p. is_same_point_of_space p q) printed
   round_any q corners printed h =
-      units_any q corners (h.front ++ h.back) h.places ∙ turned_any (λ p. is_same_place p q) h.front h.back ∙ ap (list_any (λ p. is_same_place p q)) (sym h.order)
+      units_any q corners (h.front ++ h.back) h.places ∙ turned_any (λ p. is_same_point_of_space p q) h.front h.back ∙ ap (list_any (λ p. is_same_point_of_space p q)) (sym h.order)
 
   corner_alike : (q : Coordinates) (faces printed : List (List Coordinates)) → AreRoundsOf unit faces printed → is_corner faces (in_steps unit q) ≡ is_corner printed q
   corner_alike q [] [] h = refl
   corner_alike q [] (p ∷ printed) h = absurd h
   corner_alike q (c ∷ faces) [] h = absurd h
   corner_alike q (c ∷ faces) (p ∷ printed) h =
-      list_any-append (λ x. is_same_place x (in_steps unit q)) c (flat_map (λ x. x) faces)
+      list_any-append (λ x. is_same_point_of_space x (in_steps unit q)) c (flat_map (λ x. x) faces)
       ∙ ap₂ (λ (a b : Bool). a || b) (round_any q c p h.0) (corner_alike q faces printed h.1)
-      ∙ sym (list_any-append (λ x. is_same_place x q) p (flat_map (λ x. x) printed))
+      ∙ sym (list_any-append (λ x. is_same_point_of_space x q) p (flat_map (λ x. x) printed))
 
   pub printed_closed : (faces printed : List (List Coordinates)) → AreRoundsOf unit faces printed → AreClosed Whole faces → AreClosed unit printed
   printed_closed faces printed h closed q v world free =
-      sym (all_count (λ e. runs_through e (in_steps unit q) && is_same_way (way e.0 e.1) v) (λ e. runs_through e q && is_same_way (way e.0 e.1) v) (λ a a' b b' x y. along_alike unit a a' b b' q v x y) faces printed h)
+      sym (all_count (λ e. runs_through e (in_steps unit q) && is_same_direction (displacement e.0 e.1) v) (λ e. runs_through e q && is_same_direction (displacement e.0 e.1) v) (λ a a' b b' x y. along_alike unit a a' b b' q v x y) faces printed h)
       ∙ closed (in_steps unit q) v (subst IsInWorld (sym (whole_steps (in_steps unit q))) world) (corner_alike q faces printed h ∙ free)
-      ∙ all_count (λ e. runs_through e (in_steps unit q) && is_opposite_way (way e.0 e.1) v) (λ e. runs_through e q && is_opposite_way (way e.0 e.1) v) (λ a a' b b' x y. against_alike unit a a' b b' q v x y) faces printed h
+      ∙ all_count (λ e. runs_through e (in_steps unit q) && is_opposite_direction (displacement e.0 e.1) v) (λ e. runs_through e q && is_opposite_direction (displacement e.0 e.1) v) (λ a a' b b' x y. against_alike unit a a' b b' q v x y) faces printed h

@@ -5,7 +5,7 @@ use Rattle.plane_predicate.specs.declared.unit.Unit.TheVariants.{Whole, Half}
 use Rattle.plane_predicate.specs.Space.{Coordinates, IsInWorld}
 use Rattle.plane_predicate.proofs.IntegerRing.{sums}
 use Rattle.closed_surface.specs.Ways.{Direction}
-use Rattle.closed_surface.specs.Closed.{Edge, edges_of, corners_at, edges_along, edges_against, is_corner, IsClosedSurface}
+use Rattle.closed_surface.specs.Closed.{Edge, edges_of, corners_at, count_of_edges_along, count_of_edges_against, is_corner, IsClosedSurface}
 
 abbrev point : ℤ → ℤ → ℤ → ℤ → Coordinates
 point x y z w = record { x = x; y = y; z = z; w = w }
@@ -26,7 +26,7 @@ abbrev all_edges : List Coordinates → List (List ℕ) → List Edge
 all_edges vertices faces = flat_map edges_of (map (corners_at vertices) faces)
 
 abbrev Run : List Coordinates → List (List ℕ) → Coordinates → Direction → ℕ → ℕ → Type 0
-Run vertices faces q v one other = (edges_along (all_edges vertices faces) q v ≡ one) × (edges_against (all_edges vertices faces) q v ≡ other)
+Run vertices faces q v one other = (count_of_edges_along (all_edges vertices faces) q v ≡ one) × (count_of_edges_against (all_edges vertices faces) q v ≡ other)
 
 -- ---- a box from (0, 0, 0) to (2, 2, 2), and one more vertex in the middle of its first edge
 abbrev box : List Coordinates

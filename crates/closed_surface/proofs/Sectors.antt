@@ -7,10 +7,11 @@ use Rattle.plane_predicate.specs.Space.{Coefficients, opposite_of, is_same}
 use Rattle.plane_predicate.proofs.IntegerRing.{sums, mul_comm_ℤ}
 use Rattle.plane_predicate.proofs.Signs.{signs, pos_pos, pos_neg, neg_pos, least_least, least_most, pos_cancel}
 use Rattle.closed_surface.specs.Ways.{Direction}
-use Rattle.closed_surface.specs.Around.{triple_product_of, IsParallelToNone, HaveNoParallels, sides_at, fall_at, fall, sum_over}
+use Rattle.closed_surface.specs.Around.{triple_product_of, IsParallelToNone, HaveNoParallels, sides_at, fall_at, fall}
 use Rattle.closed_surface.proofs.Each.{Each, total_same, total_sum}
 use Rattle.closed_surface.proofs.Numbers.{below, not_below, below_back, false_by, at_most, at_least, zero_at_most, zero_at_least, negative_above, negative_below, negative_apart, negative_zero}
 use Rattle.closed_surface.proofs.Turns.{turn_exchanged, turn_itself, four_turns, turn_opposite, opposite_turn}
+use Rattle.plane_predicate.specs.Sums.{sum_over}
 
 -- ---- tests of numbers
 negative_back : (x y : ℤ) → y ≡ neg_ℤ x → y ≡ pos 0 → x ≡ pos 0

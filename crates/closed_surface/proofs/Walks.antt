@@ -6,7 +6,7 @@ use Rattle.plane_predicate.proofs.Signs.{signs}
 use Rattle.plane_predicate.proofs.Vectors.{value-opposite}
 use Rattle.plane_polygon.specs.Parts.{is_behind}
 use Rattle.bsp_tree.specs.Trees.{BspTree, inside, outside, node}
-use Rattle.bsp_tree.specs.Cells.{IsPlaneOf}
+use Rattle.bsp_tree.specs.Cells.{IsNodePlaneOf}
 use Rattle.bsp_tree.proofs.Opposites.{opposite_twice}
 use Rattle.facet_cut.specs.Sides.{walk_by, AreJustBehind, AreJustAhead}
 use Rattle.closed_surface.specs.Ways.{Direction}
@@ -22,7 +22,7 @@ use Rattle.closed_surface.proofs.Lines.{AmongEither}
 either_alike : (x y : Bool) (a b c d : Bool) → x ≡ y → a ≡ c → b ≡ d → (if x then a else b) ≡ (if y then c else d)
 either_alike x y a b c d hx ha hb = rw (hx, ha, hb) refl
 
-pub walk_alike : (t : BspTree) (sides other : Coefficients → Bool) → ((m : Coefficients) → IsPlaneOf m t → sides m ≡ other m) → walk_by t sides ≡ walk_by t other
+pub walk_alike : (t : BspTree) (sides other : Coefficients → Bool) → ((m : Coefficients) → IsNodePlaneOf m t → sides m ≡ other m) → walk_by t sides ≡ walk_by t other
 walk_alike inside sides other h = refl
 walk_alike outside sides other h = refl
 walk_alike (node s b a) sides other h =

@@ -31,8 +31,3 @@ fall_at d planes value n half behind = value (sides_at d planes n half behind) -
 -- ahead of it, and the other half back
 abbrev pub fall : Direction → List Coefficients → (List Bool → ℤ) → Coefficients → ℤ
 fall d planes value n = fall_at d planes value n n true +ℤ fall_at d planes value n (opposite_of n) false
-
--- a sum over a list
-abbrev pub sum_over : {A : Type 0} → (A → ℤ) → List A → ℤ
-sum_over f [] = pos 0
-sum_over f (x ∷ xs) = f x +ℤ sum_over f xs

@@ -3,33 +3,37 @@
 ghost use Rattle.std.specs.Prelude.{◌≡◌, ◌↔◌, ◌<◌, ◌<ℤ◌, ◌-ℤ◌, ◌&&◌, ℕ, pos, true, map};
 ghost use Rattle.plane_predicate.specs.declared.unit.Unit.TheVariants.{Whole};
 ghost use Rattle.plane_predicate.specs.Space.{Coordinates, opposite_of};
-ghost use Rattle.plane_polygon.specs.Polygons.{Outline, IsPolygon, IsStrictlyWithin, sides, index_after};
+ghost use Rattle.plane_polygon.specs.Polygons.{Outline, IsPolygon, IsStrictlyWithin, edge_count};
 ghost use Rattle.plane_polygon.specs.Parts.{corners};
-ghost use Rattle.closed_surface.specs.Ways.{Direction, way, dot_product, is_same_way, is_opposite_way};
-ghost use Rattle.closed_surface.specs.Closed.{runs_through, edges_of, AreClosed, edges_along, edges_against};
+ghost use Rattle.closed_surface.specs.Ways.{Direction, displacement, dot_product, is_same_direction, is_opposite_direction};
+ghost use Rattle.closed_surface.specs.Closed.{runs_through, edges_of, AreClosed, count_of_edges_along, count_of_edges_against};
 ghost use Rattle.bsp_tree.specs.Trees.{BspTree};
 ghost use Rattle.bsp_tree.specs.Cells.{IsOfWorld};
 ghost use Rattle.facet_cut.specs.Facets.{facets_of};
-ghost use Rattle.closed_surface.specs.Edges.{edge_at, IsOnEdge, RunsAlong, RunsAgainst};
+ghost use Rattle.closed_surface.specs.Edges.{edge_of_outline, IsOnEdge, RunsAlong, RunsAgainst};
 ghost use Rattle.closed_surface.specs.Near.{near_point, direction_beside, BoundsSlopes, IsNoCorner, IsClear, is_strictly_within, indicator};
+ghost use Rattle.plane_predicate.specs.Indices.{index_after};
 
 use facet_cut::{facets_are_polygons, facets_bound_their_solid};
 
 /// The edge of a polygon from a corner to the next runs through exactly the points of its plane and of
 /// the edge's plane that are strictly behind all other edges. It runs along a direction exactly where
-/// both planes hold the direction and the one turns to the left of the other about it, and the opposite
-/// way where it turns to the right.
+/// both planes hold the direction and the one is to the left of the other about it, and against it where
+/// it is to the right.
 pub fn edges_run_on_their_planes()
-    ensures points { (s : Outline) → IsPolygon s → (i : ℕ) → i < sides s → (q : Coordinates) →
-        pos 0 <ℤ q.w → (runs_through (edge_at s i) q ≡ true) ↔ IsOnEdge s (index_after (sides s) i) q }
-    ensures along { (s : Outline) → IsPolygon s → (i : ℕ) → i < sides s → (q : Coordinates) →
+    ensures points { (s : Outline) → IsPolygon s → (i : ℕ) → i < edge_count s → (q : Coordinates) →
+        pos 0 <ℤ q.w → (runs_through (edge_of_outline s i) q ≡ true)
+        ↔ IsOnEdge s (index_after (edge_count s) i) q }
+    ensures along { (s : Outline) → IsPolygon s → (i : ℕ) → i < edge_count s → (q : Coordinates) →
         pos 0 <ℤ q.w → (v : Direction) →
-        ((runs_through (edge_at s i) q && is_same_way (way (edge_at s i).0 (edge_at s i).1) v)
-        ≡ true) ↔ RunsAlong s (index_after (sides s) i) q v }
-    ensures against { (s : Outline) → IsPolygon s → (i : ℕ) → i < sides s → (q : Coordinates) →
+        ((runs_through (edge_of_outline s i) q && is_same_direction
+        (displacement (edge_of_outline s i).0 (edge_of_outline s i).1) v)
+        ≡ true) ↔ RunsAlong s (index_after (edge_count s) i) q v }
+    ensures against { (s : Outline) → IsPolygon s → (i : ℕ) → i < edge_count s → (q : Coordinates) →
         pos 0 <ℤ q.w → (v : Direction) →
-        ((runs_through (edge_at s i) q && is_opposite_way (way (edge_at s i).0 (edge_at s i).1) v)
-        ≡ true) ↔ RunsAgainst s (index_after (sides s) i) q v }
+        ((runs_through (edge_of_outline s i) q && is_opposite_direction
+        (displacement (edge_of_outline s i).0 (edge_of_outline s i).1) v)
+        ≡ true) ↔ RunsAgainst s (index_after (edge_count s) i) q v }
 {}
 
 /// Where a point is no corner of a polygon, just those of its edges that run through it along a
@@ -37,12 +41,12 @@ pub fn edges_run_on_their_planes()
 pub fn edges_run_on()
     ensures along { (s : Outline) → IsPolygon s → (number : ℕ) (q : Coordinates) → pos 0 <ℤ q.w →
         IsNoCorner s q → (v : Direction) → BoundsSlopes number s v →
-        edges_along (edges_of (corners s)) (near_point number q v) v
-        ≡ edges_along (edges_of (corners s)) q v }
+        count_of_edges_along (edges_of (corners s)) (near_point number q v) v
+        ≡ count_of_edges_along (edges_of (corners s)) q v }
     ensures against { (s : Outline) → IsPolygon s → (number : ℕ) (q : Coordinates) → pos 0 <ℤ q.w →
         IsNoCorner s q → (v : Direction) → BoundsSlopes number s v →
-        edges_against (edges_of (corners s)) (near_point number q v) v
-        ≡ edges_against (edges_of (corners s)) q v }
+        count_of_edges_against (edges_of (corners s)) (near_point number q v) v
+        ≡ count_of_edges_against (edges_of (corners s)) q v }
 {}
 
 /// Let the planes of a polygon that go through a point hold a direction. Then how many of its edges
@@ -53,9 +57,11 @@ pub fn edges_bound_what_is_covered()
         (v : Direction) → pos 0 <ℤ dot_product v v → IsClear s q v →
         BoundsSlopes number s (direction_beside s.plane v) →
         BoundsSlopes number s (direction_beside (opposite_of s.plane) v) →
-        pos (edges_along (edges_of (corners s)) q v) -ℤ pos (edges_against (edges_of (corners s)) q v)
+        pos (count_of_edges_along (edges_of (corners s)) q v) -ℤ pos
+        (count_of_edges_against (edges_of (corners s)) q v)
         ≡ indicator (is_strictly_within s (near_point number q (direction_beside s.plane v)))
-        -ℤ indicator (is_strictly_within s (near_point number q (direction_beside (opposite_of s.plane) v))) }
+        -ℤ indicator (is_strictly_within s (near_point number q
+        (direction_beside (opposite_of s.plane) v))) }
     ensures within { (s : Outline) (p : Coordinates) → (is_strictly_within s p ≡ true) ↔
         IsStrictlyWithin s p }
 {}
@@ -66,6 +72,7 @@ pub fn edges_bound_what_is_covered()
 pub fn facets_are_closed()
     ensures { (t : BspTree) → IsOfWorld t → AreClosed Whole (map corners (facets_of t)) }
 {
+    // Each call brings a law alone.
     facets_are_polygons();
     facets_bound_their_solid();
 }

@@ -5,9 +5,10 @@ ghost use Rattle.plane_predicate.specs.declared.unit.Unit.{Unit as LengthUnit};
 ghost use Rattle.plane_predicate.specs.declared.unit.Unit.TheVariants.{Whole};
 ghost use Rattle.plane_predicate.specs.Space.{Coefficients, Coordinates};
 ghost use Rattle.closed_surface.specs.Ways.{Direction};
-ghost use Rattle.closed_surface.specs.Around.{HaveNoParallels, fall, sum_over};
+ghost use Rattle.closed_surface.specs.Around.{HaveNoParallels, fall};
 ghost use Rattle.closed_surface.specs.Closed.{AreClosed};
 ghost use Rattle.closed_surface.specs.Printing.{AreRoundsOf};
+ghost use Rattle.plane_predicate.specs.Sums.{sum_over};
 
 /// Planes through a line, no two of them parallel, cut the space round it into sectors. Let each
 /// list of sides of the planes have any value. Then what the value falls by at all half planes

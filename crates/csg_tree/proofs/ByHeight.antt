@@ -6,9 +6,9 @@ use Rattle.std.proofs.Math.ListN.{get_or-map}
 use Rattle.std.proofs.lemmas.List as at
 use Rattle.csg_tree.specs.declared.node.StoredNode.{StoredNode}
 use Rattle.csg_tree.specs.declared.node.StoredNode.TheVariants.{Leaf, Join}
-use Rattle.csg_tree.specs.Formulas.{Formula, nothing}
+use Rattle.csg_tree.specs.HalfSpaceTrees.{Tree, nothing}
 use Rattle.csg_tree.specs.Numberings.{height}
-use Rattle.csg_tree.specs.Nodes.{tree_over, IsOver}
+use Rattle.csg_tree.specs.Nodes.{tree_of_node, IsOver}
 use Rattle.csg_tree.specs.Levels.{numbers_from, numbers_of_height, level_at, height_over}
 
 -- a number at the end of one of the levels
@@ -51,7 +51,7 @@ first_by : (b : Bool) (n k : ℕ) → n ≡ k → cond b (n ∷ []) [] ≡ cond 
 first_by true n k e = ap (λ (j : ℕ). j ∷ []) e
 first_by false n k e = refl
 
-pub numbers_push : (n h : ℕ) (ts : List Formula) (t : Formula) →
+pub numbers_push : (n h : ℕ) (ts : List Tree) (t : Tree) →
     numbers_from n h (ts ++ t ∷ [])
     ≡ cond (eqb (height t) h) (numbers_from n h ts ++ (n + length ts) ∷ []) (numbers_from n h ts)
 numbers_push n h [] t = first_by (eqb (height t) h) n (n + 0) (omega arith)
@@ -60,7 +60,7 @@ numbers_push n h (s ∷ ts) t =
     (numbers_from (suc n) h (ts ++ t ∷ [])) (numbers_from (suc n) h ts) (omega arith) (numbers_push (suc n) h ts t)
 
 -- the height of a node
-pub height_of_node : (ts : List Formula) (node : StoredNode) → height_over (map height ts) node ≡ height (tree_over ts node)
+pub height_of_node : (ts : List Tree) (node : StoredNode) → height_over (map height ts) node ≡ height (tree_of_node ts node)
 height_of_node ts (Leaf planes) = refl
 height_of_node ts (Join op left right) =
     ap₂ (λ m n. 1 + max m n) (get_or-map height ts (left - 1) nothing) (get_or-map height ts (right - 1) nothing)
@@ -80,18 +80,18 @@ over_same xs ys (Join op left right) e over =
     ((over.0.0, omega (arith, over.0.1)), (over.1.0, omega (arith, over.1.1)))
 
 -- the height of a node, by the heights of the trees
-pub height_known : (hs : List ℕ) (ts : List Formula) (node : StoredNode) → hs ≡ map height ts →
-    height_over hs node ≡ height (tree_over ts node)
+pub height_known : (hs : List ℕ) (ts : List Tree) (node : StoredNode) → hs ≡ map height ts →
+    height_over hs node ≡ height (tree_of_node ts node)
 height_known hs ts node e = ap (λ (xs : List ℕ). height_over xs node) e ∙ height_of_node ts node
 
 -- the heights with the next one
-pub heights_more : (hs : List ℕ) (ts us : List Formula) (t : Formula) (r : ℕ) → hs ≡ map height ts → r ≡ height t →
+pub heights_more : (hs : List ℕ) (ts us : List Tree) (t : Tree) (r : ℕ) → hs ≡ map height ts → r ≡ height t →
     us ≡ ts ++ t ∷ [] → hs ++ r ∷ [] ≡ map height us
 heights_more hs ts us t r e er eu =
     ap₂ (λ (xs : List ℕ) (x : ℕ). xs ++ x ∷ []) e er ∙ sym (map-append height ts (t ∷ [])) ∙ ap (map height) (sym eu)
 
 -- a level with the next tree
-pub level_more : (now old : List ℕ) (r m h : ℕ) (ts us : List Formula) (t : Formula) →
+pub level_more : (now old : List ℕ) (r m h : ℕ) (ts us : List Tree) (t : Tree) →
     now ≡ cond (eqb r h) (old ++ m ∷ []) old → old ≡ numbers_of_height h ts → r ≡ height t → m ≡ 1 + length ts →
     us ≡ ts ++ t ∷ [] → now ≡ numbers_of_height h us
 level_more now old r m h ts us t e eo er em eu =

@@ -5,23 +5,23 @@ use Rattle.std.proofs.lemmas.List.{length-map, length-take, length-drop, take-ap
 use Rattle.std.proofs.lemmas.List.Folds.{list_any-append}
 use Rattle.csg_tree.specs.declared.op.Op.{Op}
 use Rattle.csg_tree.specs.declared.op.Op.TheVariants.{Union}
-use Rattle.csg_tree.specs.Formulas.{Formula, nothing, leaf, joined, SideAssignment, holds}
+use Rattle.csg_tree.specs.HalfSpaceTrees.{Tree, nothing, leaf, tree_join, SideAssignment, holds}
 use Rattle.csg_tree.specs.Joins.{join_of, joined_within, balanced_of}
 
 -- the first half of more than one is not all of them, and neither is the rest
-first_shorter : (trees : List Formula) → 2 ≤ length trees → (n : ℕ) → length trees ≤ suc n →
+first_shorter : (trees : List Tree) → 2 ≤ length trees → (n : ℕ) → length trees ≤ suc n →
     length (take (length trees / 2) trees) ≤ n
 first_shorter trees two n within = rw length-take (omega arith)
 
-rest_shorter : (trees : List Formula) → 2 ≤ length trees → (n : ℕ) → length trees ≤ suc n →
+rest_shorter : (trees : List Tree) → 2 ≤ length trees → (n : ℕ) → length trees ≤ suc n →
     length (drop (length trees / 2) trees) ≤ n
 rest_shorter trees two n within = rw length-drop (omega arith)
 
-two_long : (tree next : Formula) (trees : List Formula) → 2 ≤ length (tree ∷ next ∷ trees)
+two_long : (tree next : Tree) (trees : List Tree) → 2 ≤ length (tree ∷ next ∷ trees)
 two_long tree next trees = omega arith
 
 -- halving more often than there are trees changes nothing
-pub often_enough : (n m : ℕ) (op : Op) (trees : List Formula) → length trees ≤ n → length trees ≤ m →
+pub often_enough : (n m : ℕ) (op : Op) (trees : List Tree) → length trees ≤ n → length trees ≤ m →
     joined_within n op trees ≡ joined_within m op trees
 often_enough zero zero op trees hn hm = refl
 often_enough zero (suc m) op [] hn hm = refl
@@ -39,7 +39,7 @@ often_enough (suc n) (suc m) op (tree ∷ next ∷ trees) hn hm =
     (often_enough n m op (drop (length all / 2) all) (rest_shorter all two n hn) (rest_shorter all two m hm))
 
 -- more than one: the join of the first half and the rest
-pub by_halves : (op : Op) (trees : List Formula) → 2 ≤ length trees →
+pub by_halves : (op : Op) (trees : List Tree) → 2 ≤ length trees →
     balanced_of op trees
     ≡ join_of op (balanced_of op (take (length trees / 2) trees))
     (balanced_of op (drop (length trees / 2) trees))
@@ -51,7 +51,7 @@ by_halves op (tree ∷ next ∷ trees) two =
     let within : length all ≤ suc n = omega arith in
     let first = first_shorter all two n within in
     let rest = rest_shorter all two n within in
-    let self : (xs : List Formula) → length xs ≤ length xs = λ xs. omega arith in
+    let self : (xs : List Tree) → length xs ≤ length xs = λ xs. omega arith in
     ap₂ (join_of op)
     (often_enough n (length (take (length all / 2) all)) op (take (length all / 2) all) first
     (self (take (length all / 2) all)))
@@ -59,17 +59,17 @@ by_halves op (tree ∷ next ∷ trees) two =
     (self (drop (length all / 2) all)))
 
 -- a union of two trees holds where one of them does
-union_holds : (left right : Formula) (sides : SideAssignment) → holds (join_of Union left right) sides
+union_holds : (left right : Tree) (sides : SideAssignment) → holds (join_of Union left right) sides
     ≡ (holds left sides || holds right sides)
 union_holds nothing right sides = refl
 union_holds (leaf planes) nothing sides = grind arith
 union_holds (leaf planes) (leaf more) sides = refl
-union_holds (leaf planes) (joined op l r) sides = refl
-union_holds (joined op l r) nothing sides = grind arith
-union_holds (joined op l r) (leaf more) sides = refl
-union_holds (joined op l r) (joined op' l' r') sides = refl
+union_holds (leaf planes) (tree_join op l r) sides = refl
+union_holds (tree_join op l r) nothing sides = grind arith
+union_holds (tree_join op l r) (leaf more) sides = refl
+union_holds (tree_join op l r) (tree_join op' l' r') sides = refl
 
-any_within : (n : ℕ) (trees : List Formula) (sides : SideAssignment) → length trees ≤ n →
+any_within : (n : ℕ) (trees : List Tree) (sides : SideAssignment) → length trees ≤ n →
     holds (joined_within n Union trees) sides ≡ list_any (λ tree. holds tree sides) trees
 any_within zero [] sides h = refl
 any_within zero (tree ∷ trees) sides h = absurd (omega arith)
@@ -79,7 +79,7 @@ any_within (suc n) (tree ∷ next ∷ trees) sides h =
     let all = tree ∷ next ∷ trees in
     let half = length all / 2 in
     let two = two_long tree next trees in
-    let test = λ (t : Formula). holds t sides in
+    let test = λ (t : Tree). holds t sides in
     union_holds (joined_within n Union (take half all)) (joined_within n Union (drop half all)) sides
     ∙ ap₂ ◌||◌ (any_within n (take half all) sides (first_shorter all two n h))
     (any_within n (drop half all) sides (rest_shorter all two n h))
@@ -87,12 +87,12 @@ any_within (suc n) (tree ∷ next ∷ trees) sides h =
     ∙ ap (list_any test) (take-append-drop half all)
 
 -- a union of trees by halves holds where one of them does
-pub any_holds : (trees : List Formula) (sides : SideAssignment) → holds (balanced_of Union trees) sides
+pub any_holds : (trees : List Tree) (sides : SideAssignment) → holds (balanced_of Union trees) sides
     ≡ list_any (λ tree. holds tree sides) trees
 any_holds trees sides = any_within (length trees) trees sides (omega arith)
 
 -- what the first half and the next trees give make up what all give
-pub next_halves : {T : Type 0} (f : T → Formula) (op : Op) (n : ℕ) (trees : List T) → 2 ≤ n →
+pub next_halves : {T : Type 0} (f : T → Tree) (op : Op) (n : ℕ) (trees : List T) → 2 ≤ n →
     n ≤ length trees →
     balanced_of op (map f (take n trees))
     ≡ join_of op (balanced_of op (map f (take (n / 2) trees)))

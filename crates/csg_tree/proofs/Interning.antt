@@ -6,9 +6,9 @@ use Rattle.std.proofs.lemmas.List.{length_push, get_or_push, get_or_at, append-n
 use Rattle.csg_tree.specs.declared.node.StoredNode.{StoredNode}
 use Rattle.csg_tree.specs.declared.node.StoredNode.TheVariants.{Leaf, Join}
 use Rattle.csg_tree.specs.declared.interner.NodeKey.{NodeKey}
-use Rattle.csg_tree.specs.Formulas.{Formula, nothing, joined}
+use Rattle.csg_tree.specs.HalfSpaceTrees.{Tree, nothing, tree_join}
 use Rattle.csg_tree.specs.Numberings.{tree_numbered, IsNumberIn, HaveOneNumber, HasNumber}
-use Rattle.csg_tree.specs.Nodes.{tree_over, IsOver, trees_behind, trees_of, AreLinkedBehind, AreLinked}
+use Rattle.csg_tree.specs.Nodes.{tree_of_node, IsOver, trees_after, trees_of_nodes, AreOverEarlierAfter, AreOverEarlier}
 use Rattle.csg_tree.specs.Interned.{key_cmp, node_of_key, is_same_node, number_from, number_in, AreInterned, TreesStay}
 use Rattle.csg_tree.proofs.Sameness.{node_true, node_itself, keys_tell}
 use Rattle.csg_tree.proofs.Linked.{behind_more, linked_more, length_trees, numbered_more}
@@ -83,55 +83,55 @@ number_push n (x ∷ nodes) node q h = by_test (λ r. number_push (suc n) nodes 
         by_both (is_same_node x q) (is_same_node node q) refl refl f (rest h')
 
 -- the tree of a number is that of its node
-over_more : (ts us : List Formula) (node : StoredNode) → IsOver ts node →
-    IsOver (ts ++ us) node × (tree_over (ts ++ us) node ≡ tree_over ts node)
+over_more : (ts us : List Tree) (node : StoredNode) → IsOver ts node →
+    IsOver (ts ++ us) node × (tree_of_node (ts ++ us) node ≡ tree_of_node ts node)
 over_more ts us (Leaf planes) over = (tt, refl)
 over_more ts us (Join op l r) over =
     let longer = length_append_le ts us in (
       ((over.0.0, omega (arith, over.0.1)), (over.1.0, omega (arith, over.1.1))),
-      ap₂ (joined op) (numbered_more ts us l over.0) (numbered_more ts us r over.1),
+      ap₂ (tree_join op) (numbered_more ts us l over.0) (numbered_more ts us r over.1),
     )
   where
-    length_append_le : (xs ys : List Formula) → length xs ≤ length (xs ++ ys)
+    length_append_le : (xs ys : List Tree) → length xs ≤ length (xs ++ ys)
     length_append_le [] ys = omega arith
     length_append_le (x ∷ xs) ys = omega (arith, length_append_le xs ys)
 
-starts_with : (ts : List Formula) (nodes : List StoredNode) → (us : List Formula) × (trees_behind ts nodes ≡ ts ++ us)
+starts_with : (ts : List Tree) (nodes : List StoredNode) → (us : List Tree) × (trees_after ts nodes ≡ ts ++ us)
 starts_with ts [] = ([], sym (append-nil ts))
 starts_with ts (n ∷ nodes) =
-    let rest = starts_with (ts ++ tree_over ts n ∷ []) nodes in
-    (tree_over ts n ∷ rest.0, rest.1 ∙ append_assoc ts (tree_over ts n ∷ []) rest.0)
+    let rest = starts_with (ts ++ tree_of_node ts n ∷ []) nodes in
+    (tree_of_node ts n ∷ rest.0, rest.1 ∙ append_assoc ts (tree_of_node ts n ∷ []) rest.0)
 
-pub tree_at : (ts : List Formula) (nodes : List StoredNode) (i : ℕ) (d : StoredNode) → AreLinkedBehind ts nodes → i < length nodes →
-    IsOver (trees_behind ts nodes) (get_or nodes i d)
-    × (get_or (trees_behind ts nodes) (length ts + i) nothing ≡ tree_over (trees_behind ts nodes) (get_or nodes i d))
+pub tree_at : (ts : List Tree) (nodes : List StoredNode) (i : ℕ) (d : StoredNode) → AreOverEarlierAfter ts nodes → i < length nodes →
+    IsOver (trees_after ts nodes) (get_or nodes i d)
+    × (get_or (trees_after ts nodes) (length ts + i) nothing ≡ tree_of_node (trees_after ts nodes) (get_or nodes i d))
 tree_at ts [] i d linked within = absurd (omega arith)
 tree_at ts (n ∷ nodes) zero d linked within =
-    let t = tree_over ts n in
+    let t = tree_of_node ts n in
     let rest = starts_with (ts ++ t ∷ []) nodes in
-    let whole : trees_behind ts (n ∷ nodes) ≡ ts ++ t ∷ rest.0 = rest.1 ∙ append_assoc ts (t ∷ []) rest.0 in
+    let whole : trees_after ts (n ∷ nodes) ≡ ts ++ t ∷ rest.0 = rest.1 ∙ append_assoc ts (t ∷ []) rest.0 in
     let over = over_more ts (t ∷ rest.0) n linked.0 in
     let here : get_or (ts ++ t ∷ rest.0) (length ts + 0) nothing ≡ t = get_or_at ts t rest.0 nothing (length ts + 0) (omega arith) in (
-      subst (λ (us : List Formula). IsOver us n) (sym whole) over.0,
-      ap (λ (us : List Formula). get_or us (length ts + 0) nothing) whole ∙ here ∙ sym over.1 ∙ ap (λ (us : List Formula). tree_over us n) (sym whole),
+      subst (λ (us : List Tree). IsOver us n) (sym whole) over.0,
+      ap (λ (us : List Tree). get_or us (length ts + 0) nothing) whole ∙ here ∙ sym over.1 ∙ ap (λ (us : List Tree). tree_of_node us n) (sym whole),
     )
 tree_at ts (n ∷ nodes) (suc i) d linked within =
-    let t = tree_over ts n in
+    let t = tree_of_node ts n in
     let rest = tree_at (ts ++ t ∷ []) nodes i d linked.1 (omega arith) in
     let place : length ts + suc i ≡ length (ts ++ t ∷ []) + i = omega (arith, length_push ts t) in
-    (rest.0, ap (λ (k : ℕ). get_or (trees_behind (ts ++ t ∷ []) nodes) k nothing) place ∙ rest.1)
+    (rest.0, ap (λ (k : ℕ). get_or (trees_after (ts ++ t ∷ []) nodes) k nothing) place ∙ rest.1)
 
 -- the tree of a number, from 1
-pub tree_of_number : (nodes : List StoredNode) (n : ℕ) (d : StoredNode) → AreLinked nodes → IsNumberIn nodes n →
-    IsOver (trees_of nodes) (get_or nodes (n - 1) d)
-    × (tree_numbered (trees_of nodes) n ≡ tree_over (trees_of nodes) (get_or nodes (n - 1) d))
+pub tree_of_number : (nodes : List StoredNode) (n : ℕ) (d : StoredNode) → AreOverEarlier nodes → IsNumberIn nodes n →
+    IsOver (trees_of_nodes nodes) (get_or nodes (n - 1) d)
+    × (tree_numbered (trees_of_nodes nodes) n ≡ tree_of_node (trees_of_nodes nodes) (get_or nodes (n - 1) d))
 tree_of_number nodes n d linked within =
     let at = tree_at [] nodes (n - 1) d linked (omega (arith, within.0, within.1)) in
     let place : 0 + (n - 1) ≡ n - 1 = omega arith in
-    (at.0, ap (λ (k : ℕ). get_or (trees_of nodes) k nothing) (sym place) ∙ at.1)
+    (at.0, ap (λ (k : ℕ). get_or (trees_of_nodes nodes) k nothing) (sym place) ∙ at.1)
 
 -- where each tree has one number, a tree is that of one node
-pub one_node : (ts : List Formula) (a b : StoredNode) → HaveOneNumber ts → IsOver ts a → IsOver ts b → tree_over ts a ≡ tree_over ts b → a ≡ b
+pub one_node : (ts : List Tree) (a b : StoredNode) → HaveOneNumber ts → IsOver ts a → IsOver ts b → tree_of_node ts a ≡ tree_of_node ts b → a ≡ b
 one_node ts (Leaf ps) (Leaf qs) once over_a over_b e = let p : ps ≡ qs = cc in ap Leaf p
 one_node ts (Leaf ps) (Join op l r) once over_a over_b e = cc
 one_node ts (Join op l r) (Leaf qs) once over_a over_b e = cc
@@ -146,7 +146,7 @@ one_node ts (Join op l r) (Join by m n) once over_a over_b e =
 -- a node that is found has its tree's number
 pub known_number : (found : BTreeMap NodeKey ℕ) (nodes : List StoredNode) (key : NodeKey) (node : StoredNode) (k : ℕ) →
     AreInterned found nodes → node_of_key key ≡ node → get key_cmp found key ≡ Some k →
-    HasNumber (trees_of nodes) (tree_over (trees_of nodes) node) k
+    HasNumber (trees_of_nodes nodes) (tree_of_node (trees_of_nodes nodes) node) k
 known_number found nodes key node k all same h =
     let e : number_in nodes node ≡ Some k = sym (all.indexed key ∙ ap (number_in nodes) same) ∙ h in
     let at = found_at 1 nodes node k e in
@@ -155,22 +155,22 @@ known_number found nodes key node k all same h =
     let tree = tree_of_number nodes k node all.linked within in
     let place : k - 1 ≡ at.0 = omega (arith, at.1) in
     let is : get_or nodes (k - 1) node ≡ node = ap (λ (j : ℕ). get_or nodes j node) place ∙ at.3 in
-    ((within.0, omega (arith, within.1, count)), tree.1 ∙ ap (tree_over (trees_of nodes)) is)
+    ((within.0, omega (arith, within.1, count)), tree.1 ∙ ap (tree_of_node (trees_of_nodes nodes)) is)
 
 -- a node that is not found has a tree without a number
 pub no_number : (found : BTreeMap NodeKey ℕ) (nodes : List StoredNode) (key : NodeKey) (node : StoredNode) →
-    AreInterned found nodes → node_of_key key ≡ node → get key_cmp found key ≡ None → IsOver (trees_of nodes) node →
-    (n : ℕ) → HasNumber (trees_of nodes) (tree_over (trees_of nodes) node) n → ⊥
+    AreInterned found nodes → node_of_key key ≡ node → get key_cmp found key ≡ None → IsOver (trees_of_nodes nodes) node →
+    (n : ℕ) → HasNumber (trees_of_nodes nodes) (tree_of_node (trees_of_nodes nodes) node) n → ⊥
 no_number found nodes key node all same h over n has =
     let e : number_in nodes node ≡ None = sym (all.indexed key ∙ ap (number_in nodes) same) ∙ h in
     let count = length_trees nodes in
     let within : IsNumberIn nodes n = (has.0.0, omega (arith, has.0.1, count)) in
     let tree = tree_of_number nodes n node all.linked within in
-    let is = one_node (trees_of nodes) (get_or nodes (n - 1) node) node all.once tree.0 over (sym tree.1 ∙ has.1) in
+    let is = one_node (trees_of_nodes nodes) (get_or nodes (n - 1) node) node all.once tree.0 over (sym tree.1 ∙ has.1) in
     none_at 1 nodes node node e (n - 1) (omega (arith, within.0, within.1)) is
 
 -- each tree still has one number, with one that had none
-once_push : (ts : List Formula) (t : Formula) → HaveOneNumber ts → ((n : ℕ) → HasNumber ts t n → ⊥) → HaveOneNumber (ts ++ t ∷ [])
+once_push : (ts : List Tree) (t : Tree) → HaveOneNumber ts → ((n : ℕ) → HasNumber ts t n → ⊥) → HaveOneNumber (ts ++ t ∷ [])
 once_push ts t once none m n m_in n_in e = by_place (cases_lt m (length ts + 1)) (cases_lt n (length ts + 1))
   where
     count : length (ts ++ t ∷ []) ≡ length ts + 1
@@ -194,16 +194,16 @@ once_push ts t once none m n m_in n_in e = by_place (cases_lt m (length ts + 1))
 
 -- a new node
 pub interned_push : (found now : BTreeMap NodeKey ℕ) (nodes : List StoredNode) (key : NodeKey) (node : StoredNode) →
-    AreInterned found nodes → node_of_key key ≡ node → get key_cmp found key ≡ None → IsOver (trees_of nodes) node →
+    AreInterned found nodes → node_of_key key ≡ node → get key_cmp found key ≡ None → IsOver (trees_of_nodes nodes) node →
     ((other : NodeKey) → get key_cmp now other ≡ cond (is_at (key_cmp key) other) (Some (length nodes + 1)) (get key_cmp found other)) →
     AreInterned now (nodes ++ node ∷ [])
 interned_push found now nodes key node all same h over put =
     let e : number_in nodes node ≡ None = sym (all.indexed key ∙ ap (number_in nodes) same) ∙ h in
-    let t = tree_over (trees_of nodes) node in
+    let t = tree_of_node (trees_of_nodes nodes) node in
     let place : length nodes + 1 ≡ 1 + length nodes = omega arith in
     record {
       linked = linked_more [] nodes node all.linked over;
-      once = subst HaveOneNumber (sym (behind_more [] nodes node)) (once_push (trees_of nodes) t all.once (no_number found nodes key node all same h over));
+      once = subst HaveOneNumber (sym (behind_more [] nodes node)) (once_push (trees_of_nodes nodes) t all.once (no_number found nodes key node all same h over));
       indexed = λ other.
           put other
           ∙ ap₂ (λ (b : Bool) (o : Option ℕ). cond b (Some (length nodes + 1)) o) (keys_tell key other ∙ ap (λ (x : StoredNode). is_same_node x (node_of_key other)) same) (all.indexed other)
@@ -212,18 +212,18 @@ interned_push found now nodes key node all same h over put =
     }
 
 pub new_number : (nodes : List StoredNode) (node : StoredNode) (k : ℕ) → k ≡ length nodes + 1 →
-    HasNumber (trees_of (nodes ++ node ∷ [])) (tree_over (trees_of nodes) node) k
+    HasNumber (trees_of_nodes (nodes ++ node ∷ [])) (tree_of_node (trees_of_nodes nodes) node) k
 new_number nodes node k e =
-    let ts = trees_of nodes in
-    let t = tree_over ts node in
+    let ts = trees_of_nodes nodes in
+    let t = tree_of_node ts node in
     let more = behind_more [] nodes node in
     let count = length_trees nodes in
-    subst (λ (us : List Formula). HasNumber us t k) (sym more)
+    subst (λ (us : List Tree). HasNumber us t k) (sym more)
     ((omega (arith, e), omega (arith, e, count, length_push ts t)), get_or_push ts t nothing (k - 1) (omega (arith, e, count)))
 
-pub they_stay : (nodes : List StoredNode) (node : StoredNode) → TreesStay (trees_of nodes) (trees_of (nodes ++ node ∷ []))
+pub they_stay : (nodes : List StoredNode) (node : StoredNode) → TreesStay (trees_of_nodes nodes) (trees_of_nodes (nodes ++ node ∷ []))
 they_stay nodes node n within =
-    let ts = trees_of nodes in
-    let t = tree_over ts node in
-    subst (λ (us : List Formula). IsNumberIn us n × (tree_numbered us n ≡ tree_numbered ts n)) (sym (behind_more [] nodes node))
+    let ts = trees_of_nodes nodes in
+    let t = tree_of_node ts node in
+    subst (λ (us : List Tree). IsNumberIn us n × (tree_numbered us n ≡ tree_numbered ts n)) (sym (behind_more [] nodes node))
     ((within.0, omega (arith, within.1, length_push ts t)), numbered_more ts (t ∷ []) n within)

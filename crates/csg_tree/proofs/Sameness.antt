@@ -19,7 +19,7 @@ use Rattle.csg_tree.specs.declared.node.StoredNode.TheVariants.{Leaf, Join}
 use Rattle.csg_tree.specs.declared.interner.PlaneNumbers.{PlaneNumbers}
 use Rattle.csg_tree.specs.declared.interner.NodeKey.{NodeKey}
 use Rattle.csg_tree.specs.declared.interner.NodeKey.TheVariants as keys
-use Rattle.csg_tree.specs.Formulas.{Formula, nothing, leaf, joined}
+use Rattle.csg_tree.specs.HalfSpaceTrees.{Tree, nothing, leaf, tree_join}
 use Rattle.csg_tree.specs.Numberings.{is_same_op, is_same_tree}
 use Rattle.csg_tree.specs.Interned.{numbers_cmp, op_cmp, key_cmp, plane_of_numbers, node_of_key, is_same_node}
 
@@ -82,27 +82,27 @@ node_itself (Join op l r) =
     all_three (is_same_op op op) (eqb l l) (eqb r r) (op_itself op) ((Decides-eqb l l).1 refl) ((Decides-eqb r r).1 refl)
 
 -- trees
-pub tree_true : (f g : Formula) → is_same_tree f g ≡ true → f ≡ g
+pub tree_true : (f g : Tree) → is_same_tree f g ≡ true → f ≡ g
 tree_true nothing nothing h = refl
 tree_true nothing (leaf qs) h = absurd (true≢false (sym h))
-tree_true nothing (joined by m n) h = absurd (true≢false (sym h))
+tree_true nothing (tree_join by m n) h = absurd (true≢false (sym h))
 tree_true (leaf ps) nothing h = absurd (true≢false (sym h))
 tree_true (leaf ps) (leaf qs) h = ap leaf ((same_planes ps qs).0 h)
-tree_true (leaf ps) (joined by m n) h = absurd (true≢false (sym h))
-tree_true (joined op l r) nothing h = absurd (true≢false (sym h))
-tree_true (joined op l r) (leaf qs) h = absurd (true≢false (sym h))
-tree_true (joined op l r) (joined by m n) h =
+tree_true (leaf ps) (tree_join by m n) h = absurd (true≢false (sym h))
+tree_true (tree_join op l r) nothing h = absurd (true≢false (sym h))
+tree_true (tree_join op l r) (leaf qs) h = absurd (true≢false (sym h))
+tree_true (tree_join op l r) (tree_join by m n) h =
     let x = and_parts (is_same_op op by) (is_same_tree l m && is_same_tree r n) h in
     let y = and_parts (is_same_tree l m) (is_same_tree r n) x.1 in
     let eo = op_true op by x.0 in
     let el = tree_true l m y.0 in
     let er = tree_true r n y.1 in
-    λ i. joined (eo i) (el i) (er i)
+    λ i. tree_join (eo i) (el i) (er i)
 
-pub tree_itself : (f : Formula) → is_same_tree f f ≡ true
+pub tree_itself : (f : Tree) → is_same_tree f f ≡ true
 tree_itself nothing = refl
 tree_itself (leaf ps) = (same_planes ps ps).1 refl
-tree_itself (joined op l r) =
+tree_itself (tree_join op l r) =
     all_three (is_same_op op op) (is_same_tree l l) (is_same_tree r r) (op_itself op) (tree_itself l) (tree_itself r)
 
 -- the order of keys tells nodes apart

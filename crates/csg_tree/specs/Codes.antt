@@ -5,7 +5,7 @@ use Rattle.std.proofs.Common.{sym, ap, ◌∙◌, inl, inr, append-nil, append_a
 use Rattle.plane_predicate.specs.Space.{Coefficients}
 use Rattle.csg_tree.specs.declared.op.Op.{Op}
 use Rattle.csg_tree.specs.declared.op.Op.TheVariants.{Union, Intersection, Difference}
-use Rattle.csg_tree.specs.Formulas.{Formula, nothing, leaf, joined}
+use Rattle.csg_tree.specs.HalfSpaceTrees.{Tree, nothing, leaf, tree_join}
 
 -- a plane is stored as its four numbers
 abbrev pub coded_plane : Coded Coefficients
@@ -36,47 +36,47 @@ abbrev Cell : Type 0
 Cell = List Coefficients ⊎ ℕ
 
 -- a tree as a list of cells, each behind the cells of its sides
-abbrev cells : Formula → List Cell
+abbrev cells : Tree → List Cell
 cells nothing = inr 0 ∷ []
 cells (leaf planes) = inl planes ∷ []
-cells (joined op left right) = cells left ++ (cells right ++ inr (op_number op) ∷ [])
+cells (tree_join op left right) = cells left ++ (cells right ++ inr (op_number op) ∷ [])
 
 -- the trees on top of a stack put together by an operation
-abbrev put_together : ℕ → List Formula → List Formula
-put_together zero stack = nothing ∷ stack
-put_together (suc n) (right ∷ left ∷ stack) = joined (op_numbered (suc n)) left right ∷ stack
-put_together (suc n) stack = stack
+abbrev stack_after_join : ℕ → List Tree → List Tree
+stack_after_join zero stack = nothing ∷ stack
+stack_after_join (suc n) (right ∷ left ∷ stack) = tree_join (op_numbered (suc n)) left right ∷ stack
+stack_after_join (suc n) stack = stack
 
 -- the stack of trees after some cells were read
-abbrev built : List Cell → List Formula → List Formula
-built [] stack = stack
-built (inl planes ∷ cs) stack = built cs (leaf planes ∷ stack)
-built (inr n ∷ cs) stack = built cs (put_together n stack)
+abbrev stack_after : List Cell → List Tree → List Tree
+stack_after [] stack = stack
+stack_after (inl planes ∷ cs) stack = stack_after cs (leaf planes ∷ stack)
+stack_after (inr n ∷ cs) stack = stack_after cs (stack_after_join n stack)
 
 -- the tree on top of a stack
-abbrev top : List Formula → Formula
-top [] = nothing
-top (t ∷ ts) = t
+abbrev top_tree : List Tree → Tree
+top_tree [] = nothing
+top_tree (t ∷ ts) = t
 
-put_joined : (op : Op) (left right : Formula) (stack : List Formula) → put_together (op_number op) (right ∷ left ∷ stack) ≡ joined op left right ∷ stack
+put_joined : (op : Op) (left right : Tree) (stack : List Tree) → stack_after_join (op_number op) (right ∷ left ∷ stack) ≡ tree_join op left right ∷ stack
 put_joined Union left right stack = refl
 put_joined Intersection left right stack = refl
 put_joined Difference left right stack = refl
 
-built-cells : (t : Formula) (cs : List Cell) (stack : List Formula) → built (cells t ++ cs) stack ≡ built cs (t ∷ stack)
+built-cells : (t : Tree) (cs : List Cell) (stack : List Tree) → stack_after (cells t ++ cs) stack ≡ stack_after cs (t ∷ stack)
 built-cells nothing cs stack = refl
 built-cells (leaf planes) cs stack = refl
-built-cells (joined op left right) cs stack =
-    ap (λ x. built x stack) (append_assoc (cells left) (cells right ++ inr (op_number op) ∷ []) cs)
+built-cells (tree_join op left right) cs stack =
+    ap (λ x. stack_after x stack) (append_assoc (cells left) (cells right ++ inr (op_number op) ∷ []) cs)
     ∙ built-cells left ((cells right ++ inr (op_number op) ∷ []) ++ cs) stack
-    ∙ ap (λ x. built x (left ∷ stack)) (append_assoc (cells right) (inr (op_number op) ∷ []) cs)
+    ∙ ap (λ x. stack_after x (left ∷ stack)) (append_assoc (cells right) (inr (op_number op) ∷ []) cs)
     ∙ built-cells right (inr (op_number op) ∷ cs) (left ∷ stack)
-    ∙ ap (built cs) (put_joined op left right stack)
+    ∙ ap (stack_after cs) (put_joined op left right stack)
 
 -- a tree is what its cells build
-pub formula_back : (t : Formula) → top (built (cells t) []) ≡ t
-formula_back t = ap (λ x. top (built x [])) (sym (append-nil (cells t))) ∙ ap top (built-cells t [] [])
+pub tree_back : (t : Tree) → top_tree (stack_after (cells t) []) ≡ t
+tree_back t = ap (λ x. top_tree (stack_after x [])) (sym (append-nil (cells t))) ∙ ap top_tree (built-cells t [] [])
 
 -- trees are told apart by their cells
-abbrev pub coded_formula : Coded Formula
-coded_formula = code_by (List Cell) (coded_list (coded⊎ (coded_list coded_plane) coded_ℕ)) cells (λ cs. top (built cs [])) formula_back
+abbrev pub coded_tree : Coded Tree
+coded_tree = code_by (List Cell) (coded_list (coded⊎ (coded_list coded_plane) coded_ℕ)) cells (λ cs. top_tree (stack_after cs [])) tree_back

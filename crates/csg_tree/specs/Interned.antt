@@ -14,11 +14,11 @@ use Rattle.csg_tree.specs.declared.node.StoredNode.TheVariants.{Leaf, Join}
 use Rattle.csg_tree.specs.declared.interner.PlaneNumbers.{PlaneNumbers}
 use Rattle.csg_tree.specs.declared.interner.NodeKey.{NodeKey}
 use Rattle.csg_tree.specs.declared.interner.NodeKey.TheVariants as keys
-use Rattle.csg_tree.specs.Formulas.{Formula}
+use Rattle.csg_tree.specs.HalfSpaceTrees.{Tree}
 use Rattle.csg_tree.specs.Numberings.{distinct_trees, is_same_op, tree_numbered, IsNumberIn, HasNumber, HaveOneNumber}
-use Rattle.csg_tree.specs.Nodes.{node_of, trees_of, AreLinked, trees_of_lent, AreLinkedLent}
+use Rattle.csg_tree.specs.Nodes.{node_of, trees_of_nodes, AreOverEarlier, trees_of_lent_nodes, AreLentOverEarlier}
 
--- the order of keys: leaves first, by their planes in order, and then joins by operation, left and right number
+-- the order of planes, by their four numbers in order
 abbrev pub numbers_cmp : PlaneNumbers → PlaneNumbers → Ordering
 numbers_cmp p q =
     ordering_then (int_cmp p.a q.a) (ordering_then (int_cmp p.b q.b) (ordering_then (int_cmp p.c q.c) (int_cmp p.d q.d)))
@@ -33,7 +33,7 @@ op_cmp Intersection Difference = Less
 op_cmp Difference Difference = Equal
 op_cmp Difference _ = Greater
 
--- the order of nodes: leaves by their planes, then joins by operation and sides
+-- the order of keys: leaves first, by their planes in order, and then joins by operation, left and right number
 abbrev pub key_cmp : NodeKey → NodeKey → Ordering
 key_cmp (keys.Leaf planes) (keys.Leaf more) = slice_cmp numbers_cmp planes.items more.items
 key_cmp (keys.Leaf planes) (keys.Join op left right) = Less
@@ -67,52 +67,52 @@ number_in nodes node = number_from 1 nodes node
 
 -- distinct nodes that are linked, whose numbers are found by their keys
 pub record AreInterned (found : BTreeMap NodeKey ℕ) (nodes : List StoredNode) : Type 0 where
-  pub linked : AreLinked nodes
-  pub once : HaveOneNumber (trees_of nodes)
+  pub linked : AreOverEarlier nodes
+  pub once : HaveOneNumber (trees_of_nodes nodes)
   pub indexed : (key : NodeKey) → get key_cmp found key ≡ number_in nodes (node_of_key key)
 
 -- the trees of some numbers stay
-abbrev pub TreesStay : List Formula → List Formula → Type 0
+abbrev pub TreesStay : List Tree → List Tree → Type 0
 TreesStay before now = (n : ℕ) → IsNumberIn before n → IsNumberIn now n × (tree_numbered now n ≡ tree_numbered before n)
 
 -- a part has the number of its tree
-abbrev pub IsPartNumbered : List Formula → List Formula → List ℕ → ℕ → Type 0
+abbrev pub IsPartNumbered : List Tree → List Tree → List ℕ → ℕ → Type 0
 IsPartNumbered parts trees numbers m = HasNumber trees (tree_numbered parts m) (get_or numbers (m - 1) 0)
 
 -- so have the two parts of a node
-abbrev pub IsNodeReady : List Formula → List Formula → List ℕ → StoredNode → Type 0
+abbrev pub IsNodeReady : List Tree → List Tree → List ℕ → StoredNode → Type 0
 IsNodeReady parts trees numbers (Leaf planes) = Unit {0}
 IsNodeReady parts trees numbers (Join op left right) = IsPartNumbered parts trees numbers left × IsPartNumbered parts trees numbers right
 
 -- the part of each number of a level has the number of its tree
-abbrev pub ArePlaced : List Formula → List Formula → List ℕ → List ℕ → Type 0
+abbrev pub ArePlaced : List Tree → List Tree → List ℕ → List ℕ → Type 0
 ArePlaced parts trees numbers level = (j : ℕ) → j < length level → IsPartNumbered parts trees numbers (get_or level j 0)
 
 -- the parts that are placed stay so
-abbrev pub StayPlaced : List Formula → List Formula → List ℕ → List Formula → List ℕ → Type 0
+abbrev pub StayPlaced : List Tree → List Tree → List ℕ → List Tree → List ℕ → Type 0
 StayPlaced parts trees numbers trees_now numbers_now =
     (m : ℕ) → IsNumberIn parts m → IsPartNumbered parts trees numbers m → IsPartNumbered parts trees_now numbers_now m
 
 -- the number is one of the parts, and this part's own two parts have the numbers of their trees
-abbrev pub IsPartReady : List CsgNode → List Formula → List ℕ → ℕ → Type 0
+abbrev pub IsPartReady : List CsgNode → List Tree → List ℕ → ℕ → Type 0
 IsPartReady parts trees numbers number = IsNumberIn parts number
-    × ((d : CsgNode) → IsNodeReady (trees_of_lent parts) trees numbers (node_of (get_or parts (number - 1) d)))
+    × ((d : CsgNode) → IsNodeReady (trees_of_lent_nodes parts) trees numbers (node_of (get_or parts (number - 1) d)))
 
 -- the part of each number of a level is ready
-abbrev pub IsLevelReady : List CsgNode → List Formula → List ℕ → List ℕ → Type 0
+abbrev pub IsLevelReady : List CsgNode → List Tree → List ℕ → List ℕ → Type 0
 IsLevelReady parts trees numbers level = (j : ℕ) → j < length level → IsPartReady parts trees numbers (get_or level j 0)
 
 -- a numbering of parts under way: the parts are linked, there is room for the number of each of them, and the nodes so
 -- far are distinct and found by their keys
 pub record IsNumbering (parts : List CsgNode) (numbers : List ℕ) (found : BTreeMap NodeKey ℕ) (nodes : List StoredNode) : Type 0 where
-  pub linked : AreLinkedLent parts
+  pub linked : AreLentOverEarlier parts
   pub room : length numbers ≡ length parts
   pub interned : AreInterned found nodes
 
 -- nodes grow by some trees: those of the distinct trees of a list become those of the list with these trees behind it,
 -- and no more nodes come than there are of these trees
-pub record GrowBy (before now : List StoredNode) (more : List Formula) : Type 0 where
-  pub distinct : (trees : List Formula) → trees_of before ≡ distinct_trees trees → trees_of now ≡ distinct_trees (trees ++ more)
+pub record GrowBy (before now : List StoredNode) (more : List Tree) : Type 0 where
+  pub distinct : (trees : List Tree) → trees_of_nodes before ≡ distinct_trees trees → trees_of_nodes now ≡ distinct_trees (trees ++ more)
   pub few : length now ≤ length before + length more
 
 -- a node with the numbers of its two trees among the nodes

@@ -5,7 +5,7 @@ use Rattle.std.specs.Int.{w64, cast_unsigned, to_be_bytes}
 use Rattle.plane_predicate.specs.Space.{Coefficients}
 use Rattle.csg_tree.specs.declared.op.Op.{Op}
 use Rattle.csg_tree.specs.declared.op.Op.TheVariants.{Union, Intersection, Difference}
-use Rattle.csg_tree.specs.Formulas.{Formula, nothing, leaf, joined}
+use Rattle.csg_tree.specs.HalfSpaceTrees.{Tree, nothing, leaf, tree_join}
 
 -- a whole number in eight bytes, as two's complement with the high byte first
 unfoldable pub number_bytes : ℤ → List ℕ
@@ -23,7 +23,7 @@ op_byte Difference = 4
 
 -- the bytes of a tree: 0 for Nothing; 1, the number of planes in eight bytes and the planes for a leaf; and for
 -- a join its operation, and then the bytes of its two trees
-abbrev pub tree_bytes : Formula → List ℕ
+abbrev pub tree_bytes : Tree → List ℕ
 tree_bytes nothing = 0 ∷ []
 tree_bytes (leaf planes) = 1 ∷ to_be_bytes w64 (length planes) ++ flat_map plane_bytes planes
-tree_bytes (joined op left right) = op_byte op ∷ tree_bytes left ++ tree_bytes right
+tree_bytes (tree_join op left right) = op_byte op ∷ tree_bytes left ++ tree_bytes right

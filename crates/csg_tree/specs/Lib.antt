@@ -1,4 +1,4 @@
-pub mod Formulas
+pub mod HalfSpaceTrees
 pub mod FacePlanes
 pub mod Interned
 pub mod Joins

@@ -1,6 +1,6 @@
 -- Rows of nodes whose numbers follow one another, and their names.
 use Rattle.std.specs.Prelude.{◌≡◌, ◌-◌, ◌≤◌, List, length, map, take, drop}
-use Rattle.csg_tree.specs.Formulas.{Formula}
+use Rattle.csg_tree.specs.HalfSpaceTrees.{Tree}
 use Rattle.csg_tree.specs.declared.row_names.Row.{Row}
 use Rattle.csg_tree.specs.declared.row_names.RowNames.{RowNames}
 use Rattle.csg_tree.specs.Fronts.{HoldFronts}
@@ -11,11 +11,11 @@ abbrev pub IsRowOf : {X : Type 0} → List X → Row → Type 0
 IsRowOf things row = (row.before ≤ row.last) × (row.last ≤ length things)
 
 -- the trees of a row
-abbrev pub trees_in : List Formula → Row → List Formula
+abbrev pub trees_in : List Tree → Row → List Tree
 trees_in trees row = take (row.last - row.before) (drop row.before trees)
 
 -- the names of the joins among some trees, and hashes of their fronts
-pub record AreNamesOf (trees : List Formula) (all : RowNames) : Type 0 where
+pub record AreNamesOf (trees : List Tree) (all : RowNames) : Type 0 where
   pub names : all.names.items ≡ map name_of_join trees
   pub many : length all.fronts.items ≡ length trees
   pub fronts : HoldFronts trees all.fronts.items

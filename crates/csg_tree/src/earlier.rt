@@ -1,9 +1,9 @@
 //! The nodes of a store that an earlier one has as well.
 
 ghost use Rattle.std.specs.Prelude.{List, length, IfOk};
-ghost use Rattle.csg_tree.specs.Formulas.{Formula};
+ghost use Rattle.csg_tree.specs.HalfSpaceTrees.{Tree};
 ghost use Rattle.csg_tree.specs.Numberings.{AreNumberedTrees};
-ghost use Rattle.csg_tree.specs.Nodes.{node_of, tree_over, IsOver};
+ghost use Rattle.csg_tree.specs.Nodes.{node_of, tree_of_node, IsOver};
 ghost use Rattle.csg_tree.specs.Earlier.{AreFoundByKey, IsNumberOf, IsNodeAmong, AreNumbersIn, AreAllNumbersIn};
 
 use crate::interner::{NodeKey, key_of_node, look_up, put};
@@ -53,9 +53,9 @@ fn number_in(
     found: &BTreeMap<NodeKey, u32>,
 ) -> Result<Option<u32>, NoMemory>
     requires { IsOver numbers.now (node_of node) }
-    ensures { (earlier trees : List Formula) → AreFoundByKey earlier (length earlier) found.now →
+    ensures { (earlier trees : List Tree) → AreFoundByKey earlier (length earlier) found.now →
         AreNumbersIn earlier trees numbers.now →
-        IfOk result (IsNumberOf earlier (tree_over trees (node_of node.entry))) }
+        IfOk result (IsNumberOf earlier (tree_of_node trees (node_of node.entry))) }
 {
     match among(node, numbers) {
         Some(other) => {
@@ -69,9 +69,9 @@ fn number_in(
 // A node with the numbers of its two trees in an earlier store, where they have one.
 fn among<'a>(node: CsgNode<'a>, numbers: &[Option<u32>]) -> Option<CsgNode<'a>>
     requires { IsOver numbers.now (node_of node) }
-    ensures { (earlier trees : List Formula) → AreNumberedTrees earlier →
+    ensures { (earlier trees : List Tree) → AreNumberedTrees earlier →
         AreNumbersIn earlier trees numbers.now →
-        IsNodeAmong earlier (tree_over trees (node_of node.entry)) result }
+        IsNodeAmong earlier (tree_of_node trees (node_of node.entry)) result }
 {
     match node {
         CsgNode::Leaf(planes) => Some(CsgNode::Leaf(planes)),

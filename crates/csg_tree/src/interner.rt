@@ -4,7 +4,7 @@ ghost use Rattle.std.specs.Prelude.{◌≡◌, ℕ, List, ◌+◌, ◌^◌, ◌<
 ghost use Rattle.std.specs.BTreeMap.{get, is_at};
 ghost use Rattle.csg_tree.specs.declared.interner.NodeKey.{NodeKey};
 ghost use Rattle.csg_tree.specs.Numberings.{HasNumber};
-ghost use Rattle.csg_tree.specs.Nodes.{node_of, trees_of, tree_over, IsOver};
+ghost use Rattle.csg_tree.specs.Nodes.{node_of, trees_of_nodes, tree_of_node, IsOver};
 ghost use Rattle.csg_tree.specs.Interned.{key_cmp, node_of_key, plane_of_numbers, AreInterned, GrowBy, TreesStay};
 
 use crate::node::{CsgNode, StoredNode};
@@ -52,15 +52,15 @@ impl Interner {
     /// The number of a node, which becomes the last one where it is not among the nodes.
     pub fn number_of(&mut self, alloc: Global, node: CsgNode<'_>) -> Result<u32, NoMemory>
         requires interned { AreInterned self.old.found self.old.nodes.items }
-        requires over { IsOver (trees_of self.old.nodes.items) (node_of node) }
+        requires over { IsOver (trees_of_nodes self.old.nodes.items) (node_of node) }
         requires few { length self.old.nodes.items + 1 < 2 ^ 32 }
         ensures interned { OnOk result (AreInterned self.new.found self.new.nodes.items) }
-        ensures number { IfOk result (λ number. HasNumber (trees_of self.new.nodes.items)
-            (tree_over (trees_of self.old.nodes.items) (node_of node.entry)) number) }
-        ensures stay { OnOk result (TreesStay (trees_of self.old.nodes.items)
-            (trees_of self.new.nodes.items)) }
+        ensures number { IfOk result (λ number. HasNumber (trees_of_nodes self.new.nodes.items)
+            (tree_of_node (trees_of_nodes self.old.nodes.items) (node_of node.entry)) number) }
+        ensures stay { OnOk result (TreesStay (trees_of_nodes self.old.nodes.items)
+            (trees_of_nodes self.new.nodes.items)) }
         ensures grown { OnOk result (GrowBy self.old.nodes.items self.new.nodes.items
-            (tree_over (trees_of self.old.nodes.items) (node_of node.entry) ∷ [])) }
+            (tree_of_node (trees_of_nodes self.old.nodes.items) (node_of node.entry) ∷ [])) }
     {
         let key = key_of_node(alloc, node)?;
         match look_up(&self.found, &key) {

@@ -3,7 +3,7 @@
 ghost use Rattle.std.specs.Prelude.{◌≡◌, ◌≤◌, ◌<◌, IfOk, OnOk, map, length, take, drop};
 ghost use Rattle.std.specs.Vec.Iter.{into_iter_items};
 ghost use Rattle.csg_tree.specs.declared.op.Op.{Op};
-ghost use Rattle.csg_tree.specs.Trees.{formula_of};
+ghost use Rattle.csg_tree.specs.Trees.{plain_tree_of};
 ghost use Rattle.csg_tree.specs.Joins.{balanced_of, join_of};
 
 use crate::op::Op;
@@ -16,8 +16,8 @@ use text_place::NoMemory;
 /// intersection Nothing, Nothing minus anything is Nothing, and a tree minus Nothing is the tree.
 /// At `NoMemory` both trees are dropped.
 pub fn join(alloc: Global, op: Op, left: CsgTree, right: CsgTree) -> Result<CsgTree, NoMemory>
-    ensures { IfOk result (λ tree. formula_of tree
-        ≡ join_of op (formula_of left) (formula_of right)) }
+    ensures { IfOk result (λ tree. plain_tree_of tree
+        ≡ join_of op (plain_tree_of left) (plain_tree_of right)) }
 {
     match (op, left, right) {
         (Op::Union, CsgTree::Nothing, other) | (Op::Union, other, CsgTree::Nothing) => Ok(other),
@@ -35,7 +35,8 @@ pub fn join(alloc: Global, op: Op, left: CsgTree, right: CsgTree) -> Result<CsgT
 /// Trees joined by halves: none gives Nothing, one gives itself, and more give the join of the
 /// first half of them, rounded down, and the rest. At `NoMemory` all trees are dropped.
 pub fn balanced(alloc: Global, op: Op, list: Vec<CsgTree>) -> Result<CsgTree, NoMemory>
-    ensures { IfOk result (λ tree. formula_of tree ≡ balanced_of op (map formula_of list.items)) }
+    ensures { IfOk result (λ tree. plain_tree_of tree ≡ balanced_of op
+        (map plain_tree_of list.items)) }
 {
     let count = list.len();
     let mut trees = list.into_iter();
@@ -52,8 +53,8 @@ fn join_next(
     requires { count ≤ length (into_iter_items trees.old) }
     ensures rest { OnOk result (into_iter_items trees.new
         ≡ drop count (into_iter_items trees.old)) }
-    ensures joined { IfOk result (λ tree. formula_of tree
-        ≡ balanced_of op (map formula_of (take count (into_iter_items trees.old)))) }
+    ensures joined { IfOk result (λ tree. plain_tree_of tree
+        ≡ balanced_of op (map plain_tree_of (take count (into_iter_items trees.old)))) }
 {
     if count < 2 {
         return Ok(next_or_nothing(trees, count));
@@ -70,8 +71,8 @@ fn next_or_nothing(trees: &mut IntoIter<CsgTree>, count: usize) -> CsgTree
     requires within { count ≤ length (into_iter_items trees.old) }
     ensures rest { into_iter_items trees.new ≡ drop count (into_iter_items trees.old) }
     ensures next { (by : Op) →
-        formula_of result
-        ≡ balanced_of by (map formula_of (take count (into_iter_items trees.old))) }
+        plain_tree_of result
+        ≡ balanced_of by (map plain_tree_of (take count (into_iter_items trees.old))) }
 {
     if count == 0 {
         return CsgTree::Nothing;

@@ -2,7 +2,7 @@
 
 ghost use Rattle.std.specs.Prelude.{◌≡◌, ◌++◌, IfOk, OnOk};
 ghost use Rattle.std.specs.List.{flat_map};
-ghost use Rattle.csg_tree.specs.Trees.{formula_of};
+ghost use Rattle.csg_tree.specs.Trees.{plain_tree_of};
 ghost use Rattle.csg_tree.specs.Keys.{tree_bytes, number_bytes, op_byte, plane_bytes};
 
 use crate::op::Op;
@@ -16,7 +16,7 @@ impl CsgTree {
     /// a leaf; 2 for a union, 3 for an intersection and 4 for a difference, and then the bytes of the
     /// two trees. Numbers have eight bytes, two's complement, with the high byte first.
     pub fn key_bytes(&self, alloc: Global) -> Result<Vec<u8>, NoMemory>
-        ensures { IfOk result (λ bytes. bytes.items ≡ tree_bytes (formula_of self.now)) }
+        ensures { IfOk result (λ bytes. bytes.items ≡ tree_bytes (plain_tree_of self.now)) }
     {
         let mut bytes = Vec::new(alloc);
         push_key(self, &mut bytes)?;
@@ -26,7 +26,8 @@ impl CsgTree {
 
 // Appends the bytes of a tree.
 fn push_key(tree: &CsgTree, bytes: &mut Vec<u8>) -> Result<(), NoMemory>
-    ensures { OnOk result (bytes.new.items ≡ bytes.old.items ++ tree_bytes (formula_of tree.now)) }
+    ensures { OnOk result (bytes.new.items ≡ bytes.old.items ++ tree_bytes
+        (plain_tree_of tree.now)) }
 {
     match tree {
         CsgTree::Nothing => bytes.push(0)?,

@@ -1,7 +1,7 @@
 //! The parts of a tree by height.
 
 ghost use Rattle.std.specs.Prelude.{◌≡◌, ℕ, ◌^◌, ◌<◌, ◌≤◌, ◌∷◌, ◌++◌, [], nat_eq, if◌then◌else◌, IfOk, OnOk, length, get_or};
-ghost use Rattle.csg_tree.specs.Nodes.{node_of, trees_of_lent, AreLinkedLent, IsOver};
+ghost use Rattle.csg_tree.specs.Nodes.{node_of, trees_of_lent_nodes, AreLentOverEarlier, IsOver};
 ghost use Rattle.csg_tree.specs.Levels.{height_over, level_at, numbers_of_height};
 
 use crate::node::CsgNode;
@@ -10,10 +10,10 @@ use text_place::NoMemory;
 
 /// The numbers of the parts of each height, the lowest height first, in ascending order.
 pub fn levels_of(alloc: Global, parts: &[CsgNode<'_>]) -> Result<Vec<Vec<u32>>, NoMemory>
-    requires linked { AreLinkedLent parts.now }
+    requires linked { AreLentOverEarlier parts.now }
     requires few { length parts.now < 2 ^ 32 }
     ensures { IfOk result (λ levels. (h : ℕ) →
-        level_at levels.items h ≡ numbers_of_height h (trees_of_lent parts.now)) }
+        level_at levels.items h ≡ numbers_of_height h (trees_of_lent_nodes parts.now)) }
 {
     let mut heights = Vec::new(alloc);
     let mut levels = Vec::new(alloc);

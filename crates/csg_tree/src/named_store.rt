@@ -5,7 +5,7 @@ ghost use Rattle.std.specs.Bool.{OnTrue};
 ghost use Rattle.std.specs.Arc.{arc_value};
 ghost use Rattle.sha2.specs.Hashers.{Holds256};
 ghost use Rattle.csg_tree.specs.Fronts.{front_of_second, HoldsFrontIfThere, IsFrontOfSecond};
-ghost use Rattle.csg_tree.specs.Formulas.{Formula};
+ghost use Rattle.csg_tree.specs.HalfSpaceTrees.{Tree};
 ghost use Rattle.csg_tree.specs.Keys.{tree_bytes, op_byte};
 ghost use Rattle.csg_tree.specs.Numberings.{tree_numbered, IsNumberIn};
 ghost use Rattle.csg_tree.specs.JoinNames.{name_of_join};
@@ -35,12 +35,12 @@ pub struct NamedStore {
 impl Model for NamedStore {
     ghost use Rattle.std.specs.Prelude.{List};
     ghost use Rattle.std.specs.Coded.{coded_list};
-    ghost use Rattle.csg_tree.specs.Formulas.{Formula};
-    ghost use Rattle.csg_tree.specs.Codes.{coded_formula};
+    ghost use Rattle.csg_tree.specs.HalfSpaceTrees.{Tree};
+    ghost use Rattle.csg_tree.specs.Codes.{coded_tree};
 
-    ghost Value = { List Formula };
+    ghost Value = { List Tree };
 
-    ghost coded = { coded_list coded_formula };
+    ghost coded = { coded_list coded_tree };
 
     ghost use Rattle.std.specs.Prelude.{◌≡◌, map};
     ghost use Rattle.std.specs.Arc.{arc_value};
@@ -146,7 +146,7 @@ impl NamedStore {
         requires left { IfSome left (IsNumberIn self.now) }
         requires joins { (length joins.now ≡ length self.now)
             × All (λ n. n ≤ length self.now) joins.now }
-        ensures { (first right : Formula) → IsNumberOf self.now first left →
+        ensures { (first right : Tree) → IsNumberOf self.now first left →
             IsFrontOfSecond self.now op right second_front →
             IfOk result (λ front. IfSome front (λ hasher. Holds256 hasher
             (op_byte op ∷ tree_bytes first ++ front_of_second op right))) }
@@ -174,7 +174,7 @@ impl NamedStore {
         second_front: Option<(Op, Option<u32>)>,
     ) -> bool
         requires { IsNumberIn self.now right }
-        ensures { (other : Formula) → IsFrontOfSecond self.now op other second_front →
+        ensures { (other : Tree) → IsFrontOfSecond self.now op other second_front →
             OnTrue result (front_of_second op (tree_numbered self.now right)
             ≡ front_of_second op other) }
     {
@@ -195,7 +195,7 @@ fn second_front_in(
 ) -> Option<(Op, Option<u32>)>
     requires right { IsNumberIn store.now right }
     requires numbers { length numbers.now ≡ length store.now }
-    ensures { (earlier : List Formula) → AreAllNumbersIn earlier store.now numbers.now →
+    ensures { (earlier : List Tree) → AreAllNumbersIn earlier store.now numbers.now →
         IsFrontOfSecond earlier op (tree_numbered store.now right) result }
 {
     match second_join(store, op, right) {

@@ -3,7 +3,7 @@
 ghost use Rattle.std.specs.Prelude.{◌≡◌, ℕ, List, ◌∷◌, ◌++◌};
 ghost use Rattle.std.specs.Int.{w64, to_be_bytes};
 ghost use Rattle.std.specs.List.{flat_map};
-ghost use Rattle.csg_tree.specs.Formulas.{leaf};
+ghost use Rattle.csg_tree.specs.HalfSpaceTrees.{leaf};
 ghost use Rattle.csg_tree.specs.Keys.{tree_bytes, plane_bytes};
 ghost use Rattle.csg_tree.specs.Numberings.{tree_numbered, IsNumberIn};
 ghost use Rattle.csg_tree.specs.TreeKeys.{name_of};

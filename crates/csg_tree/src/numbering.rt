@@ -2,7 +2,7 @@
 
 ghost use Rattle.std.specs.Prelude.{◌≡◌, ℕ, ◌+◌, ◌^◌, ◌<◌, ◌∷◌, [], IfOk, OnOk, length, map};
 ghost use Rattle.csg_tree.specs.Numberings.{by_height, distinct_trees, tree_numbered, HaveOneNumber};
-ghost use Rattle.csg_tree.specs.Nodes.{node_of, trees_of, trees_of_lent, AreLinked, AreLinkedLent, IsOver};
+ghost use Rattle.csg_tree.specs.Nodes.{node_of, trees_of_nodes, trees_of_lent_nodes, AreOverEarlier, AreLentOverEarlier, IsOver};
 ghost use Rattle.csg_tree.specs.Levels.{level_at, numbers_of_height};
 ghost use Rattle.csg_tree.specs.Interned.{renumbered_node, AreInterned, ArePlaced, IsLevelReady, GrowBy, IsNumbering, IsPartReady, IsPartNumbered, StayPlaced};
 
@@ -18,14 +18,14 @@ pub fn nodes_of_levels(
     parts: &[CsgNode<'_>],
     levels: &[Vec<u32>],
 ) -> Result<Vec<StoredNode>, NoMemory>
-    requires linked { AreLinkedLent parts.now }
+    requires linked { AreLentOverEarlier parts.now }
     requires few { length parts.now < 2 ^ 32 }
     requires levels { (h : ℕ) →
-        level_at levels.now h ≡ numbers_of_height h (trees_of_lent parts.now) }
-    ensures trees { IfOk result (λ nodes. trees_of nodes.items
-        ≡ distinct_trees (by_height (length levels.now) (trees_of_lent parts.now))) }
-    ensures linked { IfOk result (λ nodes. AreLinked nodes.items) }
-    ensures once { IfOk result (λ nodes. HaveOneNumber (trees_of nodes.items)) }
+        level_at levels.now h ≡ numbers_of_height h (trees_of_lent_nodes parts.now) }
+    ensures trees { IfOk result (λ nodes. trees_of_nodes nodes.items
+        ≡ distinct_trees (by_height (length levels.now) (trees_of_lent_nodes parts.now))) }
+    ensures linked { IfOk result (λ nodes. AreOverEarlier nodes.items) }
+    ensures once { IfOk result (λ nodes. HaveOneNumber (trees_of_nodes nodes.items)) }
 {
     let mut numbers = vec![in alloc; 0; parts.len()]?;
     let mut interner = Interner::new(alloc);
@@ -45,18 +45,20 @@ fn number_level(
 ) -> Result<(), NoMemory>
     requires numbering { IsNumbering parts.now numbers.old.items interner.old.found
         interner.old.nodes.items }
-    requires ready { IsLevelReady parts.now (trees_of interner.old.nodes.items) numbers.old.items
+    requires ready { IsLevelReady parts.now (trees_of_nodes interner.old.nodes.items)
+        numbers.old.items
         level.now }
     requires few { length interner.old.nodes.items + length level.now < 2 ^ 32 }
     ensures room { length numbers.new.items ≡ length parts.now }
     ensures interned { OnOk result (AreInterned interner.new.found interner.new.nodes.items) }
-    ensures placed { OnOk result (ArePlaced (trees_of_lent parts.now)
-        (trees_of interner.new.nodes.items) numbers.new.items level.now) }
-    ensures stay { OnOk result (StayPlaced (trees_of_lent parts.now)
-        (trees_of interner.old.nodes.items) numbers.old.items (trees_of interner.new.nodes.items)
+    ensures placed { OnOk result (ArePlaced (trees_of_lent_nodes parts.now)
+        (trees_of_nodes interner.new.nodes.items) numbers.new.items level.now) }
+    ensures stay { OnOk result (StayPlaced (trees_of_lent_nodes parts.now)
+        (trees_of_nodes interner.old.nodes.items) numbers.old.items
+        (trees_of_nodes interner.new.nodes.items)
         numbers.new.items) }
     ensures grown { OnOk result (GrowBy interner.old.nodes.items interner.new.nodes.items
-        (map (tree_numbered (trees_of_lent parts.now)) level.now)) }
+        (map (tree_numbered (trees_of_lent_nodes parts.now)) level.now)) }
 {
     for number in level {
         number_part(alloc, parts, *number, numbers, interner)?;
@@ -74,18 +76,20 @@ fn number_part(
 ) -> Result<(), NoMemory>
     requires numbering { IsNumbering parts.now numbers.old.items interner.old.found
         interner.old.nodes.items }
-    requires ready { IsPartReady parts.now (trees_of interner.old.nodes.items) numbers.old.items
+    requires ready { IsPartReady parts.now (trees_of_nodes interner.old.nodes.items)
+        numbers.old.items
         number }
     requires few { length interner.old.nodes.items + 1 < 2 ^ 32 }
     ensures room { length numbers.new.items ≡ length parts.now }
     ensures interned { OnOk result (AreInterned interner.new.found interner.new.nodes.items) }
-    ensures placed { OnOk result (IsPartNumbered (trees_of_lent parts.now)
-        (trees_of interner.new.nodes.items) numbers.new.items number) }
-    ensures stay { OnOk result (StayPlaced (trees_of_lent parts.now)
-        (trees_of interner.old.nodes.items) numbers.old.items (trees_of interner.new.nodes.items)
+    ensures placed { OnOk result (IsPartNumbered (trees_of_lent_nodes parts.now)
+        (trees_of_nodes interner.new.nodes.items) numbers.new.items number) }
+    ensures stay { OnOk result (StayPlaced (trees_of_lent_nodes parts.now)
+        (trees_of_nodes interner.old.nodes.items) numbers.old.items
+        (trees_of_nodes interner.new.nodes.items)
         numbers.new.items) }
     ensures grown { OnOk result (GrowBy interner.old.nodes.items interner.new.nodes.items
-        (tree_numbered (trees_of_lent parts.now) number ∷ [])) }
+        (tree_numbered (trees_of_lent_nodes parts.now) number ∷ [])) }
 {
     let index = number as usize - 1;
     let node = linked(parts[index], numbers);

@@ -1,7 +1,7 @@
 //! Trees by number.
 
 ghost use Rattle.std.specs.Prelude.{◌≡◌, IfOk, length, All};
-ghost use Rattle.csg_tree.specs.Trees.{formula_of};
+ghost use Rattle.csg_tree.specs.Trees.{plain_tree_of};
 ghost use Rattle.csg_tree.specs.ProperTrees.{IsProper};
 ghost use Rattle.csg_tree.specs.Numberings.{nodes_of, tree_numbered, AreNumberedTrees, IsNumberIn};
 ghost use Rattle.csg_tree.specs.Nodes.{IsNodeOf};
@@ -25,16 +25,16 @@ pub struct CsgStore {
 impl Model for CsgStore {
     ghost use Rattle.std.specs.Prelude.{List};
     ghost use Rattle.std.specs.Coded.{coded_list};
-    ghost use Rattle.csg_tree.specs.Formulas.{Formula};
-    ghost use Rattle.csg_tree.specs.Codes.{coded_formula};
+    ghost use Rattle.csg_tree.specs.HalfSpaceTrees.{Tree};
+    ghost use Rattle.csg_tree.specs.Codes.{coded_tree};
 
-    ghost Value = { List Formula };
+    ghost Value = { List Tree };
 
-    ghost coded = { coded_list coded_formula };
+    ghost coded = { coded_list coded_tree };
 
-    ghost use Rattle.csg_tree.specs.Nodes.{trees_of, IsStore};
+    ghost use Rattle.csg_tree.specs.Nodes.{trees_of_nodes, IsStore};
 
-    ghost view = { λ s. trees_of s.nodes.items };
+    ghost view = { λ s. trees_of_nodes s.nodes.items };
 
     ghost invariant = { λ s. IsStore s.nodes.items };
 }
@@ -43,8 +43,8 @@ impl CsgStore {
     /// The distinct subtrees of a proper tree other than Nothing, each as one node. Nodes are
     /// numbered from 1 by height, and then by first appearance.
     pub fn intern(alloc: Global, tree: &CsgTree) -> Result<CsgStore, NoMemory>
-        requires { IsProper (formula_of tree.now) }
-        ensures { IfOk result (λ store. store ≡ nodes_of (formula_of tree.now)) }
+        requires { IsProper (plain_tree_of tree.now) }
+        ensures { IfOk result (λ store. store ≡ nodes_of (plain_tree_of tree.now)) }
     {
         let parts = parts_of(alloc, tree)?;
         let levels = levels_of(alloc, &parts)?;

@@ -1,7 +1,7 @@
 //! Trees of constructive solid geometry.
 
 ghost use Rattle.std.specs.Prelude.{◌≡◌, IfOk};
-ghost use Rattle.csg_tree.specs.Trees.{formula_of};
+ghost use Rattle.csg_tree.specs.Trees.{plain_tree_of};
 
 use crate::op::Op;
 use crate::planes::Planes;
@@ -20,7 +20,7 @@ pub enum CsgTree {
 impl CsgTree {
     /// An equal tree.
     pub fn copy(&self, alloc: Global) -> Result<CsgTree, NoMemory>
-        ensures { IfOk result (λ tree. formula_of tree ≡ formula_of self.now) }
+        ensures { IfOk result (λ tree. plain_tree_of tree ≡ plain_tree_of self.now) }
     {
         match self {
             CsgTree::Nothing => Ok(CsgTree::Nothing),

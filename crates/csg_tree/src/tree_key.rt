@@ -23,12 +23,12 @@ pub struct TreeKey {
 
 impl Model for TreeKey {
     ghost use Rattle.std.specs.Arc.{arc_value};
-    ghost use Rattle.csg_tree.specs.Formulas.{Formula};
-    ghost use Rattle.csg_tree.specs.Codes.{coded_formula};
+    ghost use Rattle.csg_tree.specs.HalfSpaceTrees.{Tree};
+    ghost use Rattle.csg_tree.specs.Codes.{coded_tree};
 
-    ghost Value = { Formula };
+    ghost Value = { Tree };
 
-    ghost coded = { coded_formula };
+    ghost coded = { coded_tree };
 
     ghost use Rattle.csg_tree.specs.Numberings.{tree_numbered};
     ghost use Rattle.csg_tree.specs.TreeKeys.{IsNamedTree};

@@ -6,12 +6,12 @@ use Rattle.edit_session.specs.declared.fault.SessionFault.{SessionFault}
 use Rattle.edit_session.specs.declared.fault.SessionFault.TheVariants.{NoMemory}
 use Rattle.edit_session.specs.declared.fault.Asked.{Asked}
 use Rattle.edit_session.specs.declared.fault.Asked.TheVariants as asked
-use Rattle.edit_session.specs.Sessions.{State, refusal, after_accepted}
+use Rattle.edit_session.specs.Sessions.{State, refusal, state_after_accepted}
 
 -- an edit was done, and this is the number of lines afterwards
 pub record Edits (old : State) (c : Command) (new : State) (count : ℕ) : Type 0 where
   pub allowed : refusal old c ≡ None
-  pub done : new ≡ after_accepted old c
+  pub done : new ≡ state_after_accepted old c
   pub lines : count ≡ length new.lines
 
 -- memory may run out at a command: the session does not refuse it, and it is no cut, which takes no memory

@@ -2,7 +2,7 @@
 use Rattle.std.specs.Prelude.{ℕ, ◌+◌, ◌-◌, ◌==◌, nat_le, Bool, ◌&&◌, if◌then◌else◌, List, [], ◌++◌, flat_map, length, take, drop, insert, slice_set, is_some, Option, Some, None}
 use Rattle.script_reader.specs.declared.script.Command.{Command}
 use Rattle.script_reader.specs.declared.script.Command.TheVariants.{Put, Set, Cut, Show, Export, Bad}
-use Rattle.script_reader.specs.Lines.{newline}
+use Rattle.text_place.specs.Separators.{newline}
 use Rattle.edit_session.specs.declared.fault.SessionFault.{SessionFault}
 use Rattle.edit_session.specs.declared.fault.SessionFault.TheVariants.{NoSuchLine, TooManyLines, TooManyShows, TooManyExports, BadCommand}
 
@@ -38,14 +38,14 @@ refusal s Export = if s.exports == 16 then Some TooManyExports else None
 refusal s Bad = Some BadCommand
 
 -- the state after a command that is not refused
-abbrev pub after_accepted : State → Command → State
-after_accepted s (Put line text) = record s { lines = insert s.lines (line - 1) text }
-after_accepted s (Set line text) = record s { lines = slice_set s.lines (line - 1) text }
-after_accepted s (Cut from upto) = record s { lines = take (from - 1) s.lines ++ drop upto s.lines }
-after_accepted s Show = record s { shows = s.shows + 1 }
-after_accepted s Export = record s { exports = s.exports + 1 }
-after_accepted s Bad = s
+abbrev pub state_after_accepted : State → Command → State
+state_after_accepted s (Put line text) = record s { lines = insert s.lines (line - 1) text }
+state_after_accepted s (Set line text) = record s { lines = slice_set s.lines (line - 1) text }
+state_after_accepted s (Cut from upto) = record s { lines = take (from - 1) s.lines ++ drop upto s.lines }
+state_after_accepted s Show = record s { shows = s.shows + 1 }
+state_after_accepted s Export = record s { exports = s.exports + 1 }
+state_after_accepted s Bad = s
 
 -- the state after a command: a refused one leaves it as it was
 abbrev pub state_after_command : State → Command → State
-state_after_command s c = if is_some (refusal s c) then s else after_accepted s c
+state_after_command s c = if is_some (refusal s c) then s else state_after_accepted s c

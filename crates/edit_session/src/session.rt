@@ -2,7 +2,7 @@
 
 ghost use Rattle.std.specs.Prelude.{◌≡◌, ◌↔◌, ◌≤◌, ◌++◌, take, drop, length, Some, None, IsTrue, IfOk, IfErr};
 ghost use Rattle.script_reader.specs.declared.script.Command.TheVariants.{Put, Set, Cut, Show, Export};
-ghost use Rattle.edit_session.specs.Sessions.{start_state, source_of, refusal, after_accepted};
+ghost use Rattle.edit_session.specs.Sessions.{start_state, source_of, refusal, state_after_accepted};
 ghost use Rattle.script_reader.specs.Limits.{IsText, HasText};
 ghost use Rattle.edit_session.specs.Limits.{IsWithinSessionLimits};
 ghost use Rattle.edit_session.specs.Asking.{Edits, RefusesCommand, Accepts};
@@ -37,7 +37,11 @@ impl Model for Session {
     ghost view = { λ s. record { lines = s.lines.items; shows = s.shows; exports = s.exports } };
 
     ghost invariant = { λ s.
-        IsWithinSessionLimits (record { lines = s.lines.items; shows = s.shows; exports = s.exports }) };
+        IsWithinSessionLimits (record {
+          lines = s.lines.items;
+          shows = s.shows;
+          exports = s.exports;
+        }) };
 }
 
 impl Session {
@@ -78,7 +82,8 @@ impl Session {
     pub fn put(&mut self, alloc: Global, line: u32, text: &[u8]) -> Result<u32, SessionFault>
         requires { IsText text.now }
         ensures done { IfOk result (λ count. Edits self.old (Put line text.now) self.new count) }
-        ensures refused { IfErr result (λ why. RefusesCommand self.old (Put line text.now) self.new why) }
+        ensures refused { IfErr result (λ why. RefusesCommand self.old
+            (Put line text.now) self.new why) }
     {
         let at = line as usize;
         if at < 1 || at > self.lines.len() + 1 {
@@ -96,7 +101,8 @@ impl Session {
     pub fn set(&mut self, alloc: Global, line: u32, text: &[u8]) -> Result<u32, SessionFault>
         requires { IsText text.now }
         ensures done { IfOk result (λ count. Edits self.old (Set line text.now) self.new count) }
-        ensures refused { IfErr result (λ why. RefusesCommand self.old (Set line text.now) self.new why) }
+        ensures refused { IfErr result (λ why. RefusesCommand self.old
+            (Set line text.now) self.new why) }
     {
         let at = line as usize;
         if at < 1 || at > self.lines.len() {
@@ -110,7 +116,8 @@ impl Session {
     /// changes nothing. Takes no memory.
     pub fn cut(&mut self, from: u32, upto: u32) -> Result<u32, SessionFault>
         ensures done { IfOk result (λ count. Edits self.old (Cut from upto) self.new count) }
-        ensures refused { IfErr result (λ why. RefusesCommand self.old (Cut from upto) self.new why) }
+        ensures refused { IfErr result (λ why. RefusesCommand self.old
+            (Cut from upto) self.new why) }
     {
         let first = from as usize;
         let last = upto as usize;
@@ -157,7 +164,7 @@ impl Session {
     /// Counts a show that was answered with a text.
     pub fn book_show(&mut self)
         requires { refusal self.old Show ≡ None }
-        ensures { self.new ≡ after_accepted self.old Show }
+        ensures { self.new ≡ state_after_accepted self.old Show }
     {
         self.shows += 1;
     }
@@ -165,7 +172,7 @@ impl Session {
     /// Counts an export that was answered.
     pub fn book_export(&mut self)
         requires { refusal self.old Export ≡ None }
-        ensures { self.new ≡ after_accepted self.old Export }
+        ensures { self.new ≡ state_after_accepted self.old Export }
     {
         self.exports += 1;
     }

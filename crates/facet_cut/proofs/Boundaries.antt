@@ -9,7 +9,7 @@ use Rattle.plane_polygon.specs.Polygons.{Outline, Covers, IsPolygon, IsStrictlyW
 use Rattle.plane_polygon.specs.Parts.{is_behind}
 use Rattle.plane_polygon.proofs.CornerSides.{less, not_less}
 use Rattle.bsp_tree.specs.Trees.{BspTree, inside, outside, node, walk}
-use Rattle.bsp_tree.specs.Cells.{IsInCell, IsInClosedCell, IsPolygonOfCell, IsOfCell, IsPlaneOf, IsOffPlanesOf}
+use Rattle.bsp_tree.specs.Cells.{IsInCell, IsInClosedCell, IsPolygonOfCell, IsOfCell, IsNodePlaneOf, IsOffPlanesOf}
 use Rattle.bsp_tree.proofs.Opposites.{opposite_zero, opposite_back, opposite_above, opposite_below, opposite_twice}
 use Rattle.facet_cut.specs.Facets.{facets_facing, facets_ahead, facets_between, facets_of}
 use Rattle.facet_cut.specs.Sides.{walk_by, AreJustBehind, AreJustAhead, CoversFacing, IsFacetOf, HasNone, HasOneWhere, BoundSolid}
@@ -72,7 +72,7 @@ less_planes : (m : Coefficients) (cell : List Coefficients) (p : Coordinates) �
     IsInCell cell p
 less_planes m cell p h = record { weight = h.weight; below = h.below.1 }
 
-plane_meets : (t : BspTree) (cell : List Coefficients) (m : Coefficients) → IsOfCell cell t → IsPlaneOf m t →
+plane_meets : (t : BspTree) (cell : List Coefficients) (m : Coefficients) → IsOfCell cell t → IsNodePlaneOf m t →
     (y : Coordinates) × IsInCell cell y × (value m y ≡ pos 0)
 plane_meets inside cell m h k = absurd k
 plane_meets outside cell m h k = absurd k
@@ -202,7 +202,7 @@ none_between s b a n p h off =
 off_part : (s : Outline) (side : Coefficients) (t : BspTree) (cell : List Coefficients) (n : Coefficients)
     (p : Coordinates) → IsOfCell (side ∷ cell) t →
     IsEither side s.plane → IsEither s.plane n → value n p ≡ pos 0 →
-    ((m : Coefficients) → IsPlaneOf m t → value m p ≡ pos 0 → IsEither m n) → IsOffPlanesOf t p
+    ((m : Coefficients) → IsNodePlaneOf m t → value m p ≡ pos 0 → IsEither m n) → IsOffPlanesOf t p
 off_part s side t cell n p h e d on alone m k z =
     let y = plane_meets t (side ∷ cell) m h k in
     below_not_zero (value side y.0) y.1.below.0
@@ -240,7 +240,7 @@ other_side s n p sides c on h off e =
 bound : (t : BspTree) (cell : List Coefficients) (n : Coefficients) (p : Coordinates)
     (low high : Coefficients → Bool) →
     IsOfCell cell t → IsInCell cell p → value n p ≡ pos 0 →
-    ((m : Coefficients) → IsPlaneOf m t → value m p ≡ pos 0 → IsEither m n) → AreJustBehind n p low →
+    ((m : Coefficients) → IsNodePlaneOf m t → value m p ≡ pos 0 → IsEither m n) → AreJustBehind n p low →
     AreJustAhead n p high →
     HasOneWhere (walk_by t low && not (walk_by t high)) (CoversFacing n p) (facets_of t)
 bound inside cell n p low high h hp on alone jb ja = tt
@@ -249,9 +249,9 @@ bound (node s b a) cell n p low high h hp on alone jb ja =
     let P = CoversFacing n p in
     let m = s.plane in
     let o = opposite_of s.plane in
-    let alone_b : (k : Coefficients) → IsPlaneOf k b → value k p ≡ pos 0 → IsEither k n =
+    let alone_b : (k : Coefficients) → IsNodePlaneOf k b → value k p ≡ pos 0 → IsEither k n =
     λ k w. alone k (inr (inl w)) in
-    let alone_a : (k : Coefficients) → IsPlaneOf k a → value k p ≡ pos 0 → IsEither k n =
+    let alone_a : (k : Coefficients) → IsNodePlaneOf k a → value k p ≡ pos 0 → IsEither k n =
     λ k w. alone k (inr (inr w)) in
     elim (signs (value m p)) [
       | inl v ↦ (

@@ -3,9 +3,9 @@ use Rattle.std.proofs.Common.{◌≡◌, ◌⊎◌, ℕ, ◌<◌, inl, inr, Bool
 use Rattle.std.specs.List.{All}
 use Rattle.std.proofs.lemmas.List.Elements.{All-nil, All-cons, All-head, All-tail, All-append, All-weaker}
 use Rattle.plane_predicate.specs.Space.{Coefficients, Coordinates, opposite_of, IsInClosedWorld}
-use Rattle.plane_polygon.specs.Polygons.{Outline, Covers, IsPolygon, corner, sides}
+use Rattle.plane_polygon.specs.Polygons.{Outline, Covers, IsPolygon, corner, edge_count}
 use Rattle.bsp_tree.specs.Trees.{BspTree, inside, outside, node}
-use Rattle.bsp_tree.specs.Cells.{IsInClosedCell, IsOfCell, IsOfWorld, IsPlaneOf, world_box}
+use Rattle.bsp_tree.specs.Cells.{IsInClosedCell, IsOfCell, IsOfWorld, IsNodePlaneOf, world_box}
 use Rattle.bsp_tree.proofs.Opposites.{opposite_twice}
 use Rattle.bsp_tree.proofs.PolygonsOfCells.{corner_covered}
 use Rattle.bsp_tree.proofs.Worlds.{closed_world}
@@ -63,17 +63,17 @@ between_on b a s h =
 
 -- ---- all facets
 plane_here : (s x : Outline) (b a : BspTree) → (x.plane ≡ s.plane) ⊎ (x.plane ≡ opposite_of s.plane) →
-    IsPlaneOf x.plane (node s b a) ⊎ IsPlaneOf (opposite_of x.plane) (node s b a)
+    IsNodePlaneOf x.plane (node s b a) ⊎ IsNodePlaneOf (opposite_of x.plane) (node s b a)
 plane_here s x b a (inl e) = inl (inl e)
 plane_here s x b a (inr e) = inr (inl (ap opposite_of e ∙ opposite_twice s.plane))
 
-plane_behind : (s x : Outline) (b a : BspTree) → IsPlaneOf x.plane b ⊎ IsPlaneOf (opposite_of x.plane) b →
-    IsPlaneOf x.plane (node s b a) ⊎ IsPlaneOf (opposite_of x.plane) (node s b a)
+plane_behind : (s x : Outline) (b a : BspTree) → IsNodePlaneOf x.plane b ⊎ IsNodePlaneOf (opposite_of x.plane) b →
+    IsNodePlaneOf x.plane (node s b a) ⊎ IsNodePlaneOf (opposite_of x.plane) (node s b a)
 plane_behind s x b a (inl h) = inl (inr (inl h))
 plane_behind s x b a (inr h) = inr (inr (inl h))
 
-plane_ahead : (s x : Outline) (b a : BspTree) → IsPlaneOf x.plane a ⊎ IsPlaneOf (opposite_of x.plane) a →
-    IsPlaneOf x.plane (node s b a) ⊎ IsPlaneOf (opposite_of x.plane) (node s b a)
+plane_ahead : (s x : Outline) (b a : BspTree) → IsNodePlaneOf x.plane a ⊎ IsNodePlaneOf (opposite_of x.plane) a →
+    IsNodePlaneOf x.plane (node s b a) ⊎ IsNodePlaneOf (opposite_of x.plane) (node s b a)
 plane_ahead s x b a (inl h) = inl (inr (inr h))
 plane_ahead s x b a (inr h) = inr (inr (inr h))
 
@@ -116,8 +116,8 @@ all_facets (node s b a) cell h =
 
 -- ---- corners
 pub world_corners : (t : BspTree) → IsOfWorld t →
-    All (λ (x : Outline). (i : ℕ) → i < sides x → IsInClosedWorld (corner x i)) (facets_of t)
+    All (λ (x : Outline). (i : ℕ) → i < edge_count x → IsInClosedWorld (corner x i)) (facets_of t)
 world_corners t h =
-    All-weaker (IsFacetOf world_box t) (λ (x : Outline). (i : ℕ) → i < sides x → IsInClosedWorld (corner x i))
+    All-weaker (IsFacetOf world_box t) (λ (x : Outline). (i : ℕ) → i < edge_count x → IsInClosedWorld (corner x i))
     (λ x f i l. (closed_world (corner x i)).0 (f.closed (corner x i) (corner_covered x f.polygon i l)))
     (facets_of t) (all_facets t world_box h)

@@ -24,7 +24,7 @@ use Rattle.bsp_tree.proofs.Wholes.{leaf_tree}
 use Rattle.facet_cut.specs.declared.stops.CutStop.{CutStop}
 use Rattle.facet_cut.specs.declared.stops.CutStop.TheVariants.{TooMany, NoMemory}
 use Rattle.facet_cut.specs.Facets.{Piece, facets_ahead, facets_facing, pieces_on_sides, pieces, facets_of}
-use Rattle.facet_cut.specs.Adding.{Adds}
+use Rattle.facet_cut.specs.Adding.{AddsFacetsWithin}
 
 -- ---- ends
 leaf_facets : (side : Bool) → facets_of (leaf_of side) ≡ []
@@ -81,12 +81,12 @@ same_leaf_facets planes nodes false (End true) s e = absurd (false≢true e)
 same_leaf_facets planes nodes true (To id) s e = absurd (false≢true e)
 same_leaf_facets planes nodes false (To id) s e = absurd (false≢true e)
 
-pub adds_none : {A : Type 0} (most : ℕ) (found : List Outline) (done : A) → length found ≤ most → Adds [] most found found (Ok done)
+pub adds_none : {A : Type 0} (most : ℕ) (found : List Outline) (done : A) → length found ≤ most → AddsFacetsWithin [] most found found (Ok done)
 adds_none most found done h = (sym (append-nil found), h)
 
 -- ---- facets that are added one after the others
 pub adds_more : {A : Type 0} (first others : List Outline) (most : ℕ) (old middle new : List Outline) (result : Result A CutStop) →
-    middle ≡ old ++ first → Adds others most middle new result → Adds (first ++ others) most old new result
+    middle ≡ old ++ first → AddsFacetsWithin others most middle new result → AddsFacetsWithin (first ++ others) most old new result
 adds_more first others most old middle new (Ok done) e h = (h.0 ∙ ap (λ (xs : List Outline). xs ++ others) e ∙ append_assoc old first others, h.1)
 adds_more first others most old middle new (Err TooMany) e h =
     subst (λ (xs : List Outline). most < length xs) (ap (λ (xs : List Outline). xs ++ others) e ∙ append_assoc old first others) h
@@ -101,6 +101,6 @@ too_many first others most old h =
 -- where it stopped at the first ones, it stopped
 pub adds_stopped : {A B : Type 0} (first others : List Outline) (most : ℕ) (old new : List Outline) (stop : CutStop)
     (given : Result A CutStop) (result : Result B CutStop) → given ≡ Err stop → result ≡ Err stop →
-    Adds first most old new given → Adds (first ++ others) most old new result
+    AddsFacetsWithin first most old new given → AddsFacetsWithin (first ++ others) most old new result
 adds_stopped first others most old new TooMany given result e f h = rw f (too_many first others most old (rw e at h))
 adds_stopped first others most old new NoMemory given result e f h = rw f tt

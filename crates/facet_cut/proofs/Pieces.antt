@@ -8,7 +8,7 @@ use Rattle.plane_predicate.specs.Space.{Coefficients, Coordinates, value, opposi
 use Rattle.plane_predicate.proofs.IntegerRing.{sums}
 use Rattle.plane_predicate.proofs.Identities.{combine, value_combine}
 use Rattle.plane_predicate.proofs.Signs.{signs, neg_neg, zero_cancel}
-use Rattle.plane_polygon.specs.Polygons.{Outline, index_after, sides, edge, corner, Covers, IsPolygon, IsStrictlyWithin}
+use Rattle.plane_polygon.specs.Polygons.{Outline, edge_count, edge_plane, corner, Covers, IsPolygon, IsStrictlyWithin}
 use Rattle.plane_polygon.specs.declared.classes.Class.{Class}
 use Rattle.plane_polygon.specs.declared.classes.Class.TheVariants.{Behind, Ahead, On, Across}
 use Rattle.plane_polygon.specs.Parts.{class_of, part_behind, part_ahead}
@@ -25,6 +25,7 @@ use Rattle.bsp_tree.proofs.Walks.{walk_behind, walk_ahead}
 use Rattle.facet_cut.specs.Facets.{Piece, pieces_on_sides, pieces}
 use Rattle.facet_cut.specs.Sides.{HasNone, HasOneWhere}
 use Rattle.facet_cut.proofs.Counts.{none_append, where_left, where_right}
+use Rattle.plane_predicate.specs.Indices.{index_after}
 
 pub not_both : (x : ℤ) → pos 0 <ℤ x → x ≤ℤ pos 0 → ⊥
 not_both x h k = omega (arith, sums)
@@ -49,11 +50,11 @@ second_above u v x y hx h =
 -- were it on an edge, then from it away from a corner behind the edge there would be points of the polygon
 -- ahead of it
 edge_behind : (cell : List Coefficients) (s : Outline) (p : Coordinates) → IsPolygonOfCell cell s → IsInCell cell p →
-    value s.plane p ≡ pos 0 → (j : ℕ) → j < sides s → value (edge s j) p <ℤ pos 0
+    value s.plane p ≡ pos 0 → (j : ℕ) → j < edge_count s → value (edge_plane s j) p <ℤ pos 0
 edge_behind cell s p h hp on j l =
-    let k = sides s in
+    let k = edge_count s in
     let a = index_after k j in
-    let e = edge s j in
+    let e = edge_plane s j in
     let u = corner s a in
     let b : value e u <ℤ pos 0 =
     h.polygon.behind a j (after_below k j l) l (λ w. after_other k j h.polygon.three l (sym w))
@@ -82,7 +83,7 @@ within_cell cell s p h hp on = record { on = on; behind = λ j l. edge_behind ce
 -- what is strictly within a polygon is a point of it
 pub within_covered : (s : Outline) (p : Coordinates) → pos 0 <ℤ p.w → IsStrictlyWithin s p → Covers s p
 within_covered s p w h = record
-    { weight = w; on = h.on; within = λ j l. lt_most (value (edge s j) p) (h.behind j l) }
+    { weight = w; on = h.on; within = λ j l. lt_most (value (edge_plane s j) p) (h.behind j l) }
 
 -- ---- pieces are parts of the polygon
 pub record IsPartOf (s r : Outline) : Type 0 where
@@ -175,7 +176,7 @@ on_plane : (cell : List Coefficients) (s : Outline) (p : Coordinates) (m : Coeff
     IsInCell cell p → value s.plane p ≡ pos 0 → class_of s m ≡ On → value m p ≡ pos 0
 on_plane cell s p m h hp on e =
     let o = hull s h.polygon p ((h.covers p).1 (in_closed cell p hp, on)) in
-    let z : (i : ℕ) → i < sides s → value m (corner s i) ≡ pos 0 = λ i l. lies_on s m e i l in
+    let z : (i : ℕ) → i < edge_count s → value m (corner s i) ≡ pos 0 = λ i l. lies_on s m e i l in
     zero_cancel o.2.k (value m p) o.2.whole
     (o.2.sum m ∙ three_zero o.2.u o.2.v o.2.t (value m (corner s 0)) (value m (corner s o.0))
     (value m (corner s (suc o.0))) (z 0 (omega (arith, o.1))) (z o.0 (omega (arith, o.1)))

@@ -5,10 +5,11 @@ use Rattle.plane_predicate.specs.Space.{Coefficients, Coordinates, value, meetin
 use Rattle.plane_predicate.proofs.Polynomials.{num, minus, ring}
 use Rattle.plane_predicate.proofs.Vectors.{Form, form, of_plane, cramerP}
 use Rattle.plane_predicate.proofs.Opposites.{from_zero, same_plane, same_point}
-use Rattle.plane_polygon.specs.Polygons.{Outline, index_after, edge, sides, corner, Covers, IsPolygon, IsStrictlyWithin, missing_plane}
+use Rattle.plane_polygon.specs.Polygons.{Outline, edge_plane, edge_count, corner, Covers, IsPolygon, IsStrictlyWithin, missing_plane}
 use Rattle.plane_polygon.proofs.Hull.{after_is, after_below}
 use Rattle.bsp_tree.proofs.Opposites.{opposite_zero, opposite_back}
 use Rattle.facet_cut.specs.Facets.{reversed_outline}
+use Rattle.plane_predicate.specs.Indices.{index_after}
 
 -- ---- Cramer's point does not change where the first plane is turned round and the other two are exchanged
 abbrev from_nothing : Coefficients → Coefficients
@@ -43,10 +44,10 @@ cramer_turned n e f =
     ∙ cramer_from_nothing n e f
 
 -- ---- edges and corners from the other side
-pub reversed_sides : (s : Outline) → sides (reversed_outline s) ≡ sides s
+pub reversed_sides : (s : Outline) → edge_count (reversed_outline s) ≡ edge_count s
 reversed_sides s = length-reverse s.edges
 
-reversed_edge : (s : Outline) (i : ℕ) → i < sides s → edge (reversed_outline s) i ≡ edge s (sides s - 1 - i)
+reversed_edge : (s : Outline) (i : ℕ) → i < edge_count s → edge_plane (reversed_outline s) i ≡ edge_plane s (edge_count s - 1 - i)
 reversed_edge s i h = get_or-reverse s.edges i missing_plane h
 
 -- the corner that corner i is, seen from the other side
@@ -68,20 +69,20 @@ mirrored k i h = omega arith
 mirrored_apart : (k i j : ℕ) → i < k → j < k → j ≢ i → k - 1 - j ≢ k - 1 - i
 mirrored_apart k i j h l n e = n (omega arith)
 
-reversed_corner : (s : Outline) (i : ℕ) → i < sides s → corner (reversed_outline s) i ≡ corner s (other (sides s) i)
+reversed_corner : (s : Outline) (i : ℕ) → i < edge_count s → corner (reversed_outline s) i ≡ corner s (other (edge_count s) i)
 reversed_corner s i h =
-    let k = sides s in
-    ap (λ (c : ℕ). meeting_by_cramers_rule (opposite_of s.plane) (edge (reversed_outline s) i) (edge (reversed_outline s) (index_after c i)))
+    let k = edge_count s in
+    ap (λ (c : ℕ). meeting_by_cramers_rule (opposite_of s.plane) (edge_plane (reversed_outline s) i) (edge_plane (reversed_outline s) (index_after c i)))
     (reversed_sides s)
     ∙ ap₂ (meeting_by_cramers_rule (opposite_of s.plane)) (reversed_edge s i h)
     (reversed_edge s (index_after k i) (after_below k i h))
-    ∙ cramer_turned s.plane (edge s (other k i)) (edge s (k - 1 - i))
-    ∙ ap (λ (j : ℕ). meeting_by_cramers_rule s.plane (edge s (other k i)) (edge s j)) (sym (other_after k i h))
+    ∙ cramer_turned s.plane (edge_plane s (other k i)) (edge_plane s (k - 1 - i))
+    ∙ ap (λ (j : ℕ). meeting_by_cramers_rule s.plane (edge_plane s (other k i)) (edge_plane s j)) (sym (other_after k i h))
 
 -- it is a polygon
 pub reversed_polygon : (s : Outline) → IsPolygon s → IsPolygon (reversed_outline s)
 reversed_polygon s p =
-    let k = sides s in record {
+    let k = edge_count s in record {
       three = subst (λ (c : ℕ). 3 ≤ c) (sym (reversed_sides s)) p.three;
       turns_left = λ i l. (let b : i < k = subst (λ (c : ℕ). i < c) (reversed_sides s) l in
           subst (λ (v : Coordinates). pos 0 <ℤ v.w) (sym (reversed_corner s i b))
@@ -102,11 +103,11 @@ mirrored_twice : (k j : ℕ) → j < k → k - 1 - (k - 1 - j) ≡ j
 mirrored_twice k j h = omega arith
 
 -- what holds of a polygon's edges holds of the other side's
-edges_over : (s : Outline) (P : Coefficients → Type 0) → ((j : ℕ) → j < sides s → P (edge s j)) → (j : ℕ) →
-    j < sides (reversed_outline s) → P (edge (reversed_outline s) j)
+edges_over : (s : Outline) (P : Coefficients → Type 0) → ((j : ℕ) → j < edge_count s → P (edge_plane s j)) → (j : ℕ) →
+    j < edge_count (reversed_outline s) → P (edge_plane (reversed_outline s) j)
 edges_over s P h j l =
-    let b : j < sides s = subst (λ (c : ℕ). j < c) (reversed_sides s) l in
-    subst P (sym (reversed_edge s j b)) (h (sides s - 1 - j) (mirrored (sides s) j b))
+    let b : j < edge_count s = subst (λ (c : ℕ). j < c) (reversed_sides s) l in
+    subst P (sym (reversed_edge s j b)) (h (edge_count s - 1 - j) (mirrored (edge_count s) j b))
 
 -- what is strictly within a polygon is so from the other side
 pub within_reversed : (s : Outline) (p : Coordinates) → IsStrictlyWithin s p → IsStrictlyWithin (reversed_outline s) p
@@ -118,11 +119,11 @@ within_reversed s p h = record {
 
 -- what holds of the other side's edges holds of the polygon's
 edges_back : (s : Outline) (P : Coefficients → Type 0) →
-    ((j : ℕ) → j < sides (reversed_outline s) → P (edge (reversed_outline s) j)) → (j : ℕ) → j < sides s → P (edge s j)
+    ((j : ℕ) → j < edge_count (reversed_outline s) → P (edge_plane (reversed_outline s) j)) → (j : ℕ) → j < edge_count s → P (edge_plane s j)
 edges_back s P h j l =
-    let i = sides s - 1 - j in
-    let b = mirrored (sides s) j l in
-    subst (λ (k : ℕ). P (edge s k)) (mirrored_twice (sides s) j l)
+    let i = edge_count s - 1 - j in
+    let b = mirrored (edge_count s) j l in
+    subst (λ (k : ℕ). P (edge_plane s k)) (mirrored_twice (edge_count s) j l)
     (subst P (reversed_edge s i b) (h i (subst (λ (c : ℕ). i < c) (sym (reversed_sides s)) b)))
 
 pub within_back : (s : Outline) (p : Coordinates) → IsStrictlyWithin (reversed_outline s) p → IsStrictlyWithin s p

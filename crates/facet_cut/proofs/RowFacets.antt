@@ -21,7 +21,7 @@ use Rattle.bsp_tree.proofs.Sheets.{node_shown}
 use Rattle.facet_cut.specs.declared.stops.CutStop.{CutStop}
 use Rattle.facet_cut.specs.declared.stops.CutStop.TheVariants.{TooMany, NoMemory}
 use Rattle.facet_cut.specs.Facets.{facets_between, facets_of}
-use Rattle.facet_cut.specs.Adding.{Adds}
+use Rattle.facet_cut.specs.Adding.{AddsFacetsWithin}
 use Rattle.facet_cut.specs.Rows.{facets_on_top, facets_at, first_rows, AreFacetsOfRows, AreFacetsWithin}
 
 -- ---- nodes in a row
@@ -63,7 +63,7 @@ in_order planes nodes link id face behind ahead old first second new is n e eb e
 -- where cutting stopped at a node, it stopped
 pub node_stopped : {X A Z : Type 0} (f : X → List Outline) (xs : List X) (i : ℕ) (d : X) (most : ℕ) (old new : List Outline) (stop : CutStop)
     (given : Result A CutStop) (result : Result (Vec Outline Z) CutStop) → i < length xs → given ≡ Err stop → result ≡ Err stop →
-    old ≡ flat_map f (take i xs) → Adds (f (get_or xs i d)) most old new given → AreFacetsWithin (flat_map f xs) most result
+    old ≡ flat_map f (take i xs) → AddsFacetsWithin (f (get_or xs i d)) most old new given → AreFacetsWithin (flat_map f xs) most result
 node_stopped f xs i d most old new TooMany given result l e g o h =
     let more : most < length (old ++ f (get_or xs i d)) = rw e at h in
     rw g (omega (arith, more, length-append old (f (get_or xs i d)), ap length o, length-flat_map-take f xs i d l))
@@ -128,7 +128,7 @@ with_next row seen next = ap (first_rows row) (length_push seen next ∙ add-one
 -- where joining stopped at a row, it stopped
 pub stopped_at : {A Z : Type 0} (row : ℕ → List Outline) (most n m : ℕ) (old new : List Outline) (stop : CutStop)
     (given : Result A CutStop) (result : Result (Vec Outline Z) CutStop) → n < m → given ≡ Err stop → result ≡ Err stop →
-    old ≡ first_rows row n → Adds (row n) most old new given → AreFacetsWithin (first_rows row m) most result
+    old ≡ first_rows row n → AddsFacetsWithin (row n) most old new given → AreFacetsWithin (first_rows row m) most result
 stopped_at row most n m old new TooMany given result l e f o h =
     let more : most < length (old ++ row n) = rw e at h in
     rw f (omega (arith, more, fewer row (suc n) m (omega arith), length_next row n, length-append old (row n), ap length o))
@@ -137,7 +137,7 @@ stopped_at row most n m old new NoMemory given result l e f o h = rw f tt
 -- where a row has too many, so have all
 pub row_stopped : {A Z : Type 0} (facets : List Outline) (most : ℕ) (old new : List Outline) (stop : CutStop)
     (row : Result (Vec Outline Z) CutStop) (result : Result A CutStop) → row ≡ Err stop → result ≡ Err stop →
-    AreFacetsWithin facets most row → Adds facets most old new result
+    AreFacetsWithin facets most row → AddsFacetsWithin facets most old new result
 row_stopped facets most old new TooMany row result e f h =
     let more : most < length facets = rw e at h in
     rw f (omega (arith, more, length-append old facets))

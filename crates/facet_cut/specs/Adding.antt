@@ -5,7 +5,7 @@ use Rattle.facet_cut.specs.declared.stops.CutStop.{CutStop}
 use Rattle.facet_cut.specs.declared.stops.CutStop.TheVariants.{TooMany, NoMemory}
 
 -- the facets stand behind the old ones, and there are at most so many, or there would be more
-abbrev pub Adds : {A : Type 0} → List Outline → ℕ → List Outline → List Outline → Result A CutStop → Type 0
-Adds more most old new (Ok done) = (new ≡ old ++ more) × (length new ≤ most)
-Adds more most old new (Err TooMany) = most < length (old ++ more)
-Adds more most old new (Err NoMemory) = Unit {0}
+abbrev pub AddsFacetsWithin : {A : Type 0} → List Outline → ℕ → List Outline → List Outline → Result A CutStop → Type 0
+AddsFacetsWithin more most old new (Ok done) = (new ≡ old ++ more) × (length new ≤ most)
+AddsFacetsWithin more most old new (Err TooMany) = most < length (old ++ more)
+AddsFacetsWithin more most old new (Err NoMemory) = Unit {0}

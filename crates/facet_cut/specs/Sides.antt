@@ -5,7 +5,7 @@ use Rattle.plane_predicate.specs.Space.{Coefficients, Coordinates, value, opposi
 use Rattle.plane_polygon.specs.Polygons.{Outline, Covers, IsPolygon, IsStrictlyWithin}
 use Rattle.plane_polygon.specs.Parts.{is_behind}
 use Rattle.bsp_tree.specs.Trees.{BspTree, inside, outside, node}
-use Rattle.bsp_tree.specs.Cells.{IsInCell, IsInClosedCell, IsPlaneOf}
+use Rattle.bsp_tree.specs.Cells.{IsInCell, IsInClosedCell, IsNodePlaneOf}
 
 -- the walk that takes, at each node, the side that its plane is given (true: behind): whether it ends in a
 -- leaf inside
@@ -31,7 +31,7 @@ pub record IsOnOneNodePlane (cell : List Coefficients) (t : BspTree) (n : Coeffi
   where
     pub point_in : IsInCell cell p
     pub on : value n p ≡ pos 0
-    pub alone : (m : Coefficients) → IsPlaneOf m t → value m p ≡ pos 0 → (m ≡ n) ⊎ (m ≡ opposite_of n)
+    pub alone : (m : Coefficients) → IsNodePlaneOf m t → value m p ≡ pos 0 → (m ≡ n) ⊎ (m ≡ opposite_of n)
 
 -- the facet faces n, and the point is strictly within all its edges
 pub record CoversFacing (n : Coefficients) (p : Coordinates) (s : Outline) : Type 0 where
@@ -42,7 +42,7 @@ pub record CoversFacing (n : Coefficients) (p : Coordinates) (s : Outline) : Typ
 -- points are points of the closed cell
 pub record IsFacetOf (cell : List Coefficients) (t : BspTree) (s : Outline) : Type 0 where
   pub polygon : IsPolygon s
-  pub plane : IsPlaneOf s.plane t ⊎ IsPlaneOf (opposite_of s.plane) t
+  pub plane : IsNodePlaneOf s.plane t ⊎ IsNodePlaneOf (opposite_of s.plane) t
   pub closed : (p : Coordinates) → Covers s p → IsInClosedCell cell p
 
 -- no item has P

@@ -2,7 +2,7 @@
 
 ghost use Rattle.std.specs.Prelude.{◌≤◌, [], ◌∷◌, length};
 ghost use Rattle.facet_cut.specs.Facets.{facets_facing};
-ghost use Rattle.facet_cut.specs.Adding.{Adds};
+ghost use Rattle.facet_cut.specs.Adding.{AddsFacetsWithin};
 
 use crate::facet::{facing_ahead, facing_back};
 use crate::{CutStop, Facet};
@@ -18,7 +18,8 @@ pub fn push_facing(
     found: &mut Vec<Facet>,
 ) -> Result<(), CutStop>
     requires { length found.old.items ≤ most }
-    ensures { Adds (facets_facing behind ahead polygon) most found.old.items found.new.items result }
+    ensures { AddsFacetsWithin (facets_facing behind ahead polygon) most found.old.items
+        found.new.items result }
 {
     match (behind, ahead) {
         (true, true) | (false, false) => Ok(()),
@@ -30,7 +31,7 @@ pub fn push_facing(
 // Adds a facet.
 fn push_one(facet: Facet, most: u64, found: &mut Vec<Facet>) -> Result<(), CutStop>
     requires { length found.old.items ≤ most }
-    ensures { Adds (facet ∷ []) most found.old.items found.new.items result }
+    ensures { AddsFacetsWithin (facet ∷ []) most found.old.items found.new.items result }
 {
     if found.len() as u64 >= most {
         return Err(CutStop::TooMany);

@@ -2,7 +2,7 @@
 
 ghost use Rattle.std.specs.Prelude.{◌↔◌, ◌<◌, ℕ, List, All};
 ghost use Rattle.plane_predicate.specs.Space.{Coefficients, Coordinates, IsInClosedWorld};
-ghost use Rattle.plane_polygon.specs.Polygons.{corner, sides, Covers, IsPolygon, IsStrictlyWithin, Outline};
+ghost use Rattle.plane_polygon.specs.Polygons.{corner, edge_count, Covers, IsPolygon, IsStrictlyWithin, Outline};
 ghost use Rattle.bsp_tree.specs.Trees.{BspTree};
 ghost use Rattle.bsp_tree.specs.Cells.{IsOfCell, IsOfWorld};
 ghost use Rattle.facet_cut.specs.Facets.{facets_of, reversed_outline};
@@ -23,7 +23,7 @@ pub fn facets_are_polygons()
     ensures facets { (cell : List Coefficients) (t : BspTree) → IsOfCell cell t →
         All (IsFacetOf cell t) (facets_of t) }
     ensures corners { (t : BspTree) → IsOfWorld t →
-        All (λ s. (i : ℕ) → i < sides s → IsInClosedWorld (corner s i)) (facets_of t) }
+        All (λ s. (i : ℕ) → i < edge_count s → IsInClosedWorld (corner s i)) (facets_of t) }
 {}
 
 /// The facets bound their solid. Take a point of the cell that lies on one plane of the solid, and

@@ -5,7 +5,7 @@ ghost use Rattle.link_forest.specs.Forests.{IsLinkOf};
 ghost use Rattle.link_forest.specs.declared.link.Link.TheVariants.{To};
 ghost use Rattle.bsp_tree.specs.Shapes.{AreFacesOver};
 ghost use Rattle.facet_cut.specs.Facets.{facets_of};
-ghost use Rattle.facet_cut.specs.Adding.{Adds};
+ghost use Rattle.facet_cut.specs.Adding.{AddsFacetsWithin};
 ghost use Rattle.facet_cut.specs.Between.{solid_at};
 ghost use Rattle.facet_cut.specs.Rows.{facets_at, facets_on_top, AreNodes, AreFacetsWithin};
 
@@ -42,7 +42,8 @@ impl<'a> Walls<'a> {
     pub fn facets_on(&self, alloc: Global, ids: &[NodeId], most: u64) -> Result<Vec<Facet>, CutStop>
         requires faces { AreFacesOver self.now.table.now self.now.forest.now.nodes }
         requires there { AreNodes self.now.forest.now.nodes ids.now }
-        ensures { AreFacetsWithin (facets_at self.now.table.now self.now.forest.now.nodes ids.now) most result }
+        ensures { AreFacetsWithin (facets_at self.now.table.now self.now.forest.now.nodes ids.now)
+            most result }
     {
         let mut found = Vec::new(alloc);
         for id in ids {
@@ -62,7 +63,7 @@ impl<'a> Walls<'a> {
         requires faces { AreFacesOver self.now.table.now self.now.forest.now.nodes }
         requires there { id.index < length self.now.forest.now.nodes }
         requires within { length found.old.items ≤ most }
-        ensures { Adds (facets_on_top (solid_at self.now (To id))) most found.old.items
+        ensures { AddsFacetsWithin (facets_on_top (solid_at self.now (To id))) most found.old.items
             found.new.items result }
     {
         let (face, behind, ahead) = self.forest.at(id);

@@ -6,7 +6,7 @@ ghost use Rattle.plane_table.specs.Faces.{IsFaceOver};
 ghost use Rattle.plane_table.specs.Cuts.{IsCrossing};
 ghost use Rattle.bsp_tree.specs.Shapes.{AreFacesOver};
 ghost use Rattle.facet_cut.specs.Facets.{facets_ahead, facets_between, facets_of, facets_facing};
-ghost use Rattle.facet_cut.specs.Adding.{Adds};
+ghost use Rattle.facet_cut.specs.Adding.{AddsFacetsWithin};
 ghost use Rattle.facet_cut.specs.Between.{half_at, outline_at, solid_at};
 
 use crate::adding::push_facing;
@@ -37,7 +37,8 @@ impl<'a> Walls<'a> {
         requires faces { AreFacesOver self.now.table.now self.now.forest.now.nodes }
         requires link { IsLinkOf self.now.forest.now.nodes at }
         requires within { length found.old.items ≤ most }
-        ensures { Adds (facets_of (solid_at self.now at)) most found.old.items found.new.items
+        ensures { AddsFacetsWithin (facets_of
+            (solid_at self.now at)) most found.old.items found.new.items
             result }
     {
         match at {
@@ -66,7 +67,8 @@ impl<'a> Walls<'a> {
         requires ahead { IsLinkOf self.now.forest.now.nodes ahead }
         requires face { IsFaceOver self.now.table.now face.now }
         requires within { length found.old.items ≤ most }
-        ensures { Adds (facets_between (solid_at self.now behind) (solid_at self.now ahead)
+        ensures { AddsFacetsWithin (facets_between (solid_at self.now behind)
+            (solid_at self.now ahead)
             (outline_at self.now face.now)) most found.old.items found.new.items result }
     {
         match behind {
@@ -110,7 +112,7 @@ impl<'a> Walls<'a> {
         requires ahead { IsLinkOf self.now.forest.now.nodes ahead }
         requires face { IsFaceOver self.now.table.now face.now }
         requires within { length found.old.items ≤ most }
-        ensures { Adds (facets_ahead is_inside (solid_at self.now ahead)
+        ensures { AddsFacetsWithin (facets_ahead is_inside (solid_at self.now ahead)
             (outline_at self.now face.now)) most found.old.items found.new.items result }
     {
         match ahead {
@@ -156,7 +158,7 @@ impl<'a> Walls<'a> {
         requires ahead { IsLinkOf self.now.forest.now.nodes ahead }
         requires crossing { IsCrossing self.now.table.now crossing }
         requires within { length found.old.items ≤ most }
-        ensures { Adds (facets_ahead is_inside (solid_at self.now ahead)
+        ensures { AddsFacetsWithin (facets_ahead is_inside (solid_at self.now ahead)
             (half_at self.now half crossing.entry)) most found.old.items found.new.items result }
     {
         if is_same_leaf(Link::End(is_inside), ahead) {
@@ -178,7 +180,8 @@ impl<'a> Walls<'a> {
     ) -> Result<(), CutStop>
         requires face { IsFaceOver self.now.table.now face.now }
         requires within { length found.old.items ≤ most }
-        ensures { Adds (facets_facing is_inside is_ahead_inside (outline_at self.now face.now)) most
+        ensures { AddsFacetsWithin (facets_facing is_inside is_ahead_inside
+            (outline_at self.now face.now)) most
             found.old.items found.new.items result }
     {
         if is_inside == is_ahead_inside {

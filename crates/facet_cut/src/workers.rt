@@ -8,7 +8,7 @@ ghost use Rattle.bsp_tree.specs.Cells.{IsOfCell};
 ghost use Rattle.bsp_tree.specs.Shapes.{tree_of, AreFacesOver};
 ghost use Rattle.facet_cut.specs.Facets.{facets_of};
 ghost use Rattle.facet_cut.specs.Sides.{BoundSolid, IsFacetOf};
-ghost use Rattle.facet_cut.specs.Adding.{Adds};
+ghost use Rattle.facet_cut.specs.Adding.{AddsFacetsWithin};
 ghost use Rattle.facet_cut.specs.Between.{solid_at};
 ghost use Rattle.facet_cut.specs.Rows.{facets_at, first_rows, AreFacetsOfRows, AreNodes, AreFacetsWithin};
 
@@ -116,7 +116,8 @@ impl<'a> Walls<'a> {
         let of_row = |_start: usize, row: &[NodeId]| -> Result<Vec<Facet>, CutStop>
             requires { AreFacesOver self.now.table.now self.now.forest.now.nodes ×
                 AreNodes self.now.forest.now.nodes row.now }
-            ensures { AreFacetsWithin (facets_at self.entry.now.table.now self.entry.now.forest.now.nodes
+            ensures { AreFacetsWithin (facets_at self.entry.now.table.now
+                self.entry.now.forest.now.nodes
                 row.now) most result }
         { self.facets_on(alloc, row, most) };
         Ok(thread::map_chunks(rt, alloc, ids, size, &of_row)?)
@@ -156,7 +157,7 @@ fn push_row(
 ) -> Result<(), CutStop>
     requires { length found.old.items ≤ most }
     ensures adds { (facets : List Outline) → AreFacetsWithin facets most row →
-        Adds facets most found.old.items found.new.items result }
+        AddsFacetsWithin facets most found.old.items found.new.items result }
     ensures within { OnOk result (length found.new.items ≤ most) }
 {
     let mut facets = row?;

@@ -5,7 +5,7 @@ use Rattle.std.specs.List.{list_any}
 use Rattle.std.proofs.lemmas.List.{map-append, take_more, get_or-map, length-map}
 use Rattle.std.proofs.lemmas.List.Elements.{All-push, All-get_or}
 use Rattle.flight_memo.specs.declared.claims.LiveClaim.{LiveClaim}
-use Rattle.flight_memo.specs.Claims.{Claim, IsFree, is_other, is_live}
+use Rattle.flight_memo.specs.Claims.{Claim, IsFree, has_other_claim_number, is_live}
 use Rattle.flight_memo.specs.Fields.{claim_in, claims_of, is_item, is_other_item}
 
 module _ {K : Type 0} where
@@ -17,10 +17,10 @@ module _ {K : Type 0} where
   kept_or_not true item items rest e = ap (λ l. claim_in item ∷ l) e
   kept_or_not false item items rest e = e
 
-  pub others_items : (number : ℕ) (items : List (LiveClaim K)) → claims_of (filter (is_other_item number) items) ≡ filter (is_other number) (claims_of items)
+  pub others_items : (number : ℕ) (items : List (LiveClaim K)) → claims_of (filter (is_other_item number) items) ≡ filter (has_other_claim_number number) (claims_of items)
   others_items number [] = refl
   others_items number (item ∷ items) =
-      kept_or_not (not (nat_eq number item.number)) item (filter (is_other_item number) items) (filter (is_other number) (claims_of items)) (others_items number items)
+      kept_or_not (not (nat_eq number item.number)) item (filter (is_other_item number) items) (filter (has_other_claim_number number) (claims_of items)) (others_items number items)
 
   -- no claim so far has the key, nor the next one
   pub free_more : (key : K) (items : List (LiveClaim K)) (i : ℕ) (item : LiveClaim K) → i < length items → item ≡ get_or items i item → (arc_value item.key ≡ key → ⊥) → IsFree key (claims_of (take i items)) → IsFree key (claims_of (take (i + 1) items))

@@ -4,7 +4,7 @@ use Rattle.std.proofs.lemmas.Bool.{eqb-true, ne_eqb}
 use Rattle.std.proofs.lemmas.List.Elements.{All-nil, All-push, All-head, All-tail, All-filter, All-weaker}
 use Rattle.std.proofs.lemmas.List.Kept.{AllPairs-filter}
 use Rattle.std.proofs.lemmas.List.Quantifiers.{all_pairs_push}
-use Rattle.flight_memo.specs.Claims.{Claim, Event, Begun, Ended, MayFollow, IsLegalBehind, IsLegalLog, NoKeyTwice, IsSingle, live_in, has_ended, is_live, is_other, begun_in}
+use Rattle.flight_memo.specs.Claims.{Claim, Event, Begun, Ended, MayFollow, IsLegalAfter, IsLegalLog, NoKeyTwice, IsSingle, live_claims, has_ended, is_live, has_other_claim_number, begin_count}
 use Rattle.flight_memo.proofs.Logs.{begun_more, has_ended_more, live_more, live_less}
 
 either : {P : Type 0} (a b : Bool) → (a || b) ≡ true → (a ≡ true → P) → (b ≡ true → P) → P
@@ -24,10 +24,10 @@ module _ {K : Type 0} where
   -- what is known behind a legal log
   pub record Known (log : List (Event K)) : Type 0 where
     -- no claim of a later number has ended
-    pub ahead : (number : ℕ) → begun_in log ≤ number → has_ended number log ≡ false
+    pub ahead : (number : ℕ) → begin_count log ≤ number → has_ended number log ≡ false
     -- live claims have earlier numbers
-    pub below : All (λ claim. claim.number < begun_in log) (live_in log)
-    pub single : NoKeyTwice (live_in log)
+    pub below : All (λ claim. claim.number < begin_count log) (live_claims log)
+    pub single : NoKeyTwice (live_claims log)
 
   known_more : (log : List (Event K)) (event : Event K) → Known log → MayFollow log event → Known (log ++ event ∷ [])
   known_more log (Begun claim) known may =
@@ -36,23 +36,23 @@ module _ {K : Type 0} where
       let live = live_more log claim fresh in
       record {
         ahead = λ number far. has_ended_more number log (Begun claim) ∙ ap (λ b. b || false) (known.ahead number (omega (arith, far, more)));
-        below = subst (All (λ c. c.number < begun_in (log ++ Begun claim ∷ []))) (sym live) (All-push (λ c. c.number < begun_in (log ++ Begun claim ∷ [])) (live_in log) claim (All-weaker (λ c. c.number < begun_in log) (λ c. c.number < begun_in (log ++ Begun claim ∷ [])) (λ c lt. omega (arith, lt, more)) (live_in log) known.below) (omega (arith, may.0, more)));
-        single = subst NoKeyTwice (sym live) (all_pairs_push (λ a b. a.key ≡ b.key → ⊥) (live_in log) claim known.single may.1);
+        below = subst (All (λ c. c.number < begin_count (log ++ Begun claim ∷ []))) (sym live) (All-push (λ c. c.number < begin_count (log ++ Begun claim ∷ [])) (live_claims log) claim (All-weaker (λ c. c.number < begin_count log) (λ c. c.number < begin_count (log ++ Begun claim ∷ [])) (λ c lt. omega (arith, lt, more)) (live_claims log) known.below) (omega (arith, may.0, more)));
+        single = subst NoKeyTwice (sym live) (all_pairs_push (λ a b. a.key ≡ b.key → ⊥) (live_claims log) claim known.single may.1);
       }
   known_more log (Ended number filled) known may =
       let more = begun_more log (Ended number filled) in
-      let below : number < begun_in log = live_below number (begun_in log) (live_in log) may known.below in
+      let below : number < begin_count log = live_below number (begin_count log) (live_claims log) may known.below in
       let live = live_less log number filled in
       record {
         ahead = λ other far.
             has_ended_more other log (Ended number filled)
             ∙ ap (λ b. b || nat_eq number other) (known.ahead other (omega (arith, far, more)))
             ∙ ne_eqb number other (λ e. omega (arith, e, below, far, more));
-        below = subst (All (λ c. c.number < begun_in (log ++ Ended number filled ∷ []))) (sym live) (All-filter (is_other number) (λ c. c.number < begun_in (log ++ Ended number filled ∷ [])) (live_in log) (All-weaker (λ c. c.number < begun_in log) (λ c. c.number < begun_in (log ++ Ended number filled ∷ [])) (λ c lt. omega (arith, lt, more)) (live_in log) known.below));
-        single = subst NoKeyTwice (sym live) (AllPairs-filter (λ a b. a.key ≡ b.key → ⊥) (is_other number) (live_in log) known.single);
+        below = subst (All (λ c. c.number < begin_count (log ++ Ended number filled ∷ []))) (sym live) (All-filter (has_other_claim_number number) (λ c. c.number < begin_count (log ++ Ended number filled ∷ [])) (live_claims log) (All-weaker (λ c. c.number < begin_count log) (λ c. c.number < begin_count (log ++ Ended number filled ∷ [])) (λ c lt. omega (arith, lt, more)) (live_claims log) known.below));
+        single = subst NoKeyTwice (sym live) (AllPairs-filter (λ a b. a.key ≡ b.key → ⊥) (has_other_claim_number number) (live_claims log) known.single);
       }
 
-  known_behind : (before log : List (Event K)) → Known before → IsLegalBehind before log → Known (before ++ log)
+  known_behind : (before log : List (Event K)) → Known before → IsLegalAfter before log → Known (before ++ log)
   known_behind before [] known legal = subst Known (sym (append-nil before)) known
   known_behind before (event ∷ log) known legal =
       subst Known (append_assoc before (event ∷ []) log) (known_behind (before ++ event ∷ []) log (known_more before event known legal.0) legal.1)
@@ -61,7 +61,7 @@ module _ {K : Type 0} where
   known_of_legal log legal = known_behind [] log (record { ahead = λ number far. refl; below = All-nil (λ c. c.number < 0); single = λ i j d lt few. absurd (omega (arith, few)) }) legal
 
   -- a prefix of a legal log is legal
-  legal_take : (n : ℕ) (before log : List (Event K)) → IsLegalBehind before log → IsLegalBehind before (take n log)
+  legal_take : (n : ℕ) (before log : List (Event K)) → IsLegalAfter before log → IsLegalAfter before (take n log)
   legal_take zero before log legal = tt
   legal_take (suc n) before [] legal = tt
   legal_take (suc n) before (event ∷ log) legal = (legal.0, legal_take n (before ++ event ∷ []) log legal.1)

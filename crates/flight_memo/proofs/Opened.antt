@@ -1,10 +1,10 @@
 -- Shares of a memo on which nothing is booked.
 use Rattle.std.proofs.Common.{◌≡◌, ℕ, zero, suc, [], ◌∷◌, All, length, length-append, refl, arith}
 use Rattle.std.proofs.lemmas.List.Elements.{All-nil, All-push}
-use Rattle.subtree_memo.specs.Shares.{View, opened_shares, fresh_share, parts_each}
+use Rattle.subtree_memo.specs.Shares.{ShareView, opened_shares, fresh_share, parts_each}
 
 -- a share of a memo with the parts of one caller and no misses
-abbrev pub IsFreshShare : View → Type 0
+abbrev pub IsFreshShare : ShareView → Type 0
 IsFreshShare s = (s.parts ≡ parts_each) × (s.misses ≡ 0)
 
 pub opened_fresh : (callers : ℕ) → All IsFreshShare (opened_shares callers)

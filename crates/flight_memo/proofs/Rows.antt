@@ -1,7 +1,7 @@
 -- Logs by hand: two callers, and one key or two.
 use Rattle.std.proofs.Common.{◌≡◌, ℕ, true, false, List, [], ◌∷◌, refl, arith}
 use Rattle.std.proofs.lemmas.List.Elements.{All-nil, All-push}
-use Rattle.flight_memo.specs.Claims.{Claim, Event, View, Begun, Ended, IsLegalLog, IsClosed, live_in, begun_in, ended_in}
+use Rattle.flight_memo.specs.Claims.{Claim, Event, ClaimsView, Begun, Ended, IsLegalLog, AreClosedClaims, live_claims, begin_count, end_count}
 use Rattle.flight_memo.proofs.Legal.{single_of_legal}
 
 -- the claim of a number, of the one key
@@ -9,7 +9,7 @@ abbrev claim : ℕ → ℕ → Claim ℕ
 claim number caller = record { number = number; caller = caller; key = 7 }
 
 -- the first caller's claim is live until it ends
-begun_is_live : live_in (Begun (claim 0 0) ∷ []) ≡ claim 0 0 ∷ []
+begun_is_live : live_claims (Begun (claim 0 0) ∷ []) ≡ claim 0 0 ∷ []
 begun_is_live = refl
 
 -- the first caller claims the key and finishes, and the second one finds the value
@@ -20,10 +20,10 @@ finished_is_legal : IsLegalLog finished
 finished_is_legal = ((refl, All-nil _), (refl, tt))
 
 -- what claims with no live one say, with a log
-abbrev ended_all : List (Event ℕ) → View ℕ
+abbrev ended_all : List (Event ℕ) → ClaimsView ℕ
 ended_all log = record { live = []; log = log; places = 0; spare = 0 }
 
-finished_is_closed : IsClosed 1 (ended_all finished)
+finished_is_closed : AreClosedClaims 1 (ended_all finished)
 finished_is_closed = record {
   legal = finished_is_legal;
   single = single_of_legal finished finished_is_legal;
@@ -40,7 +40,7 @@ given_back = Begun (claim 0 0) ∷ Ended 0 false ∷ Begun (claim 1 1) ∷ Ended
 given_back_is_legal : IsLegalLog given_back
 given_back_is_legal = ((refl, All-nil _), (refl, ((refl, All-nil _), (refl, tt))))
 
-given_back_is_closed : IsClosed 2 (ended_all given_back)
+given_back_is_closed : AreClosedClaims 2 (ended_all given_back)
 given_back_is_closed = record {
   legal = given_back_is_legal;
   single = single_of_legal given_back given_back_is_legal;
@@ -51,14 +51,14 @@ given_back_is_closed = record {
 }
 
 -- a log that has not so many beginnings as there were misses is not that of a closed memo
-misses_more : IsClosed 2 (ended_all finished) → ⊥
+misses_more : AreClosedClaims 2 (ended_all finished) → ⊥
 misses_more closed = absurd (omega (arith, closed.begun))
 
 -- a log that lacks an end is not, and nor are claims of which one is live
-ends_less : IsClosed 1 (ended_all (Begun (claim 0 0) ∷ [])) → ⊥
+ends_less : AreClosedClaims 1 (ended_all (Begun (claim 0 0) ∷ [])) → ⊥
 ends_less closed = absurd (omega (arith, closed.ended))
 
-one_is_left : IsClosed 1 (record { live = claim 0 0 ∷ []; log = finished; places = 0; spare = 0 }) → ⊥
+one_is_left : AreClosedClaims 1 (record { live = claim 0 0 ∷ []; log = finished; places = 0; spare = 0 }) → ⊥
 one_is_left closed = absurd (cc closed.live)
 
 -- the second caller's claim of another key
@@ -69,10 +69,10 @@ other = record { number = 1; caller = 1; key = 8 }
 two_keys_are_legal : IsLegalLog (Begun (claim 0 0) ∷ Begun other ∷ Ended 1 true ∷ Ended 0 true ∷ [])
 two_keys_are_legal = ((refl, All-nil _), ((refl, All-push (λ (c : Claim ℕ). c.key ≡ 8 → ⊥) [] (claim 0 0) (All-nil _) (λ e. absurd (omega (arith, e)))), (refl, (refl, tt))))
 
-two_are_live : live_in (Begun (claim 0 0) ∷ Begun other ∷ []) ≡ claim 0 0 ∷ other ∷ []
+two_are_live : live_claims (Begun (claim 0 0) ∷ Begun other ∷ []) ≡ claim 0 0 ∷ other ∷ []
 two_are_live = refl
 
-first_stays : live_in (Begun (claim 0 0) ∷ Begun other ∷ Ended 1 true ∷ []) ≡ claim 0 0 ∷ []
+first_stays : live_claims (Begun (claim 0 0) ∷ Begun other ∷ Ended 1 true ∷ []) ≡ claim 0 0 ∷ []
 first_stays = refl
 
 -- a key that is claimed can't be claimed once more

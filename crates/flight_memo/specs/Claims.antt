@@ -1,7 +1,7 @@
 -- Claims of missing keys, and the log of how they began and ended.
 use Rattle.std.specs.Prelude.{◌≡◌, ℕ, Bool, true, false, not, List, [], ◌∷◌, ◌++◌, filter, take, flat_map, sum_by, nat_eq, All, if◌then◌else◌}
 use Rattle.std.specs.List.{AllPairs, list_any}
-use Rattle.subtree_memo.specs.Shares.{View as ShareView}
+use Rattle.subtree_memo.specs.Shares.{ShareView}
 
 -- a claim: its number, whose it is, and of which key
 pub record Claim (K : Type 0) : Type 0 where
@@ -14,15 +14,15 @@ pub data Event (K : Type 0) : Type 0 where
   Begun : Claim K → Event K
   Ended : (number : ℕ) → (filled : Bool) → Event K
 
--- What contracts see of a claim that its caller holds: its number, its key, and the caller's share of the memo's books, on which
--- its miss and its beginning are booked, and its end is not.
+-- What contracts see of a claim that its caller holds: its number, its key, and the caller's share of the memo's books, on
+-- which its miss and its beginning are booked, and its end is not.
 pub record ClaimView (K : Type 0) : Type 0 where
   pub number : ℕ
   pub key : K
   pub share : ShareView
 
 -- what contracts see of claims: those that are live, and the log
-pub record View (K : Type 0) : Type 0 where
+pub record ClaimsView (K : Type 0) : Type 0 where
   pub live : List (Claim K)
   pub log : List (Event K)
   -- for how many more live claims there is room, and for how many more events of the log
@@ -31,22 +31,22 @@ pub record View (K : Type 0) : Type 0 where
 
 module _ {K : Type 0} where
   -- a beginning counts 1
-  abbrev pub begun_by : Event K → ℕ
-  begun_by (Begun claim) = 1
-  begun_by (Ended number filled) = 0
+  abbrev pub begin_count_of : Event K → ℕ
+  begin_count_of (Begun claim) = 1
+  begin_count_of (Ended number filled) = 0
 
   -- an end counts 1
-  abbrev pub ended_by : Event K → ℕ
-  ended_by (Begun claim) = 0
-  ended_by (Ended number filled) = 1
+  abbrev pub end_count_of : Event K → ℕ
+  end_count_of (Begun claim) = 0
+  end_count_of (Ended number filled) = 1
 
   -- how many claims have begun
-  abbrev pub begun_in : List (Event K) → ℕ
-  begun_in log = sum_by begun_by log
+  abbrev pub begin_count : List (Event K) → ℕ
+  begin_count log = sum_by begin_count_of log
 
   -- how many claims have ended
-  abbrev pub ended_in : List (Event K) → ℕ
-  ended_in log = sum_by ended_by log
+  abbrev pub end_count : List (Event K) → ℕ
+  end_count log = sum_by end_count_of log
 
   -- the claim that an event begins
   abbrev pub claim_of : Event K → List (Claim K)
@@ -67,24 +67,24 @@ module _ {K : Type 0} where
   has_ended number log = list_any (is_end_of number) log
 
   -- a claim has not ended
-  abbrev pub goes_on : List (Event K) → Claim K → Bool
-  goes_on log claim = not (has_ended claim.number log)
+  abbrev pub has_not_ended : List (Event K) → Claim K → Bool
+  has_not_ended log claim = not (has_ended claim.number log)
 
   -- the live claims are those that have begun and haven't ended
-  abbrev pub live_in : List (Event K) → List (Claim K)
-  live_in log = filter (goes_on log) (claims_in log)
+  abbrev pub live_claims : List (Event K) → List (Claim K)
+  live_claims log = filter (has_not_ended log) (claims_in log)
 
   -- a claim has a number
-  abbrev pub is_of : ℕ → Claim K → Bool
-  is_of number claim = nat_eq number claim.number
+  abbrev pub has_claim_number : ℕ → Claim K → Bool
+  has_claim_number number claim = nat_eq number claim.number
 
   -- a claim has another number
-  abbrev pub is_other : ℕ → Claim K → Bool
-  is_other number claim = not (is_of number claim)
+  abbrev pub has_other_claim_number : ℕ → Claim K → Bool
+  has_other_claim_number number claim = not (has_claim_number number claim)
 
   -- a claim of a number is live
   abbrev pub is_live : ℕ → List (Claim K) → Bool
-  is_live number live = list_any (is_of number) live
+  is_live number live = list_any (has_claim_number number) live
 
   -- no live claim has a key
   abbrev pub IsFree : K → List (Claim K) → Type 0
@@ -97,19 +97,18 @@ module _ {K : Type 0} where
   -- An event may follow a log: a claim that begins has the number of those that began before it, and no live claim
   -- has its key; one that ends is live.
   abbrev pub MayFollow : List (Event K) → Event K → Type 0
-  MayFollow log (Begun claim) = (claim.number ≡ begun_in log) × IsFree claim.key (live_in log)
-  MayFollow log (Ended number filled) = is_live number (live_in log) ≡ true
+  MayFollow log (Begun claim) = (claim.number ≡ begin_count log) × IsFree claim.key (live_claims log)
+  MayFollow log (Ended number filled) = is_live number (live_claims log) ≡ true
 
   -- behind some events, each event may follow those before it
-  abbrev pub IsLegalBehind : List (Event K) → List (Event K) → Type 0
-  IsLegalBehind before [] = Unit {0}
-  IsLegalBehind before (event ∷ log) = MayFollow before event × IsLegalBehind (before ++ event ∷ []) log
+  abbrev pub IsLegalAfter : List (Event K) → List (Event K) → Type 0
+  IsLegalAfter before [] = Unit {0}
+  IsLegalAfter before (event ∷ log) = MayFollow before event × IsLegalAfter (before ++ event ∷ []) log
 
-  -- A log is legal where each of its events may follow those before it. So numbers are given from 0 in order,
-  -- each end is of a claim that has begun and hasn't ended, and between two beginnings of one key the first of the
-  -- two claims has ended.
+  -- each event may follow those before it: numbers are given from 0 in order, an end is of a claim that is live, and
+  -- before a key begins again its claim has ended
   abbrev pub IsLegalLog : List (Event K) → Type 0
-  IsLegalLog log = IsLegalBehind [] log
+  IsLegalLog log = IsLegalAfter [] log
 
   -- the log once the claim of a number was ended, where it was live
   abbrev pub ended_log : Bool → ℕ → Bool → List (Event K) → List (Event K)
@@ -117,14 +116,14 @@ module _ {K : Type 0} where
 
   -- at no moment of a log has a key two live claims
   abbrev pub IsSingle : List (Event K) → Type 0
-  IsSingle log = (n : ℕ) → NoKeyTwice (live_in (take n log))
+  IsSingle log = (n : ℕ) → NoKeyTwice (live_claims (take n log))
 
   -- What the claims of a memo say once it is closed: their log is legal and no key ever had two live claims, as many claims
   -- began as there were misses, all of them ended, and none is live.
-  pub record IsClosed (misses : ℕ) (view : View K) : Type 0 where
+  pub record AreClosedClaims (misses : ℕ) (view : ClaimsView K) : Type 0 where
     pub legal : IsLegalLog view.log
     pub single : IsSingle view.log
-    pub begun : begun_in view.log ≡ misses
-    pub ended : ended_in view.log ≡ misses
+    pub begun : begin_count view.log ≡ misses
+    pub ended : end_count view.log ≡ misses
     pub live : view.live ≡ []
-    pub none_live : live_in view.log ≡ []
+    pub none_live : live_claims view.log ≡ []

@@ -4,7 +4,7 @@ use Rattle.std.specs.Arc.{arc_value}
 use Rattle.flight_memo.specs.declared.claims.LiveClaim.{LiveClaim}
 use Rattle.flight_memo.specs.declared.claims.LogItem.{LogItem}
 use Rattle.flight_memo.specs.declared.claims.LogItem.TheVariants as item
-use Rattle.flight_memo.specs.Claims.{Claim, Event, Begun, Ended, View, IsLegalLog, live_in, begun_in, ended_in}
+use Rattle.flight_memo.specs.Claims.{Claim, Event, Begun, Ended, ClaimsView, IsLegalLog, live_claims, begin_count, end_count}
 
 module _ {K : Type 0} where
   -- a live claim as contracts see it
@@ -34,9 +34,9 @@ module _ {K : Type 0} where
 
   -- What claims keep: the log is legal, the live claims are those of the log, there is room for an end of each, and those that
   -- are live and those that ended are no more than began.
-  pub record IsKept (begun : ℕ) (view : View K) : Type 0 where
+  pub record ClaimsMatchLog (begun : ℕ) (view : ClaimsView K) : Type 0 where
     pub legal : IsLegalLog view.log
-    pub live : view.live ≡ live_in view.log
-    pub count : begun ≡ begun_in view.log
+    pub live : view.live ≡ live_claims view.log
+    pub count : begun ≡ begin_count view.log
     pub room : length view.live ≤ view.spare
-    pub few : length view.live + ended_in view.log ≤ begun_in view.log
+    pub few : length view.live + end_count view.log ≤ begin_count view.log

@@ -1,10 +1,10 @@
 -- What contracts see of a caller's share of the books of a memo and its claims.
 use Rattle.std.specs.Prelude.{◌≡◌, ℕ, List, map, min, sum_by}
-use Rattle.subtree_memo.specs.Shares.{View, fresh_share, joined_share, dropped_max}
+use Rattle.subtree_memo.specs.Shares.{ShareView, fresh_share, joined_share, dropped_max}
 
 -- One caller's share: that of the memo's books. As many claims began and ended on it as there were misses.
 pub record FlightView : Type 0 where
-  pub share : View
+  pub share : ShareView
 
 -- a share with nothing booked
 abbrev pub fresh_flight : ℕ → ℕ → FlightView
@@ -15,7 +15,7 @@ abbrev pub joined_flights : FlightView → FlightView → FlightView
 joined_flights a b = record { share = joined_share a.share b.share }
 
 -- shares of a memo on which nothing is booked, with their claims
-abbrev pub opened_flights : List View → List FlightView
+abbrev pub opened_flights : List ShareView → List FlightView
 opened_flights shares = map (λ s. record { share = s }) shares
 
 -- all shares put together: their parts, and what was booked on them

@@ -5,7 +5,7 @@ ghost use Rattle.std.specs.Prelude.{vec_capacity, IfOk, OnOk, IfSome, IfNone};
 ghost use Rattle.std.specs.Arc.{arc_value};
 ghost use Rattle.std.specs.List.{list_any};
 ghost use Rattle.flight_memo.specs.Claims.{Begun, IsFree, IsSingle, IsLegalLog};
-ghost use Rattle.flight_memo.specs.Claims.{live_in, begun_in, ended_in, is_live, ended_log};
+ghost use Rattle.flight_memo.specs.Claims.{live_claims, begin_count, end_count, is_live, ended_log};
 ghost use Rattle.flight_memo.specs.Fields.{events_of, is_item, is_other_item};
 
 use memo_core::Fit;
@@ -84,10 +84,10 @@ pub struct Claims<F: Fit> {
 
 impl<F: Fit> Model for Claims<F> {
     ghost use Rattle.std.specs.Prelude.{◌-◌, vec_capacity, vec_len};
-    ghost use Rattle.flight_memo.specs.Claims.{View};
-    ghost use Rattle.flight_memo.specs.Fields.{claims_of, events_of, IsKept};
+    ghost use Rattle.flight_memo.specs.Claims.{ClaimsView};
+    ghost use Rattle.flight_memo.specs.Fields.{claims_of, events_of, ClaimsMatchLog};
 
-    ghost Value = { View F.Key };
+    ghost Value = { ClaimsView F.Key };
 
     ghost view = { λ c. record {
       live = claims_of c.live.items;
@@ -96,7 +96,7 @@ impl<F: Fit> Model for Claims<F> {
       spare = vec_capacity c.log - vec_len c.log;
     } };
 
-    ghost invariant = { λ c. IsKept c.begun (record {
+    ghost invariant = { λ c. ClaimsMatchLog c.begun (record {
       live = claims_of c.live.items;
       log = events_of c.log.items;
       places = vec_capacity c.live - vec_len c.live;
@@ -121,9 +121,9 @@ impl<F: Fit> Claims<F> {
     pub fn log(&self) -> &[LogItem<F::Key>]
         ensures is { events_of result.now ≡ self.now.log }
         ensures legal { IsLegalLog self.now.log }
-        ensures live { self.now.live ≡ live_in self.now.log }
+        ensures live { self.now.live ≡ live_claims self.now.log }
         ensures single { IsSingle self.now.log }
-        ensures few { length self.now.live + ended_in self.now.log ≤ begun_in self.now.log }
+        ensures few { length self.now.live + end_count self.now.log ≤ begin_count self.now.log }
     {
         self.log.as_slice()
     }
@@ -164,11 +164,11 @@ impl<F: Fit> Claims<F> {
         requires free { IsFree (arc_value copies.noted) self.old.live }
         requires room { (0 < self.old.places) × (length self.old.live + 2 ≤ self.old.spare) }
         ensures log { self.new.log ≡ self.old.log ++ Begun (record {
-          number = begun_in self.old.log;
+          number = begin_count self.old.log;
           caller = caller;
           key = arc_value copies.noted;
         }) ∷ [] }
-        ensures claim { (result.number ≡ begun_in self.old.log)
+        ensures claim { (result.number ≡ begin_count self.old.log)
             × (arc_value result.key ≡ arc_value copies.noted) }
     {
         let Copies { noted, held, own } = copies;

@@ -1,6 +1,6 @@
 ghost use Rattle.std.specs.Prelude.{◌≡◌, ◌<◌, ◌++◌, ◌∷◌, [], IfOk, OnErr};
 ghost use Rattle.std.specs.Arc.{arc_value};
-ghost use Rattle.flight_memo.specs.Claims.{Ended, begun_in, ended_in};
+ghost use Rattle.flight_memo.specs.Claims.{Ended, begin_count, end_count};
 ghost use Rattle.flight_memo.specs.Asking.{IsAsked};
 
 use crate::claim::Claim;
@@ -13,7 +13,7 @@ use std::alloc::Global;
 use std::sync::ledger::{Book, Ledger, Share as Part};
 use std::sync::{Arc, Condvar, Wait};
 use std::{mem, thread};
-use subtree_memo::Memo;
+use subtree_memo::{AskPolicy, Memo};
 use text_place::NoMemory;
 
 /// What comes of asking for a key once.
@@ -29,11 +29,11 @@ pub struct Desk<F: Fit, B: FlightBooks> {
     pub claims: Claims<F>,
     pub begun: Book<B::Begun>,
     pub ended: Book<B::Ended>,
-    pub ghost begun_are: { begun.total ≡ begun_in claims.log },
-    pub ghost ended_are: { ended.total ≡ ended_in claims.log },
+    pub ghost begun_are: { begun.total ≡ begin_count claims.log },
+    pub ghost ended_are: { ended.total ≡ end_count claims.log },
 }
 
-impl<F: Fit, B: FlightBooks> Desk<F, B> {
+impl<F: Fit, B: FlightBooks + AskPolicy<F::Key>> Desk<F, B> {
     /// Asks the memo for a key that no live claim has, and claims it where it is missed. Where a live claim has the key, its end is to
     /// be waited for. NoMemory books and claims nothing.
     pub fn try_claim<N: Namer<F::Key>, R: Wait>(
@@ -44,7 +44,8 @@ impl<F: Fit, B: FlightBooks> Desk<F, B> {
         share: &mut FlightShare<B>,
         key: &Arc<F::Key>,
     ) -> Result<Asking<F::Key, F::Value, B>, NoMemory>
-        requires { 0 < share.old.share.parts }
+        requires parts { 0 < share.old.share.parts }
+        requires allowed { B.may_ask share.old.share.caller (arc_value key.now) }
         ensures asked { IfOk result (IsAsked F.fits (arc_value key.now) share.old share.new
             self.old.claims self.new.claims) }
         ensures err { OnErr result ((share.new ≡ share.old)

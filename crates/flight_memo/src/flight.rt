@@ -1,9 +1,10 @@
 ghost use Rattle.std.specs.Prelude.{◌≡◌, ◌<◌, All, map, sum_by, IfOk, OnErr};
 ghost use Rattle.std.specs.Arc.{arc_value};
 ghost use Rattle.memo_core.specs.Views.{IsSound};
-ghost use Rattle.subtree_memo.specs.Shares.{IsOf, opened_shares, joined_share, fill_booked};
+ghost use Rattle.subtree_memo.specs.Shares.{IsBlankLedger, opened_shares, joined_share, share_after_fill};
 ghost use Rattle.subtree_memo.specs.Tallies.{tally_of, AreSums};
-ghost use Rattle.flight_memo.specs.Claims.{IsClosed};
+ghost use Rattle.subtree_memo.specs.Allowed.{AreAllowed};
+ghost use Rattle.flight_memo.specs.Claims.{AreClosedClaims};
 ghost use Rattle.flight_memo.specs.Shares.{opened_flights};
 ghost use Rattle.flight_memo.specs.Answers.{IsClaimed};
 
@@ -15,7 +16,7 @@ use crate::ledgers::{FlightBlanks, FlightBooks};
 use memo_core::{Fill, Fit, MemoCore, Namer};
 use std::alloc::Global;
 use std::sync::{Arc, Mutex, Wait};
-use subtree_memo::{Memo, Share, Tally};
+use subtree_memo::{AskPolicy, Memo, Share, Tally};
 use text_place::NoMemory;
 
 /// The answer to a claim: the value, which the memo held, or a claim of one's own.
@@ -27,12 +28,12 @@ pub enum Claimed<K, V, B: FlightBooks> {
 /// A memo whose missing keys are claimed. Whenever its lock is free, the log of the claims is legal: so no key has two live
 /// claims.
 #[derive(Drop)]
-pub struct Flight<F: Fit, N: Namer<F::Key>, B: FlightBooks> {
+pub struct Flight<F: Fit, N: Namer<F::Key>, B: FlightBooks + AskPolicy<F::Key>> {
     memo: Memo<F, N, B>,
     desk: Mutex<Desk<F, B>>,
 }
 
-impl<F: Fit, N: Namer<F::Key>, B: FlightBooks> Flight<F, N, B> {
+impl<F: Fit, N: Namer<F::Key>, B: FlightBooks + AskPolicy<F::Key>> Flight<F, N, B> {
     /// A memo with no claims yet, and its shares in their order, each with a share of the books of claims beside it. The shares
     /// given are all of this memo's, and nothing is booked on any of them; the blanks are for as many callers as the memo has.
     pub fn open(
@@ -44,8 +45,8 @@ impl<F: Fit, N: Namer<F::Key>, B: FlightBooks> Flight<F, N, B> {
     ) -> Result<(Flight<F, N, B>, Vec<FlightShare<B>>), NoMemory>
         requires shares { shares.items ≡ opened_shares blanks.callers }
         requires callers { blanks.callers ≡ B.Hits.callers }
-        requires ledgers { IsOf B.Begun.name B.Begun.parts blanks.begun
-            × IsOf B.Ended.name B.Ended.parts blanks.ended }
+        requires ledgers { IsBlankLedger B.Begun.name B.Begun.parts blanks.begun
+            × IsBlankLedger B.Ended.name B.Ended.parts blanks.ended }
         ensures { IfOk result (λ r. r.1.items ≡ opened_flights shares.items) }
     {
         let (begun, begun_parts) = blanks.begun.open::<B::Begun>();
@@ -74,7 +75,8 @@ impl<F: Fit, N: Namer<F::Key>, B: FlightBooks> Flight<F, N, B> {
         share: &mut FlightShare<B>,
         key: &Arc<F::Key>,
     ) -> Result<Claimed<F::Key, F::Value, B>, NoMemory>
-        requires { 0 < share.old.share.parts }
+        requires parts { 0 < share.old.share.parts }
+        requires allowed { B.may_ask share.old.share.caller (arc_value key.now) }
         ensures claimed { IfOk result (IsClaimed F.fits (arc_value key.now) share.old share.new) }
         ensures err { OnErr result (share.new ≡ share.old) }
     {
@@ -103,9 +105,11 @@ impl<F: Fit, N: Namer<F::Key>, B: FlightBooks> Flight<F, N, B> {
         weight: u64,
     ) -> Fill
         requires caller { claim.share.caller ≡ share.old.share.caller }
+        requires allowed { B.may_ask claim.share.caller claim.key }
         requires fits { F.fits claim.key (arc_value value) }
         requires weight { weight ≡ F.weighs (arc_value value) }
-        ensures { share.new.share ≡ joined_share share.old.share (fill_booked result claim.share) }
+        ensures { share.new.share ≡ joined_share share.old.share
+            (share_after_fill result claim.share) }
     {
         let key = claim.ticket.key();
         let answer = self
@@ -130,7 +134,7 @@ impl<F: Fit, N: Namer<F::Key>, B: FlightBooks> Flight<F, N, B> {
 
     /// The memo, its tally and the claims, once all shares are back. The tally is that of the memo's journal, and what was booked
     /// on the shares. The log of the claims is legal, so that no key ever had two live claims; it has as many beginnings as there were
-    /// misses, and as many ends, so that no claim is live.
+    /// misses, and as many ends, so that no claim is live. Each caller of the journal might ask for the key of its item.
     pub fn close(self, shares: Vec<FlightShare<B>>) -> (Tally, MemoCore<F, N>, Claims<F>)
         requires whole { (0 < B.Hits.parts)
             × (sum_by (λ s. s.share.parts) shares.items ≡ B.Hits.parts) }
@@ -139,10 +143,11 @@ impl<F: Fit, N: Namer<F::Key>, B: FlightBooks> Flight<F, N, B> {
             × (B.Begun.parts ≡ B.Hits.parts) × (B.Ended.parts ≡ B.Hits.parts) }
         ensures tally { result.0 ≡ tally_of result.1.journal result.0.dropped }
         ensures booked { AreSums (map (λ s. s.share) shares.items) result.0 }
-        ensures claims { IsClosed result.0.misses result.2 }
+        ensures claims { AreClosedClaims result.0.misses result.2 }
         ensures sound { IsSound F.same_key N.name_of F.fits F.weighs result.1 }
         ensures limits { (result.1.budget ≡ B.Hits.budget) × (result.1.share ≡ B.Hits.share) }
-        ensures callers { All (λ i. i.caller < B.Hits.callers) result.1.journal }
+        ensures callers { All (λ i. i.caller < B.Hits.callers) result.1.journal
+            × ∥ AreAllowed B.may_ask result.1.journal ∥₁ }
     {
         let Flight { memo, desk } = self;
         let Desk {

@@ -3,7 +3,7 @@ ghost use Rattle.subtree_memo.specs.Shares.{parts_each};
 
 use std::marker::PhantomData;
 use std::sync::ledger::{Blank, Ledger};
-use subtree_memo::{Blanks, Books, MemoLedger};
+use subtree_memo::{AskPolicy, Blanks, Books, MemoLedger};
 
 /// Into how many parts the books are cut for each caller.
 pub const PARTS_EACH: u64 = 128;
@@ -38,6 +38,18 @@ impl<H: MemoLedger, M: Ledger, K: Ledger, E: Ledger, Begins: Ledger, Ends: Ledge
     type Begun = Begins;
 
     type Ended = Ends;
+}
+
+impl<
+    Key,
+    H: MemoLedger + AskPolicy<Key>,
+    M: Ledger,
+    K: Ledger,
+    E: Ledger,
+    Begins: Ledger,
+    Ends: Ledger,
+> AskPolicy<Key> for FlightLedgers<H, M, K, E, Begins, Ends> {
+    ghost may_ask = { H.may_ask };
 }
 
 /// A fresh pair of the ledgers of claims, which no type stands for yet: each has 128 parts for each of 1 to 64 callers.

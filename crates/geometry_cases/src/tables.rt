@@ -52,6 +52,7 @@ fn moved(
     requires numbers { AreNumbersOf planes.now numbers.now from.now }
     ensures { IfOk result (IsFaceOver planes.now) }
 {
+    // Brings a law alone: where all planes of a list have numbers, so have those of a face.
     faces_are_found();
     renumber(alloc, face, numbers)
 }

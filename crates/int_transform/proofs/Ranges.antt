@@ -7,7 +7,7 @@ use Rattle.std.proofs.lemmas.List.Elements.{All-head, All-push, All-tail}
 use Rattle.plane_predicate.specs.Space.{Coordinates, point_at}
 use Rattle.plane_predicate.proofs.IntegerRing.{mul_comm_ℤ, one_mul, sums}
 use Rattle.int_transform.specs.declared.affine.Affine.{Affine}
-use Rattle.int_transform.specs.Maps.{coordinates, determinant_of, image, map_of, HasSafeCoordinates, LeavesRange}
+use Rattle.int_transform.specs.Maps.{coordinate_list, determinant_of, image, map_of, HasSafeCoordinates, LeavesSafeCoordinates}
 use Rattle.int_transform.proofs.Images.{image-identity, image-step, determinant-composition}
 use Rattle.int_transform.proofs.Regular.{no_product}
 
@@ -25,7 +25,7 @@ starts_in_range steps p h k le =
     subst P e (subst HasSafeCoordinates (sym (image-identity p)) h)
 
 -- the image after one more step
-pub image_next : (steps : List Affine) (s : Affine) (point at : List ℤ) (i : ℕ) → i < length steps → s ≡ get_or steps i s → at ≡ coordinates (image (map_of (take i steps)) (point_at point)) →
+pub image_next : (steps : List Affine) (s : Affine) (point at : List ℤ) (i : ℕ) → i < length steps → s ≡ get_or steps i s → at ≡ coordinate_list (image (map_of (take i steps)) (point_at point)) →
     image s (point_at at) ≡ image (map_of (take (i + 1) steps)) (point_at point)
 image_next steps s point at i lt is e =
     ap (λ (q : List ℤ). image s (point_at q)) e
@@ -40,8 +40,8 @@ stays_next steps p i h here k le =
       | inr ge ↦ h k ge
     ]
 
-pub leaves_next : (steps : List Affine) (s : Affine) (point at : List ℤ) (i : ℕ) → i < length steps → s ≡ get_or steps i s → at ≡ coordinates (image (map_of (take i steps)) (point_at point)) →
-    (HasSafeCoordinates (image s (point_at at)) → ⊥) → LeavesRange steps (point_at point)
+pub leaves_next : (steps : List Affine) (s : Affine) (point at : List ℤ) (i : ℕ) → i < length steps → s ≡ get_or steps i s → at ≡ coordinate_list (image (map_of (take i steps)) (point_at point)) →
+    (HasSafeCoordinates (image s (point_at at)) → ⊥) → LeavesSafeCoordinates steps (point_at point)
 leaves_next steps s point at i lt is e n = record {
   after = i + 1;
   within = omega arith;

@@ -7,7 +7,7 @@ use Rattle.plane_predicate.proofs.Polynomials.{var, num, times, ring}
 use Rattle.plane_predicate.proofs.Vectors.{determinantP}
 use Rattle.int_transform.specs.declared.affine.Row.{Row}
 use Rattle.int_transform.specs.declared.affine.Affine.{Affine}
-use Rattle.int_transform.specs.Maps.{cosine_of, determinant_of, diagonal, quarter_rotation, power_of, rotation_of, sine_of, IsMatrix, IsMatrixRow, IsSafeRow, IsStep}
+use Rattle.int_transform.specs.Maps.{cosine_of, determinant_of, diagonal_map, quarter_rotation, power_of, rotation_of, sine_of, IsMatrix, IsMatrixRow, IsSafeRow, IsStep}
 
 pub no_product : (a b : ℤ) → (a ≡ pos 0 → ⊥) → (b ≡ pos 0 → ⊥) → a *ℤ b ≡ pos 0 → ⊥
 no_product a b ha hb e =
@@ -24,7 +24,7 @@ determinant-diagonal a b c =
     ring (a ∷ b ∷ c ∷ []) (determinantP (var 0) (num (pos 0)) (num (pos 0)) (num (pos 0)) (var 1) (num (pos 0)) (num (pos 0)) (num (pos 0)) (var 2)) (times (var 0) (times (var 1) (var 2))) refl
 
 pub diagonal_is_step : (a b c x y z : ℤ) → unsigned_abs a ≤ 9007199254740991 → unsigned_abs b ≤ 9007199254740991 → unsigned_abs c ≤ 9007199254740991 → unsigned_abs x ≤ 9007199254740991 → unsigned_abs y ≤ 9007199254740991 → unsigned_abs z ≤ 9007199254740991 →
-    (a ≡ pos 0 → ⊥) → (b ≡ pos 0 → ⊥) → (c ≡ pos 0 → ⊥) → IsStep (diagonal a b c x y z)
+    (a ≡ pos 0 → ⊥) → (b ≡ pos 0 → ⊥) → (c ≡ pos 0 → ⊥) → IsStep (diagonal_map a b c x y z)
 diagonal_is_step a b c x y z ha hb hc hx hy hz na nb nc = record {
   x = record { a_size = ha; b_size = omega arith; c_size = omega arith; d_size = hx };
   y = record { a_size = omega arith; b_size = hb; c_size = omega arith; d_size = hy };
@@ -106,7 +106,7 @@ matrix_rows x y z a b c v ex ey ez ev h n =
     let rows : IsMatrix m = rw (ex, ey, ez) h in
     matrix_is_step m rows (λ e. n (ev ∙ e))
 
-pub scaled_is_step : (m : Affine) (x y z : ℤ) → m ≡ diagonal x y z (pos 0) (pos 0) (pos 0) → unsigned_abs x ≤ 9007199254740991 → unsigned_abs y ≤ 9007199254740991 → unsigned_abs z ≤ 9007199254740991 →
+pub scaled_is_step : (m : Affine) (x y z : ℤ) → m ≡ diagonal_map x y z (pos 0) (pos 0) (pos 0) → unsigned_abs x ≤ 9007199254740991 → unsigned_abs y ≤ 9007199254740991 → unsigned_abs z ≤ 9007199254740991 →
     (x ≡ pos 0 → ⊥) → (y ≡ pos 0 → ⊥) → (z ≡ pos 0 → ⊥) → IsStep m
 scaled_is_step m x y z e hx hy hz nx ny nz =
     subst IsStep (sym e) (diagonal_is_step x y z (pos 0) (pos 0) (pos 0) hx hy hz (omega arith) (omega arith) (omega arith) nx ny nz)

@@ -26,8 +26,8 @@ abbrev pub composition : Affine → Affine → Affine
 composition n m = record { x = row_after n.x m; y = row_after n.y m; z = row_after n.z m }
 
 -- each coordinate times a number, and another one added
-abbrev pub diagonal : ℤ → ℤ → ℤ → ℤ → ℤ → ℤ → Affine
-diagonal a b c x y z = record {
+abbrev pub diagonal_map : ℤ → ℤ → ℤ → ℤ → ℤ → ℤ → Affine
+diagonal_map a b c x y z = record {
   x = record { a = a; b = pos 0; c = pos 0; d = x };
   y = record { a = pos 0; b = b; c = pos 0; d = y };
   z = record { a = pos 0; b = pos 0; c = c; d = z };
@@ -35,7 +35,7 @@ diagonal a b c x y z = record {
 
 -- the map that moves nothing
 abbrev pub identity : Affine
-identity = diagonal (pos 1) (pos 1) (pos 1) (pos 0) (pos 0) (pos 0)
+identity = diagonal_map (pos 1) (pos 1) (pos 1) (pos 0) (pos 0) (pos 0)
 
 -- a list of steps as one map: the first of the list is done first
 abbrev pub map_of : List Affine → Affine
@@ -44,17 +44,17 @@ map_of (step ∷ steps) = composition (map_of steps) step
 
 -- the move by a vector (User Manual, translate)
 abbrev pub translation : Coordinates → Affine
-translation p = diagonal (pos 1) (pos 1) (pos 1) p.x p.y p.z
+translation p = diagonal_map (pos 1) (pos 1) (pos 1) p.x p.y p.z
 
 -- each coordinate times a factor of its own (User Manual, scale)
 abbrev pub scale_map : Coordinates → Affine
-scale_map p = diagonal p.x p.y p.z (pos 0) (pos 0) (pos 0)
+scale_map p = diagonal_map p.x p.y p.z (pos 0) (pos 0) (pos 0)
 
 -- the mirror image at the plane through the origin across axis 0, 1 or 2 (User Manual, mirror)
 abbrev pub reflection : ℕ → Affine
-reflection zero = diagonal (negsuc 0) (pos 1) (pos 1) (pos 0) (pos 0) (pos 0)
-reflection (suc zero) = diagonal (pos 1) (negsuc 0) (pos 1) (pos 0) (pos 0) (pos 0)
-reflection (suc (suc n)) = diagonal (pos 1) (pos 1) (negsuc 0) (pos 0) (pos 0) (pos 0)
+reflection zero = diagonal_map (negsuc 0) (pos 1) (pos 1) (pos 0) (pos 0) (pos 0)
+reflection (suc zero) = diagonal_map (pos 1) (negsuc 0) (pos 1) (pos 0) (pos 0) (pos 0)
+reflection (suc (suc n)) = diagonal_map (pos 1) (pos 1) (negsuc 0) (pos 0) (pos 0) (pos 0)
 
 -- a right-handed quarter turn about axis 0, 1 or 2: about z, x goes to y (User Manual, rotate)
 abbrev pub quarter_rotation : ℕ → Affine
@@ -74,14 +74,14 @@ quarter_rotation (suc (suc n)) = record {
   z = record { a = pos 0; b = pos 0; c = pos 1; d = pos 0 };
 }
 
--- the cosine and the sine of 0 to 3 quarter turns
+-- the cosine of 0 to 3 quarter turns
 abbrev pub cosine_of : ℕ → ℤ
 cosine_of zero = pos 1
 cosine_of (suc zero) = pos 0
 cosine_of (suc (suc zero)) = negsuc 0
 cosine_of (suc (suc (suc n))) = pos 0
 
--- the sine of so many quarter turns
+-- the sine of 0 to 3 quarter turns
 abbrev pub sine_of : ℕ → ℤ
 sine_of zero = pos 0
 sine_of (suc zero) = pos 1
@@ -124,8 +124,8 @@ abbrev pub determinant_of : Affine → ℤ
 determinant_of m = determinant m.x.a m.x.b m.x.c m.y.a m.y.b m.y.c m.z.a m.z.b m.z.c
 
 -- the first three numbers of a point
-abbrev pub coordinates : Coordinates → List ℤ
-coordinates p = p.x ∷ p.y ∷ p.z ∷ []
+abbrev pub coordinate_list : Coordinates → List ℤ
+coordinate_list p = p.x ∷ p.y ∷ p.z ∷ []
 
 -- coordinates that are at most 2^53 - 1 in size
 pub record HasSafeCoordinates (p : Coordinates) : Type 0 where
@@ -161,11 +161,11 @@ pub record IsMatrix (m : Affine) : Type 0 where
   pub z : IsMatrixRow m.z
 
 -- the point and its images after each of the steps have coordinates at most 2^53 - 1 in size
-abbrev pub StaysInRange : List Affine → Coordinates → Type 0
-StaysInRange steps p = (k : ℕ) → k ≤ length steps → HasSafeCoordinates (image (map_of (take k steps)) p)
+abbrev pub KeepsSafeCoordinates : List Affine → Coordinates → Type 0
+KeepsSafeCoordinates steps p = (k : ℕ) → k ≤ length steps → HasSafeCoordinates (image (map_of (take k steps)) p)
 
 -- the image after some of the steps has a coordinate past 2^53 - 1
-pub record LeavesRange (steps : List Affine) (p : Coordinates) : Type 0 where
+pub record LeavesSafeCoordinates (steps : List Affine) (p : Coordinates) : Type 0 where
   pub after : ℕ
   pub within : after ≤ length steps
   pub past : HasSafeCoordinates (image (map_of (take after steps)) p) → ⊥

@@ -2,7 +2,7 @@
 
 ghost use Rattle.std.specs.Prelude.{◌≡◌, ◌<◌, pos, All, Any, length, map, IfOk, IfSome, OnOk, OnSome, IsNone};
 ghost use Rattle.plane_predicate.specs.Space.{point_at};
-ghost use Rattle.int_transform.specs.Maps.{coordinates, determinant_of, image, map_of, HasSafeCoordinates, LeavesRange, StaysInRange};
+ghost use Rattle.int_transform.specs.Maps.{coordinate_list, determinant_of, image, map_of, HasSafeCoordinates, LeavesSafeCoordinates, KeepsSafeCoordinates};
 
 use crate::fault::StepFault;
 use crate::step::Step;
@@ -14,13 +14,13 @@ use std::alloc::Global;
 pub fn apply(alloc: Global, steps: &[Step], points: &[[i64; 3]]) -> Result<Vec<[i64; 3]>, StepFault>
     requires { All (λ p. HasSafeCoordinates (point_at p)) points.now }
     ensures images { IfOk result (λ v. v.items
-        ≡ map (λ p. coordinates (image (map_of steps.now) (point_at p))) points.now) }
-    ensures in_range { OnOk result (All (λ p. StaysInRange steps.now (point_at p)) points.now) }
+        ≡ map (λ p. coordinate_list (image (map_of steps.now) (point_at p))) points.now) }
+    ensures in_range { OnOk result (All (λ p. KeepsSafeCoordinates steps.now (point_at p)) points.now) }
     // no step is singular, which a point shows
     ensures regular { OnOk result (0 < length points.now → determinant_of (map_of steps.now)
         ≡ pos 0 → ⊥) }
     ensures too_large { result ≡ Err StepFault.TooLarge →
-        Any (λ p. LeavesRange steps.now (point_at p)) points.now }
+        Any (λ p. LeavesSafeCoordinates steps.now (point_at p)) points.now }
 {
     let mut images = Vec::new(alloc);
     for point in points {
@@ -33,9 +33,9 @@ pub fn apply(alloc: Global, steps: &[Step], points: &[[i64; 3]]) -> Result<Vec<[
 // The image of one point. `None` exactly where it leaves the range of numbers after some step.
 fn image_under(steps: &[Step], point: [i64; 3]) -> Option<[i64; 3]>
     requires { HasSafeCoordinates (point_at point) }
-    ensures some { IfSome result (λ q. (q ≡ coordinates (image (map_of steps.now) (point_at point)))
-        × StaysInRange steps.now (point_at point)) }
-    ensures none { IsNone result → LeavesRange steps.now (point_at point) }
+    ensures some { IfSome result (λ q. (q ≡ coordinate_list (image (map_of steps.now) (point_at point)))
+        × KeepsSafeCoordinates steps.now (point_at point)) }
+    ensures none { IsNone result → LeavesSafeCoordinates steps.now (point_at point) }
     ensures regular { OnSome result (determinant_of (map_of steps.now) ≡ pos 0 → ⊥) }
 {
     let [x, y, z] = point;

@@ -2,14 +2,14 @@
 
 ghost use Rattle.std.specs.Prelude.{◌≡◌, ◌<◌, ◌≤◌, ◌⊎◌, ◌↔◌, ◌*◌, ◌+ℤ◌, ◌*ℤ◌, pos, unsigned_abs, IfSome, IsNone};
 ghost use Rattle.plane_predicate.specs.Space.{point_at, minor};
-ghost use Rattle.int_transform.specs.Maps.{affine_of, coordinates, determinant_of, cosine_of, diagonal as diagonal_of, image, reflection, translation, quarter_rotation, power_of, rotation_of, row_of, scale_map, sine_of, HasSafeCoordinates, IsMatrix};
+ghost use Rattle.int_transform.specs.Maps.{affine_of, coordinate_list, determinant_of, cosine_of, diagonal_map as diagonal_of, image, reflection, translation, quarter_rotation, power_of, rotation_of, row_of, scale_map, sine_of, HasSafeCoordinates, IsMatrix};
 
 use crate::affine::{Affine, Row};
 use crate::sums::safe_value;
 use std::marker::Model;
 
-/// A step of a transform, which contracts see as its affine map: a move, quarter turns about an
-/// axis, a mirror image, a scaling or a matrix.
+/// A step of a transform, which contracts see as its affine map: a move, quarter rotations about
+/// an axis, a mirror image, a scaling or a matrix.
 ///
 /// A step keeps that its numbers are at most 2^53 - 1 in size, and that it is not singular.
 #[derive(Clone, Copy, Debug, PartialEq, Eq)]
@@ -41,7 +41,7 @@ impl Step {
         }
     }
 
-    /// So many right-handed quarter turns about axis 0, 1 or 2.
+    /// So many right-handed quarter rotations about axis 0, 1 or 2.
     pub fn quarter(axis: u8, turns: u8) -> Step
         requires axis_is { axis < 3 }
         requires turns_are { turns < 4 }
@@ -86,7 +86,7 @@ impl Step {
     /// The image of a point. `None` exactly where a coordinate of it is past 2^53 - 1 in size.
     pub(crate) fn image(&self, point: [i64; 3]) -> Option<[i64; 3]>
         requires { HasSafeCoordinates (point_at point) }
-        ensures some { IfSome result (λ q. (q ≡ coordinates (image self.now (point_at point)))
+        ensures some { IfSome result (λ q. (q ≡ coordinate_list (image self.now (point_at point)))
             × HasSafeCoordinates (image self.now (point_at point))) }
         ensures none { IsNone result → HasSafeCoordinates (image self.now (point_at point)) → ⊥ }
         ensures regular { determinant_of self.now ≡ pos 0 → ⊥ }
@@ -135,7 +135,7 @@ fn row(numbers: [i64; 4]) -> Row
     Row { a, b, c, d }
 }
 
-// The turn about an axis by an angle with this cosine and sine.
+// The rotation about an axis by an angle with this cosine and sine.
 fn rotation(axis: u8, cos: i64, sin: i64) -> Affine
     requires axis_is { axis < 3 }
     requires sine_size { unsigned_abs sin ≤ 1 }
@@ -160,7 +160,7 @@ fn rotation(axis: u8, cos: i64, sin: i64) -> Affine
     }
 }
 
-// The cosine of so many quarter turns.
+// The cosine of so many quarter rotations.
 fn cosine(turns: u8) -> i64
     requires { turns < 4 }
     ensures { result ≡ cosine_of turns }
@@ -172,7 +172,7 @@ fn cosine(turns: u8) -> i64
     }
 }
 
-// The sine of so many quarter turns.
+// The sine of so many quarter rotations.
 fn sine(turns: u8) -> i64
     requires { turns < 4 }
     ensures value { result ≡ sine_of turns }

@@ -7,7 +7,7 @@ use Rattle.link_forest.specs.declared.link.NodeId.{NodeId}
 use Rattle.link_forest.specs.declared.link.Link.{Link}
 use Rattle.link_forest.specs.declared.link.Link.TheVariants.{End, To}
 use Rattle.link_forest.specs.declared.forest.Entry.{Entry}
-use Rattle.link_forest.specs.Forests.{Branch, end, fork, least_nodes, node_id, IsLinkOf, entry, tree_over, trees_of, tree_at, AreLinked, Extends, Adds, IsNode}
+use Rattle.link_forest.specs.Forests.{Branch, end, fork, least_nodes, node_id, IsLinkOf, entry, tree_over, trees_of, tree_at, AreLinked, Extends, AddsNode, IsNode}
 use Rattle.link_forest.proofs.Numbers.{stays, which, parts}
 
 module _ {A : Type 0} where
@@ -98,7 +98,7 @@ module _ {A : Type 0} where
   tree_more nodes node =
       ap (λ (trees : List (Branch A)). get_or trees (length nodes) (end false)) (fold-append with_node [] nodes (node ∷ [])) ∙ get_or_push (trees_of nodes) (tree_over (trees_of nodes) node) (end false) (length nodes) (trees_count nodes)
 
-  pub added : (nodes : List (Entry A)) (payload : A) (behind ahead : Link) → AreLinked nodes → IsLinkOf nodes behind → IsLinkOf nodes ahead → Adds nodes (nodes ++ entry payload behind ahead ∷ []) payload behind ahead (node_id (length nodes))
+  pub added : (nodes : List (Entry A)) (payload : A) (behind ahead : Link) → AreLinked nodes → IsLinkOf nodes behind → IsLinkOf nodes ahead → AddsNode nodes (nodes ++ entry payload behind ahead ∷ []) payload behind ahead (node_id (length nodes))
   added nodes payload behind ahead l b a = record {
     number = refl;
     nodes = refl;
@@ -139,10 +139,10 @@ module _ {A : Type 0} where
   node_read nodes id node l below read = is_node nodes id node.payload node.behind node.ahead l (slice_get_read nodes (length nodes) id.index node refl below read)
 
   -- a node by its number
-  with_number : (old new : List (Entry A)) (payload : A) (behind ahead : Link) (id : NodeId) → id.index ≡ length old → Adds old new payload behind ahead (node_id (length old)) → Adds old new payload behind ahead id
+  with_number : (old new : List (Entry A)) (payload : A) (behind ahead : Link) (id : NodeId) → id.index ≡ length old → AddsNode old new payload behind ahead (node_id (length old)) → AddsNode old new payload behind ahead id
   with_number old new payload behind ahead id number adds =
-      subst (λ (index : ℕ). Adds old new payload behind ahead (node_id index)) (sym number) adds
+      subst (λ (index : ℕ). AddsNode old new payload behind ahead (node_id index)) (sym number) adds
 
   -- what is pushed is added
-  pub node_pushed : (nodes new : List (Entry A)) (payload : A) (behind ahead : Link) (id : NodeId) → AreLinked nodes → IsLinkOf nodes behind → IsLinkOf nodes ahead → new ≡ nodes ++ entry payload behind ahead ∷ [] → id.index ≡ length nodes → Adds nodes new payload behind ahead id
+  pub node_pushed : (nodes new : List (Entry A)) (payload : A) (behind ahead : Link) (id : NodeId) → AreLinked nodes → IsLinkOf nodes behind → IsLinkOf nodes ahead → new ≡ nodes ++ entry payload behind ahead ∷ [] → id.index ≡ length nodes → AddsNode nodes new payload behind ahead id
   node_pushed nodes new payload behind ahead id l b a pushed number = rw pushed (with_number nodes (nodes ++ entry payload behind ahead ∷ []) payload behind ahead id number (added nodes payload behind ahead l b a))

@@ -6,7 +6,7 @@ use Rattle.link_forest.specs.declared.link.NodeId.{NodeId}
 use Rattle.link_forest.specs.declared.link.Link.{Link}
 use Rattle.link_forest.specs.declared.link.Link.TheVariants.{End, To}
 use Rattle.link_forest.specs.declared.forest.Entry.{Entry}
-use Rattle.link_forest.specs.Forests.{IsLinkOf, entry, node_id, AreLinked, Extends, Adds, IsReached, itself, by_behind, by_ahead, AreReachedFrom}
+use Rattle.link_forest.specs.Forests.{IsLinkOf, entry, node_id, AreLinked, Extends, AddsNode, IsReached, itself, by_behind, by_ahead, AreReachedFrom}
 use Rattle.link_forest.proofs.Numbers.{stays, stood, behind_all}
 
 module _ {A : Type 0} where
@@ -67,7 +67,7 @@ module _ {A : Type 0} where
   reached_is_node nodes _ _ l k (by_ahead from id node h r) = reached_is_node nodes node.ahead id l (omega (arith, l.ahead from.index node h)) r
 
   -- nodes that were added for one link, nodes that were added for another behind them, and a node over both links
-  pub reached_by_added : (start : ℕ) (first second new : List (Entry A)) (payload : A) (behind ahead : Link) (id : NodeId) → Extends first second → AreReachedFrom start first behind → AreReachedFrom (length first) second ahead → Adds second new payload behind ahead id → AreReachedFrom start new (To id)
+  pub reached_by_added : (start : ℕ) (first second new : List (Entry A)) (payload : A) (behind ahead : Link) (id : NodeId) → Extends first second → AreReachedFrom start first behind → AreReachedFrom (length first) second ahead → AddsNode second new payload behind ahead id → AreReachedFrom start new (To id)
   reached_by_added start first second new payload behind ahead id e b a d other from below =
       let node = entry payload behind ahead in
       let there : slice_get new id.index ≡ Some node = rw (d.nodes, d.number) (behind_all second [] node) in

@@ -2,7 +2,7 @@
 use Rattle.std.proofs.Common.{◌≡◌, ℕ, zero, suc, ◌<◌, true, false, List, [], ◌∷◌, take, refl, arith}
 use Rattle.link_forest.specs.declared.link.Link.TheVariants.{End, To}
 use Rattle.link_forest.specs.declared.forest.Entry.{Entry}
-use Rattle.link_forest.specs.Forests.{Branch, end, fork, entry, node_id, tree_at, Adds, IsReached, itself, by_behind, by_ahead, AreReached}
+use Rattle.link_forest.specs.Forests.{Branch, end, fork, entry, node_id, tree_at, AddsNode, IsReached, itself, by_behind, by_ahead, AreReached}
 use Rattle.link_forest.proofs.Longer.{linked_none, added}
 use Rattle.link_forest.proofs.Reaching.{reached_same, reached_is_node}
 
@@ -51,13 +51,13 @@ unfolding tree_at
 forward = refl
 
 -- each is added behind those before it
-one : Adds [] (low ∷ []) 10 (End true) (End false) (node_id 0)
+one : AddsNode [] (low ∷ []) 10 (End true) (End false) (node_id 0)
 one = added [] 10 (End true) (End false) linked_none (omega arith) (omega arith)
 
-two : Adds (low ∷ []) (low ∷ middle ∷ []) 20 (End true) (To (node_id 0)) (node_id 1)
+two : AddsNode (low ∷ []) (low ∷ middle ∷ []) 20 (End true) (To (node_id 0)) (node_id 1)
 two = added (low ∷ []) 20 (End true) (To (node_id 0)) one.linked (omega arith) (omega arith)
 
-all : Adds (low ∷ middle ∷ []) three 30 (To (node_id 0)) (To (node_id 1)) (node_id 2)
+all : AddsNode (low ∷ middle ∷ []) three 30 (To (node_id 0)) (To (node_id 1)) (node_id 2)
 all = added (low ∷ middle ∷ []) 30 (To (node_id 0)) (To (node_id 1)) two.linked (omega arith) (omega arith)
 
 -- all three are reached from the last

@@ -64,7 +64,7 @@ module _ {A : Type 0} where
     pub trees : (link : Link) → IsLinkOf old link → tree_at new link ≡ tree_at old link
 
   -- a node with this payload and these links was added behind the others, under this number
-  pub record Adds (old new : List (Entry A)) (payload : A) (behind ahead : Link) (id : NodeId) : Type 0 where
+  pub record AddsNode (old new : List (Entry A)) (payload : A) (behind ahead : Link) (id : NodeId) : Type 0 where
     pub number : id.index ≡ length old
     pub nodes : new ≡ old ++ entry payload behind ahead ∷ []
     pub link : IsLinkOf new (To id)

@@ -28,7 +28,11 @@ impl<T> Model for Forest<T> {
 
     ghost Value = { StoredForest T };
 
-    ghost view = { λ f. record { nodes = f.entries.items; spare = vec_capacity f.entries - vec_len f.entries } };
+    ghost view = { λ f. record {
+      nodes = f.entries.items;
+      spare = vec_capacity f.entries - vec_len
+          f.entries;
+    } };
 
     ghost invariant = { λ f. AreLinked f.entries.items };
 }
@@ -36,7 +40,7 @@ impl<T> Model for Forest<T> {
 impl<T: Drop> Forest<T> {
     ghost use Rattle.std.specs.Prelude.{List};
     ghost use Rattle.link_forest.specs.declared.forest.Entry.{Entry};
-    ghost use Rattle.link_forest.specs.Forests.{Adds, AreLinked, Extends, IsLinkOf, IsNode};
+    ghost use Rattle.link_forest.specs.Forests.{AddsNode, AreLinked, Extends, IsLinkOf, IsNode};
 
     /// No nodes.
     pub fn new(alloc: Global) -> Self
@@ -51,7 +55,7 @@ impl<T: Drop> Forest<T> {
     pub fn add(&mut self, payload: T, behind: Link, ahead: Link) -> Result<NodeId, NoMemory>
         requires behind { IsLinkOf self.old.nodes behind }
         requires ahead { IsLinkOf self.old.nodes ahead }
-        ensures ok { IfOk result (Adds self.old.nodes self.new.nodes payload behind ahead) }
+        ensures ok { IfOk result (AddsNode self.old.nodes self.new.nodes payload behind ahead) }
         ensures spare { OnOk result (self.old.spare ≤ self.new.spare + 1) }
         ensures err { OnErr result (self.new ≡ self.old) }
         ensures succeeds { 0 < self.old.spare → IsOk result }
@@ -77,7 +81,7 @@ impl<T: Drop> Forest<T> {
         requires spare { 0 < self.old.spare }
         requires behind { IsLinkOf self.old.nodes behind }
         requires ahead { IsLinkOf self.old.nodes ahead }
-        ensures adds { Adds self.old.nodes self.new.nodes payload behind ahead result }
+        ensures adds { AddsNode self.old.nodes self.new.nodes payload behind ahead result }
         ensures spare { self.new.spare + 1 ≡ self.old.spare }
     {
         let index = self.entries.len();

@@ -5,7 +5,7 @@ ghost use Rattle.link_forest.specs.declared.link.NodeId.{NodeId};
 ghost use Rattle.link_forest.specs.declared.link.Link.{Link};
 ghost use Rattle.link_forest.specs.declared.link.Link.TheVariants.{End, To};
 ghost use Rattle.link_forest.specs.declared.forest.Entry.{Entry};
-ghost use Rattle.link_forest.specs.Forests.{end, entry, node_id, tree_at, AreLinked, IsLinkOf, IsNode, Extends, Adds, IsReached, AreReachedFrom};
+ghost use Rattle.link_forest.specs.Forests.{end, entry, node_id, tree_at, AreLinked, IsLinkOf, IsNode, Extends, AddsNode, IsReached, AreReachedFrom};
 
 /// An end has itself for a tree, and reaches no node.
 pub fn ends_have_no_nodes<T: Drop>()
@@ -29,7 +29,7 @@ pub fn nodes_are_over_their_links<T: Drop>()
     ensures none { AreLinked {A = T} [] }
     ensures added { (nodes : List (Entry T)) (payload : T) (behind ahead : Link) → AreLinked nodes →
         IsLinkOf nodes behind → IsLinkOf nodes ahead →
-        Adds nodes (nodes ++ entry payload behind ahead ∷ []) payload behind ahead
+        AddsNode nodes (nodes ++ entry payload behind ahead ∷ []) payload behind ahead
         (node_id (length nodes)) }
     ensures node { (nodes : List (Entry T)) (id : NodeId) (payload : T) (behind ahead : Link) →
         AreLinked nodes → slice_get nodes id.index ≡ Some (entry payload behind ahead) →
@@ -50,5 +50,5 @@ pub fn links_reach_nodes<T: Drop>()
     ensures added { (start : ℕ) (first second new : List (Entry T)) (payload : T)
         (behind ahead : Link) (id : NodeId) → Extends first second →
         AreReachedFrom start first behind → AreReachedFrom (length first) second ahead →
-        Adds second new payload behind ahead id → AreReachedFrom start new (To id) }
+        AddsNode second new payload behind ahead id → AreReachedFrom start new (To id) }
 {}

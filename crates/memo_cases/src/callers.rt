@@ -1,7 +1,7 @@
 //! Two callers that share a memo, and claim the keys that they miss.
 
-ghost use Rattle.std.specs.Prelude.{◌≡◌, ◌+◌, ◌*◌, ◌<◌, ◌≤◌, []};
-ghost use Rattle.subtree_memo.specs.Shares.{IsOf};
+ghost use Rattle.std.specs.Prelude.{◌≡◌, ℕ, ◌+◌, ◌*◌, ◌<◌, ◌≤◌, []};
+ghost use Rattle.subtree_memo.specs.Shares.{IsBlankLedger};
 
 use crate::acts::{Act, Answer, acts_of};
 use crate::limits::Limits;
@@ -17,7 +17,7 @@ use std::sync::ledger::Ledger;
 use std::sync::{Arc, Wait};
 use std::thread;
 use std::thread::Threads;
-use subtree_memo::{Blanks, Memo, MemoLedger};
+use subtree_memo::{AskPolicy, Blanks, Memo, MemoLedger};
 use text_place::NoMemory;
 
 // What a caller was answered, and the first piece that it brought, if it did.
@@ -47,7 +47,7 @@ impl Notes {
 }
 
 // Finishes a claim by a piece, or gives it back where there is none.
-fn end_claim<B: FlightBooks, R: Wait>(
+fn end_claim<B: FlightBooks + AskPolicy<u32>, R: Wait>(
     rt: &R,
     alloc: Global,
     flight: &Flight<Pieces, LastDigits, B>,
@@ -55,7 +55,8 @@ fn end_claim<B: FlightBooks, R: Wait>(
     claim: Claim<u32, B>,
     piece: Option<Arc<Piece>>,
 ) -> Answer
-    requires { claim.share.caller ≡ share.old.share.caller }
+    requires caller { claim.share.caller ≡ share.old.share.caller }
+    requires policy { (caller key : ℕ) → B.may_ask caller key }
     ensures parts { share.new.share.parts ≡ share.old.share.parts + claim.share.parts }
     ensures caller { share.new.share.caller ≡ share.old.share.caller }
 {
@@ -72,7 +73,7 @@ fn end_claim<B: FlightBooks, R: Wait>(
 }
 
 // Asks for a key, and ends its claim behind a meeting of so many.
-fn ask<B: FlightBooks, R: Wait>(
+fn ask<B: FlightBooks + AskPolicy<u32>, R: Wait>(
     rt: &R,
     alloc: Global,
     flight: &Flight<Pieces, LastDigits, B>,
@@ -81,7 +82,8 @@ fn ask<B: FlightBooks, R: Wait>(
     piece: Option<Arc<Piece>>,
     meeting: (&Meeting, u64),
 ) -> Answer
-    requires { 0 < share.old.share.parts }
+    requires some { 0 < share.old.share.parts }
+    requires policy { (caller key : ℕ) → B.may_ask caller key }
     ensures parts { share.new.share.parts ≡ share.old.share.parts }
     ensures caller { share.new.share.caller ≡ share.old.share.caller }
 {
@@ -97,7 +99,7 @@ fn ask<B: FlightBooks, R: Wait>(
 }
 
 // The same by a part of the share, which is split off and absorbed.
-fn ask_by_part<B: FlightBooks, R: Wait>(
+fn ask_by_part<B: FlightBooks + AskPolicy<u32>, R: Wait>(
     rt: &R,
     alloc: Global,
     flight: &Flight<Pieces, LastDigits, B>,
@@ -106,7 +108,8 @@ fn ask_by_part<B: FlightBooks, R: Wait>(
     piece: Option<Arc<Piece>>,
     meeting: (&Meeting, u64),
 ) -> Answer
-    requires { 2 ≤ share.old.share.parts }
+    requires some { 2 ≤ share.old.share.parts }
+    requires policy { (caller key : ℕ) → B.may_ask caller key }
     ensures { share.new.share.parts ≡ share.old.share.parts }
 {
     let mut part = share.split();
@@ -116,7 +119,7 @@ fn ask_by_part<B: FlightBooks, R: Wait>(
 }
 
 // Does one act.
-fn do_act<B: FlightBooks, R: Wait>(
+fn do_act<B: FlightBooks + AskPolicy<u32>, R: Wait>(
     rt: &R,
     alloc: Global,
     flight: &Flight<Pieces, LastDigits, B>,
@@ -125,7 +128,8 @@ fn do_act<B: FlightBooks, R: Wait>(
     meeting: &Meeting,
     act: Act,
 ) -> Result<Answer, NoMemory>
-    requires { 2 ≤ share.old.share.parts }
+    requires some { 2 ≤ share.old.share.parts }
+    requires policy { (caller key : ℕ) → B.may_ask caller key }
     ensures { share.new.share.parts ≡ share.old.share.parts }
 {
     match act {
@@ -151,7 +155,7 @@ fn do_act<B: FlightBooks, R: Wait>(
 }
 
 // Does all acts of a caller.
-fn do_acts<B: FlightBooks, R: Wait>(
+fn do_acts<B: FlightBooks + AskPolicy<u32>, R: Wait>(
     rt: &R,
     alloc: Global,
     flight: &Flight<Pieces, LastDigits, B>,
@@ -159,7 +163,8 @@ fn do_acts<B: FlightBooks, R: Wait>(
     meeting: &Meeting,
     acts: &[Act],
 ) -> (Vec<Answer>, FlightShare<B>)
-    requires { 2 ≤ share.share.parts }
+    requires some { 2 ≤ share.share.parts }
+    requires policy { (caller key : ℕ) → B.may_ask caller key }
     ensures { result.1.share.parts ≡ share.share.parts }
 {
     let mut notes = Notes {
@@ -176,7 +181,7 @@ fn do_acts<B: FlightBooks, R: Wait>(
 
 // Two callers do their acts at the same time.
 fn run<
-    H: MemoLedger + Send + Sync,
+    H: MemoLedger + AskPolicy<u32> + Send + Sync,
     M: Ledger + Send + Sync,
     K: Ledger + Send + Sync,
     E: Ledger + Send + Sync,
@@ -195,10 +200,11 @@ fn run<
     requires limits { (core.budget ≡ H.budget) × (core.share ≡ H.share)
         × (blanks.callers ≡ H.callers) }
     requires callers { (blanks.callers ≡ 2) × (begun_and_ended.callers ≡ 2) }
-    requires memo { IsOf H.name H.parts blanks.hits × IsOf M.name M.parts blanks.misses
-        × IsOf K.name K.parts blanks.kept × IsOf E.name E.parts blanks.heavy }
-    requires claims { IsOf Begins.name Begins.parts begun_and_ended.begun
-        × IsOf Ends.name Ends.parts begun_and_ended.ended }
+    requires memo { IsBlankLedger H.name H.parts blanks.hits × IsBlankLedger M.name M.parts blanks.misses
+        × IsBlankLedger K.name K.parts blanks.kept × IsBlankLedger E.name E.parts blanks.heavy }
+    requires claims { IsBlankLedger Begins.name Begins.parts begun_and_ended.begun
+        × IsBlankLedger Ends.name Ends.parts begun_and_ended.ended }
+    requires policy { (caller key : ℕ) → H.may_ask caller key }
 {
     // Nothing can fail between the claims' opening and their closing, so that no way out drops an open memo.
     let (memo, shares) = Memo::<Pieces, LastDigits, FlightLedgers<H, M, K, E, Begins, Ends>>::open(
@@ -216,14 +222,14 @@ fn run<
             Vec<Answer>,
             FlightShare<FlightLedgers<H, M, K, E, Begins, Ends>>,
         )
-            requires { 2 ≤ first.share.parts }
+            requires { (2 ≤ first.share.parts) × ((caller key : ℕ) → H.may_ask caller key) }
             ensures { result.1.share.parts ≡ first.share.parts }
         { do_acts(rt, alloc, shared, first, met, firsts) },
         move || -> (
             Vec<Answer>,
             FlightShare<FlightLedgers<H, M, K, E, Begins, Ends>>,
         )
-            requires { 2 ≤ second.share.parts }
+            requires { (2 ≤ second.share.parts) × ((caller key : ℕ) → H.may_ask caller key) }
             ensures { result.1.share.parts ≡ second.share.parts }
         { do_acts(rt, alloc, shared, second, met, seconds) },
     );

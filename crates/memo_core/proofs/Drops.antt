@@ -7,7 +7,7 @@ use Rattle.std.proofs.lemmas.List.{append-nil, append_assoc, map-append}
 use Rattle.std.proofs.lemmas.List.Sorted.{IsPermutation-refl, IsPermutation-sym, IsPermutation-cons, IsPermutation-middle, IsPermutation-trans, IsPermutation-append_right, IsPermutation-map}
 use Rattle.lru.specs.LruCache.{promoted}
 use Rattle.memo_core.specs.Memo.{same_name, DropsFrom, entries_to_place_where}
-use Rattle.memo_core.specs.Plans.{pair_of}
+use Rattle.memo_core.specs.Plans.{pair_if_there}
 use Rattle.memo_core.proofs.Shelves.{same_names}
 
 module _ {E : Type 0} where
@@ -26,27 +26,27 @@ module _ {E : Type 0} where
 
 module _ {X : Type 0} where
   -- the pairs are that of a name, if there is one, and those without it
-  taken : (name : List ℕ) (es : List (List ℕ × X)) → IsPermutation es (pair_of name (lookup (same_name name) es) ++ remove_entry (same_name name) es)
+  taken : (name : List ℕ) (es : List (List ℕ × X)) → IsPermutation es (pair_if_there name (lookup (same_name name) es) ++ remove_entry (same_name name) es)
   taken name [] = IsPermutation-refl []
   taken name (e ∷ es) = go (same_name name e.0) refl (taken name es) where
-    go : (b : Bool) → same_name name e.0 ≡ b → IsPermutation es (pair_of name (lookup (same_name name) es) ++ remove_entry (same_name name) es)
-        → IsPermutation (e ∷ es) (pair_of name (cond b (Some e.1) (lookup (same_name name) es)) ++ cond b es (e ∷ remove_entry (same_name name) es))
+    go : (b : Bool) → same_name name e.0 ≡ b → IsPermutation es (pair_if_there name (lookup (same_name name) es) ++ remove_entry (same_name name) es)
+        → IsPermutation (e ∷ es) (pair_if_there name (cond b (Some e.1) (lookup (same_name name) es)) ++ cond b es (e ∷ remove_entry (same_name name) es))
     go true is p = subst (λ n. IsPermutation (e ∷ es) ((n, e.1) ∷ es)) (sym (same_names name e.0 is)) (IsPermutation-refl (e ∷ es))
     go false is p =
-        IsPermutation-trans (e ∷ es) (e ∷ (pair_of name (lookup (same_name name) es) ++ remove_entry (same_name name) es)) _ (IsPermutation-cons e es _ p)
-        (IsPermutation-sym _ _ (IsPermutation-middle (pair_of name (lookup (same_name name) es)) e (remove_entry (same_name name) es)))
+        IsPermutation-trans (e ∷ es) (e ∷ (pair_if_there name (lookup (same_name name) es) ++ remove_entry (same_name name) es)) _ (IsPermutation-cons e es _ p)
+        (IsPermutation-sym _ _ (IsPermutation-middle (pair_if_there name (lookup (same_name name) es)) e (remove_entry (same_name name) es)))
 
-  pub drops_taken : (name : List ℕ) (es gone gone' fs : List (List ℕ × X)) → gone' ≡ gone ++ pair_of name (lookup (same_name name) es) → fs ≡ remove_entry (same_name name) es → DropsFrom es gone gone' fs
+  pub drops_taken : (name : List ℕ) (es gone gone' fs : List (List ℕ × X)) → gone' ≡ gone ++ pair_if_there name (lookup (same_name name) es) → fs ≡ remove_entry (same_name name) es → DropsFrom es gone gone' fs
   drops_taken name es gone gone' fs g f = (
-    pair_of name (lookup (same_name name) es),
+    pair_if_there name (lookup (same_name name) es),
     g,
-    subst (λ l. IsPermutation es (pair_of name (lookup (same_name name) es) ++ l)) (sym f) (taken name es),
+    subst (λ l. IsPermutation es (pair_if_there name (lookup (same_name name) es) ++ l)) (sym f) (taken name es),
   )
 
-  pub drops_replaced : (name : List ℕ) (x : X) (es gone gone' fs : List (List ℕ × X)) → gone' ≡ gone ++ pair_of name (lookup (same_name name) es) → fs ≡ (name, x) ∷ remove_entry (same_name name) es
+  pub drops_replaced : (name : List ℕ) (x : X) (es gone gone' fs : List (List ℕ × X)) → gone' ≡ gone ++ pair_if_there name (lookup (same_name name) es) → fs ≡ (name, x) ∷ remove_entry (same_name name) es
       → DropsFrom ((name, x) ∷ es) gone gone' fs
   drops_replaced name x es gone gone' fs g f =
-      let old : List (List ℕ × X) = pair_of name (lookup (same_name name) es) in (
+      let old : List (List ℕ × X) = pair_if_there name (lookup (same_name name) es) in (
         old,
         g,
         subst (λ l. IsPermutation ((name, x) ∷ es) (old ++ l)) (sym f)

@@ -5,7 +5,7 @@ use Rattle.std.specs.Option.{option_map_or}
 use Rattle.std.proofs.lemmas.List.{length-map}
 use Rattle.std.proofs.lemmas.List.Sums.{sum_by-cons}
 use mathlib.Core.Path.{fun_ext}
-use Rattle.memo_core.specs.Memo.{Mark, first_with, without_first, without_last, owner_weight, is_free, fits_in, room_within, room_beside, entries_after_push, entries_after_offer_where, has_name, entries_max}
+use Rattle.memo_core.specs.Memo.{EntryHeader, first_with, without_first, without_last, owner_weight, is_free, fits_in, others_left_within, others_left_beside, entries_after_push, entries_after_offer_where, has_name, most_entries}
 use Rattle.memo_core.proofs.Lists.{cond_through, first_map, without_map}
 
 pub some_map : {A B : Type 0} (f : A → B) (o : Option A) → is_some (option_map f o) ≡ is_some o
@@ -27,8 +27,8 @@ module _ {A B : Type 0} (f : A → B) where
       ∙ ap (cond found (f e ∷ map f (without_last (λ x. t (f x)) es))) (sym (cond_through (map f) (t (f e)) es (e ∷ es)))
       ∙ sym (cond_through (map f) found (e ∷ without_last (λ x. t (f x)) es) (cond (t (f e)) es (e ∷ es)))
 
-module _ {K A B : Type 0} (f : A → B) (mark : B → Mark K) where
-  abbrev mark_at : A → Mark K
+module _ {K A B : Type 0} (f : A → B) (mark : B → EntryHeader K) where
+  abbrev mark_at : A → EntryHeader K
   mark_at e = mark (f e)
 
   pub owned_map : (o : ℕ) (es : List A) → owner_weight mark o (map f es) ≡ owner_weight mark_at o es
@@ -42,28 +42,28 @@ module _ {K A B : Type 0} (f : A → B) (mark : B → Mark K) where
 
   fits_map : (budget : ℕ) (es : List A) → fits_in mark budget (map f es) ≡ fits_in mark_at budget es
   fits_map budget es =
-      ap (λ n. nat_le n budget && nat_le (length (map f es)) entries_max) (sum_by_map f (λ e. (mark e).weight) es)
-      ∙ ap (λ n. nat_le (sum_by (λ e. (mark_at e).weight) es) budget && nat_le n entries_max) (length-map es f)
+      ap (λ n. nat_le n budget && nat_le (length (map f es)) most_entries) (sum_by_map f (λ e. (mark e).weight) es)
+      ∙ ap (λ n. nat_le (sum_by (λ e. (mark_at e).weight) es) budget && nat_le n most_entries) (length-map es f)
 
   module _ (budget share : ℕ) where
-    pub room_map : (n : ℕ) (new : A) (es : List A) → room_within mark budget share n (f new) (map f es) ≡ option_map (map f) (room_within mark_at budget share n new es)
+    pub room_map : (n : ℕ) (new : A) (es : List A) → others_left_within mark budget share n (f new) (map f es) ≡ option_map (map f) (others_left_within mark_at budget share n new es)
     room_map zero new es = refl
     room_map (suc n) new es =
         let caller = (mark_at new).owner in
         let T = is_free mark share caller (map f es) in
         let U = is_free mark_at share caller es in
         let fits = fits_in mark_at budget (new ∷ es) in
-        ap (λ b. cond b (Some (map f es)) (cond (is_some (first_with T (map f es))) (room_within mark budget share n (f new) (without_last T (map f es))) None)) (fits_map budget (new ∷ es))
-        ∙ ap (λ o. cond fits (Some (map f es)) (cond (is_some o) (room_within mark budget share n (f new) (without_last T (map f es))) None)) (first_map f T es)
-        ∙ ap (λ b. cond fits (Some (map f es)) (cond b (room_within mark budget share n (f new) (without_last T (map f es))) None)) (some_map f (first_with (λ e. T (f e)) es))
-        ∙ ap (λ r. cond fits (Some (map f es)) (cond (is_some (first_with (λ e. T (f e)) es)) (room_within mark budget share n (f new) r) None)) (last_map f T es)
-        ∙ ap (λ g. cond fits (Some (map f es)) (cond (is_some (first_with g es)) (room_within mark budget share n (f new) (map f (without_last g es))) None)) (free_map share caller es)
+        ap (λ b. cond b (Some (map f es)) (cond (is_some (first_with T (map f es))) (others_left_within mark budget share n (f new) (without_last T (map f es))) None)) (fits_map budget (new ∷ es))
+        ∙ ap (λ o. cond fits (Some (map f es)) (cond (is_some o) (others_left_within mark budget share n (f new) (without_last T (map f es))) None)) (first_map f T es)
+        ∙ ap (λ b. cond fits (Some (map f es)) (cond b (others_left_within mark budget share n (f new) (without_last T (map f es))) None)) (some_map f (first_with (λ e. T (f e)) es))
+        ∙ ap (λ r. cond fits (Some (map f es)) (cond (is_some (first_with (λ e. T (f e)) es)) (others_left_within mark budget share n (f new) r) None)) (last_map f T es)
+        ∙ ap (λ g. cond fits (Some (map f es)) (cond (is_some (first_with g es)) (others_left_within mark budget share n (f new) (map f (without_last g es))) None)) (free_map share caller es)
         ∙ ap (λ r. cond fits (Some (map f es)) (cond (is_some (first_with U es)) r None)) (room_map n new (without_last U es))
-        ∙ ap (cond fits (Some (map f es))) (sym (cond_through (option_map (map f)) (is_some (first_with U es)) (room_within mark_at budget share n new (without_last U es)) None))
-        ∙ sym (cond_through (option_map (map f)) fits (Some es) (cond (is_some (first_with U es)) (room_within mark_at budget share n new (without_last U es)) None))
+        ∙ ap (cond fits (Some (map f es))) (sym (cond_through (option_map (map f)) (is_some (first_with U es)) (others_left_within mark_at budget share n new (without_last U es)) None))
+        ∙ sym (cond_through (option_map (map f)) fits (Some es) (cond (is_some (first_with U es)) (others_left_within mark_at budget share n new (without_last U es)) None))
 
-    beside_map : (new : A) (es : List A) → room_beside mark budget share (f new) (map f es) ≡ option_map (map f) (room_beside mark_at budget share new es)
-    beside_map new es = ap (λ n. room_within mark budget share (suc n) (f new) (map f es)) (length-map es f) ∙ room_map (suc (length es)) new es
+    beside_map : (new : A) (es : List A) → others_left_beside mark budget share (f new) (map f es) ≡ option_map (map f) (others_left_beside mark_at budget share new es)
+    beside_map new es = ap (λ n. others_left_within mark budget share (suc n) (f new) (map f es)) (length-map es f) ∙ room_map (suc (length es)) new es
 
     in_front : (new : A) (o : Option (List A)) → option_map (λ rest. f new ∷ rest) (option_map (map f) o) ≡ option_map (map f) (option_map (λ rest. new ∷ rest) o)
     in_front new None = refl
@@ -80,12 +80,12 @@ module _ {K A B : Type 0} (f : A → B) (mark : B → Mark K) where
         let M = has_name mark_at (mark_at new).name in
         let caller = (mark_at new).owner in
         let stays = option_map_or (λ e. not (is_free mark_at share caller es e)) (first_with M es) false in
-        ap (λ o. cond (option_map_or (λ e. not (is_free mark share caller (map f es) e)) o false) None (option_map (λ rest. f new ∷ rest) (room_beside mark budget share (f new) (without_first N (map f es))))) (first_map f N es)
-        ∙ ap (λ b. cond b None (option_map (λ rest. f new ∷ rest) (room_beside mark budget share (f new) (without_first N (map f es))))) (unfree_map share caller es (first_with M es))
-        ∙ ap (λ r. cond stays None (option_map (λ rest. f new ∷ rest) (room_beside mark budget share (f new) r))) (without_map f N es)
+        ap (λ o. cond (option_map_or (λ e. not (is_free mark share caller (map f es) e)) o false) None (option_map (λ rest. f new ∷ rest) (others_left_beside mark budget share (f new) (without_first N (map f es))))) (first_map f N es)
+        ∙ ap (λ b. cond b None (option_map (λ rest. f new ∷ rest) (others_left_beside mark budget share (f new) (without_first N (map f es))))) (unfree_map share caller es (first_with M es))
+        ∙ ap (λ r. cond stays None (option_map (λ rest. f new ∷ rest) (others_left_beside mark budget share (f new) r))) (without_map f N es)
         ∙ ap (λ r. cond stays None (option_map (λ rest. f new ∷ rest) r)) (beside_map new (without_first M es))
-        ∙ ap (cond stays None) (in_front new (room_beside mark_at budget share new (without_first M es)))
-        ∙ sym (cond_through (option_map (map f)) stays None (option_map (λ rest. new ∷ rest) (room_beside mark_at budget share new (without_first M es))))
+        ∙ ap (cond stays None) (in_front new (others_left_beside mark_at budget share new (without_first M es)))
+        ∙ sym (cond_through (option_map (map f)) stays None (option_map (λ rest. new ∷ rest) (others_left_beside mark_at budget share new (without_first M es))))
 
     pub where_map : (held : Bool) (front : List A) (new : A) (es : List A)
         → entries_after_offer_where mark budget share held (map f front) (f new) (map f es) ≡ option_map (map f) (entries_after_offer_where mark_at budget share held front new es)

@@ -5,10 +5,10 @@ use Rattle.std.specs.List.{AllByRecursion, IsDistinct}
 use Rattle.std.specs.Map.{lookup, keys_of}
 use Rattle.std.proofs.lemmas.List.{map-append, length-append}
 use Rattle.lru.specs.LruCache.{promoted}
-use Rattle.memo_core.specs.Memo.{evicted_in, first_with, brought_to_front, same_name, has_key, holds, Entry, Item, Probe_answer, item}
-use Rattle.memo_core.specs.Views.{MemoView, IsSound, mark_in, after_probe}
-use Rattle.memo_core.specs.Fields.{entries_of, value_at, item_of, items_of}
-use Rattle.memo_core.specs.Plans.{IsKept, IsShelf}
+use Rattle.memo_core.specs.Memo.{evicted_count, first_with, brought_to_front, same_name, has_key, has_entry_with, Entry, JournalRecord, ProbeAnswer, journal_record}
+use Rattle.memo_core.specs.Views.{MemoView, IsSound, header_in, after_probe}
+use Rattle.memo_core.specs.Fields.{entries_of, value_with_key, record_of_item, records_of}
+use Rattle.memo_core.specs.Plans.{ShelfMatchesJournal, IsShelf}
 use Rattle.memo_core.specs.declared.slots.Shelf.{Shelf}
 use Rattle.memo_core.specs.declared.slots.Slot.{Slot}
 use Rattle.memo_core.specs.declared.journal.JournalItem.{JournalItem}
@@ -46,53 +46,53 @@ some_always (Some a) p = p
 
 module _ {K V : Type 0} (same : K → K → Bool) (name_of : K → List ℕ) (same_is : (a b : K) → same a b ≡ true → a ≡ b) (key : K) where
   pub touched : (es fs : List (List ℕ × Slot K V)) (found : Option V) (hit : Bool) → Named same name_of same_is key es → IsDistinct same_name (keys_of es)
-      → found ≡ value_at same key (lookup (same_name (name_of key)) es) → hit ≡ is_some found → fs ≡ cond hit (promoted (same_name (name_of key)) es) es
-      → (entries_of fs ≡ brought_to_front (has_key same mark_in key) (entries_of es)) × (hit ≡ holds same mark_in key (entries_of es))
+      → found ≡ value_with_key same key (lookup (same_name (name_of key)) es) → hit ≡ is_some found → fs ≡ cond hit (promoted (same_name (name_of key)) es) es
+      → (entries_of fs ≡ brought_to_front (has_key same header_in key) (entries_of es)) × (hit ≡ has_entry_with same header_in key (entries_of es))
   touched es fs None hit n d f h e =
-      let none : first_with (has_key same mark_in key) (entries_of es) ≡ None = none_from_map (λ x. x.value) _ (sym (f ∙ value_is same name_of same_is key es n d)) in (
-        ap entries_of (e ∙ ap (λ b. cond b (promoted (same_name (name_of key)) es) es) h) ∙ sym (brought_none (has_key same mark_in key) (entries_of es) none),
+      let none : first_with (has_key same header_in key) (entries_of es) ≡ None = none_from_map (λ x. x.value) _ (sym (f ∙ value_is same name_of same_is key es n d)) in (
+        ap entries_of (e ∙ ap (λ b. cond b (promoted (same_name (name_of key)) es) es) h) ∙ sym (brought_none (has_key same header_in key) (entries_of es) none),
         h ∙ sym (ap is_some none),
       )
   touched es fs (Some v) hit n d f h e = (
     ap entries_of (e ∙ ap (λ b. cond b (promoted (same_name (name_of key)) es) es) h)
         ∙ promoted_entries same (name_of key) key es (agree same name_of same_is key es v n d (sym f)),
-    h ∙ ap is_some (f ∙ value_is same name_of same_is key es n d) ∙ is_some_map (λ x. x.value) (first_with (has_key same mark_in key) (entries_of es)),
+    h ∙ ap is_some (f ∙ value_is same name_of same_is key es n d) ∙ is_some_map (λ x. x.value) (first_with (has_key same header_in key) (entries_of es)),
   )
 
   pub probed_is : (caller b h s t : ℕ) (g : List (Entry K V)) (es fs : List (List ℕ × Slot K V)) (js ks : List (JournalItem K)) (j : JournalItem K) (hit : Bool)
-      → entries_of fs ≡ brought_to_front (has_key same mark_in key) (entries_of es) → hit ≡ holds same mark_in key (entries_of es)
-      → ks ≡ js ++ j ∷ [] → item_of j ≡ item caller key (Probe_answer hit) → t ≡ s - 1
-      → ◌≡◌ {A = MemoView K V} (record { entries = entries_of fs; dropped = g; budget = b; share = h; journal = items_of ks; spare = t }) (after_probe same caller key (record { entries = entries_of es; dropped = g; budget = b; share = h; journal = items_of js; spare = s }))
+      → entries_of fs ≡ brought_to_front (has_key same header_in key) (entries_of es) → hit ≡ has_entry_with same header_in key (entries_of es)
+      → ks ≡ js ++ j ∷ [] → record_of_item j ≡ journal_record caller key (ProbeAnswer hit) → t ≡ s - 1
+      → ◌≡◌ {A = MemoView K V} (record { entries = entries_of fs; dropped = g; budget = b; share = h; journal = records_of ks; spare = t }) (after_probe same caller key (record { entries = entries_of es; dropped = g; budget = b; share = h; journal = records_of js; spare = s }))
   probed_is caller b h s t g es fs js ks j hit e f k i r =
-      core_is e (ap items_of k ∙ map-append item_of js (j ∷ []) ∙ ap (λ x. items_of js ++ x ∷ []) (i ∙ ap (λ x. item caller key (Probe_answer x)) f)) r
+      core_is e (ap records_of k ∙ map-append record_of_item js (j ∷ []) ∙ ap (λ x. records_of js ++ x ∷ []) (i ∙ ap (λ x. journal_record caller key (ProbeAnswer x)) f)) r
 
-  pub probed_kept : (fits : K → V → Type 0) (weighs : V → ℕ) (caller h s t d : ℕ) (g : List (Entry K V)) (shelf shelf' : Shelf K V) (js : List (Item K)) (ks : List (Item K)) (b : ℕ)
-      → IsKept same name_of fits weighs shelf d (record { entries = entries_of shelf.cache.entries; dropped = g; budget = b; share = h; journal = js; spare = s })
-      → entries_of shelf'.cache.entries ≡ brought_to_front (has_key same mark_in key) (entries_of shelf.cache.entries) → IsDistinct same_name (keys_of shelf'.cache.entries) → IsShelf b shelf'
+  pub probed_kept : (fits : K → V → Type 0) (weighs : V → ℕ) (caller h s t d : ℕ) (g : List (Entry K V)) (shelf shelf' : Shelf K V) (js : List (JournalRecord K)) (ks : List (JournalRecord K)) (b : ℕ)
+      → ShelfMatchesJournal same name_of fits weighs shelf d (record { entries = entries_of shelf.cache.entries; dropped = g; budget = b; share = h; journal = js; spare = s })
+      → entries_of shelf'.cache.entries ≡ brought_to_front (has_key same header_in key) (entries_of shelf.cache.entries) → IsDistinct same_name (keys_of shelf'.cache.entries) → IsShelf b shelf'
       → ◌≡◌ {A = MemoView K V} (record { entries = entries_of shelf'.cache.entries; dropped = g; budget = b; share = h; journal = ks; spare = t }) (after_probe same caller key (record { entries = entries_of shelf.cache.entries; dropped = g; budget = b; share = h; journal = js; spare = s }))
-      → IsKept same name_of fits weighs shelf' d (record { entries = entries_of shelf'.cache.entries; dropped = g; budget = b; share = h; journal = ks; spare = t })
+      → ShelfMatchesJournal same name_of fits weighs shelf' d (record { entries = entries_of shelf'.cache.entries; dropped = g; budget = b; share = h; journal = ks; spare = t })
   probed_kept fits weighs caller h s t n g shelf shelf' js ks b kept e d shelved is =
       let es = shelf.cache.entries in
       let fs = shelf'.cache.entries in record {
         shelved = shelved;
         counted =
-            kept.counted ∙ omega (arith, evicted_more js (item caller key (Probe_answer (holds same mark_in key (entries_of es)))))
-            ∙ ap (λ (x : MemoView K V). evicted_in x.journal) (sym is);
+            kept.counted ∙ omega (arith, evicted_more js (journal_record caller key (ProbeAnswer (has_entry_with same header_in key (entries_of es)))))
+            ∙ ap (λ (x : MemoView K V). evicted_count x.journal) (sym is);
         filled_before =
             let longer = ap (λ (x : MemoView K V). length x.journal) is in
-            let more = length-append js (item caller key (Probe_answer (holds same mark_in key (entries_of es))) ∷ []) in
+            let more = length-append js (journal_record caller key (ProbeAnswer (has_entry_with same header_in key (entries_of es))) ∷ []) in
             let same_length = ap length e in
-            omega (arith, kept.filled_before, longer, more, same_length, length_brought (has_key same mark_in key) (entries_of es));
+            omega (arith, kept.filled_before, longer, more, same_length, length_brought (has_key same header_in key) (entries_of es));
         sound =
             subst (λ (x : MemoView K V). IsSound same name_of fits weighs x) (sym is)
             (after_probe_sound same name_of fits weighs caller key (record { entries = entries_of es; dropped = g; budget = b; share = h; journal = js; spare = s }) kept.sound
-            (subst (IsDistinct same_name) (sym (names_are fs) ∙ ap (map (λ x. x.mark.name)) e) d));
+            (subst (IsDistinct same_name) (sym (names_are fs) ∙ ap (map (λ x. x.header.name)) e) d));
       }
 
   -- what is found by this key fits it
-  pub first_fits : (fits : K → V → Type 0) (es : List (Entry K V)) → AllByRecursion (λ e. fits e.mark.key e.value) es → IfSome (first_with (has_key same mark_in key) es) (λ e. fits key e.value)
+  pub first_fits : (fits : K → V → Type 0) (es : List (Entry K V)) → AllByRecursion (λ e. fits e.header.key e.value) es → IfSome (first_with (has_key same header_in key) es) (λ e. fits key e.value)
   first_fits fits [] a = tt
-  first_fits fits (e ∷ es) a = go (same e.mark.key key) refl (first_fits fits es a.1) where
-    go : (b : Bool) → same e.mark.key key ≡ b → IfSome (first_with (has_key same mark_in key) es) (λ x. fits key x.value) → IfSome (cond b (Some e) (first_with (has_key same mark_in key) es)) (λ x. fits key x.value)
-    go true is r = subst (λ (k : K). fits k e.value) (same_is e.mark.key key is) a.0
+  first_fits fits (e ∷ es) a = go (same e.header.key key) refl (first_fits fits es a.1) where
+    go : (b : Bool) → same e.header.key key ≡ b → IfSome (first_with (has_key same header_in key) es) (λ x. fits key x.value) → IfSome (cond b (Some e) (first_with (has_key same header_in key) es)) (λ x. fits key x.value)
+    go true is r = subst (λ (k : K). fits k e.value) (same_is e.header.key key is) a.0
     go false is r = r

@@ -6,7 +6,7 @@ use Rattle.std.specs.List.{AllByRecursion}
 use Rattle.std.proofs.lemmas.List.{length-append}
 use Rattle.std.proofs.lemmas.List.Sums.{sum_by-cons, sum_by-append}
 use Rattle.std.proofs.lemmas.Bool.Decides.{nat_tests}
-use Rattle.memo_core.specs.Memo.{Mark, first_with, without_first, without_last, brought_to_front, owner_weight, is_free, StandIn, fits_in, room_within, room_beside}
+use Rattle.memo_core.specs.Memo.{EntryHeader, first_with, without_first, without_last, brought_to_front, owner_weight, is_free, StandIn, fits_in, others_left_within, others_left_beside}
 use Rattle.memo_core.proofs.Hits.{never}
 
 pub never_not : true ≡ false → ⊥
@@ -128,7 +128,7 @@ module _ {E : Type 0} where
     go None h = all_in es
     go (Some x) h = found_stand t es x h
 
-module _ {K E : Type 0} (mark : E → Mark K) where
+module _ {K E : Type 0} (mark : E → EntryHeader K) where
   -- where nothing changed, all stand
   pub stand_same : (o : ℕ) (es fs : List E) → fs ≡ es → StandIn mark o es fs
   stand_same o es fs e = subst (StandIn mark o es) (sym e) (map_all (λ x k i. k) es (all_in es))
@@ -173,49 +173,49 @@ module _ {K E : Type 0} (mark : E → Mark K) where
     free es = is_free mark share (mark new).owner es
 
     -- where all fit, all stay
-    pub room_full : (n : ℕ) (es : List E) → fits_in mark budget (new ∷ es) ≡ true → room_within mark budget share (suc n) new es ≡ Some es
-    room_full n es f = ap (λ b. cond b (Some es) (cond (is_some (first_with (free es) es)) (room_within mark budget share n new (without_last (free es) es)) None)) f
+    pub room_full : (n : ℕ) (es : List E) → fits_in mark budget (new ∷ es) ≡ true → others_left_within mark budget share (suc n) new es ≡ Some es
+    room_full n es f = ap (λ b. cond b (Some es) (cond (is_some (first_with (free es) es)) (others_left_within mark budget share n new (without_last (free es) es)) None)) f
 
     -- where they don't and none is free, there is no room
-    pub room_none : (n : ℕ) (es : List E) → fits_in mark budget (new ∷ es) ≡ false → NonePass (free es) es → room_within mark budget share (suc n) new es ≡ None
+    pub room_none : (n : ℕ) (es : List E) → fits_in mark budget (new ∷ es) ≡ false → NonePass (free es) es → others_left_within mark budget share (suc n) new es ≡ None
     room_none n es f h =
-        ap (λ b. cond b (Some es) (cond (is_some (first_with (free es) es)) (room_within mark budget share n new (without_last (free es) es)) None)) f
-        ∙ ap (λ o. cond (is_some o) (room_within mark budget share n new (without_last (free es) es)) None) (none_first (free es) es h)
+        ap (λ b. cond b (Some es) (cond (is_some (first_with (free es) es)) (others_left_within mark budget share n new (without_last (free es) es)) None)) f
+        ∙ ap (λ o. cond (is_some o) (others_left_within mark budget share n new (without_last (free es) es)) None) (none_first (free es) es h)
 
     -- where they don't, the last free one goes
     pub room_drop : (xs : List E) (e : E) (ys : List E) → fits_in mark budget (new ∷ (xs ++ e ∷ ys)) ≡ false → free (xs ++ e ∷ ys) e ≡ true → NonePass (free (xs ++ e ∷ ys)) ys
-        → room_beside mark budget share new (xs ++ e ∷ ys) ≡ room_beside mark budget share new (xs ++ ys)
+        → others_left_beside mark budget share new (xs ++ e ∷ ys) ≡ others_left_beside mark budget share new (xs ++ ys)
     room_drop xs e ys f p n =
         let h = last_apart (free (xs ++ e ∷ ys)) xs e ys p n in
         let l : length (xs ++ e ∷ ys) ≡ suc (length (xs ++ ys)) = omega (arith, length-append xs (e ∷ ys), length-append xs ys) in
-        ap (λ b. cond b (Some (xs ++ e ∷ ys)) (cond (is_some (first_with (free (xs ++ e ∷ ys)) (xs ++ e ∷ ys))) (room_within mark budget share (length (xs ++ e ∷ ys)) new (without_last (free (xs ++ e ∷ ys)) (xs ++ e ∷ ys))) None)) f
-        ∙ ap (λ b. cond b (room_within mark budget share (length (xs ++ e ∷ ys)) new (without_last (free (xs ++ e ∷ ys)) (xs ++ e ∷ ys))) None) h.0
-        ∙ ap (room_within mark budget share (length (xs ++ e ∷ ys)) new) h.1
-        ∙ ap (λ k. room_within mark budget share k new (xs ++ ys)) l
+        ap (λ b. cond b (Some (xs ++ e ∷ ys)) (cond (is_some (first_with (free (xs ++ e ∷ ys)) (xs ++ e ∷ ys))) (others_left_within mark budget share (length (xs ++ e ∷ ys)) new (without_last (free (xs ++ e ∷ ys)) (xs ++ e ∷ ys))) None)) f
+        ∙ ap (λ b. cond b (others_left_within mark budget share (length (xs ++ e ∷ ys)) new (without_last (free (xs ++ e ∷ ys)) (xs ++ e ∷ ys))) None) h.0
+        ∙ ap (others_left_within mark budget share (length (xs ++ e ∷ ys)) new) h.1
+        ∙ ap (λ k. others_left_within mark budget share k new (xs ++ ys)) l
 
     -- what holds of all holds of those that are left
-    pub all_room : (P : E → Type 0) (n : ℕ) (es : List E) → AllByRecursion P es → IfSome (room_within mark budget share n new es) (AllByRecursion P)
+    pub all_room : (P : E → Type 0) (n : ℕ) (es : List E) → AllByRecursion P es → IfSome (others_left_within mark budget share n new es) (AllByRecursion P)
     all_room P zero es a = tt
     all_room P (suc n) es a = go (fits_in mark budget (new ∷ es)) (is_some (first_with (free es) es)) (all_room P n (without_last (free es) es) (all_last (free es) P es a)) where
-      go : (b c : Bool) → IfSome (room_within mark budget share n new (without_last (free es) es)) (AllByRecursion P) → IfSome (cond b (Some es) (cond c (room_within mark budget share n new (without_last (free es) es)) None)) (AllByRecursion P)
+      go : (b c : Bool) → IfSome (others_left_within mark budget share n new (without_last (free es) es)) (AllByRecursion P) → IfSome (cond b (Some es) (cond c (others_left_within mark budget share n new (without_last (free es) es)) None)) (AllByRecursion P)
       go true c r = a
       go false true r = r
       go false false r = tt
 
-    pub room_shorter : (m n : ℕ) (es : List E) → length es ≤ m → IfSome (room_within mark budget share n new es) (λ r. length r ≤ m)
+    pub room_shorter : (m n : ℕ) (es : List E) → length es ≤ m → IfSome (others_left_within mark budget share n new es) (λ r. length r ≤ m)
     room_shorter m zero es l = tt
     room_shorter m (suc n) es l = go (fits_in mark budget (new ∷ es)) (is_some (first_with (free es) es)) (room_shorter m n (without_last (free es) es) (omega (arith, l, last_shorter (free es) es))) where
-      go : (b c : Bool) → IfSome (room_within mark budget share n new (without_last (free es) es)) (λ r. length r ≤ m) → IfSome (cond b (Some es) (cond c (room_within mark budget share n new (without_last (free es) es)) None)) (λ r. length r ≤ m)
+      go : (b c : Bool) → IfSome (others_left_within mark budget share n new (without_last (free es) es)) (λ r. length r ≤ m) → IfSome (cond b (Some es) (cond c (others_left_within mark budget share n new (without_last (free es) es)) None)) (λ r. length r ≤ m)
       go true c r = l
       go false true r = r
       go false false r = tt
 
     -- the entries of another owner that weigh at most the share all stay
     pub stand_room : (o : ℕ) → nat_eq o (mark new).owner ≡ false → nat_eq share 0 ≡ false → (n : ℕ) (es : List E) → owner_weight mark o es ≤ share
-        → IfSome (room_within mark budget share n new es) (StandIn mark o es)
+        → IfSome (others_left_within mark budget share n new es) (StandIn mark o es)
     stand_room o other some zero es l = tt
     stand_room o other some (suc n) es l =
-        go (fits_in mark budget (new ∷ es)) (is_some (first_with (free es) es)) (room_within mark budget share n new (without_last (free es) es))
+        go (fits_in mark budget (new ∷ es)) (is_some (first_with (free es) es)) (others_left_within mark budget share n new (without_last (free es) es))
         (stand_room o other some n (without_last (free es) es) (let less = last_lighter (free es) (λ x. cond (nat_eq (mark x).owner o) (mark x).weight 0) es in omega (arith, l, less))) where
           mine : (e : E) → (mark e).owner ≡ o → free es e ≡ false
           mine e i = unfree share (mark new).owner es e (ap (λ x. nat_eq x (mark new).owner) i ∙ other) some (subst (λ x. owner_weight mark x es ≤ share) (sym i) l)

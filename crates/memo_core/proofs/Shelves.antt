@@ -9,7 +9,7 @@ use Rattle.lru.specs.LruCache.{promoted, put_entries}
 use Rattle.lru.proofs.CallerLemmas.{Contains-lookup_entry}
 use Rattle.memo_core.specs.Memo.{first_with, same_name, brought_to_front, owner_weight, entries_after_push}
 use Rattle.memo_core.specs.Fields.{weight_at}
-use Rattle.memo_core.specs.Plans.{pairs_without, slot_mark, weight_of_slots, IsShelf, IsPlanFor, left_by}
+use Rattle.memo_core.specs.Plans.{pairs_without, slot_header, weight_of_slots, IsShelf, IsPlanFor, slots_left_by}
 use Rattle.memo_core.specs.declared.plan.Plan.{Plan}
 use Rattle.memo_core.specs.declared.slots.Slot.{Slot}
 use Rattle.memo_core.specs.declared.slots.Shelf.{Shelf}
@@ -64,10 +64,10 @@ module _ {K V : Type 0} (budget : ℕ) where
       let b = e ∙ promoted_brought test shelf.cache.entries in
       let S : List ℕ × Slot K V → Bool = λ x. test x.0 in record {
         unbounded = c ∙ s.unbounded;
-        kept_weight = w ∙ s.kept_weight ∙ sym (sum_brought S (λ x. (slot_mark x).weight) shelf.cache.entries) ∙ ap weight_of_slots (sym b);
+        kept_weight = w ∙ s.kept_weight ∙ sym (sum_brought S (λ x. (slot_header x).weight) shelf.cache.entries) ∙ ap weight_of_slots (sym b);
         owned_weights = λ n.
             ap (λ rs. weight_at n rs.items) o ∙ s.owned_weights n
-            ∙ sym (sum_brought S (λ x. cond (nat_eq (slot_mark x).owner n) (slot_mark x).weight 0) shelf.cache.entries) ∙ ap (owner_weight slot_mark n) (sym b);
+            ∙ sym (sum_brought S (λ x. cond (nat_eq (slot_header x).owner n) (slot_header x).weight 0) shelf.cache.entries) ∙ ap (owner_weight slot_header n) (sym b);
         within = omega (arith, w, s.within);
         few = let l = ap length b ∙ length_brought S shelf.cache.entries in omega (arith, l, s.few);
       }
@@ -79,7 +79,7 @@ module _ {K V : Type 0} (budget : ℕ) where
   shelf_touched test false shelf shelf' s e c w o = record {
     unbounded = c ∙ s.unbounded;
     kept_weight = w ∙ s.kept_weight ∙ ap weight_of_slots (sym e);
-    owned_weights = λ n. ap (λ rs. weight_at n rs.items) o ∙ s.owned_weights n ∙ ap (owner_weight slot_mark n) (sym e);
+    owned_weights = λ n. ap (λ rs. weight_at n rs.items) o ∙ s.owned_weights n ∙ ap (owner_weight slot_header n) (sym e);
     within = omega (arith, w, s.within);
     few = let l = ap length e in omega (arith, l, s.few);
   }
@@ -87,17 +87,17 @@ module _ {K V : Type 0} (budget : ℕ) where
   module _ (share : ℕ) (name : List ℕ) (slot : Slot K V) (shelf : Shelf K V) (s : IsShelf budget shelf) (plan : Plan) (p : IsPlanFor budget share name slot shelf.cache.entries plan) where
     -- what is left where a plan is carried out
     pub carried : (fs gs : List (List ℕ × Slot K V)) → fs ≡ (name, slot) ∷ remove_entry (same_name name) shelf.cache.entries → gs ≡ pairs_without plan.names.items fs
-        → gs ≡ (name, slot) ∷ left_by budget share name slot shelf.cache.entries plan
+        → gs ≡ (name, slot) ∷ slots_left_by budget share name slot shelf.cache.entries plan
     carried fs gs f g = g ∙ ap (pairs_without plan.names.items) f ∙ removed_behind plan.names.items (name, slot) (remove_entry (same_name name) shelf.cache.entries) p.others
 
     pub carried_pushed : (fs gs : List (List ℕ × Slot K V)) → fs ≡ (name, slot) ∷ remove_entry (same_name name) shelf.cache.entries → gs ≡ pairs_without plan.names.items fs
-        → entries_after_push slot_mark budget share (name, slot) shelf.cache.entries ≡ Some gs
+        → entries_after_push slot_header budget share (name, slot) shelf.cache.entries ≡ Some gs
     carried_pushed fs gs f g = p.pushes ∙ ap Some (sym (carried fs gs f g))
 
     pub carried_shorter : (fs gs : List (List ℕ × Slot K V)) → fs ≡ (name, slot) ∷ remove_entry (same_name name) shelf.cache.entries → gs ≡ pairs_without plan.names.items fs
         → length gs ≤ length shelf.cache.entries + 1
     carried_shorter fs gs f g =
-        subst (λ o. IfSome o (λ kept. length kept ≤ length shelf.cache.entries + 1)) (carried_pushed fs gs f g) (pushed_shorter slot_mark budget share (name, slot) shelf.cache.entries)
+        subst (λ o. IfSome o (λ kept. length kept ≤ length shelf.cache.entries + 1)) (carried_pushed fs gs f g) (pushed_shorter slot_header budget share (name, slot) shelf.cache.entries)
 
     pub shelf_carried : (fs : List (List ℕ × Slot K V)) (shelf' : Shelf K V) → fs ≡ (name, slot) ∷ remove_entry (same_name name) shelf.cache.entries → shelf'.cache.entries ≡ pairs_without plan.names.items fs
         → shelf'.cache.cap ≡ shelf.cache.cap → shelf'.weight ≡ plan.total → shelf'.owners ≡ plan.owners → IsShelf budget shelf'
@@ -105,7 +105,7 @@ module _ {K V : Type 0} (budget : ℕ) where
         let l = carried fs shelf'.cache.entries f g in record {
           unbounded = c ∙ s.unbounded;
           kept_weight = w ∙ p.weighs ∙ ap weight_of_slots (sym l);
-          owned_weights = λ n. ap (λ rs. weight_at n rs.items) o ∙ p.owned_weights n ∙ ap (owner_weight slot_mark n) (sym l);
+          owned_weights = λ n. ap (λ rs. weight_at n rs.items) o ∙ p.owned_weights n ∙ ap (owner_weight slot_header n) (sym l);
           within = omega (arith, w, p.within);
           few = let m = ap length l in omega (arith, m, p.few);
         }

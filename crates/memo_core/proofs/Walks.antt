@@ -9,9 +9,9 @@ use Rattle.std.proofs.lemmas.List.Elements.{filter-append}
 use Rattle.std.proofs.lemmas.List.Sums.{sum_by-cons, sum_by-append}
 use Rattle.std.proofs.lemmas.Bool.Decides.{nat_tests}
 use Rattle.std.proofs.lemmas.Cmp.{nat_list_eq_equiv}
-use Rattle.memo_core.specs.Memo.{same_name, first_with, without_first, has_name, owner_weight, is_free, fits_in, room_beside, entries_after_push, entries_max}
+use Rattle.memo_core.specs.Memo.{same_name, first_with, without_first, has_name, owner_weight, is_free, fits_in, others_left_beside, entries_after_push, most_entries}
 use Rattle.memo_core.specs.Fields.{weight_at}
-use Rattle.memo_core.specs.Plans.{pairs_without, AreOthers, slot_mark, weight_of_slots, IsPlan, HasRoom, IsPlanFor, IsWithout, left_by, frees_by}
+use Rattle.memo_core.specs.Plans.{pairs_without, AreOthers, slot_header, weight_of_slots, IsPlan, MakesRoom, IsPlanFor, IsWithout, slots_left_by, frees_by}
 use Rattle.memo_core.specs.declared.plan.Plan.{Plan}
 use Rattle.memo_core.specs.declared.slots.Slot.{Slot}
 use Rattle.memo_core.proofs.Ways.{remove_without}
@@ -82,7 +82,7 @@ module _ {X : Type 0} where
 module _ {K V : Type 0} where
   weigh_apart : (xs : List (List ℕ × Slot K V)) (e : List ℕ × Slot K V) (ys : List (List ℕ × Slot K V)) → weight_of_slots (xs ++ e ∷ ys) ≡ e.1.weight + weight_of_slots (xs ++ ys)
   weigh_apart xs e ys =
-      let w : List ℕ × Slot K V → ℕ = λ x. (slot_mark x).weight in
+      let w : List ℕ × Slot K V → ℕ = λ x. (slot_header x).weight in
       let a = sum_by-append w xs (e ∷ ys) in
       let b = sum_by-cons w e ys in
       let c = sum_by-append w xs ys in
@@ -90,14 +90,14 @@ module _ {K V : Type 0} where
 
   module _ (budget share : ℕ) (name : List ℕ) (slot : Slot K V) (es : List (List ℕ × Slot K V)) where
     abbrev pub left : Plan → List (List ℕ × Slot K V)
-    left plan = left_by budget share name slot es plan
+    left plan = slots_left_by budget share name slot es plan
 
     -- Some slots are still ahead, and none of those that were passed is free.
     pub record IsWalk (ahead behind : List (List ℕ × Slot K V)) (plan : Plan) : Type 0 where
       pub apart : left plan ≡ filter (other_than name) ahead ++ behind
       pub distinct : IsDistinct same_name (keys_of (left plan))
-      pub passed : NonePass (is_free slot_mark share slot.owner (left plan)) behind
-      pub room : room_beside slot_mark budget share (name, slot) (left plan) ≡ room_beside slot_mark budget share (name, slot) (remove_entry (same_name name) es)
+      pub passed : NonePass (is_free slot_header share slot.owner (left plan)) behind
+      pub room : others_left_beside slot_header budget share (name, slot) (left plan) ≡ others_left_beside slot_header budget share (name, slot) (remove_entry (same_name name) es)
       pub plan_is : IsPlan slot.weight (left plan) plan
       pub others : AreOthers name plan.names.items
 
@@ -107,14 +107,14 @@ module _ {K V : Type 0} where
           apart = l ∙ remove_filter name es d ∙ sym (append-nil _);
           distinct = subst (λ x. IsDistinct same_name (keys_of x)) (sym (l ∙ remove_filter name es d)) (distinct_filter (other_than name) es d);
           passed = tt;
-          room = ap (room_beside slot_mark budget share (name, slot)) l;
+          room = ap (others_left_beside slot_header budget share (name, slot)) l;
           plan_is = subst (λ x. IsPlan slot.weight x plan) (sym l) p;
           others = subst (AreOthers name) (sym n) tt;
         }
 
     -- what the plan's numbers say of fitting
-    total_is : (plan : Plan) → IsPlan slot.weight (left plan) plan → sum_by (λ e. (slot_mark e).weight) ((name, slot) ∷ left plan) ≡ plan.total
-    total_is plan p = sum_by-cons (λ e. (slot_mark e).weight) (name, slot) (left plan) ∙ sym p.total
+    total_is : (plan : Plan) → IsPlan slot.weight (left plan) plan → sum_by (λ e. (slot_header e).weight) ((name, slot) ∷ left plan) ≡ plan.total
+    total_is plan p = sum_by-cons (λ e. (slot_header e).weight) (name, slot) (left plan) ∙ sym p.total
 
     le_true : (a b : ℕ) → a ≤ b → nat_le a b ≡ true
     le_true a b l = grind (arith, nat_tests)
@@ -126,24 +126,24 @@ module _ {K V : Type 0} where
     and_false true = refl
     and_false false = refl
 
-    pub fits : (plan : Plan) → IsPlan slot.weight (left plan) plan → plan.total ≤ budget → plan.count ≤ entries_max → fits_in slot_mark budget ((name, slot) ∷ left plan) ≡ true
+    pub fits : (plan : Plan) → IsPlan slot.weight (left plan) plan → plan.total ≤ budget → plan.count ≤ most_entries → fits_in slot_header budget ((name, slot) ∷ left plan) ≡ true
     fits plan p s l =
-        ap (λ n. nat_le n budget && nat_le (length ((name, slot) ∷ left plan)) entries_max) (total_is plan p)
-        ∙ ap (λ b. b && nat_le (length ((name, slot) ∷ left plan)) entries_max) (le_true plan.total budget s)
-        ∙ le_true (length ((name, slot) ∷ left plan)) entries_max (omega (arith, l, p.count))
+        ap (λ n. nat_le n budget && nat_le (length ((name, slot) ∷ left plan)) most_entries) (total_is plan p)
+        ∙ ap (λ b. b && nat_le (length ((name, slot) ∷ left plan)) most_entries) (le_true plan.total budget s)
+        ∙ le_true (length ((name, slot) ∷ left plan)) most_entries (omega (arith, l, p.count))
 
-    pub fits_not : (plan : Plan) → IsPlan slot.weight (left plan) plan → (budget < plan.total) ⊎ (entries_max < plan.count) → fits_in slot_mark budget ((name, slot) ∷ left plan) ≡ false
+    pub fits_not : (plan : Plan) → IsPlan slot.weight (left plan) plan → (budget < plan.total) ⊎ (most_entries < plan.count) → fits_in slot_header budget ((name, slot) ∷ left plan) ≡ false
     fits_not plan p (inl h) =
-        ap (λ n. nat_le n budget && nat_le (length ((name, slot) ∷ left plan)) entries_max) (total_is plan p)
-        ∙ ap (λ b. b && nat_le (length ((name, slot) ∷ left plan)) entries_max) (le_false plan.total budget h)
+        ap (λ n. nat_le n budget && nat_le (length ((name, slot) ∷ left plan)) most_entries) (total_is plan p)
+        ∙ ap (λ b. b && nat_le (length ((name, slot) ∷ left plan)) most_entries) (le_false plan.total budget h)
     fits_not plan p (inr h) =
-        ap (λ b. nat_le (sum_by (λ e. (slot_mark e).weight) ((name, slot) ∷ left plan)) budget && b) (le_false (length ((name, slot) ∷ left plan)) entries_max (omega (arith, h, p.count)))
-        ∙ and_false (nat_le (sum_by (λ e. (slot_mark e).weight) ((name, slot) ∷ left plan)) budget)
+        ap (λ b. nat_le (sum_by (λ e. (slot_header e).weight) ((name, slot) ∷ left plan)) budget && b) (le_false (length ((name, slot) ∷ left plan)) most_entries (omega (arith, h, p.count)))
+        ∙ and_false (nat_le (sum_by (λ e. (slot_header e).weight) ((name, slot) ∷ left plan)) budget)
 
     -- where all that is left fits, there is room
-    pub ended : (ahead behind : List (List ℕ × Slot K V)) (plan : Plan) → IsWalk ahead behind plan → plan.total ≤ budget → plan.count ≤ entries_max → HasRoom budget share name slot es plan
+    pub ended : (ahead behind : List (List ℕ × Slot K V)) (plan : Plan) → IsWalk ahead behind plan → plan.total ≤ budget → plan.count ≤ most_entries → MakesRoom budget share name slot es plan
     ended ahead behind plan w s l = record {
-      room = sym w.room ∙ room_full slot_mark budget share (name, slot) (length (left plan)) (left plan) (fits plan w.plan_is s l);
+      room = sym w.room ∙ room_full slot_header budget share (name, slot) (length (left plan)) (left plan) (fits plan w.plan_is s l);
       plan_is = w.plan_is;
       within = s;
       few = l;
@@ -151,11 +151,11 @@ module _ {K V : Type 0} where
     }
 
     -- where it doesn't and none is ahead, there is none
-    pub exhausted : (behind : List (List ℕ × Slot K V)) (plan : Plan) → IsWalk [] behind plan → (budget < plan.total) ⊎ (entries_max < plan.count)
-        → room_beside slot_mark budget share (name, slot) (remove_entry (same_name name) es) ≡ None
+    pub exhausted : (behind : List (List ℕ × Slot K V)) (plan : Plan) → IsWalk [] behind plan → (budget < plan.total) ⊎ (most_entries < plan.count)
+        → others_left_beside slot_header budget share (name, slot) (remove_entry (same_name name) es) ≡ None
     exhausted behind plan w h =
-        sym w.room ∙ room_none slot_mark budget share (name, slot) (length (left plan)) (left plan) (fits_not plan w.plan_is h)
-        (subst (λ x. NonePass (is_free slot_mark share slot.owner (left plan)) x) (sym w.apart) w.passed)
+        sym w.room ∙ room_none slot_header budget share (name, slot) (length (left plan)) (left plan) (fits_not plan w.plan_is h)
+        (subst (λ x. NonePass (is_free slot_header share slot.owner (left plan)) x) (sym w.apart) w.passed)
 
     module _ (ahead behind : List (List ℕ × Slot K V)) (e : List ℕ × Slot K V) (plan : Plan) (w : IsWalk (ahead ++ e ∷ []) behind plan) where
       one_less : (b : Bool) → same_name name e.0 ≡ b → left plan ≡ (filter (other_than name) ahead ++ cond (not b) (e ∷ []) []) ++ behind
@@ -174,7 +174,7 @@ module _ {K V : Type 0} where
       counted i =
           let a = ap weight_of_slots (here i) ∙ weigh_apart (filter (other_than name) ahead) e behind in
           let n = ap length (here i) in
-          let o = w.plan_is.owned_weights e.1.owner ∙ ap (owner_weight slot_mark e.1.owner) (here i) ∙ owned_apart slot_mark e.1.owner (filter (other_than name) ahead) e behind ∙ ap (λ b. cond b e.1.weight 0 + owner_weight slot_mark e.1.owner (filter (other_than name) ahead ++ behind)) (nat_refl e.1.owner) in
+          let o = w.plan_is.owned_weights e.1.owner ∙ ap (owner_weight slot_header e.1.owner) (here i) ∙ owned_apart slot_header e.1.owner (filter (other_than name) ahead) e behind ∙ ap (λ b. cond b e.1.weight 0 + owner_weight slot_header e.1.owner (filter (other_than name) ahead ++ behind)) (nat_refl e.1.owner) in
           (omega (arith, a, w.plan_is.total), omega (arith, w.plan_is.count), omega (arith, o))
 
       -- that of the new one's name went before
@@ -189,7 +189,7 @@ module _ {K V : Type 0} where
       }
 
       -- one that isn't free stays
-      pub stayed : same_name name e.0 ≡ false → is_free slot_mark share slot.owner (left plan) e ≡ false → IsWalk ahead (e ∷ behind) plan
+      pub stayed : same_name name e.0 ≡ false → is_free slot_header share slot.owner (left plan) e ≡ false → IsWalk ahead (e ∷ behind) plan
       stayed i f = record {
         apart = here i;
         distinct = w.distinct;
@@ -200,26 +200,26 @@ module _ {K V : Type 0} where
       }
 
       -- one that is free goes
-      pub gone : same_name name e.0 ≡ false → is_free slot_mark share slot.owner (left plan) e ≡ true → (budget < plan.total) ⊎ (entries_max < plan.count)
+      pub gone : same_name name e.0 ≡ false → is_free slot_header share slot.owner (left plan) e ≡ true → (budget < plan.total) ⊎ (most_entries < plan.count)
           → (plan' : Plan) → IsWithout e.0 e.1.owner e.1.weight plan plan' → IsWalk ahead behind plan'
       gone i f h plan' g =
           let xs = filter (other_than name) ahead in
           let d = remove_apart xs e behind (subst (λ x. IsDistinct same_name (keys_of x)) (here i) w.distinct) in
           let l : left plan' ≡ xs ++ behind =
           ap (λ ns. pairs_without ns (remove_entry (same_name name) es)) g.names ∙ removed_more plan.names.items e.0 (remove_entry (same_name name) es) ∙ ap (remove_entry (same_name e.0)) (here i) ∙ d.0 in
-          let less : (o : ℕ) → owner_weight slot_mark o (left plan) ≡ cond (nat_eq e.1.owner o) e.1.weight 0 + owner_weight slot_mark o (left plan') =
-          λ o. ap (owner_weight slot_mark o) (here i) ∙ owned_apart slot_mark o xs e behind ∙ ap (λ x. cond (nat_eq e.1.owner o) e.1.weight 0 + owner_weight slot_mark o x) (sym l) in
+          let less : (o : ℕ) → owner_weight slot_header o (left plan) ≡ cond (nat_eq e.1.owner o) e.1.weight 0 + owner_weight slot_header o (left plan') =
+          λ o. ap (owner_weight slot_header o) (here i) ∙ owned_apart slot_header o xs e behind ∙ ap (λ x. cond (nat_eq e.1.owner o) e.1.weight 0 + owner_weight slot_header o x) (sym l) in
           let weighs : weight_of_slots (left plan) ≡ e.1.weight + weight_of_slots (left plan') =
           ap weight_of_slots (here i) ∙ weigh_apart xs e behind ∙ ap (λ x. e.1.weight + weight_of_slots x) (sym l) in
           let longer : length (left plan) ≡ 1 + length (left plan') = ap length (here i) ∙ omega (arith, length-append xs (e ∷ behind), length-append xs behind, ap length l) in record {
             apart = l;
             distinct = subst (λ x. IsDistinct same_name (keys_of x)) (sym l) d.1;
-            passed = map_all (λ x k. still_unfree slot_mark share slot.owner (left plan) (left plan') x (λ o. omega (arith, less o)) k) behind w.passed;
+            passed = map_all (λ x k. still_unfree slot_header share slot.owner (left plan) (left plan') x (λ o. omega (arith, less o)) k) behind w.passed;
             room =
-                ap (room_beside slot_mark budget share (name, slot)) l
-                ∙ sym (room_drop slot_mark budget share (name, slot) xs e behind (subst (λ x. fits_in slot_mark budget ((name, slot) ∷ x) ≡ false) (here i) (fits_not plan w.plan_is h)) (subst (λ x. is_free slot_mark share slot.owner x e ≡ true) (here i) f)
-                (subst (λ x. NonePass (is_free slot_mark share slot.owner x) behind) (here i) w.passed))
-                ∙ ap (room_beside slot_mark budget share (name, slot)) (sym (here i)) ∙ w.room;
+                ap (others_left_beside slot_header budget share (name, slot)) l
+                ∙ sym (room_drop slot_header budget share (name, slot) xs e behind (subst (λ x. fits_in slot_header budget ((name, slot) ∷ x) ≡ false) (here i) (fits_not plan w.plan_is h)) (subst (λ x. is_free slot_header share slot.owner x e ≡ true) (here i) f)
+                (subst (λ x. NonePass (is_free slot_header share slot.owner x) behind) (here i) w.passed))
+                ∙ ap (others_left_beside slot_header budget share (name, slot)) (sym (here i)) ∙ w.room;
             plan_is = record {
               total = omega (arith, g.total, w.plan_is.total, weighs);
               count = omega (arith, g.count, w.plan_is.count, longer);
@@ -231,11 +231,11 @@ module _ {K V : Type 0} where
             more [] a = (other_way name e.0 i, tt)
             more (n ∷ ns) a = (a.0, more ns a.1)
 
-    frees_is : (e : List ℕ × Slot K V) (plan : Plan) → IsPlan slot.weight (left plan) plan → frees_by slot.owner share e.1.owner plan ≡ is_free slot_mark share slot.owner (left plan) e
+    frees_is : (e : List ℕ × Slot K V) (plan : Plan) → IsPlan slot.weight (left plan) plan → frees_by slot.owner share e.1.owner plan ≡ is_free slot_header share slot.owner (left plan) e
     frees_is e plan p = ap (λ n. nat_eq e.1.owner slot.owner || (nat_eq share 0 || nat_lt share n)) (p.owned_weights e.1.owner)
 
     -- one slot further
-    pub walked : (rest ahead behind : List (List ℕ × Slot K V)) (e : List ℕ × Slot K V) (plan plan' : Plan) → IsWalk rest behind plan → rest ≡ ahead ++ e ∷ [] → (budget < plan.total) ⊎ (entries_max < plan.count)
+    pub walked : (rest ahead behind : List (List ℕ × Slot K V)) (e : List ℕ × Slot K V) (plan plan' : Plan) → IsWalk rest behind plan → rest ≡ ahead ++ e ∷ [] → (budget < plan.total) ⊎ (most_entries < plan.count)
         → (same_name name e.0 ≡ false → frees_by slot.owner share e.1.owner plan ≡ true → IsWithout e.0 e.1.owner e.1.weight plan plan')
         → (same_name name e.0 ≡ false → frees_by slot.owner share e.1.owner plan ≡ false → plan' ≡ plan)
         → (same_name name e.0 ≡ true → plan' ≡ plan)
@@ -252,11 +252,11 @@ module _ {K V : Type 0} where
         → (e.1.weight ≤ plan.total) × (0 < plan.count) × (e.1.weight ≤ weight_at e.1.owner plan.owners.items)
     walk_counted rest ahead behind e plan walk r i = counted ahead behind e plan (subst (λ x. IsWalk x behind plan) r walk) i
 
-    owned_within : (o : ℕ) (xs : List (List ℕ × Slot K V)) → owner_weight slot_mark o xs ≤ weight_of_slots xs
+    owned_within : (o : ℕ) (xs : List (List ℕ × Slot K V)) → owner_weight slot_header o xs ≤ weight_of_slots xs
     owned_within o [] = omega arith
     owned_within o (x ∷ xs) =
-        let a = sum_by-cons (λ e. cond (nat_eq (slot_mark e).owner o) (slot_mark e).weight 0) x xs in
-        let b = sum_by-cons (λ e. (slot_mark e).weight) x xs in
+        let a = sum_by-cons (λ e. cond (nat_eq (slot_header e).owner o) (slot_header e).weight 0) x xs in
+        let b = sum_by-cons (λ e. (slot_header e).weight) x xs in
         let c = least (nat_eq x.1.owner o) in
         omega (arith, a, b, c, owned_within o xs) where
           least : (t : Bool) → cond t x.1.weight 0 ≤ x.1.weight
@@ -264,16 +264,16 @@ module _ {K V : Type 0} where
           least false = omega arith
 
     -- the caller's weight has room for the new one
-    pub room_owned : (plan : Plan) → HasRoom budget share name slot es plan → weight_at slot.owner plan.owners.items + slot.weight ≤ budget
+    pub room_owned : (plan : Plan) → MakesRoom budget share name slot es plan → weight_at slot.owner plan.owners.items + slot.weight ≤ budget
     room_owned plan r =
         let o = r.plan_is.owned_weights slot.owner in
         omega (arith, o, owned_within slot.owner (left plan), r.plan_is.total, r.within)
 
     abbrev stands : Option (List ℕ × Slot K V) → Bool
-    stands o = option_map_or (λ e. not (is_free slot_mark share slot.owner es e)) o false
+    stands o = option_map_or (λ e. not (is_free slot_header share slot.owner es e)) o false
 
     abbrev pub first_named : Option (List ℕ × Slot K V)
-    first_named = first_with (has_name slot_mark name) es
+    first_named = first_with (has_name slot_header name) es
 
     flip : (b : Bool) → not b ≡ true → b ≡ false
     flip true h = sym h
@@ -283,14 +283,14 @@ module _ {K V : Type 0} where
     flop true h = refl
     flop false h = sym h
 
-    pub planned : (plan plan' : Plan) → HasRoom budget share name slot es plan → not (stands first_named) ≡ true → plan'.names ≡ plan.names → plan'.total ≡ plan.total → plan'.count ≡ plan.count
+    pub planned : (plan plan' : Plan) → MakesRoom budget share name slot es plan → not (stands first_named) ≡ true → plan'.names ≡ plan.names → plan'.total ≡ plan.total → plan'.count ≡ plan.count
         → ((o : ℕ) → weight_at o plan'.owners.items ≡ weight_at o plan.owners.items + cond (nat_eq slot.owner o) slot.weight 0)
         → IsPlanFor budget share name slot es plan'
     planned plan plan' r way n t c o =
         let l : left plan' ≡ left plan = ap (λ ns. pairs_without ns.items (remove_entry (same_name name) es)) n in record {
           pushes =
-              ap (λ b. cond b None (option_map (λ rest. (name, slot) ∷ rest) (room_beside slot_mark budget share (name, slot) (without_first (has_name slot_mark name) es)))) (flip (stands first_named) way)
-              ∙ ap (λ x. option_map (λ rest. (name, slot) ∷ rest) (room_beside slot_mark budget share (name, slot) x)) (sym (remove_without (same_name name) es))
+              ap (λ b. cond b None (option_map (λ rest. (name, slot) ∷ rest) (others_left_beside slot_header budget share (name, slot) (without_first (has_name slot_header name) es)))) (flip (stands first_named) way)
+              ∙ ap (λ x. option_map (λ rest. (name, slot) ∷ rest) (others_left_beside slot_header budget share (name, slot) x)) (sym (remove_without (same_name name) es))
               ∙ ap (option_map (λ rest. (name, slot) ∷ rest)) r.room ∙ ap (λ x. Some ((name, slot) ∷ x)) (sym l);
           weighs = t ∙ sym (total_is plan r.plan_is) ∙ ap (λ x. weight_of_slots ((name, slot) ∷ x)) (sym l);
           within = omega (arith, t, r.within);
@@ -298,17 +298,17 @@ module _ {K V : Type 0} where
           owned_weights = λ k.
               let a = o k in
               let b = r.plan_is.owned_weights k in
-              let d = sum_by-cons (λ e. cond (nat_eq (slot_mark e).owner k) (slot_mark e).weight 0) (name, slot) (left plan') in
-              let f = ap (owner_weight slot_mark k) l in
+              let d = sum_by-cons (λ e. cond (nat_eq (slot_header e).owner k) (slot_header e).weight 0) (name, slot) (left plan') in
+              let f = ap (owner_weight slot_header k) l in
               omega (arith, a, b, d, f);
           others = subst (λ ns. AreOthers name ns.items) (sym n) r.others;
         }
 
-    pub no_way : not (stands first_named) ≡ false → entries_after_push slot_mark budget share (name, slot) es ≡ None
-    no_way h = ap (λ b. cond b None (option_map (λ rest. (name, slot) ∷ rest) (room_beside slot_mark budget share (name, slot) (without_first (has_name slot_mark name) es)))) (flop (stands first_named) h)
+    pub no_way : not (stands first_named) ≡ false → entries_after_push slot_header budget share (name, slot) es ≡ None
+    no_way h = ap (λ b. cond b None (option_map (λ rest. (name, slot) ∷ rest) (others_left_beside slot_header budget share (name, slot) (without_first (has_name slot_header name) es)))) (flop (stands first_named) h)
 
-    pub no_room : not (stands first_named) ≡ true → room_beside slot_mark budget share (name, slot) (remove_entry (same_name name) es) ≡ None → entries_after_push slot_mark budget share (name, slot) es ≡ None
+    pub no_room : not (stands first_named) ≡ true → others_left_beside slot_header budget share (name, slot) (remove_entry (same_name name) es) ≡ None → entries_after_push slot_header budget share (name, slot) es ≡ None
     no_room way h =
-        ap (λ b. cond b None (option_map (λ rest. (name, slot) ∷ rest) (room_beside slot_mark budget share (name, slot) (without_first (has_name slot_mark name) es)))) (flip (stands first_named) way)
-        ∙ ap (λ x. option_map (λ rest. (name, slot) ∷ rest) (room_beside slot_mark budget share (name, slot) x)) (sym (remove_without (same_name name) es))
+        ap (λ b. cond b None (option_map (λ rest. (name, slot) ∷ rest) (others_left_beside slot_header budget share (name, slot) (without_first (has_name slot_header name) es)))) (flip (stands first_named) way)
+        ∙ ap (λ x. option_map (λ rest. (name, slot) ∷ rest) (others_left_beside slot_header budget share (name, slot) x)) (sym (remove_without (same_name name) es))
         ∙ ap (option_map (λ rest. (name, slot) ∷ rest)) h

@@ -7,7 +7,7 @@ use Rattle.std.proofs.lemmas.Option.{same_Some}
 use Rattle.std.proofs.lemmas.Bool.Decides.{nat_tests}
 use Rattle.memo_core.specs.Memo.{first_with, without_first, same_name, is_free, owner_weight}
 use Rattle.memo_core.specs.Fields.{weight_at}
-use Rattle.memo_core.specs.Plans.{slot_mark, IsPlan, frees_by}
+use Rattle.memo_core.specs.Plans.{slot_header, IsPlan, frees_by}
 use Rattle.memo_core.specs.declared.plan.Plan.{Plan}
 use Rattle.memo_core.specs.declared.slots.Slot.{Slot}
 use Rattle.memo_core.proofs.Hits.{none_some}
@@ -47,7 +47,7 @@ module _ {K V : Type 0} (name : List ℕ) (es : List (List ℕ × Slot K V)) whe
 
   -- whether there is none of this name that isn't free
   abbrev way : (share caller : ℕ) → Option (List ℕ × Slot K V) → Bool
-  way share caller o = not (option_map_or (λ e. not (is_free slot_mark share caller es e)) o false)
+  way share caller o = not (option_map_or (λ e. not (is_free slot_header share caller es e)) o false)
 
   pub way_none : (share caller : ℕ) → lookup (same_name name) es ≡ None → true ≡ way share caller (first_with N es)
   way_none share caller h = ap (way share caller) (sym (none_named (same_name name) es h))
@@ -56,17 +56,17 @@ module _ {K V : Type 0} (name : List ℕ) (es : List (List ℕ × Slot K V)) whe
   way_some share caller weight slot plan b h p f =
       let e = one_named (same_name name) es slot h in
       f ∙ ap (λ n. nat_eq slot.owner caller || (nat_eq share 0 || nat_lt share n)) (p.owned_weights slot.owner)
-      ∙ ap (λ (s : Slot K V). nat_eq s.owner caller || (nat_eq share 0 || nat_lt share (owner_weight slot_mark s.owner es))) (sym e.2)
-      ∙ not_not (is_free slot_mark share caller es e.0) ∙ ap (way share caller) (sym e.1)
+      ∙ ap (λ (s : Slot K V). nat_eq s.owner caller || (nat_eq share 0 || nat_lt share (owner_weight slot_header s.owner es))) (sym e.2)
+      ∙ not_not (is_free slot_header share caller es e.0) ∙ ap (way share caller) (sym e.1)
 
   nat_refl : (n : ℕ) → nat_eq n n ≡ true
   nat_refl n = grind (arith, nat_tests)
 
   abbrev w : List ℕ × Slot K V → ℕ
-  w e = (slot_mark e).weight
+  w e = (slot_header e).weight
 
   abbrev wo : ℕ → List ℕ × Slot K V → ℕ
-  wo o e = cond (nat_eq (slot_mark e).owner o) (slot_mark e).weight 0
+  wo o e = cond (nat_eq (slot_header e).owner o) (slot_header e).weight 0
 
   abbrev rest : List (List ℕ × Slot K V)
   rest = without_first N es

@@ -2,7 +2,7 @@
 use Rattle.std.specs.Prelude.{ℕ, suc, ◌^◌, ◌-◌, Bool, true, false, List, [], ◌∷◌, nat_eq, map, Option, Some, None, option_map, is_some, if◌then◌else◌}
 use Rattle.std.specs.Arc.{arc_value}
 use Rattle.std.specs.Map.{lookup}
-use Rattle.memo_core.specs.Memo.{Entry, Item, Answer, Probe_answer, Fill_answer, same_name}
+use Rattle.memo_core.specs.Memo.{Entry, JournalRecord, Answer, ProbeAnswer, FillAnswer, same_name}
 use Rattle.memo_core.specs.declared.slots.Slot.{Slot}
 use Rattle.memo_core.specs.declared.owners.OwnerWeight.{OwnerWeight}
 use Rattle.memo_core.specs.declared.journal.JournalItem.{JournalItem}
@@ -13,8 +13,8 @@ use Rattle.memo_core.specs.declared.memo.Probe.TheVariants.{Hit, Miss}
 
 -- what an item of the journal says
 abbrev pub answer_of : Did → Answer
-answer_of (Probed hit) = Probe_answer hit
-answer_of (Filled weight kept evicted) = Fill_answer weight kept evicted
+answer_of (Probed hit) = ProbeAnswer hit
+answer_of (Filled weight kept evicted) = FillAnswer weight kept evicted
 
 -- what the rows say that an owner's entries weigh: the first row counts
 abbrev pub weight_at : ℕ → List OwnerWeight → ℕ
@@ -32,34 +32,34 @@ no_bound = 2 ^ 64 - 1
 
 module _ {K V : Type 0} where
   -- the entry that a slot of the cache stands for
-  abbrev pub entry_of : List ℕ × Slot K V → Entry K V
-  entry_of e = record {
-    mark = record { name = e.0; key = arc_value e.1.key; weight = e.1.weight; owner = e.1.owner };
+  abbrev pub entry_of_slot : List ℕ × Slot K V → Entry K V
+  entry_of_slot e = record {
+    header = record { name = e.0; key = arc_value e.1.key; weight = e.1.weight; owner = e.1.owner };
     value = arc_value e.1.value;
   }
 
   -- the entries that the cache stands for
   abbrev pub entries_of : List (List ℕ × Slot K V) → List (Entry K V)
-  entries_of es = map entry_of es
+  entries_of es = map entry_of_slot es
 
 module _ {K : Type 0} where
   -- the item of the journal as contracts see it
-  abbrev pub item_of : JournalItem K → Item K
-  item_of i = record { caller = i.caller; key = arc_value i.key; answer = answer_of i.did }
+  abbrev pub record_of_item : JournalItem K → JournalRecord K
+  record_of_item i = record { caller = i.caller; key = arc_value i.key; answer = answer_of i.did }
 
   -- the journal as contracts see it
-  abbrev pub items_of : List (JournalItem K) → List (Item K)
-  items_of is = map item_of is
+  abbrev pub records_of : List (JournalItem K) → List (JournalRecord K)
+  records_of is = map record_of_item is
 
 module _ {K V : Type 0} (same : K → K → Bool) where
   -- the value of a slot, where its key is this one
-  abbrev pub value_at : K → Option (Slot K V) → Option V
-  value_at key None = None
-  value_at key (Some slot) = if same (arc_value slot.key) key then Some (arc_value slot.value) else None
+  abbrev pub value_with_key : K → Option (Slot K V) → Option V
+  value_with_key key None = None
+  value_with_key key (Some slot) = if same (arc_value slot.key) key then Some (arc_value slot.value) else None
 
   -- whether the slot of this name has this key
   abbrev pub has_at : List ℕ → K → List (List ℕ × Slot K V) → Bool
-  has_at name key es = is_some (value_at key (lookup (same_name name) es))
+  has_at name key es = is_some (value_with_key key (lookup (same_name name) es))
 
 module _ {V : Type 0} where
   -- the value of a hit

@@ -1,7 +1,7 @@
 -- What contracts see of a memo, and its steps.
 use Rattle.std.specs.Prelude.{◌≡◌, ℕ, ◌-◌, ◌≤◌, Bool, List, [], ◌∷◌, ◌++◌, map, length, sum_by, is_some}
 use Rattle.std.specs.List.{AllByRecursion, IsDistinct}
-use Rattle.memo_core.specs.Memo.{Entry, Item, Mark, Answer, item, same_name, Probe_answer, Fill_answer, brought_to_front, holds, has_key, entries_after_offer, entries_to_place, DropsFrom, entries_after_fill, fill_answer, replay, IsLegal, entries_max, mark_of}
+use Rattle.memo_core.specs.Memo.{Entry, JournalRecord, EntryHeader, Answer, journal_record, same_name, ProbeAnswer, FillAnswer, brought_to_front, has_entry_with, has_key, entries_after_offer, entries_to_place, DropsFrom, entries_after_fill, fill_answer, replay, IsLegal, most_entries, header_of_fill}
 
 -- what contracts see of a memo
 pub record MemoView (K V : Type 0) : Type 0 where
@@ -11,66 +11,64 @@ pub record MemoView (K V : Type 0) : Type 0 where
   pub budget : ℕ
   -- what each owner's entries may weigh together and be safe from other callers, or 0
   pub share : ℕ
-  pub journal : List (Item K)
+  pub journal : List (JournalRecord K)
   -- for how many more items the journal has room
   pub spare : ℕ
 
 module _ {K V : Type 0} where
   -- an entry without its value
-  abbrev pub mark_in : Entry K V → Mark K
-  mark_in e = e.mark
+  abbrev pub header_in : Entry K V → EntryHeader K
+  header_in e = e.header
 
   -- the entries without their values
-  abbrev pub marks : List (Entry K V) → List (Mark K)
-  marks es = map mark_in es
+  abbrev pub headers_in : List (Entry K V) → List (EntryHeader K)
+  headers_in es = map header_in es
 
   -- the entry that a fill offers
   abbrev pub new_entry : (K → List ℕ) → ℕ → K → V → ℕ → Entry K V
-  new_entry name_of caller key value weight = record { mark = mark_of name_of caller key weight; value = value }
+  new_entry name_of caller key value weight = record { header = header_of_fill name_of caller key weight; value = value }
 
   -- what a call may say of a key: a fill offers the weight of some value that fits the key
   abbrev pub MaySay : (K → V → Type 0) → (V → ℕ) → K → Answer → Type 0
-  MaySay fits weighs key (Probe_answer hit) = Unit {0}
-  MaySay fits weighs key (Fill_answer weight kept evicted) = (value : V) × fits key value × (weight ≡ weighs value)
+  MaySay fits weighs key (ProbeAnswer hit) = Unit {0}
+  MaySay fits weighs key (FillAnswer weight kept evicted) = (value : V) × fits key value × (weight ≡ weighs value)
 
   module _ (same : K → K → Bool) (name_of : K → List ℕ) where
-    -- what every memo keeps: held values fit their keys and weigh what their entries say; names are
-    -- those of the keys, and distinct; the weights sum to at most the budget, and there are not too many
-    -- entries; the journal is legal, and its replay is the list of entries; and what its fills offered,
-    -- kept or not, weighed what some value weighs that fits the key
+    -- what every memo keeps: entries fit their headers, with distinct names and within the limits; the journal is legal,
+    -- and its replay is the list of entries; each fill offered the weight of some value that fits the key
     pub record IsSound (fits : K → V → Type 0) (weighs : V → ℕ) (core : MemoView K V) : Type 0 where
-      pub fit : AllByRecursion (λ e. fits e.mark.key e.value) core.entries
-      pub weighed : AllByRecursion (λ e. e.mark.weight ≡ weighs e.value) core.entries
-      pub named : AllByRecursion (λ e. e.mark.name ≡ name_of e.mark.key) core.entries
-      pub distinct : IsDistinct same_name (map (λ e. e.mark.name) core.entries)
-      pub within : sum_by (λ e. e.mark.weight) core.entries ≤ core.budget
-      pub few : length core.entries ≤ entries_max
+      pub fit : AllByRecursion (λ e. fits e.header.key e.value) core.entries
+      pub weighed : AllByRecursion (λ e. e.header.weight ≡ weighs e.value) core.entries
+      pub named : AllByRecursion (λ e. e.header.name ≡ name_of e.header.key) core.entries
+      pub distinct : IsDistinct same_name (map (λ e. e.header.name) core.entries)
+      pub within : sum_by (λ e. e.header.weight) core.entries ≤ core.budget
+      pub few : length core.entries ≤ most_entries
       pub legal : IsLegal same name_of core.budget core.share [] core.journal
-      pub replayed : marks core.entries ≡ replay same name_of core.budget core.share [] core.journal
+      pub replayed : headers_in core.entries ≡ replay same name_of core.budget core.share [] core.journal
       pub offers : AllByRecursion (λ i. MaySay fits weighs i.key i.answer) core.journal
 
     -- whether a fill is kept
-    abbrev pub keeps : ℕ → K → V → ℕ → MemoView K V → Bool
-    keeps caller key value weight core =
-        is_some (entries_after_offer same mark_in core.budget core.share (new_entry name_of caller key value weight) core.entries)
+    abbrev pub is_fill_kept : ℕ → K → V → ℕ → MemoView K V → Bool
+    is_fill_kept caller key value weight core =
+        is_some (entries_after_offer same header_in core.budget core.share (new_entry name_of caller key value weight) core.entries)
 
     -- A fill drops exactly what it finds no place for: what it has to place are, in some order, the
     -- entries that stand there after it and those that it dropped.
     abbrev pub DropsTheRest : ℕ → K → V → ℕ → MemoView K V → MemoView K V → Type 0
     DropsTheRest caller key value weight core core' =
         DropsFrom
-        (entries_to_place same mark_in core.budget core.share (new_entry name_of caller key value weight) core.entries)
+        (entries_to_place same header_in core.budget core.share (new_entry name_of caller key value weight) core.entries)
         core.dropped core'.dropped core'.entries
 
     -- the memo after a fill that found memory, but for the entries that it dropped
     abbrev pub after_fill : ℕ → K → V → ℕ → MemoView K V → MemoView K V
     after_fill caller key value weight core = record {
-      entries = entries_after_fill same mark_in core.budget core.share (new_entry name_of caller key value weight) core.entries;
+      entries = entries_after_fill same header_in core.budget core.share (new_entry name_of caller key value weight) core.entries;
       dropped = core.dropped;
       budget = core.budget;
       share = core.share;
-      journal = core.journal ++ item caller key
-          (fill_answer same mark_in core.budget core.share (new_entry name_of caller key value weight) core.entries) ∷ [];
+      journal = core.journal ++ journal_record caller key
+          (fill_answer same header_in core.budget core.share (new_entry name_of caller key value weight) core.entries) ∷ [];
       spare = core.spare - 1;
     }
 
@@ -78,10 +76,10 @@ module _ {K V : Type 0} where
     -- the memo after a probe that found memory
     abbrev pub after_probe : ℕ → K → MemoView K V → MemoView K V
     after_probe caller key core = record {
-      entries = brought_to_front (has_key same mark_in key) core.entries;
+      entries = brought_to_front (has_key same header_in key) core.entries;
       dropped = core.dropped;
       budget = core.budget;
       share = core.share;
-      journal = core.journal ++ item caller key (Probe_answer (holds same mark_in key core.entries)) ∷ [];
+      journal = core.journal ++ journal_record caller key (ProbeAnswer (has_entry_with same header_in key core.entries)) ∷ [];
       spare = core.spare - 1;
     }

@@ -42,7 +42,7 @@ impl<K, V> DroppedEntries<K, V> {
     /// The key of one of them.
     pub fn key(&self, place: usize) -> &Arc<K>
         requires { place < length self.now }
-        ensures { option_map (λ e. e.mark.key) (slice_get self.now place) ≡
+        ensures { option_map (λ e. e.header.key) (slice_get self.now place) ≡
             Some (arc_value result.now) }
     {
         &self.slots[place].1.key

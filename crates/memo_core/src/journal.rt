@@ -1,8 +1,8 @@
 ghost use Rattle.std.specs.Prelude.{◌≡◌, ℕ, ◌+◌, List, [], ◌∷◌, ◌++◌, is_some};
 ghost use Rattle.std.specs.Option.{unwrap_or};
 ghost use Rattle.std.specs.Arc.{arc_value};
-ghost use Rattle.memo_core.specs.Memo.{Item, Answer, item, Probe_answer, Fill_answer, count_in};
-ghost use Rattle.memo_core.specs.Fields.{item_of};
+ghost use Rattle.memo_core.specs.Memo.{JournalRecord, Answer, journal_record, ProbeAnswer, FillAnswer, count_in};
+ghost use Rattle.memo_core.specs.Fields.{record_of_item};
 
 use std::sync::Arc;
 
@@ -29,18 +29,18 @@ pub struct JournalItem<K> {
     pub did: Did,
 }
 
-/// The item of a probe.
+/// The journal's record of a probe.
 pub fn probe_item<K>(caller: u32, key: Arc<K>, hit: bool) -> JournalItem<K>
-    ensures { item_of result ≡ item caller (arc_value key) (Probe_answer hit) }
+    ensures { record_of_item result ≡ journal_record caller (arc_value key) (ProbeAnswer hit) }
 {
     let did = Did::Probed { hit };
     JournalItem { caller, key, did }
 }
 
-/// The item of a fill that was kept and dropped so many entries, or was not kept.
+/// The journal's record of a fill that was kept and dropped so many entries, or was not kept.
 pub fn fill_item<K>(caller: u32, key: Arc<K>, weight: u64, offered: Option<u32>) -> JournalItem<K>
-    ensures { item_of result ≡ item caller (arc_value key)
-        (Fill_answer weight (is_some offered) (unwrap_or offered 0)) }
+    ensures { record_of_item result ≡ journal_record caller (arc_value key)
+        (FillAnswer weight (is_some offered) (unwrap_or offered 0)) }
 {
     let did = Did::Filled {
         weight,
@@ -50,10 +50,10 @@ pub fn fill_item<K>(caller: u32, key: Arc<K>, weight: u64, offered: Option<u32>)
     JournalItem { caller, key, did }
 }
 
-/// Every count over a journal, whatever it counts by, grows with one item more by what that item
-/// counts.
+/// Every count over a journal, whatever it counts by, grows with one record more by what that
+/// record counts.
 #[tactic(auto, using(crate::proofs::Journals::count_more))]
 pub fn counts_one_more<K: Drop>()
-    ensures { (by : Answer → ℕ) → (items : List (Item K)) → (more : Item K) →
+    ensures { (by : Answer → ℕ) → (items : List (JournalRecord K)) → (more : JournalRecord K) →
         count_in by (items ++ more ∷ []) ≡ count_in by items + by more.answer }
 {}

@@ -57,37 +57,38 @@ impl<F: Fit, N: Namer<F::Key>> Model for MemoCore<F, N> {
 
     ghost Value = { MemoView F.Key F.Value };
 
-    ghost use Rattle.memo_core.specs.Fields.{entries_of, items_of};
-    ghost use Rattle.memo_core.specs.Plans.{IsKept};
+    ghost use Rattle.memo_core.specs.Fields.{entries_of, records_of};
+    ghost use Rattle.memo_core.specs.Plans.{ShelfMatchesJournal};
 
     ghost view = { λ m. record {
       entries = entries_of m.shelf.cache.entries;
       dropped = entries_of m.gone.items;
       budget = m.limits.budget;
       share = m.limits.share;
-      journal = items_of m.journal.items;
+      journal = records_of m.journal.items;
       spare = vec_capacity m.journal - vec_len m.journal;
     } };
 
-    ghost invariant = { λ m. IsKept F.same_key N.name_of F.fits F.weighs m.shelf m.evicted (record {
-      entries = entries_of m.shelf.cache.entries;
-      dropped = entries_of m.gone.items;
-      budget = m.limits.budget;
-      share = m.limits.share;
-      journal = items_of m.journal.items;
-      spare = vec_capacity m.journal - vec_len m.journal;
-    }) };
+    ghost invariant = { λ m. ShelfMatchesJournal F.same_key N.name_of F.fits F.weighs m.shelf
+        m.evicted (record {
+          entries = entries_of m.shelf.cache.entries;
+          dropped = entries_of m.gone.items;
+          budget = m.limits.budget;
+          share = m.limits.share;
+          journal = records_of m.journal.items;
+          spare = vec_capacity m.journal - vec_len m.journal;
+        }) };
 }
 
 impl<F: Fit, N: Namer<F::Key>> MemoCore<F, N> {
     ghost use Rattle.std.specs.Prelude.{◌≡◌, ◌≢◌, ℕ, ◌≤◌, ◌<◌, [], ◌∷◌, ◌++◌, IfOk, OnOk, OnErr};
     ghost use Rattle.std.specs.Prelude.{option_map, IfSome, IfNone, sum_by, true};
     ghost use Rattle.std.specs.Arc.{arc_value};
-    ghost use Rattle.memo_core.specs.Views.{IsSound, after_probe, mark_in};
+    ghost use Rattle.memo_core.specs.Views.{IsSound, after_probe, header_in};
     ghost use Rattle.memo_core.specs.Fills.{IsFilled, TellsIfKept, FillsBy};
-    ghost use Rattle.memo_core.specs.Memo.{first_with, has_key, item, owner_weight, KeepsShares};
-    ghost use Rattle.memo_core.specs.Memo.{StandIn, Probe_answer, evicted_in};
-    ghost use Rattle.memo_core.specs.Fields.{items_of};
+    ghost use Rattle.memo_core.specs.Memo.{first_with, has_key, journal_record, owner_weight, KeepsShares};
+    ghost use Rattle.memo_core.specs.Memo.{StandIn, ProbeAnswer, evicted_count};
+    ghost use Rattle.memo_core.specs.Fields.{records_of};
 
     /// A memo without entries, whose journal is empty.
     pub fn new(alloc: Global, fit: F, namer: N, budget: u64, share: u64) -> Result<Self, NoMemory>
@@ -110,7 +111,7 @@ impl<F: Fit, N: Namer<F::Key>> MemoCore<F, N> {
         })
     }
 
-    /// Makes room in the journal for one item more. The memory is the journal's own.
+    /// Makes room in the journal for one record more. The memory is the journal's own.
     pub fn room(&mut self, _alloc: Global) -> Result<(), NoMemory>
         ensures room { OnOk result (0 < self.new.spare) }
         ensures entries { self.new.entries ≡ self.old.entries }
@@ -126,7 +127,7 @@ impl<F: Fit, N: Namer<F::Key>> MemoCore<F, N> {
 
     /// The sum of the weights of the entries, which is at most the budget.
     pub fn weight(&self) -> u64
-        ensures is { result ≡ sum_by (λ e. e.mark.weight) self.now.entries }
+        ensures is { result ≡ sum_by (λ e. e.header.weight) self.now.entries }
         ensures within { result ≤ self.now.budget }
         ensures sound { IsSound F.same_key N.name_of F.fits F.weighs self.now }
     {
@@ -135,14 +136,14 @@ impl<F: Fit, N: Namer<F::Key>> MemoCore<F, N> {
 
     /// The sum of the weights of this owner's entries.
     pub fn weight_of(&self, owner: u32) -> u64
-        ensures { result ≡ owner_weight mark_in owner self.now.entries }
+        ensures { result ≡ owner_weight header_in owner self.now.entries }
     {
         weight_in(self.shelf.owners.as_slice(), owner)
     }
 
     /// How many entries were dropped so far.
     pub fn evicted(&self) -> u64
-        ensures is { result ≡ evicted_in self.now.journal }
+        ensures is { result ≡ evicted_count self.now.journal }
     {
         self.evicted
     }
@@ -150,7 +151,7 @@ impl<F: Fit, N: Namer<F::Key>> MemoCore<F, N> {
     /// The calls so far, each with what it said. With a share above 0, at each of them the entries of
     /// another caller that weigh at most the share together all stand after it.
     pub fn journal(&self) -> &[JournalItem<F::Key>]
-        ensures is { items_of result.now ≡ self.now.journal }
+        ensures is { records_of result.now ≡ self.now.journal }
         ensures sound { IsSound F.same_key N.name_of F.fits F.weighs self.now }
         ensures shares { 0 < self.now.share →
             KeepsShares F.same_key N.name_of self.now.budget self.now.share [] self.now.journal }
@@ -164,13 +165,14 @@ impl<F: Fit, N: Namer<F::Key>> MemoCore<F, N> {
         requires { 0 < self.old.spare }
         ensures found { IfOk result (λ p. value_in p ≡
             option_map (λ e. e.value)
-            (first_with (has_key F.same_key mark_in (arc_value key.now)) self.old.entries)) }
+            (first_with (has_key F.same_key header_in (arc_value key.now)) self.old.entries)) }
         ensures fits { IfOk result (λ p. IfSome (value_in p) (F.fits (arc_value key.now))) }
         ensures journal { IfOk result (λ p. self.new.journal ≡
-            self.old.journal ++ item caller (arc_value key.now) (Probe_answer (is_hit p)) ∷ []) }
+            self.old.journal ++ journal_record caller (arc_value key.now)
+            (ProbeAnswer (is_hit p)) ∷ []) }
         ensures core { OnOk result (self.new ≡
             after_probe F.same_key caller (arc_value key.now) self.old) }
-        ensures stand { (owner : ℕ) → StandIn mark_in owner self.old.entries self.new.entries }
+        ensures stand { (owner : ℕ) → StandIn header_in owner self.old.entries self.new.entries }
         ensures err { OnErr result (self.new ≡ self.old) }
     {
         let name = self.namer.name(&**key);
@@ -189,11 +191,12 @@ impl<F: Fit, N: Namer<F::Key>> MemoCore<F, N> {
         requires { 0 < self.old.spare }
         ensures found { IfOk result (λ r. option_map arc_value r ≡
             option_map (λ e. e.value)
-            (first_with (has_key F.same_key mark_in (arc_value key.now)) self.old.entries)) }
+            (first_with (has_key F.same_key header_in (arc_value key.now)) self.old.entries)) }
         ensures fits { IfOk result (λ r. IfSome r (λ value.
             F.fits (arc_value key.now) (arc_value value))) }
         ensures journal { IfOk result (λ r. IfSome r (λ value. self.new.journal ≡
-            self.old.journal ++ item caller (arc_value key.now) (Probe_answer true) ∷ [])) }
+            self.old.journal ++ journal_record caller (arc_value key.now) (ProbeAnswer true)
+            ∷ [])) }
         ensures core { IfOk result (λ r. IfSome r (λ value. self.new ≡
             after_probe F.same_key caller (arc_value key.now) self.old)) }
         ensures none { IfOk result (λ r. IfNone r (self.new ≡ self.old)) }
@@ -235,8 +238,8 @@ impl<F: Fit, N: Namer<F::Key>> MemoCore<F, N> {
         ensures core { FillsBy F.same_key N.name_of caller
             (arc_value key.now) (arc_value value) weight result self.old self.new }
         ensures reserved { 0 < self.old.share → (owner : ℕ) → owner ≢ caller →
-            owner_weight mark_in owner self.old.entries ≤ self.old.share →
-            StandIn mark_in owner self.old.entries self.new.entries }
+            owner_weight header_in owner self.old.entries ≤ self.old.share →
+            StandIn header_in owner self.old.entries self.new.entries }
     {
         let Ok(noted) = Arc::try_clone(key) else {
             return Fill::NoMemory;

@@ -1,9 +1,9 @@
 ghost use Rattle.std.specs.Prelude.{◌≡◌, ℕ, ◌+◌, ◌<◌, ◌≤◌, not, IfOk, OnOk, true, false, if◌then◌else◌, nat_eq, [], None, MatchOption};
 ghost use Rattle.std.specs.Option.{option_map_or};
 ghost use Rattle.std.specs.Map.{remove_entry};
-ghost use Rattle.memo_core.specs.Memo.{same_name, first_with, has_name, is_free, room_beside, entries_after_push};
+ghost use Rattle.memo_core.specs.Memo.{same_name, first_with, has_name, is_free, others_left_beside, entries_after_push};
 ghost use Rattle.memo_core.specs.Fields.{weight_at};
-ghost use Rattle.memo_core.specs.Plans.{slot_mark, IsShelf, IsPlan, IsWithout, HasRoom, IsPlanFor, frees_by};
+ghost use Rattle.memo_core.specs.Plans.{slot_header, IsShelf, IsPlan, IsWithout, MakesRoom, IsPlanFor, frees_by};
 
 use crate::fit::Name;
 use crate::owners::{OwnerWeight, add_to, copy_of, take_from, weight_in};
@@ -43,7 +43,7 @@ pub fn plan_for<K: Drop, V: Drop>(
     requires shelf { IsShelf limits.budget shelf.now }
     requires light { slot.now.weight ≤ limits.budget }
     ensures { IfOk result (λ r. MatchOption r
-        (entries_after_push slot_mark limits.budget limits.share (name.now, slot.now)
+        (entries_after_push slot_header limits.budget limits.share (name.now, slot.now)
         shelf.now.cache.entries ≡ None)
         (IsPlanFor limits.budget limits.share name.now slot.now shelf.now.cache.entries)) }
 {
@@ -107,8 +107,8 @@ fn makes_way<K: Drop, V: Drop>(
 ) -> bool
     requires { IsPlan slot.now.weight cache.now.entries plan.old }
     ensures way { result ≡ not (option_map_or
-        (λ e. not (is_free slot_mark share slot.now.owner cache.now.entries e))
-        (first_with (has_name slot_mark name.now) cache.now.entries) false) }
+        (λ e. not (is_free slot_header share slot.now.owner cache.now.entries e))
+        (first_with (has_name slot_header name.now) cache.now.entries) false) }
     ensures plan { result ≡ true →
         IsPlan slot.now.weight (remove_entry (same_name name.now) cache.now.entries) plan.new }
     ensures names { plan.new.names ≡ plan.old.names }
@@ -135,8 +135,8 @@ fn makes_room<K: Drop, V: Drop>(
         (remove_entry (same_name name.now) cache.now.entries) plan.old }
     requires names { plan.old.names.items ≡ [] }
     ensures yes { IfOk result (λ r. r ≡ true →
-        HasRoom limits.budget limits.share name.now slot.now cache.now.entries plan.new) }
-    ensures no { IfOk result (λ r. r ≡ false → room_beside slot_mark limits.budget limits.share
+        MakesRoom limits.budget limits.share name.now slot.now cache.now.entries plan.new) }
+    ensures no { IfOk result (λ r. r ≡ false → others_left_beside slot_header limits.budget limits.share
         (name.now, slot.now) (remove_entry (same_name name.now) cache.now.entries) ≡ None) }
 {
     // The cache says that its names are distinct where it is asked for its length.

@@ -6,8 +6,8 @@ ghost use Rattle.std.specs.List.{IsDistinct};
 ghost use Rattle.lru.specs.LruCache.{promoted};
 ghost use Rattle.memo_core.specs.Memo.{same_name, entries_after_push, entries_after_offer_where};
 ghost use Rattle.memo_core.specs.Memo.{DropsFrom};
-ghost use Rattle.memo_core.specs.Fields.{value_at, has_at};
-ghost use Rattle.memo_core.specs.Plans.{pairs_without, pair_of, slot_mark, IsShelf};
+ghost use Rattle.memo_core.specs.Fields.{value_with_key, has_at};
+ghost use Rattle.memo_core.specs.Plans.{pairs_without, pair_if_there, slot_header, IsShelf};
 ghost use Rattle.memo_core.specs.Plans.{HasPlace, IsOfferTaken};
 
 use crate::fit::{Fit, Name};
@@ -72,7 +72,7 @@ pub fn offer<F: Fit>(
     requires { IsShelf limits.budget shelf.old }
     ensures taken { IfOk result (λ r. IsOfferTaken
         (has_at F.same_key name (arc_value slot.key) shelf.old.cache.entries)
-        (entries_after_offer_where slot_mark limits.budget limits.share
+        (entries_after_offer_where slot_header limits.budget limits.share
         (has_at F.same_key name (arc_value slot.key) shelf.old.cache.entries)
         (promoted (same_name name) shelf.old.cache.entries) (name, slot) shelf.old.cache.entries)
         (name, slot) shelf.old gone.old.items r shelf.new gone.new.items) }
@@ -106,7 +106,7 @@ fn push<K: Drop, V: Drop>(
     requires shelf { IsShelf limits.budget shelf.old }
     requires light { slot.weight ≤ limits.budget }
     ensures taken { IfOk result (λ r. IsOfferTaken false
-        (entries_after_push slot_mark limits.budget limits.share (name, slot)
+        (entries_after_push slot_header limits.budget limits.share (name, slot)
         shelf.old.cache.entries)
         (name, slot) shelf.old gone.old.items r shelf.new gone.new.items) }
     ensures shelf { IsShelf limits.budget shelf.new }
@@ -163,7 +163,7 @@ pub fn value_of<F: Fit>(
     key: &F::Key,
 ) -> Result<Option<Arc<F::Value>>, NoMemory>
     ensures value { IfOk result (λ r. option_map arc_value r ≡
-        value_at F.same_key key.now (lookup (same_name name.now) cache.now.entries)) }
+        value_with_key F.same_key key.now (lookup (same_name name.now) cache.now.entries)) }
     ensures distinct { IsDistinct same_name (keys_of cache.now.entries) }
 {
     // The cache says that its names are distinct where it is asked for its length.
@@ -181,7 +181,7 @@ pub fn value_of<F: Fit>(
 // Puts the slot of this name, if there was one, among those that are gone.
 fn hand_out<K: Drop, V: Drop>(gone: &mut GoneSlots<K, V>, name: Name, slot: Option<Slot<K, V>>)
     requires { vec_len gone.old < vec_capacity gone.old }
-    ensures items { gone.new.items ≡ gone.old.items ++ pair_of name slot }
+    ensures items { gone.new.items ≡ gone.old.items ++ pair_if_there name slot }
     ensures len { vec_len gone.new ≤ vec_len gone.old + 1 }
     ensures capacity { vec_capacity gone.new ≡ vec_capacity gone.old }
 {

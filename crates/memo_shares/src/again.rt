@@ -1,7 +1,7 @@
 ghost use Rattle.std.specs.Prelude.{◌≡◌, ◌≢◌, [], ◌∷◌, ◌++◌, true, false, IfOk, OnOk};
 ghost use Rattle.std.specs.Arc.{arc_value};
-ghost use Rattle.memo_core.specs.Memo.{Answer, item, answer_at, replay};
-ghost use Rattle.memo_core.specs.Fields.{answer_of, item_of};
+ghost use Rattle.memo_core.specs.Memo.{Answer, journal_record, memo_answer, replay};
+ghost use Rattle.memo_core.specs.Fields.{answer_of, record_of_item};
 ghost use Rattle.memo_shares.specs.Verdicts.{AreWeights, IsSameCall};
 
 use memo_core::{Did, Fill, Fit, JournalItem, MemoCore, Namer};
@@ -17,9 +17,9 @@ pub fn repeats<F: Fit<Value = u64>, N: Namer<F::Key>>(
 ) -> Result<bool, NoMemory>
     requires { AreWeights F.fits F.weighs }
     ensures same { IfOk result (λ b. b ≡ true → core.new.journal ≡
-        core.old.journal ++ item_of noted.now ∷ []) }
+        core.old.journal ++ record_of_item noted.now ∷ []) }
     ensures other { IfOk result (λ b. b ≡ false → answer_of noted.now.did ≢
-        answer_at F.same_key N.name_of core.old.budget core.old.share noted.now.caller
+        memo_answer F.same_key N.name_of core.old.budget core.old.share noted.now.caller
         (arc_value noted.now.key) (answer_of noted.now.did)
         (replay F.same_key N.name_of core.old.budget core.old.share [] core.old.journal)) }
     ensures budget { OnOk result (core.new.budget ≡ core.old.budget) }
@@ -40,7 +40,7 @@ fn call<F: Fit<Value = u64>, N: Namer<F::Key>>(
 ) -> Result<(), NoMemory>
     requires { AreWeights F.fits F.weighs }
     ensures journal { OnOk result ((said : Answer) × (core.new.journal ≡
-        core.old.journal ++ item noted.now.caller (arc_value noted.now.key) said ∷ [])
+        core.old.journal ++ journal_record noted.now.caller (arc_value noted.now.key) said ∷ [])
         × IsSameCall said (answer_of noted.now.did)) }
     ensures budget { OnOk result (core.new.budget ≡ core.old.budget) }
     ensures share { OnOk result (core.new.share ≡ core.old.share) }

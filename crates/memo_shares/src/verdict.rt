@@ -1,7 +1,7 @@
 ghost use Rattle.std.specs.Prelude.{◌≡◌, ◌<◌, ◌^◌, [], length, IfOk};
 ghost use Rattle.memo_core.specs.Memo.{owner_weight, KeepsShares};
-ghost use Rattle.memo_core.specs.Views.{mark_in};
-ghost use Rattle.memo_core.specs.Fields.{items_of};
+ghost use Rattle.memo_core.specs.Views.{header_in};
+ghost use Rattle.memo_core.specs.Fields.{records_of};
 ghost use Rattle.memo_shares.specs.Verdicts.{AreWeights, IsVerdict};
 
 use crate::again::repeats;
@@ -21,7 +21,7 @@ pub enum JournalVerdict {
 
 /// The sum of the weights of a caller's entries.
 pub fn owned<F: Fit, N: Namer<F::Key>>(core: &MemoCore<F, N>, caller: u32) -> u64
-    ensures { result ≡ owner_weight mark_in caller core.now.entries }
+    ensures { result ≡ owner_weight header_in caller core.now.entries }
 {
     core.weight_of(caller)
 }
@@ -39,9 +39,9 @@ pub fn check_journal<F: Fit, N: Namer<F::Key>>(
 ) -> Result<JournalVerdict, NoMemory>
     requires { length items.now < 2 ^ 32 }
     ensures verdict { IfOk result (IsVerdict F.same_key N.name_of budget share
-        (items_of items.now)) }
+        (records_of items.now)) }
     ensures shares { IfOk result (λ v. v ≡ JournalVerdict.Legal → 0 < share →
-        KeepsShares F.same_key N.name_of budget share [] (items_of items.now)) }
+        KeepsShares F.same_key N.name_of budget share [] (records_of items.now)) }
 {
     let core = MemoCore::new(alloc, ByWeight { fit }, ByName { namer }, budget, share)?;
     compare(alloc, core, items)
@@ -57,9 +57,9 @@ fn compare<F: Fit<Value = u64>, N: Namer<F::Key>>(
     requires weights { AreWeights F.fits F.weighs }
     requires begun { core.journal ≡ [] }
     ensures verdict { IfOk result (IsVerdict F.same_key N.name_of core.budget core.share
-        (items_of items.now)) }
+        (records_of items.now)) }
     ensures shares { IfOk result (λ v. v ≡ JournalVerdict.Legal → 0 < core.share →
-        KeepsShares F.same_key N.name_of core.budget core.share [] (items_of items.now)) }
+        KeepsShares F.same_key N.name_of core.budget core.share [] (records_of items.now)) }
 {
     let mut core = core;
     for (number, noted) in items.iter().enumerate() {

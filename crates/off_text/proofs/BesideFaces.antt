@@ -11,14 +11,14 @@ use Rattle.plane_predicate.proofs.SamePlanes.{directed_above}
 use Rattle.plane_predicate.proofs.Signs.{signs, neg_pos}
 use Rattle.plane_polygon.specs.Parts.{is_behind}
 use Rattle.bsp_tree.specs.Trees.{BspTree, inside, outside, node, walk}
-use Rattle.bsp_tree.specs.Cells.{world_box, IsPlaneOf}
+use Rattle.bsp_tree.specs.Cells.{world_box, IsNodePlaneOf}
 use Rattle.bsp_tree.proofs.NearPoints.{direction, value_direction, near_behind, near_ahead}
 use Rattle.bsp_tree.proofs.Openness.{often, in_near}
 use Rattle.bsp_tree.proofs.Opposites.{opposite_above, opposite_below, opposite_back, opposite_twice}
 use Rattle.bsp_tree.proofs.SameNumbers.{same_equal, not_same}
 use Rattle.bsp_tree.proofs.Worlds.{open_world}
-use Rattle.csg_tree.specs.Formulas.{Formula, nothing, leaf, joined, SideAssignment, holds, truth_of_join, sides_of}
-use Rattle.csg_tree.specs.Formulas as formulas
+use Rattle.csg_tree.specs.HalfSpaceTrees.{Tree, nothing, leaf, tree_join, SideAssignment, holds, truth_of_join, sides_of}
+use Rattle.csg_tree.specs.HalfSpaceTrees as formulas
 use Rattle.csg_tree.specs.FacePlanes.{IsFacePlane, IsOnOneFacePlane, sides_just_behind, sides_just_ahead}
 use Rattle.csg_tree.specs.ProperTrees.{IsLeafPlane, HasFullLeaves}
 use Rattle.bsp_boolean.specs.Solids.{solid_of}
@@ -31,17 +31,17 @@ all_alike [] a b h = refl
 all_alike (m ∷ planes) a b h =
     ap₂ ◌&&◌ (h m (0, omega arith, refl)) (all_alike planes a b (λ n c. h n (suc c.0, omega (arith, c.1), c.2)))
 
-holds_alike : (f : Formula) (a b : SideAssignment) → ((m : Coefficients) → formulas.IsPlaneOf m f → a m ≡ b m) → holds f a ≡ holds f b
+holds_alike : (f : Tree) (a b : SideAssignment) → ((m : Coefficients) → formulas.IsPlaneOf m f → a m ≡ b m) → holds f a ≡ holds f b
 holds_alike nothing a b h = refl
 holds_alike (leaf planes) a b h = all_alike planes a b h
-holds_alike (joined op left right) a b h =
+holds_alike (tree_join op left right) a b h =
     ap₂ (truth_of_join op) (holds_alike left a b (λ m k. h m (inl k))) (holds_alike right a b (λ m k. h m (inr k)))
 
 -- a walk by the sides of a point is its walk
 either_alike : (x y : Bool) (a b c d : Bool) → x ≡ y → a ≡ c → b ≡ d → (if x then a else b) ≡ (if y then c else d)
 either_alike x y a b c d hx ha hb = rw (hx, ha, hb) refl
 
-walk_alike : (t : BspTree) (sides : SideAssignment) (q : Coordinates) → ((m : Coefficients) → IsPlaneOf m t → sides m ≡ is_behind m q) → walk_by t sides ≡ walk t q
+walk_alike : (t : BspTree) (sides : SideAssignment) (q : Coordinates) → ((m : Coefficients) → IsNodePlaneOf m t → sides m ≡ is_behind m q) → walk_by t sides ≡ walk t q
 walk_alike inside sides q h = refl
 walk_alike outside sides q h = refl
 walk_alike (node s b a) sides q h =
@@ -49,41 +49,41 @@ walk_alike (node s b a) sides q h =
     (h s.plane (inl refl)) (walk_alike b sides q (λ m k. h m (inr (inl k)))) (walk_alike a sides q (λ m k. h m (inr (inr k))))
 
 -- each plane of a tree with full leaves is a plane
-leaf_planes : (f : Formula) (m : Coefficients) → HasFullLeaves f → formulas.IsPlaneOf m f → IsPlane m
+leaf_planes : (f : Tree) (m : Coefficients) → HasFullLeaves f → formulas.IsPlaneOf m f → IsPlane m
 leaf_planes nothing m h k = absurd k
 leaf_planes (leaf planes) m h k = let i : IsLeafPlane (get_or planes k.0 m) = h.1 k.0 m k.1 in subst IsPlane k.2 i.plane
-leaf_planes (joined op left right) m h (inl k) = leaf_planes left m h.0 k
-leaf_planes (joined op left right) m h (inr k) = leaf_planes right m h.1 k
+leaf_planes (tree_join op left right) m h (inl k) = leaf_planes left m h.0 k
+leaf_planes (tree_join op left right) m h (inr k) = leaf_planes right m h.1 k
 
-pub face_plane_is_plane : (f : Formula) (n : Coefficients) → HasFullLeaves f → IsFacePlane n f → IsPlane n
+pub face_plane_is_plane : (f : Tree) (n : Coefficients) → HasFullLeaves f → IsFacePlane n f → IsPlane n
 face_plane_is_plane f n h (inl k) = leaf_planes f n h k
 face_plane_is_plane f n h (inr k) = subst IsPlane (opposite_twice n) (opposite_is_plane (opposite_of n) (leaf_planes f (opposite_of n) h k))
 
 -- how often a point is to be taken, so that it keeps its sides when v u is added
-abbrev often_of : Formula → ℤ → Coordinates → ℕ
+abbrev often_of : Tree → ℤ → Coordinates → ℕ
 often_of nothing v u = 0
 often_of (leaf planes) v u = often planes v u
-often_of (joined op left right) v u = often_of left v u + often_of right v u
+often_of (tree_join op left right) v u = often_of left v u + often_of right v u
 
 often_among : (planes : List Coefficients) (v : ℤ) (u : Coordinates) (m : Coefficients) → Contains planes m → unsigned_abs (v *ℤ value m u) ≤ often planes v u
 often_among [] v u m h = absurd (omega (arith, h.1))
 often_among (n ∷ planes) v u m (zero, l, e) = omega (arith, ap (λ (k : Coefficients). unsigned_abs (v *ℤ value k u)) e)
 often_among (n ∷ planes) v u m (suc i, l, e) = omega (arith, often_among planes v u m (i, omega (arith, l), e))
 
-often_each : (f : Formula) (v : ℤ) (u : Coordinates) (m : Coefficients) → formulas.IsPlaneOf m f → unsigned_abs (v *ℤ value m u) ≤ often_of f v u
+often_each : (f : Tree) (v : ℤ) (u : Coordinates) (m : Coefficients) → formulas.IsPlaneOf m f → unsigned_abs (v *ℤ value m u) ≤ often_of f v u
 often_each nothing v u m h = absurd h
 often_each (leaf planes) v u m h = often_among planes v u m h
-often_each (joined op left right) v u m (inl h) = omega (arith, often_each left v u m h)
-often_each (joined op left right) v u m (inr h) = omega (arith, often_each right v u m h)
+often_each (tree_join op left right) v u m (inl h) = omega (arith, often_each left v u m h)
+often_each (tree_join op left right) v u m (inr h) = omega (arith, often_each right v u m h)
 
 -- the point moved a little: ahead of n where v is above 0, and else behind it
-abbrev times : Formula → ℤ → Coefficients → ℕ
+abbrev times : Tree → ℤ → Coefficients → ℕ
 times f v n = often world_box v (direction n) + often_of f v (direction n)
 
-abbrev near : Formula → ℤ → Coefficients → Coordinates → Coordinates
+abbrev near : Tree → ℤ → Coefficients → Coordinates → Coordinates
 near f v n p = combine (pos (suc (times f v n))) p v (direction n)
 
-near_in_world : (f : Formula) (v : ℤ) (n : Coefficients) (p : Coordinates) → IsInWorld p → IsInWorld (near f v n p)
+near_in_world : (f : Tree) (v : ℤ) (n : Coefficients) (p : Coordinates) → IsInWorld p → IsInWorld (near f v n p)
 near_in_world f v n p h = (open_world (near f v n p)).0 (in_near world_box (times f v n) p v (direction n) (omega arith) ((open_world p).1 h))
 
 below_zero : (x : ℤ) → x <ℤ pos 0 → int_lt x (pos 0) ≡ true
@@ -99,7 +99,7 @@ no_zero_above : (x : ℤ) → pos 0 <ℤ x → x ≡ pos 0 → ⊥
 no_zero_above x h e = omega (arith, sums)
 
 -- a plane that the point is not on keeps its side
-near_side : (f : Formula) (v : ℤ) (n : Coefficients) (p : Coordinates) (m : Coefficients) → formulas.IsPlaneOf m f → value m p ≢ pos 0 →
+near_side : (f : Tree) (v : ℤ) (n : Coefficients) (p : Coordinates) (m : Coefficients) → formulas.IsPlaneOf m f → value m p ≢ pos 0 →
     (sides_of (near f v n p) m ≡ sides_of p m) × (value m (near f v n p) ≢ pos 0)
 near_side f v n p m h off = elim (signs (value m p)) [
   | inl b ↦ (let c = near_behind m (times f v n) p v (direction n) (omega (arith, often_each f v (direction n) m h)) b in
@@ -113,7 +113,7 @@ near_side f v n p m h off = elim (signs (value m p)) [
 zero_out : (a x y : ℤ) → x ≡ pos 0 → a *ℤ x +ℤ y ≡ y
 zero_out a x y e = ap (λ (z : ℤ). a *ℤ z +ℤ y) e ∙ ap (λ (z : ℤ). z +ℤ y) (mul_comm_ℤ a (pos 0) ∙ zero_mul a) ∙ omega (arith, sums)
 
-value_near : (f : Formula) (v : ℤ) (n : Coefficients) (p : Coordinates) → value n p ≡ pos 0 → value n (near f v n p) ≡ v *ℤ inner_product n n
+value_near : (f : Tree) (v : ℤ) (n : Coefficients) (p : Coordinates) → value n p ≡ pos 0 → value n (near f v n p) ≡ v *ℤ inner_product n n
 value_near f v n p e =
     value_combine n (pos (suc (times f v n))) p v (direction n)
     ∙ zero_out (pos (suc (times f v n))) (value n p) (v *ℤ value n (direction n)) e
@@ -148,7 +148,7 @@ by_tests true y b r s f g h = f refl
 by_tests false true b r s f g h = g refl refl
 by_tests false false b r s f g h = h refl refl
 
-near_sides : (f : Formula) (v : ℤ) (b : Bool) (n : Coefficients) (p : Coordinates) → IsOnOneFacePlane f n p → Takes b n (near f v n p) →
+near_sides : (f : Tree) (v : ℤ) (b : Bool) (n : Coefficients) (p : Coordinates) → IsOnOneFacePlane f n p → Takes b n (near f v n p) →
     (m : Coefficients) → formulas.IsPlaneOf m f → sides_of (near f v n p) m ≡ beside b n p m
 near_sides f v b n p on takes m h =
     by_tests (is_same m n) (is_same m (opposite_of n)) b (sides_of p m) (sides_of (near f v n p) m)
@@ -159,7 +159,7 @@ near_sides f v b n p on takes m h =
 opposite_off : (n : Coefficients) (q : Coordinates) (b : Bool) → Takes b n q → value (opposite_of n) q ≢ pos 0
 opposite_off n q b takes e = takes.off (opposite_back n q e)
 
-near_off : (f : Formula) (v : ℤ) (b : Bool) (n : Coefficients) (p : Coordinates) → IsOnOneFacePlane f n p → Takes b n (near f v n p) →
+near_off : (f : Tree) (v : ℤ) (b : Bool) (n : Coefficients) (p : Coordinates) → IsOnOneFacePlane f n p → Takes b n (near f v n p) →
     (m : Coefficients) → formulas.IsPlaneOf m f → value m (near f v n p) ≡ pos 0 → ⊥
 near_off f v b n p on takes m h z = elim (signs (value m p)) [
   | inl l ↦ (near_side f v n p m h (no_zero_below (value m p) l)).1 z
@@ -171,7 +171,7 @@ near_off f v b n p on takes m h z = elim (signs (value m p)) [
 ]
 
 -- the walk of the solid by those sides is whether the tree holds with them
-walk_beside : (f : Formula) (v : ℤ) (b : Bool) (n : Coefficients) (p : Coordinates) → HasFullLeaves f → IsOnOneFacePlane f n p → Takes b n (near f v n p) →
+walk_beside : (f : Tree) (v : ℤ) (b : Bool) (n : Coefficients) (p : Coordinates) → HasFullLeaves f → IsOnOneFacePlane f n p → Takes b n (near f v n p) →
     walk_by (solid_of f) (beside b n p) ≡ holds f (beside b n p)
 walk_beside f v b n p full on takes =
     let solid = tree_is_solid f full in
@@ -206,24 +206,24 @@ behind_value x y h e = subst (λ (z : ℤ). z <ℤ pos 0) (sym e) (neg_pos (negs
 ahead_value : (x y : ℤ) → pos 0 <ℤ y → x ≡ pos 1 *ℤ y → pos 0 <ℤ x
 ahead_value x y h e = subst (λ (z : ℤ). pos 0 <ℤ z) (sym (e ∙ one_mul y)) h
 
-near_behind_takes : (f : Formula) (n : Coefficients) (p : Coordinates) → IsPlane n → value n p ≡ pos 0 → Takes true n (near f (negsuc 0) n p)
+near_behind_takes : (f : Tree) (n : Coefficients) (p : Coordinates) → IsPlane n → value n p ≡ pos 0 → Takes true n (near f (negsuc 0) n p)
 near_behind_takes f n p h e =
     takes_behind n (near f (negsuc 0) n p)
     (behind_value (value n (near f (negsuc 0) n p)) (inner_product n n) (directed_above n h.directed) (value_near f (negsuc 0) n p e))
 
-near_ahead_takes : (f : Formula) (n : Coefficients) (p : Coordinates) → IsPlane n → value n p ≡ pos 0 → Takes false n (near f (pos 1) n p)
+near_ahead_takes : (f : Tree) (n : Coefficients) (p : Coordinates) → IsPlane n → value n p ≡ pos 0 → Takes false n (near f (pos 1) n p)
 near_ahead_takes f n p h e =
     takes_ahead n (near f (pos 1) n p)
     (ahead_value (value n (near f (pos 1) n p)) (inner_product n n) (directed_above n h.directed) (value_near f (pos 1) n p e))
 
 -- the sides of a point on one face plane, just behind it and just ahead, and the walks of the tree's solid by them
-abbrev pub BesideLeaves : Formula → Type 0
+abbrev pub BesideLeaves : Tree → Type 0
 BesideLeaves f =
     (n : Coefficients) (p : Coordinates) → IsOnOneFacePlane f n p →
     AreJustBehind n p (sides_just_behind n p) × AreJustAhead n p (sides_just_ahead n p)
     × (walk_by (solid_of f) (sides_just_behind n p) ≡ holds f (sides_just_behind n p)) × (walk_by (solid_of f) (sides_just_ahead n p) ≡ holds f (sides_just_ahead n p))
 
-pub beside_leaves : (f : Formula) → HasFullLeaves f → BesideLeaves f
+pub beside_leaves : (f : Tree) → HasFullLeaves f → BesideLeaves f
 beside_leaves f full n p on =
     let plane = face_plane_is_plane f n full on.face_plane in
     let behind = near_behind_takes f n p plane on.on in

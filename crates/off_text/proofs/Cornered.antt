@@ -4,19 +4,19 @@ use Rattle.std.proofs.lemmas.List.{map-append, take-append-drop, get_or_append_l
 use Rattle.std.proofs.lemmas.Simd.{map-map}
 use Rattle.std.proofs.lemmas.List.Elements.{All-from_get_or, All-append, All-take, All-drop}
 use Rattle.plane_predicate.specs.declared.unit.Unit.{Unit as LengthUnit}
-use Rattle.plane_predicate.specs.Space.{Coordinates, IsPointTimes, HasNoCommonFactor}
+use Rattle.plane_predicate.specs.Space.{Coordinates, IsPointTimes, HasNoCommonFactor, origin}
 use Rattle.plane_predicate.specs.InUnits.{in_units}
-use Rattle.plane_predicate.specs.Units.{steps_of}
+use Rattle.plane_predicate.specs.Units.{grid_steps_per_unit}
 use Rattle.plane_predicate.proofs.InUnits.{steps_above}
 use Rattle.plane_predicate.proofs.Signs.{pos_cancel, pos_pos}
-use Rattle.plane_polygon.specs.Polygons.{Outline, sides, corner, IsPolygon, AreReducedFrom}
-use Rattle.plane_polygon.specs.Parts.{indices_below, corners}
+use Rattle.plane_polygon.specs.Polygons.{Outline, edge_count, corner, IsPolygon, AreReducedFrom}
+use Rattle.plane_polygon.specs.Parts.{corners}
 use Rattle.plane_polygon.proofs.Rounds.{step, step_is, step_below, at_most}
 use Rattle.closed_surface.specs.Printing.{AreInUnits, IsRoundOf}
 use Rattle.off_text.specs.Reading.{IsPrintedVertex}
-use Rattle.off_text.specs.Boundaries.{origin}
 use Rattle.off_text.specs.Texts.{comes_before, corners_in_units, place_of_least, from_least}
 use Rattle.off_text.proofs.Least.{IsLeastOf, least_first, least_new, least_kept, least_found}
+use Rattle.plane_predicate.specs.Indices.{indices_below}
 
 map-indices_below-length : (f : ℕ → Coordinates) (n : ℕ) → length (map f (indices_below n)) ≡ n
 map-indices_below-length f zero = refl
@@ -51,23 +51,23 @@ module _ (unit : LengthUnit) (s : Outline) (found : List Coordinates) (h : AreRe
   abbrev point : ℕ → Coordinates
   point i = in_units unit (corner s i)
 
-  each : AreReducedFrom (map point (indices_below (sides s))) found
-  each = subst (λ (ps : List Coordinates). AreReducedFrom ps found) (map-map (in_units unit) (corner s) (indices_below (sides s))) h
+  each : AreReducedFrom (map point (indices_below (edge_count s))) found
+  each = subst (λ (ps : List Coordinates). AreReducedFrom ps found) (map-map (in_units unit) (corner s) (indices_below (edge_count s))) h
 
-  pub found-length : length found ≡ sides s
-  found-length = reduced-length (map point (indices_below (sides s))) found each ∙ map-indices_below-length point (sides s)
+  pub found-length : length found ≡ edge_count s
+  found-length = reduced-length (map point (indices_below (edge_count s))) found each ∙ map-indices_below-length point (edge_count s)
 
-  found-at : (i : ℕ) → i < sides s → IsPointTimes (in_units unit (corner s i)) (get_or found i origin) × HasNoCommonFactor (get_or found i origin)
+  found-at : (i : ℕ) → i < edge_count s → IsPointTimes (in_units unit (corner s i)) (get_or found i origin) × HasNoCommonFactor (get_or found i origin)
   found-at i l =
-      subst (λ (p : Coordinates). IsPointTimes p (get_or found i origin) × HasNoCommonFactor (get_or found i origin)) (map-indices_below point (sides s) i l)
-      (reduced-at (map point (indices_below (sides s))) found each i (omega (arith, map-indices_below-length point (sides s))))
+      subst (λ (p : Coordinates). IsPointTimes p (get_or found i origin) × HasNoCommonFactor (get_or found i origin)) (map-indices_below point (edge_count s) i l)
+      (reduced-at (map point (indices_below (edge_count s))) found each i (omega (arith, map-indices_below-length point (edge_count s))))
 
   pub found_are_vertices : IsPolygon s → All IsPrintedVertex found
   found_are_vertices polygon =
       All-from_get_or IsPrintedVertex found origin (λ i l.
-      let b : i < sides s = omega (arith, found-length) in
+      let b : i < edge_count s = omega (arith, found-length) in
       let at = found-at i b in
-      let weight = pos_pos (steps_of unit) (corner s i).w (steps_above unit) (polygon.turns_left i b) in
+      let weight = pos_pos (grid_steps_per_unit unit) (corner s i).w (steps_above unit) (polygon.turns_left i b) in
       record {
         weight = pos_cancel at.0.by (get_or found i origin).w at.0.above (subst (λ (w : ℤ). pos 0 <ℤ w) at.0.w weight);
         reduced = at.1.reduced;
@@ -108,11 +108,11 @@ turned-at points a i h l =
 
 -- points that are a polygon's corners in units, from one of them on
 pub record ArePrinted (unit : LengthUnit) (s : Outline) (points : List Coordinates) : Type 0 where
-  pub count : length points ≡ sides s
+  pub count : length points ≡ edge_count s
   pub round : IsRoundOf unit (corners s) points
   pub start : ℕ
-  pub starts : start < sides s
-  pub at : (i : ℕ) → i < sides s → IsPointTimes (in_units unit (corner s (step (sides s) start i))) (get_or points i origin)
+  pub starts : start < edge_count s
+  pub at : (i : ℕ) → i < edge_count s → IsPointTimes (in_units unit (corner s (step (edge_count s) start i))) (get_or points i origin)
 
 reduced_units : (unit : LengthUnit) (ps qs : List Coordinates) → AreReducedFrom (map (in_units unit) ps) qs → AreInUnits unit ps qs
 reduced_units unit [] [] h = tt
@@ -128,15 +128,15 @@ printed unit s found polygon h =
     let count = found-length unit s found h in
     let some : 0 < length found = omega (arith, count, polygon.three) in
     let least = least_within found some in
-    let starts : place_of_least found < sides s = omega (arith, count, least) in
+    let starts : place_of_least found < edge_count s = omega (arith, count, least) in
     record {
       count = turned-length found (place_of_least found) (omega (arith, least)) ∙ count;
       round = turned_round unit (corners s) found (place_of_least found) (reduced_units unit (corners s) found h);
       start = place_of_least found;
       starts = starts;
-      at = λ i l. subst (λ (q : Coordinates). IsPointTimes (in_units unit (corner s (step (sides s) (place_of_least found) i))) q)
+      at = λ i l. subst (λ (q : Coordinates). IsPointTimes (in_units unit (corner s (step (edge_count s) (place_of_least found) i))) q)
           (sym (turned-at found (place_of_least found) i least (omega (arith, count, l)) ∙ ap (λ (k : ℕ). get_or found (step k (place_of_least found) i) origin) count))
-          (found-at unit s found h (step (sides s) (place_of_least found) i) (step_below (sides s) (place_of_least found) i starts)).0;
+          (found-at unit s found h (step (edge_count s) (place_of_least found) i) (step_below (edge_count s) (place_of_least found) i starts)).0;
     }
 
 -- what holds of all points holds of them from another one on

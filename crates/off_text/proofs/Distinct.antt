@@ -5,20 +5,20 @@ use Rattle.std.specs.Cmp.{both_ways}
 use Rattle.std.proofs.lemmas.Bool.{false≢true}
 use Rattle.std.proofs.lemmas.List.Folds.{list_any-append}
 use Rattle.indexmap.specs.IndexSet.{insert_key}
-use Rattle.plane_predicate.specs.Space.{Coordinates}
-use Rattle.off_text.specs.Texts.{same_point, distinct_points}
+use Rattle.plane_predicate.specs.Space.{Coordinates, has_same_numbers}
+use Rattle.off_text.specs.Texts.{distinct_points}
 use Rattle.off_text.specs.Numbering.{with_points}
 use Rattle.off_text.proofs.Numbers.{Known, AllKnown, same_itself, same_equal, grown_knows, with_points-append}
 
 -- the point is not numbered yet
 abbrev is_new : List Coordinates → Coordinates → Bool
-is_new vertices q = not (list_any (same_point q) vertices)
+is_new vertices q = not (list_any (has_same_numbers q) vertices)
 
-same_turned : (p q : Coordinates) → same_point p q ≡ true → same_point q p ≡ true
-same_turned p q e = subst (λ (r : Coordinates). same_point r p ≡ true) (same_equal p q e) (same_itself p)
+same_turned : (p q : Coordinates) → has_same_numbers p q ≡ true → has_same_numbers q p ≡ true
+same_turned p q e = subst (λ (r : Coordinates). has_same_numbers r p ≡ true) (same_equal p q e) (same_itself p)
 
-same_alike : (p q : Coordinates) → same_point p q ≡ same_point q p
-same_alike p q = both_ways (same_point p q) (same_point q p) (same_turned p q) (same_turned q p)
+same_alike : (p q : Coordinates) → has_same_numbers p q ≡ has_same_numbers q p
+same_alike p q = both_ways (has_same_numbers p q) (has_same_numbers q p) (same_turned p q) (same_turned q p)
 
 filter-false : {X : Type 0} (f : X → Bool) (x : X) (b : Bool) (xs : List X) → filter f (cond b (x ∷ xs) xs) ≡ cond b (cond (f x) (x ∷ filter f xs) (filter f xs)) (filter f xs)
 filter-false f x true xs = refl
@@ -59,45 +59,45 @@ neither false true = refl
 neither false false = refl
 
 -- a new point is none of the vertices
-other_than : (vertices : List Coordinates) (p q : Coordinates) → list_any (same_point p) vertices ≡ true → is_new vertices q ≡ true → not (same_point p q) ≡ true
-other_than vertices p q known new = by (same_point p q) refl
+other_than : (vertices : List Coordinates) (p q : Coordinates) → list_any (has_same_numbers p) vertices ≡ true → is_new vertices q ≡ true → not (has_same_numbers p q) ≡ true
+other_than vertices p q known new = by (has_same_numbers p q) refl
   where
-    by : (b : Bool) → same_point p q ≡ b → not b ≡ true
-    by true e = absurd (false≢true (ap not (sym known) ∙ subst (λ (r : Coordinates). not (list_any (same_point r) vertices) ≡ true) (sym (same_equal p q e)) new))
+    by : (b : Bool) → has_same_numbers p q ≡ b → not b ≡ true
+    by true e = absurd (false≢true (ap not (sym known) ∙ subst (λ (r : Coordinates). not (list_any (has_same_numbers r) vertices) ≡ true) (sym (same_equal p q e)) new))
     by false e = refl
 
-grown_step : (p : Coordinates) (vertices rest : List Coordinates) (b : Bool) → list_any (same_point p) vertices ≡ b →
+grown_step : (p : Coordinates) (vertices rest : List Coordinates) (b : Bool) → list_any (has_same_numbers p) vertices ≡ b →
     cond b vertices (vertices ++ p ∷ []) ++ filter (is_new (cond b vertices (vertices ++ p ∷ []))) rest
-    ≡ vertices ++ cond (not b) (p ∷ filter (is_new vertices) (filter (λ q. not (same_point p q)) rest)) (filter (is_new vertices) (filter (λ q. not (same_point p q)) rest))
+    ≡ vertices ++ cond (not b) (p ∷ filter (is_new vertices) (filter (λ q. not (has_same_numbers p q)) rest)) (filter (is_new vertices) (filter (λ q. not (has_same_numbers p q)) rest))
 grown_step p vertices rest true e =
-    ap (λ (l : List Coordinates). vertices ++ l) (sym (filter_implied (is_new vertices) (λ q. not (same_point p q)) (λ q. other_than vertices p q e) rest))
+    ap (λ (l : List Coordinates). vertices ++ l) (sym (filter_implied (is_new vertices) (λ q. not (has_same_numbers p q)) (λ q. other_than vertices p q e) rest))
 grown_step p vertices rest false e =
     append_assoc vertices (p ∷ []) (filter (is_new (vertices ++ p ∷ [])) rest)
     ∙ ap (λ (l : List Coordinates). vertices ++ p ∷ l)
-    (filter_both (is_new (vertices ++ p ∷ [])) (is_new vertices) (λ q. not (same_point p q))
-    (λ q. ap not (list_any-append (same_point q) vertices (p ∷ []))
-    ∙ ap (λ (b : Bool). not (list_any (same_point q) vertices || (b || false))) (same_alike q p)
-    ∙ neither (list_any (same_point q) vertices) (same_point p q)) rest)
+    (filter_both (is_new (vertices ++ p ∷ [])) (is_new vertices) (λ q. not (has_same_numbers p q))
+    (λ q. ap not (list_any-append (has_same_numbers q) vertices (p ∷ []))
+    ∙ ap (λ (b : Bool). not (list_any (has_same_numbers q) vertices || (b || false))) (same_alike q p)
+    ∙ neither (list_any (has_same_numbers q) vertices) (has_same_numbers p q)) rest)
 
 with_points-distinct_points : (points vertices : List Coordinates) → with_points vertices points ≡ vertices ++ filter (is_new vertices) (distinct_points points)
 with_points-distinct_points [] vertices = sym (append-nil vertices)
 with_points-distinct_points (p ∷ points) vertices =
-    with_points-distinct_points points (insert_key same_point vertices p) ∙ grown_step p vertices (distinct_points points) (list_any (same_point p) vertices) refl
+    with_points-distinct_points points (insert_key has_same_numbers vertices p) ∙ grown_step p vertices (distinct_points points) (list_any (has_same_numbers p) vertices) refl
 
 pub grown_from_none : (points : List Coordinates) → with_points [] points ≡ distinct_points points
 grown_from_none points = with_points-distinct_points points [] ∙ filter-all (distinct_points points)
 
-known_step : (vertices : List Coordinates) (p q : Coordinates) (b t : Bool) → same_point p q ≡ b → Known vertices q → (t ≡ true → Known vertices p) → (b || t) ≡ true → Known vertices p
+known_step : (vertices : List Coordinates) (p q : Coordinates) (b t : Bool) → has_same_numbers p q ≡ b → Known vertices q → (t ≡ true → Known vertices p) → (b || t) ≡ true → Known vertices p
 known_step vertices p q true t e h more any = subst (λ (r : Coordinates). Known vertices r) (sym (same_equal p q e)) h
 known_step vertices p q false t e h more any = more any
 
 -- what is among numbered points is numbered
 known_among : (vertices points : List Coordinates) (p : Coordinates) → AllKnown vertices points → Known points p → Known vertices p
 known_among vertices [] p h e = absurd (false≢true e)
-known_among vertices (q ∷ points) p h e = known_step vertices p q (same_point p q) (list_any (same_point p) points) refl h.0 (known_among vertices points p h.1) e
+known_among vertices (q ∷ points) p h e = known_step vertices p q (has_same_numbers p q) (list_any (has_same_numbers p) points) refl h.0 (known_among vertices points p h.1) e
 
-inserted_step : (vertices points : List Coordinates) (p : Coordinates) (b : Bool) → list_any (same_point p) points ≡ b →
-    with_points vertices (cond b points (points ++ p ∷ [])) ≡ insert_key same_point (with_points vertices points) p
+inserted_step : (vertices points : List Coordinates) (p : Coordinates) (b : Bool) → list_any (has_same_numbers p) points ≡ b →
+    with_points vertices (cond b points (points ++ p ∷ [])) ≡ insert_key has_same_numbers (with_points vertices points) p
 inserted_step vertices points p true e =
     sym (ap (λ (b : Bool). cond b (with_points vertices points) (with_points vertices points ++ p ∷ [])) (known_among (with_points vertices points) points p (grown_knows points vertices) e))
 inserted_step vertices points p false e = with_points-append points (p ∷ []) vertices
@@ -106,5 +106,5 @@ inserted_step vertices points p false e = with_points-append points (p ∷ []) v
 pub grown_twice : (points vertices known : List Coordinates) → with_points vertices (with_points known points) ≡ with_points (with_points vertices known) points
 grown_twice [] vertices known = refl
 grown_twice (p ∷ points) vertices known =
-    grown_twice points vertices (insert_key same_point known p)
-    ∙ ap (λ (v : List Coordinates). with_points v points) (inserted_step vertices known p (list_any (same_point p) known) refl)
+    grown_twice points vertices (insert_key has_same_numbers known p)
+    ∙ ap (λ (v : List Coordinates). with_points v points) (inserted_step vertices known p (list_any (has_same_numbers p) known) refl)

@@ -3,16 +3,16 @@ use Rattle.std.proofs.Common.{◌≡◌, ◌≢◌, ℕ, zero, suc, ◌<◌, ◌
 use Rattle.std.proofs.lemmas.List.{length-map}
 use Rattle.std.proofs.lemmas.List.Elements.{All-append, All-filter, All-map, All-from_get_or}
 use Rattle.plane_predicate.specs.declared.unit.Unit.{Unit as LengthUnit}
-use Rattle.plane_predicate.specs.Space.{Coefficients, Coordinates, value, orientation_seen_from, IsPlane, IsPointTimes}
+use Rattle.plane_predicate.specs.Space.{Coefficients, Coordinates, value, orientation_seen_from, IsPlane, IsPointTimes, origin, has_same_numbers}
 use Rattle.plane_predicate.specs.InUnits.{in_steps, in_units}
-use Rattle.plane_polygon.specs.Polygons.{Outline, sides, IsPolygon, IsStrictlyWithin, corner as corner_of}
+use Rattle.plane_polygon.specs.Polygons.{Outline, edge_count, IsPolygon, IsStrictlyWithin, corner as corner_of}
 use Rattle.plane_polygon.proofs.Rounds.{step, step_below}
 use Rattle.plane_polygon.specs.Parts.{corners}
 use Rattle.closed_surface.specs.Closed.{corners_at}
 use Rattle.closed_surface.specs.Printing.{IsRoundOf}
 use Rattle.off_text.specs.Reading.{IsPrintedVertex, IsPrintedFace, off_text}
-use Rattle.off_text.specs.Boundaries.{origin, corner, grid_corner, corner_after, FacesPlane, FaceCovers}
-use Rattle.off_text.specs.Texts.{same_point, distinct_points, number_among, from_least, printed_corners, vertices_of, numbered_faces, AreCornersOf, IsTextOf}
+use Rattle.off_text.specs.Boundaries.{face_corner, grid_corner, FacesPlane, FaceCovers}
+use Rattle.off_text.specs.Texts.{distinct_points, vertex_number, from_least, printed_corners, vertices_of, numbered_faces, AreCornersOf, IsTextOf}
 use Rattle.off_text.specs.Numbering.{AreNumberedFaces}
 use Rattle.off_text.specs.Prints.{IsPrintedFaceOf, ArePrintedFacesOf, Prints}
 use Rattle.off_text.proofs.Numbers.{Known, AllKnown, place_below, known_at, grown_knows}
@@ -22,6 +22,7 @@ use Rattle.off_text.proofs.OwnVertices.{own_vertices}
 use Rattle.off_text.proofs.Scaled.{AreOnePoint, printed_is}
 use Rattle.off_text.proofs.Cornered.{ArePrinted, printed, found_are_vertices, All-from_least}
 use Rattle.off_text.proofs.Rounded.{points_on, points_left, left_from_within, within_from_left, one_plane, below_three, not_two}
+use Rattle.plane_predicate.specs.Indices.{index_after}
 
 -- ---- what holds of all items
 none_all : {X : Type 0} (P : X → Type 0) → All P []
@@ -44,39 +45,39 @@ all-known-at vertices (p ∷ points) h zero l = h.0
 all-known-at vertices (p ∷ points) h (suc i) l = all-known-at vertices points h.1 i (omega arith)
 
 -- a printed corner is the point that is numbered so
-corner-at : (vertices points : List Coordinates) → AllKnown vertices points → (i : ℕ) → i < length points → corner vertices (map (number_among vertices) points) i ≡ get_or points i origin
+corner-at : (vertices points : List Coordinates) → AllKnown vertices points → (i : ℕ) → i < length points → face_corner vertices (map (vertex_number vertices) points) i ≡ get_or points i origin
 corner-at vertices [] h i l = absurd (omega arith)
 corner-at vertices (p ∷ points) h zero l = known_at vertices p h.0
 corner-at vertices (p ∷ points) h (suc i) l = corner-at vertices points h.1 i (omega arith)
 
 -- all corners of a printed face
-corners-are : (vertices points : List Coordinates) → AllKnown vertices points → corners_at vertices (map (number_among vertices) points) ≡ points
+corners-are : (vertices points : List Coordinates) → AllKnown vertices points → corners_at vertices (map (vertex_number vertices) points) ≡ points
 corners-are vertices [] h = refl
 corners-are vertices (p ∷ points) h = ap₂ (λ (q : Coordinates) (qs : List Coordinates). q ∷ qs) (known_at vertices p h.0) (corners-are vertices points h.1)
 
 -- ---- one face
 module _ (unit : LengthUnit) (s : Outline) (polygon : IsPolygon s) (vertices points : List Coordinates) (printed : ArePrinted unit s points) (known : AllKnown vertices points) where
   abbrev pub face : List ℕ
-  face = map (number_among vertices) points
+  face = map (vertex_number vertices) points
 
-  count : length face ≡ sides s
-  count = length-map points (number_among vertices) ∙ printed.count
+  count : length face ≡ edge_count s
+  count = length-map points (vertex_number vertices) ∙ printed.count
 
-  times : (i : ℕ) → i < sides s → IsPointTimes (in_units unit (corner_of s (step (sides s) printed.start i))) (corner vertices face i)
-  times i l = subst (λ (q : Coordinates). IsPointTimes (in_units unit (corner_of s (step (sides s) printed.start i))) q)
+  times : (i : ℕ) → i < edge_count s → IsPointTimes (in_units unit (corner_of s (step (edge_count s) printed.start i))) (face_corner vertices face i)
+  times i l = subst (λ (q : Coordinates). IsPointTimes (in_units unit (corner_of s (step (edge_count s) printed.start i))) q)
       (sym (corner-at vertices points known i (omega (arith, printed.count, l)))) (printed.at i l)
 
   abbrev on_grid : ℕ → Coordinates
   on_grid i = grid_corner unit vertices face i
 
-  is : (i : ℕ) → i < sides s → AreOnePoint (corner_of s (step (sides s) printed.start i)) (on_grid i)
-  is i l = printed_is unit (corner_of s (step (sides s) printed.start i)) (corner vertices face i) (times i l)
+  is : (i : ℕ) → i < edge_count s → AreOnePoint (corner_of s (step (edge_count s) printed.start i)) (on_grid i)
+  is i l = printed_is unit (corner_of s (step (edge_count s) printed.start i)) (face_corner vertices face i) (times i l)
 
   facing : FacesPlane unit vertices s.plane face
   facing = record {
     on = subst (λ (k : ℕ). (i : ℕ) → i < k → value s.plane (on_grid i) ≡ pos 0) (sym count)
         (points_on s polygon printed.start printed.starts on_grid is);
-    left = subst (λ (k : ℕ). (i j : ℕ) → i < k → j < k → j ≢ i → j ≢ corner_after k i → pos 0 <ℤ orientation_seen_from s.plane (on_grid i) (on_grid (corner_after k i)) (on_grid j)) (sym count)
+    left = subst (λ (k : ℕ). (i j : ℕ) → i < k → j < k → j ≢ i → j ≢ index_after k i → pos 0 <ℤ orientation_seen_from s.plane (on_grid i) (on_grid (index_after k i)) (on_grid j)) (sym count)
         (points_left s polygon printed.start printed.starts on_grid is);
   }
 
@@ -84,26 +85,26 @@ module _ (unit : LengthUnit) (s : Outline) (polygon : IsPolygon s) (vertices poi
   covering-in p w = record {
     faces = facing;
     on = w.on;
-    left = subst (λ (k : ℕ). (i : ℕ) → i < k → pos 0 <ℤ orientation_seen_from s.plane (on_grid i) (on_grid (corner_after k i)) (in_steps unit p)) (sym count)
+    left = subst (λ (k : ℕ). (i : ℕ) → i < k → pos 0 <ℤ orientation_seen_from s.plane (on_grid i) (on_grid (index_after k i)) (in_steps unit p)) (sym count)
         (left_from_within s polygon printed.start printed.starts on_grid is (in_steps unit p) w);
   }
 
   covering-out : (p : Coordinates) → FaceCovers unit vertices s.plane p face → IsStrictlyWithin s (in_steps unit p)
   covering-out p c =
       within_from_left s polygon printed.start printed.starts on_grid is (in_steps unit p) c.on
-      (subst (λ (k : ℕ). (i : ℕ) → i < k → pos 0 <ℤ orientation_seen_from s.plane (on_grid i) (on_grid (corner_after k i)) (in_steps unit p)) count c.left)
+      (subst (λ (k : ℕ). (i : ℕ) → i < k → pos 0 <ℤ orientation_seen_from s.plane (on_grid i) (on_grid (index_after k i)) (in_steps unit p)) count c.left)
 
   faced_plane : (n : Coefficients) → IsPlane s.plane → IsPlane n → FacesPlane unit vertices n face → s.plane ≡ n
   faced_plane n hs hn f =
-      let left = subst (λ (k : ℕ). (i j : ℕ) → i < k → j < k → j ≢ i → j ≢ corner_after k i → pos 0 <ℤ orientation_seen_from n (on_grid i) (on_grid (corner_after k i)) (on_grid j)) count f.left in
+      let left = subst (λ (k : ℕ). (i j : ℕ) → i < k → j < k → j ≢ i → j ≢ index_after k i → pos 0 <ℤ orientation_seen_from n (on_grid i) (on_grid (index_after k i)) (on_grid j)) count f.left in
       one_plane s polygon printed.start printed.starts on_grid is n hs hn
       (subst (λ (k : ℕ). (i : ℕ) → i < k → value n (on_grid i) ≡ pos 0) count f.on)
-      (left 0 2 (below_three 0 (sides s) polygon.three (omega arith)) (below_three 2 (sides s) polygon.three (omega arith)) (omega arith) (not_two (sides s) polygon.three))
+      (left 0 2 (below_three 0 (edge_count s) polygon.three (omega arith)) (below_three 2 (edge_count s) polygon.three (omega arith)) (omega arith) (not_two (edge_count s) polygon.three))
 
   pub drawn : IsPrintedFaceOf unit vertices s face
   drawn = record {
-    corners = λ i l. (let b : i < sides s = omega (arith, count, l) in
-        record { place = step (sides s) printed.start i; within = step_below (sides s) printed.start i printed.starts; times = times i b });
+    corners = λ i l. (let b : i < edge_count s = omega (arith, count, l) in
+        record { place = step (edge_count s) printed.start i; within = step_below (edge_count s) printed.start i printed.starts; times = times i b });
     round = subst (IsRoundOf unit (corners s)) (sym (corners-are vertices points known)) printed.round;
     facing = facing;
     covering = λ n p hs hn. (
@@ -113,8 +114,8 @@ module _ (unit : LengthUnit) (s : Outline) (polygon : IsPolygon s) (vertices poi
   }
 
   known_indices : All (λ i. i < length vertices) face
-  known_indices = All-map (λ (i : ℕ). i < length vertices) (number_among vertices) points
-      (All-from_get_or (λ (p : Coordinates). number_among vertices p < length vertices) points origin (λ i l. place_below (same_point (get_or points i origin)) vertices (all-known-at vertices points known i l)))
+  known_indices = All-map (λ (i : ℕ). i < length vertices) (vertex_number vertices) points
+      (All-from_get_or (λ (p : Coordinates). vertex_number vertices p < length vertices) points origin (λ i l. place_below (has_same_numbers (get_or points i origin)) vertices (all-known-at vertices points known i l)))
 
   pub is_face : IsPrintedFace (length vertices) face
   is_face = record { three = subst (λ (k : ℕ). 3 ≤ k) (sym count) polygon.three; known = known_indices }
@@ -122,7 +123,7 @@ module _ (unit : LengthUnit) (s : Outline) (polygon : IsPolygon s) (vertices poi
 -- ---- all faces
 faces_drawn : (unit : LengthUnit) (polygons : List Outline) (found : List (List Coordinates)) (vertices : List Coordinates) → All IsPolygon polygons → AreCornersOf unit polygons found →
     AllKnown vertices (joined (printed_corners found)) →
-    ArePrintedFacesOf unit vertices polygons (map (map (number_among vertices)) (printed_corners found)) × All (IsPrintedFace (length vertices)) (map (map (number_among vertices)) (printed_corners found))
+    ArePrintedFacesOf unit vertices polygons (map (map (vertex_number vertices)) (printed_corners found)) × All (IsPrintedFace (length vertices)) (map (map (vertex_number vertices)) (printed_corners found))
 faces_drawn unit [] [] vertices h c k = (tt, none_all (IsPrintedFace (length vertices)))
 faces_drawn unit [] (f ∷ found) vertices h c k = absurd c
 faces_drawn unit (s ∷ polygons) [] vertices h c k = absurd c
@@ -132,15 +133,15 @@ faces_drawn unit (s ∷ polygons) (f ∷ found) vertices h c k =
     let points = printed unit s f polygon c.0 in
     let rest = faces_drawn unit polygons found vertices (rest_of IsPolygon s polygons h) c.1 parts.1 in (
       (drawn unit s polygon vertices (from_least f) points parts.0, rest.0),
-      more_all (IsPrintedFace (length vertices)) (map (number_among vertices) (from_least f)) (map (map (number_among vertices)) (printed_corners found)) (is_face unit s polygon vertices (from_least f) points parts.0) rest.1,
+      more_all (IsPrintedFace (length vertices)) (map (vertex_number vertices) (from_least f)) (map (map (vertex_number vertices)) (printed_corners found)) (is_face unit s polygon vertices (from_least f) points parts.0) rest.1,
     )
 
 -- ---- all vertices
 distinct_all : (points : List Coordinates) → All IsPrintedVertex points → All IsPrintedVertex (distinct_points points)
 distinct_all [] h = h
 distinct_all (p ∷ points) h =
-    more_all IsPrintedVertex p (filter (λ q. not (same_point p q)) (distinct_points points)) (first_of IsPrintedVertex p points h)
-    (All-filter (λ q. not (same_point p q)) IsPrintedVertex (distinct_points points) (distinct_all points (rest_of IsPrintedVertex p points h)))
+    more_all IsPrintedVertex p (filter (λ q. not (has_same_numbers p q)) (distinct_points points)) (first_of IsPrintedVertex p points h)
+    (All-filter (λ q. not (has_same_numbers p q)) IsPrintedVertex (distinct_points points) (distinct_all points (rest_of IsPrintedVertex p points h)))
 
 joined_all : (unit : LengthUnit) (polygons : List Outline) (found : List (List Coordinates)) → All IsPolygon polygons → AreCornersOf unit polygons found → All IsPrintedVertex (joined (printed_corners found))
 joined_all unit [] [] h c = none_all IsPrintedVertex

@@ -5,11 +5,11 @@ use Rattle.std.proofs.lemmas.List.Elements.{All-nil, All-cons, All-head, All-tai
 use Rattle.plane_predicate.specs.declared.unit.Unit.{Unit as LengthUnit}
 use Rattle.plane_predicate.specs.Space.{Coefficients, Coordinates, opposite_of, IsInClosedWorld}
 use Rattle.plane_predicate.specs.InUnits.{in_steps}
-use Rattle.plane_polygon.specs.Polygons.{Outline, sides, corner as corner_of}
-use Rattle.csg_tree.specs.Formulas.{Formula}
+use Rattle.plane_polygon.specs.Polygons.{Outline, edge_count, corner as corner_of}
+use Rattle.csg_tree.specs.HalfSpaceTrees.{Tree}
 use Rattle.csg_tree.specs.FacePlanes.{IsFacePlane, IsOnOneFacePlane, sides_just_behind, sides_just_ahead, is_boundary_at}
 use Rattle.csg_tree.specs.ProperTrees.{IsProper}
-use Rattle.bsp_tree.specs.Cells.{world_box, IsPlaneOf}
+use Rattle.bsp_tree.specs.Cells.{world_box, IsNodePlaneOf}
 use Rattle.bsp_tree.proofs.Worlds.{open_world}
 use Rattle.bsp_boolean.specs.LeafSolids.{IsSolidOf}
 use Rattle.bsp_boolean.specs.Solids.{solid_of}
@@ -23,7 +23,7 @@ use Rattle.closed_surface.specs.Closed.{corners_at}
 use Rattle.closed_surface.specs.Printing.{AreRoundsOf}
 use Rattle.closed_surface.proofs.Printing.{printed_closed}
 use Rattle.closed_surface.proofs.Closing.{facets_closed}
-use Rattle.off_text.specs.Boundaries.{corner, FaceCovers, OneExactlyWhere}
+use Rattle.off_text.specs.Boundaries.{face_corner, FaceCovers, OneExactlyWhere}
 use Rattle.off_text.specs.Prints.{IsPrintedFaceOf, ArePrintedFacesOf, Prints}
 use Rattle.off_text.specs.Bounding.{IsBoundaryFace, IsBoundary}
 use Rattle.off_text.proofs.Covered.{HasPlane, covering_of, as_facets}
@@ -31,16 +31,16 @@ use Rattle.off_text.proofs.Boxed.{boxed as in_world_reduced}
 use Rattle.off_text.proofs.BesideFaces.{BesideLeaves, beside_leaves, face_plane_is_plane}
 
 -- the facets of a formula's solid
-record IsFacetOfFormula (f : Formula) (s : Outline) : Type 0 where
+record IsFacetOfFormula (f : Tree) (s : Outline) : Type 0 where
   pub plane : IsFacePlane s.plane f
-  pub boxed : (i : ℕ) → i < sides s → IsInClosedWorld (corner_of s i)
+  pub boxed : (i : ℕ) → i < edge_count s → IsInClosedWorld (corner_of s i)
 
-facet_plane : (f : Formula) (m : Coefficients) → IsSolidOf f (solid_of f) →
-    IsPlaneOf m (solid_of f) ⊎ IsPlaneOf (opposite_of m) (solid_of f) → IsFacePlane m f
+facet_plane : (f : Tree) (m : Coefficients) → IsSolidOf f (solid_of f) →
+    IsNodePlaneOf m (solid_of f) ⊎ IsNodePlaneOf (opposite_of m) (solid_of f) → IsFacePlane m f
 facet_plane f m h (inl k) = inl (h.planes m k)
 facet_plane f m h (inr k) = inr (h.planes (opposite_of m) k)
 
-formula_facets : (f : Formula) → IsSolidOf f (solid_of f) → All (IsFacetOfFormula f) (facets_of (solid_of f))
+formula_facets : (f : Tree) → IsSolidOf f (solid_of f) → All (IsFacetOfFormula f) (facets_of (solid_of f))
 formula_facets f h k d l =
     let s = slice_index_or (facets_of (solid_of f)) k d in record {
       plane = facet_plane f s.plane h (all_facets (solid_of f) world_box h.world k d l).plane;
@@ -48,7 +48,7 @@ formula_facets f h k d l =
     }
 
 -- each printed face is a face of the boundary
-module _ (unit : LengthUnit) (f : Formula) (vertices : List Coordinates) where
+module _ (unit : LengthUnit) (f : Tree) (vertices : List Coordinates) where
   face_bounds : (s : Outline) (face : List ℕ) → IsPrintedFaceOf unit vertices s face → IsFacetOfFormula f s →
       IsBoundaryFace unit f vertices face
   face_bounds s face h k = record {
@@ -57,7 +57,7 @@ module _ (unit : LengthUnit) (f : Formula) (vertices : List Coordinates) where
     faces = h.facing;
     boxed = λ i l. (
         let c = h.corners i l in
-        in_world_reduced unit (corner_of s c.place) (corner vertices face i) c.times (k.boxed c.place c.within));
+        in_world_reduced unit (corner_of s c.place) (face_corner vertices face i) c.times (k.boxed c.place c.within));
   }
 
   faces_bound : (polygons : List Outline) (faces : List (List ℕ)) → ArePrintedFacesOf unit vertices polygons faces →
@@ -72,12 +72,12 @@ module _ (unit : LengthUnit) (f : Formula) (vertices : List Coordinates) where
 
 -- the text is the boundary
 -- a point that is on one face plane is on no other plane of the solid
-on_one_plane : (f : Formula) (n : Coefficients) (p : Coordinates) → IsSolidOf f (solid_of f) →
+on_one_plane : (f : Tree) (n : Coefficients) (p : Coordinates) → IsSolidOf f (solid_of f) →
     IsOnOneFacePlane f n p → IsOnOneNodePlane world_box (solid_of f) n p
 on_one_plane f n p solid h =
     record { point_in = (open_world p).1 h.world; on = h.on; alone = λ m k. h.alone m (solid.planes m k) }
 
-covered_where : (unit : LengthUnit) (f : Formula) (bytes : List ℕ) → IsProper f → IsSolidOf f (solid_of f) →
+covered_where : (unit : LengthUnit) (f : Tree) (bytes : List ℕ) → IsProper f → IsSolidOf f (solid_of f) →
     (text : Prints unit (facets_of (solid_of f)) bytes) → BesideLeaves f → (n : Coefficients) (p : Coordinates) →
     IsOnOneFacePlane f n (in_steps unit p) → OneExactlyWhere (is_boundary_at f n (in_steps unit p)) (FaceCovers unit text.vertices n p) text.faces
 covered_where unit f bytes h solid text beside n p o =
@@ -101,7 +101,7 @@ rounds unit vertices [] (face ∷ faces) h = absurd h
 rounds unit vertices (s ∷ polygons) [] h = absurd h
 rounds unit vertices (s ∷ polygons) (face ∷ faces) h = (h.0.round, rounds unit vertices polygons faces h.1)
 
-pub boundary_from : (unit : LengthUnit) (f : Formula) (bytes : List ℕ) → IsProper f → Prints unit (facets_of (solid_of f)) bytes →
+pub boundary_from : (unit : LengthUnit) (f : Tree) (bytes : List ℕ) → IsProper f → Prints unit (facets_of (solid_of f)) bytes →
     BesideLeaves f → IsBoundary unit bytes f
 boundary_from unit f bytes h text beside =
     let solid = tree_is_solid f h.leaves in
@@ -117,5 +117,5 @@ boundary_from unit f bytes h text beside =
     }
 
 -- the text of the facets of a proper tree's solid is the tree's boundary
-pub boundary : (unit : LengthUnit) (f : Formula) (bytes : List ℕ) → IsProper f → Prints unit (facets_of (solid_of f)) bytes → IsBoundary unit bytes f
+pub boundary : (unit : LengthUnit) (f : Tree) (bytes : List ℕ) → IsProper f → Prints unit (facets_of (solid_of f)) bytes → IsBoundary unit bytes f
 boundary unit f bytes h text = boundary_from unit f bytes h text (beside_leaves f h.leaves)

@@ -6,7 +6,7 @@ use Rattle.std.proofs.lemmas.Grind.{flat_map-append}
 use Rattle.plane_predicate.specs.declared.unit.Unit.{Unit as LengthUnit}
 use Rattle.plane_predicate.specs.Space.{Coordinates}
 use Rattle.plane_polygon.specs.Polygons.{Outline, IsPolygon}
-use Rattle.off_text.specs.Texts.{from_least, number_among, printed_corners, vertices_of, AreCornersOf}
+use Rattle.off_text.specs.Texts.{from_least, vertex_number, printed_corners, vertices_of, AreCornersOf}
 use Rattle.off_text.specs.Numbering.{with_points, AddsFace, AreNumberedFaces}
 use Rattle.off_text.proofs.Numbers.{AllKnown, all_kept, grown_knows, with_points-append}
 use Rattle.off_text.proofs.Distinct.{grown_from_none}
@@ -21,7 +21,7 @@ pub record AreGathered (unit : LengthUnit) (polygons : List Outline) (vertices :
   pub found : List (List Coordinates)
   pub corners : AreCornersOf unit polygons found
   pub vertices_are : vertices ≡ with_points [] (joined (printed_corners found))
-  pub faces_are : faces ≡ map (map (number_among vertices)) (printed_corners found)
+  pub faces_are : faces ≡ map (map (vertex_number vertices)) (printed_corners found)
 
 pub corners_append : (unit : LengthUnit) (polygons others : List Outline) (found more : List (List Coordinates)) → AreCornersOf unit polygons found → AreCornersOf unit others more → AreCornersOf unit (polygons ++ others) (found ++ more)
 corners_append unit [] others [] more h l = l
@@ -33,7 +33,7 @@ pub known_parts : (xs ys vertices : List Coordinates) → AllKnown vertices (xs 
 known_parts [] ys vertices h = (tt, h)
 known_parts (x ∷ xs) ys vertices h = let rest = known_parts xs ys vertices h.1 in ((h.0, rest.0), rest.1)
 
-faces_kept : (faces : List (List Coordinates)) (vertices more : List Coordinates) → AllKnown vertices (joined faces) → map (map (number_among (with_points vertices more))) faces ≡ map (map (number_among vertices)) faces
+faces_kept : (faces : List (List Coordinates)) (vertices more : List Coordinates) → AllKnown vertices (joined faces) → map (map (vertex_number (with_points vertices more))) faces ≡ map (map (vertex_number vertices)) faces
 faces_kept [] vertices more h = refl
 faces_kept (f ∷ faces) vertices more h =
     let parts = known_parts f (joined faces) vertices h in
@@ -55,9 +55,9 @@ gathered_more unit polygons vertices faces h s new face a =
           ∙ ap (with_points []) (sym (flat_map-append (λ corners. corners) (printed_corners h.found) (from_least a.found ∷ [])))
           ∙ ap (λ (l : List (List Coordinates)). with_points [] (joined l)) (sym (map-append from_least h.found (a.found ∷ [])));
       faces_are = ap₂ (λ (l : List (List ℕ)) (f : List ℕ). l ++ f ∷ [])
-          (h.faces_are ∙ sym (faces_kept (printed_corners h.found) vertices (from_least a.found) known) ∙ ap (λ (v : List Coordinates). map (map (number_among v)) (printed_corners h.found)) (sym a.grows)) a.numbers
-          ∙ sym (map-append (map (number_among new)) (printed_corners h.found) (from_least a.found ∷ []))
-          ∙ ap (map (map (number_among new))) (sym (map-append from_least h.found (a.found ∷ [])));
+          (h.faces_are ∙ sym (faces_kept (printed_corners h.found) vertices (from_least a.found) known) ∙ ap (λ (v : List Coordinates). map (map (vertex_number v)) (printed_corners h.found)) (sym a.grows)) a.numbers
+          ∙ sym (map-append (map (vertex_number new)) (printed_corners h.found) (from_least a.found ∷ []))
+          ∙ ap (map (map (vertex_number new))) (sym (map-append from_least h.found (a.found ∷ [])));
     }
 
 pub gathered_all : (unit : LengthUnit) (polygons : List Outline) (vertices : List Coordinates) (faces : List (List ℕ)) → AreGathered unit polygons vertices faces → AreNumberedFaces unit polygons vertices faces
@@ -68,7 +68,7 @@ gathered_all unit polygons vertices faces h =
       found = h.found;
       corners = h.corners;
       vertices_are = e;
-      faces_are = h.faces_are ∙ ap (λ (v : List Coordinates). map (map (number_among v)) (printed_corners h.found)) e;
+      faces_are = h.faces_are ∙ ap (λ (v : List Coordinates). map (map (vertex_number v)) (printed_corners h.found)) e;
     }
 
 -- a polygon more of a list

@@ -5,11 +5,10 @@ use Rattle.std.proofs.lemmas.List.{get_or_default}
 use Rattle.std.proofs.lemmas.List.Elements.{All-from_get_or}
 use Rattle.std.proofs.lemmas.List.Folds.{list_any_at, list_any_none}
 use Rattle.std.proofs.lemmas.List.Sums.{position_or_len_is}
-use Rattle.plane_predicate.specs.Space.{Coordinates}
+use Rattle.plane_predicate.specs.Space.{Coordinates, origin}
 use Rattle.plane_polygon.proofs.Rounds.{at_most}
 use Rattle.off_text.specs.Texts.{comes_before, is_least, place_of_least}
 use Rattle.off_text.proofs.Order.{before-itself, before-chain, before-others}
-use Rattle.off_text.specs.Boundaries.{origin}
 
 -- among the first i corners, none comes before the one at the place, which comes before all that stand before it
 pub record IsLeastOf (corners : List Coordinates) (i least : ℕ) : Type 0 where

@@ -11,7 +11,7 @@ use Rattle.off_text.specs.Reading.{vertex_line, off_text}
 use Rattle.off_text.specs.Texts.{vertices_of, AreCornersOf, IsTextOf}
 use Rattle.off_text.specs.declared.numbering.FaceNumbers.{FaceNumbers}
 use Rattle.off_text.specs.Numbering.{HaveLines}
-use Rattle.off_text.specs.FaceNumbers.{sides_of, all_numbers, AddsNumbers, HaveNumbers}
+use Rattle.off_text.specs.FaceNumbers.{corner_counts, all_numbers, AddsNumbers, HaveNumbers}
 use Rattle.off_text.proofs.Pieces.{text-written}
 use Rattle.off_text.proofs.Gathered.{AreGathered, gathered_next, gathered_end}
 
@@ -19,7 +19,7 @@ use Rattle.off_text.proofs.Gathered.{AreGathered, gathered_next, gathered_end}
 pub record AreWritten (unit : LengthUnit) (polygons : List Outline) (vertices : List Coordinates) (all : FaceNumbers) : Type 0 where
   pub faces : List (List ℕ)
   pub gathered : AreGathered unit polygons vertices faces
-  pub sides : all.sides.items ≡ sides_of faces
+  pub sides : all.sides.items ≡ corner_counts faces
   pub numbers : all.numbers.items ≡ all_numbers faces
 
 pub written_none : (unit : LengthUnit) (vertices : List Coordinates) (all : FaceNumbers) → vertices ≡ [] → all.sides.items ≡ [] → all.numbers.items ≡ [] → AreWritten unit [] vertices all

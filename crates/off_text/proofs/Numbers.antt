@@ -8,21 +8,20 @@ use Rattle.std.proofs.lemmas.Bool.Decides.{Decides-int_eq}
 use Rattle.std.proofs.lemmas.List.Folds.{list_any-append, position_or_len_push}
 use Rattle.std.proofs.lemmas.List.Sums.{prefix_len-le-length, passes_at_first}
 use Rattle.indexmap.specs.IndexSet.{insert_key}
-use Rattle.plane_predicate.specs.Space.{Coordinates}
+use Rattle.plane_predicate.specs.Space.{Coordinates, origin, has_same_numbers}
 use Rattle.plane_predicate.proofs.Opposites.{same_point as equal_points}
-use Rattle.off_text.specs.Boundaries.{origin}
-use Rattle.off_text.specs.Texts.{same_point, number_among}
+use Rattle.off_text.specs.Texts.{vertex_number}
 use Rattle.off_text.specs.Numbering.{with_points}
-use Rattle.off_text.specs.FaceNumbers.{numbers_among}
+use Rattle.off_text.specs.FaceNumbers.{vertex_numbers}
 
 -- the point is numbered
 abbrev pub Known : List Coordinates → Coordinates → Type 0
-Known vertices p = list_any (same_point p) vertices ≡ true
+Known vertices p = list_any (has_same_numbers p) vertices ≡ true
 
-pub same_itself : (p : Coordinates) → same_point p p ≡ true
+pub same_itself : (p : Coordinates) → has_same_numbers p p ≡ true
 same_itself p = and_from _ _ ((Decides-int_eq p.x p.x).1 refl) (and_from _ _ ((Decides-int_eq p.y p.y).1 refl) (and_from _ _ ((Decides-int_eq p.z p.z).1 refl) ((Decides-int_eq p.w p.w).1 refl)))
 
-pub same_equal : (p q : Coordinates) → same_point p q ≡ true → p ≡ q
+pub same_equal : (p q : Coordinates) → has_same_numbers p q ≡ true → p ≡ q
 same_equal p q e =
     let first = and_parts (int_eq p.x q.x) (int_eq p.y q.y && (int_eq p.z q.z && int_eq p.w q.w)) e in
     let second = and_parts (int_eq p.y q.y) (int_eq p.z q.z && int_eq p.w q.w) first.1 in
@@ -47,26 +46,26 @@ place_below p [] h = absurd (false≢true h)
 place_below p (x ∷ xs) h = omega (arith, below_step (p x) (list_any p xs) (position_or_len p xs) (length xs) (place_below p xs) h)
 
 -- and stands at its number
-pub known_at : (vertices : List Coordinates) (p : Coordinates) → Known vertices p → get_or vertices (number_among vertices p) origin ≡ p
-known_at vertices p h = sym (same_equal p _ (passes_at_first (same_point p) vertices origin (place_below (same_point p) vertices h)))
+pub known_at : (vertices : List Coordinates) (p : Coordinates) → Known vertices p → get_or vertices (vertex_number vertices p) origin ≡ p
+known_at vertices p h = sym (same_equal p _ (passes_at_first (has_same_numbers p) vertices origin (place_below (has_same_numbers p) vertices h)))
 
 inserted_step : (p q : Coordinates) (vertices : List Coordinates) (b : Bool) → Known vertices q →
-    Known (cond b vertices (vertices ++ p ∷ [])) q × (number_among (cond b vertices (vertices ++ p ∷ [])) q ≡ number_among vertices q)
+    Known (cond b vertices (vertices ++ p ∷ [])) q × (vertex_number (cond b vertices (vertices ++ p ∷ [])) q ≡ vertex_number vertices q)
 inserted_step p q vertices true h = (h, refl)
 inserted_step p q vertices false h =
-    (list_any-append (same_point q) vertices (p ∷ []) ∙ or_left (list_any (same_point q) vertices) _ h, place_kept (same_point q) vertices (p ∷ []) h)
+    (list_any-append (has_same_numbers q) vertices (p ∷ []) ∙ or_left (list_any (has_same_numbers q) vertices) _ h, place_kept (has_same_numbers q) vertices (p ∷ []) h)
 
 -- a numbered point keeps its number
 pub inserted_keeps : (p q : Coordinates) (vertices : List Coordinates) → Known vertices q →
-    Known (insert_key same_point vertices p) q × (number_among (insert_key same_point vertices p) q ≡ number_among vertices q)
-inserted_keeps p q vertices h = inserted_step p q vertices (list_any (same_point p) vertices) h
+    Known (insert_key has_same_numbers vertices p) q × (vertex_number (insert_key has_same_numbers vertices p) q ≡ vertex_number vertices q)
+inserted_keeps p q vertices h = inserted_step p q vertices (list_any (has_same_numbers p) vertices) h
 
 pub grown_keeps : (q : Coordinates) (points vertices : List Coordinates) → Known vertices q →
-    Known (with_points vertices points) q × (number_among (with_points vertices points) q ≡ number_among vertices q)
+    Known (with_points vertices points) q × (vertex_number (with_points vertices points) q ≡ vertex_number vertices q)
 grown_keeps q [] vertices h = (h, refl)
 grown_keeps q (p ∷ points) vertices h =
     let one = inserted_keeps p q vertices h in
-    let rest = grown_keeps q points (insert_key same_point vertices p) one.0 in
+    let rest = grown_keeps q points (insert_key has_same_numbers vertices p) one.0 in
     (rest.0, rest.1 ∙ one.1)
 
 or_right : (b t : Bool) → t ≡ true → (b || t) ≡ true
@@ -80,20 +79,20 @@ last_place false n m h = refl
 eqb-equal : (n m : ℕ) → eqb n m ≡ true → n ≡ m
 eqb-equal n m e = grind (arith, e)
 
-own_step : (p : Coordinates) (vertices : List Coordinates) (b : Bool) → list_any (same_point p) vertices ≡ b →
-    Known (cond b vertices (vertices ++ p ∷ [])) p × (number_among (cond b vertices (vertices ++ p ∷ [])) p ≡ number_among vertices p)
+own_step : (p : Coordinates) (vertices : List Coordinates) (b : Bool) → list_any (has_same_numbers p) vertices ≡ b →
+    Known (cond b vertices (vertices ++ p ∷ [])) p × (vertex_number (cond b vertices (vertices ++ p ∷ [])) p ≡ vertex_number vertices p)
 own_step p vertices true e = (e, refl)
 own_step p vertices false e = (
-  list_any-append (same_point p) vertices (p ∷ []) ∙ or_right (list_any (same_point p) vertices) _ (or_left (same_point p p) false (same_itself p)),
-  position_or_len_push (same_point p) vertices p
-      ∙ ap (λ (b : Bool). cond (eqb (number_among vertices p) (length vertices)) (length vertices + cond b 0 1) (number_among vertices p)) (same_itself p)
-      ∙ last_place (eqb (number_among vertices p) (length vertices)) (number_among vertices p) (length vertices) (λ e. eqb-equal (number_among vertices p) (length vertices) e),
+  list_any-append (has_same_numbers p) vertices (p ∷ []) ∙ or_right (list_any (has_same_numbers p) vertices) _ (or_left (has_same_numbers p p) false (same_itself p)),
+  position_or_len_push (has_same_numbers p) vertices p
+      ∙ ap (λ (b : Bool). cond (eqb (vertex_number vertices p) (length vertices)) (length vertices + cond b 0 1) (vertex_number vertices p)) (same_itself p)
+      ∙ last_place (eqb (vertex_number vertices p) (length vertices)) (vertex_number vertices p) (length vertices) (λ e. eqb-equal (vertex_number vertices p) (length vertices) e),
 )
 
 -- a point has its number once it is numbered
 pub inserted_itself : (p : Coordinates) (vertices : List Coordinates) →
-    Known (insert_key same_point vertices p) p × (number_among (insert_key same_point vertices p) p ≡ number_among vertices p)
-inserted_itself p vertices = own_step p vertices (list_any (same_point p) vertices) refl
+    Known (insert_key has_same_numbers vertices p) p × (vertex_number (insert_key has_same_numbers vertices p) p ≡ vertex_number vertices p)
+inserted_itself p vertices = own_step p vertices (list_any (has_same_numbers p) vertices) refl
 
 -- points, of which each is numbered
 abbrev pub AllKnown : List Coordinates → List Coordinates → Type 0
@@ -101,7 +100,7 @@ AllKnown vertices [] = Unit {0}
 AllKnown vertices (q ∷ points) = Known vertices q × AllKnown vertices points
 
 pub all_kept : (more vertices points : List Coordinates) → AllKnown vertices points →
-    AllKnown (with_points vertices more) points × (map (number_among (with_points vertices more)) points ≡ map (number_among vertices) points)
+    AllKnown (with_points vertices more) points × (map (vertex_number (with_points vertices more)) points ≡ map (vertex_number vertices) points)
 all_kept more vertices [] h = (tt, refl)
 all_kept more vertices (q ∷ points) h =
     let one = grown_keeps q more vertices h.0 in
@@ -111,23 +110,23 @@ all_kept more vertices (q ∷ points) h =
 pub grown_knows : (points vertices : List Coordinates) → AllKnown (with_points vertices points) points
 grown_knows [] vertices = tt
 grown_knows (p ∷ points) vertices =
-    ((grown_keeps p points (insert_key same_point vertices p) (inserted_itself p vertices).0).0, grown_knows points (insert_key same_point vertices p))
+    ((grown_keeps p points (insert_key has_same_numbers vertices p) (inserted_itself p vertices).0).0, grown_knows points (insert_key has_same_numbers vertices p))
 
 pub with_points-append : (xs ys vertices : List Coordinates) → with_points vertices (xs ++ ys) ≡ with_points (with_points vertices xs) ys
 with_points-append [] ys vertices = refl
-with_points-append (x ∷ xs) ys vertices = with_points-append xs ys (insert_key same_point vertices x)
+with_points-append (x ∷ xs) ys vertices = with_points-append xs ys (insert_key has_same_numbers vertices x)
 
 -- one more point of those that are still to be numbered
 numbers_step : (vertices rest : List Coordinates) (numbers : List ℕ) (p : Coordinates) →
-    (numbers ++ number_among vertices p ∷ []) ++ numbers_among (with_points (insert_key same_point vertices p) rest) rest
-    ≡ numbers ++ numbers_among (with_points vertices (p ∷ rest)) (p ∷ rest)
+    (numbers ++ vertex_number vertices p ∷ []) ++ vertex_numbers (with_points (insert_key has_same_numbers vertices p) rest) rest
+    ≡ numbers ++ vertex_numbers (with_points vertices (p ∷ rest)) (p ∷ rest)
 numbers_step vertices rest numbers p =
     let own = inserted_itself p vertices in
-    let kept = grown_keeps p rest (insert_key same_point vertices p) own.0 in
-    append_assoc numbers (number_among vertices p ∷ []) (numbers_among (with_points (insert_key same_point vertices p) rest) rest)
-    ∙ ap (λ (n : ℕ). numbers ++ n ∷ numbers_among (with_points (insert_key same_point vertices p) rest) rest) (sym (kept.1 ∙ own.1))
+    let kept = grown_keeps p rest (insert_key has_same_numbers vertices p) own.0 in
+    append_assoc numbers (vertex_number vertices p ∷ []) (vertex_numbers (with_points (insert_key has_same_numbers vertices p) rest) rest)
+    ∙ ap (λ (n : ℕ). numbers ++ n ∷ vertex_numbers (with_points (insert_key has_same_numbers vertices p) rest) rest) (sym (kept.1 ∙ own.1))
 
-module _ (vertices new corners : List Coordinates) (i : ℕ) (p : Coordinates) (h : i < length corners) (is : p ≡ get_or corners i p) (grows : new ≡ insert_key same_point vertices p) where
+module _ (vertices new corners : List Coordinates) (i : ℕ) (p : Coordinates) (h : i < length corners) (is : p ≡ get_or corners i p) (grows : new ≡ insert_key has_same_numbers vertices p) where
   next_left : drop i corners ≡ p ∷ drop (i + 1) corners
   next_left = drop-cons corners i p h ∙ ap₂ (λ (c : Coordinates) (l : List Coordinates). c ∷ l) (sym is) (ap (λ (n : ℕ). drop n corners) (sym (add-one i)))
 
@@ -136,13 +135,13 @@ module _ (vertices new corners : List Coordinates) (i : ℕ) (p : Coordinates) (
   corner_grows whole e = ap (λ (v : List Coordinates). with_points v (drop (i + 1) corners)) grows ∙ ap (with_points vertices) (sym next_left) ∙ e
 
   -- and its number is put down
-  pub corner_numbers : (numbers more whole : List ℕ) → more ≡ numbers ++ number_among vertices p ∷ [] →
-      numbers ++ numbers_among (with_points vertices (drop i corners)) (drop i corners) ≡ whole →
-      more ++ numbers_among (with_points new (drop (i + 1) corners)) (drop (i + 1) corners) ≡ whole
+  pub corner_numbers : (numbers more whole : List ℕ) → more ≡ numbers ++ vertex_number vertices p ∷ [] →
+      numbers ++ vertex_numbers (with_points vertices (drop i corners)) (drop i corners) ≡ whole →
+      more ++ vertex_numbers (with_points new (drop (i + 1) corners)) (drop (i + 1) corners) ≡ whole
   corner_numbers numbers more whole m e =
-      ap₂ (λ (l : List ℕ) (v : List Coordinates). l ++ numbers_among (with_points v (drop (i + 1) corners)) (drop (i + 1) corners)) m grows
+      ap₂ (λ (l : List ℕ) (v : List Coordinates). l ++ vertex_numbers (with_points v (drop (i + 1) corners)) (drop (i + 1) corners)) m grows
       ∙ numbers_step vertices (drop (i + 1) corners) numbers p
-      ∙ ap (λ (l : List Coordinates). numbers ++ numbers_among (with_points vertices l) l) (sym next_left)
+      ∙ ap (λ (l : List Coordinates). numbers ++ vertex_numbers (with_points vertices l) l) (sym next_left)
       ∙ e
 
 -- two parts of a face, numbered one after the other
@@ -151,15 +150,15 @@ face_grows old new last back front e f = f ∙ ap (λ (v : List Coordinates). wi
 
 -- and their numbers, put down in two parts
 pub face_numbers : (old new last back front : List Coordinates) (before half whole : List ℕ) →
-    new ≡ with_points old back → last ≡ with_points new front → half ≡ before ++ numbers_among new back → whole ≡ half ++ numbers_among last front →
-    whole ≡ before ++ numbers_among last (back ++ front)
+    new ≡ with_points old back → last ≡ with_points new front → half ≡ before ++ vertex_numbers new back → whole ≡ half ++ vertex_numbers last front →
+    whole ≡ before ++ vertex_numbers last (back ++ front)
 face_numbers old new last back front before half whole e f h w =
     let known : AllKnown new back = subst (λ (v : List Coordinates). AllKnown v back) (sym e) (grown_knows back old) in
-    let kept : numbers_among last back ≡ numbers_among new back =
-    ap (λ (v : List Coordinates). numbers_among v back) f ∙ (all_kept front new back known).1 in
-    w ∙ ap (λ (ns : List ℕ). ns ++ numbers_among last front) (h ∙ ap (λ (ns : List ℕ). before ++ ns) (sym kept))
-    ∙ append_assoc before (numbers_among last back) (numbers_among last front)
-    ∙ ap (λ (ns : List ℕ). before ++ ns) (sym (map-append (number_among last) back front))
+    let kept : vertex_numbers last back ≡ vertex_numbers new back =
+    ap (λ (v : List Coordinates). vertex_numbers v back) f ∙ (all_kept front new back known).1 in
+    w ∙ ap (λ (ns : List ℕ). ns ++ vertex_numbers last front) (h ∙ ap (λ (ns : List ℕ). before ++ ns) (sym kept))
+    ∙ append_assoc before (vertex_numbers last back) (vertex_numbers last front)
+    ∙ ap (λ (ns : List ℕ). before ++ ns) (sym (map-append (vertex_number last) back front))
 
 pub round_length : (corners : List Coordinates) (n : ℕ) (front back : List Coordinates) → front ≡ take n corners → back ≡ drop n corners → length corners ≡ length (back ++ front)
 round_length corners n front back f g =

@@ -3,7 +3,7 @@ use Rattle.std.proofs.Common.{◌≡◌, sym, ap, ◌∙◌, ℤ, ◌*ℤ◌}
 use Rattle.plane_predicate.specs.declared.unit.Unit.{Unit as LengthUnit}
 use Rattle.plane_predicate.specs.Space.{Coordinates, IsPointTimes}
 use Rattle.plane_predicate.specs.InUnits.{in_units}
-use Rattle.plane_predicate.specs.Units.{steps_of}
+use Rattle.plane_predicate.specs.Units.{grid_steps_per_unit}
 use Rattle.plane_predicate.proofs.IntegerRing.{mul_assoc_ℤ, mul_comm_ℤ}
 use Rattle.plane_predicate.proofs.Signs.{pos_pos}
 
@@ -23,5 +23,5 @@ times_again unit p q v t u = record {
   x = part_times t.by u.by p.x q.x v.x t.x u.x;
   y = part_times t.by u.by p.y q.y v.y t.y u.y;
   z = part_times t.by u.by p.z q.z v.z t.z u.z;
-  w = weight_times (steps_of unit) t.by u.by p.w q.w v.w t.w u.w;
+  w = weight_times (grid_steps_per_unit unit) t.by u.by p.w q.w v.w t.w u.w;
 }

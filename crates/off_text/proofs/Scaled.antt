@@ -4,7 +4,7 @@ use Rattle.std.proofs.Math.IntN.{*ℤ-zero}
 use Rattle.plane_predicate.specs.declared.unit.Unit.{Unit as LengthUnit}
 use Rattle.plane_predicate.specs.Space.{Coefficients, Coordinates, value, orientation_seen_from, product_with, opposite_of, IsPointTimes}
 use Rattle.plane_predicate.specs.InUnits.{in_steps, in_units}
-use Rattle.plane_predicate.specs.Units.{steps_of}
+use Rattle.plane_predicate.specs.Units.{grid_steps_per_unit}
 use Rattle.plane_predicate.proofs.InUnits.{steps_above}
 use Rattle.plane_predicate.proofs.IntegerRing.{sums, mul_neg_left, mul_comm_ℤ}
 use Rattle.plane_predicate.proofs.Polynomials.{Poly, var, times, ring}
@@ -58,13 +58,13 @@ times_exchanged k l x y e =
 
 pub printed_is : (unit : LengthUnit) (p v : Coordinates) → IsPointTimes (in_units unit p) v → AreOnePoint p (in_steps unit v)
 printed_is unit p v t = record {
-  first = steps_of unit;
+  first = grid_steps_per_unit unit;
   second = t.by;
   first_above = steps_above unit;
   second_above = t.above;
-  x = times_exchanged (steps_of unit) t.by p.x v.x t.x;
-  y = times_exchanged (steps_of unit) t.by p.y v.y t.y;
-  z = times_exchanged (steps_of unit) t.by p.z v.z t.z;
+  x = times_exchanged (grid_steps_per_unit unit) t.by p.x v.x t.x;
+  y = times_exchanged (grid_steps_per_unit unit) t.by p.y v.y t.y;
+  z = times_exchanged (grid_steps_per_unit unit) t.by p.z v.z t.z;
   w = t.w;
 }
 

@@ -7,14 +7,14 @@ use Prim.Native.Nat.{◌∣◌}
 use Rattle.plane_predicate.specs.declared.unit.Unit.{Unit as LengthUnit}
 use Rattle.plane_predicate.specs.Space.{Coordinates, IsCommonFactor, IsPointTimes, HasNoCommonFactor}
 use Rattle.plane_predicate.specs.InUnits.{in_units}
-use Rattle.plane_predicate.specs.Units.{steps_of}
+use Rattle.plane_predicate.specs.Units.{grid_steps_per_unit}
 use Rattle.plane_predicate.proofs.InUnits.{steps_above}
 use Rattle.plane_predicate.proofs.IntegerRing.{sums}
 use Rattle.plane_predicate.proofs.Signs.{pos_pos}
 use Rattle.plane_predicate.proofs.Coprime.{euclid}
 use Rattle.plane_predicate.proofs.Divisions.{common_of, quotient, quotient_negative, quotients_of, reduced_is_same}
-use Rattle.plane_polygon.specs.Polygons.{Outline, sides, corner, IsPolygon, AreReducedFrom}
-use Rattle.plane_polygon.specs.Parts.{indices_below}
+use Rattle.plane_polygon.specs.Polygons.{Outline, edge_count, corner, IsPolygon, AreReducedFrom}
+use Rattle.plane_predicate.specs.Indices.{indices_below}
 use Rattle.plane_polygon.proofs.CornerSides.{reduced_step}
 use Rattle.off_text.specs.Texts.{corners_in_units, AreCornersOf}
 use Rattle.off_text.proofs.Factors.{size_above}
@@ -59,8 +59,8 @@ all_reduced f (suc n) weight =
 polygon_corners : (unit : LengthUnit) (s : Outline) → IsPolygon s → (found : List Coordinates) × AreReducedFrom (corners_in_units unit s) found
 polygon_corners unit s polygon =
     let point = λ (i : ℕ). in_units unit (corner s i) in
-    let all = all_reduced point (sides s) (λ i l. pos_pos (steps_of unit) (corner s i).w (steps_above unit) (polygon.turns_left i l)) in
-    (all.0, subst (λ (ps : List Coordinates). AreReducedFrom ps all.0) (sym (map-map (in_units unit) (corner s) (indices_below (sides s)))) all.1)
+    let all = all_reduced point (edge_count s) (λ i l. pos_pos (grid_steps_per_unit unit) (corner s i).w (steps_above unit) (polygon.turns_left i l)) in
+    (all.0, subst (λ (ps : List Coordinates). AreReducedFrom ps all.0) (sym (map-map (in_units unit) (corner s) (indices_below (edge_count s)))) all.1)
 
 pub some_corners : (unit : LengthUnit) (polygons : List Outline) → All IsPolygon polygons → (faces : List (List Coordinates)) × AreCornersOf unit polygons faces
 some_corners unit [] h = ([], tt)

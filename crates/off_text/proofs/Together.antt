@@ -11,9 +11,9 @@ use Rattle.off_text.specs.declared.numbering.FaceNumbers.{FaceNumbers}
 use Rattle.off_text.specs.declared.part.Part.{Part}
 use Rattle.off_text.specs.declared.parts.NamedPart.{NamedPart}
 use Rattle.off_text.specs.Reading.{face_line}
-use Rattle.off_text.specs.Texts.{from_least, number_among, printed_corners, AreCornersOf}
+use Rattle.off_text.specs.Texts.{from_least, vertex_number, printed_corners, AreCornersOf}
 use Rattle.off_text.specs.Numbering.{with_points, HaveLines}
-use Rattle.off_text.specs.FaceNumbers.{sides_of, all_numbers, numbers_among, lines_of, HaveNumbers}
+use Rattle.off_text.specs.FaceNumbers.{corner_counts, all_numbers, vertex_numbers, lines_of, HaveNumbers}
 use Rattle.off_text.specs.Parts.{IsCutIntoParts, vertices_in, faces_and_names_in, faces_and_names, lines_in}
 use Rattle.off_text.proofs.Numbers.{AllKnown, all_kept, grown_knows, with_points-append}
 use Rattle.off_text.proofs.Distinct.{grown_from_none, grown_twice}
@@ -30,11 +30,11 @@ record AreTogether (unit : LengthUnit) (polygons : List Outline) (before all : L
   found : List (List Coordinates)
   corners : AreCornersOf unit polygons found
   grows : all ≡ with_points before (joined (printed_corners found))
-  lines_are : lines ≡ flat_map face_line (map (map (number_among all)) (printed_corners found))
+  lines_are : lines ≡ flat_map face_line (map (map (vertex_number all)) (printed_corners found))
 
 -- the lines of a part among all vertices
 abbrev lines_among : List Coordinates → Part → List ℕ
-lines_among all part = lines_of (numbers_among all part.vertices.keys) part.faces
+lines_among all part = lines_of (vertex_numbers all part.vertices.keys) part.faces
 
 -- a part before others
 module _ (unit : LengthUnit) (front back : List Outline) (part : Part) (is : IsPart unit front part) (before all : List Coordinates) where
@@ -44,11 +44,11 @@ module _ (unit : LengthUnit) (front back : List Outline) (part : Part) (is : IsP
   keys_known : AllKnown part.vertices.keys (joined (printed_corners is.numbered.found))
   keys_known = subst (λ (v : List Coordinates). AllKnown v (joined (printed_corners is.numbered.found))) (sym keys_are) (grown_knows (joined (printed_corners is.numbered.found)) [])
 
-  faces_are : is.faces ≡ map (map (number_among part.vertices.keys)) (printed_corners is.numbered.found)
-  faces_are = is.numbered.faces_are ∙ ap (λ (v : List Coordinates). map (map (number_among v)) (printed_corners is.numbered.found)) (sym is.numbered.vertices_are)
+  faces_are : is.faces ≡ map (map (vertex_number part.vertices.keys)) (printed_corners is.numbered.found)
+  faces_are = is.numbered.faces_are ∙ ap (λ (v : List Coordinates). map (map (vertex_number v)) (printed_corners is.numbered.found)) (sym is.numbered.vertices_are)
 
-  own : lines_among all part ≡ flat_map face_line (map (map (number_among all)) (printed_corners is.numbered.found))
-  own = part_lines part.vertices.keys all (printed_corners is.numbered.found) part.faces keys_known (is.sides ∙ ap sides_of faces_are) (is.numbers ∙ ap all_numbers faces_are)
+  own : lines_among all part ≡ flat_map face_line (map (map (vertex_number all)) (printed_corners is.numbered.found))
+  own = part_lines part.vertices.keys all (printed_corners is.numbered.found) part.faces keys_known (is.sides ∙ ap corner_counts faces_are) (is.numbers ∙ ap all_numbers faces_are)
 
   together_more : (lines : List ℕ) → AreTogether unit back (with_points before part.vertices.keys) all lines → AreTogether unit (front ++ back) before all (lines_among all part ++ lines)
   together_more lines rest =
@@ -63,8 +63,8 @@ module _ (unit : LengthUnit) (front back : List Outline) (part : Part) (is : IsP
             ∙ sym (with_points-append (joined (printed_corners found)) (joined (printed_corners rest.found)) before)
             ∙ ap (with_points before) (sym (ap joined both ∙ flat_map-append (λ corners. corners) (printed_corners found) (printed_corners rest.found)));
         lines_are = ap₂ (λ (x y : List ℕ). x ++ y) own rest.lines_are
-            ∙ sym (flat_map-append face_line (map (map (number_among all)) (printed_corners found)) (map (map (number_among all)) (printed_corners rest.found)))
-            ∙ ap (flat_map face_line) (sym (ap (map (map (number_among all))) both ∙ map-append (map (number_among all)) (printed_corners found) (printed_corners rest.found)));
+            ∙ sym (flat_map-append face_line (map (map (vertex_number all)) (printed_corners found)) (map (map (vertex_number all)) (printed_corners rest.found)))
+            ∙ ap (flat_map face_line) (sym (ap (map (map (vertex_number all))) both ∙ map-append (map (vertex_number all)) (printed_corners found) (printed_corners rest.found)));
       }
 
 all_together : (unit : LengthUnit) (all : List Coordinates) (polygons : List Outline) (parts : List Part) (before : List Coordinates) → IsCutIntoParts (IsPart unit) polygons parts →
@@ -81,7 +81,7 @@ pub parts_numbered : (unit : LengthUnit) (all : List Coordinates) (polygons : Li
     all ≡ with_points [] (vertices_in parts) → map faces_and_names others ≡ map (faces_and_names_in all) parts → HaveLines unit polygons all (lines_in others)
 parts_numbered unit all polygons parts others h e names =
     let t = all_together unit all polygons parts [] h e in
-    let faces = map (map (number_among all)) (printed_corners t.found) in
+    let faces = map (map (vertex_number all)) (printed_corners t.found) in
     let text = λ (n : FaceNumbers × List ℕ). lines_of n.1 n.0 in
     record {
       faces = faces;
@@ -91,12 +91,12 @@ parts_numbered unit all polygons parts others h e names =
 
 -- ---- one part after another
 -- the names of a part's vertices, which were put down from none on
-pub put_down : (begun items : List ℕ) (vertices points keys : List Coordinates) → items ≡ begun ++ numbers_among vertices points → begun ≡ [] → points ≡ keys → items ≡ numbers_among vertices keys
-put_down begun items vertices points keys e none same = e ∙ ap₂ (λ (ns : List ℕ) (ps : List Coordinates). ns ++ numbers_among vertices ps) none same
+pub put_down : (begun items : List ℕ) (vertices points keys : List Coordinates) → items ≡ begun ++ vertex_numbers vertices points → begun ≡ [] → points ≡ keys → items ≡ vertex_numbers vertices keys
+put_down begun items vertices points keys e none same = e ∙ ap₂ (λ (ns : List ℕ) (ps : List Coordinates). ns ++ vertex_numbers vertices ps) none same
 
 -- the names of a part stay, whatever comes after it
 names_stay : (rest : List Part) (part : Part) (vertices : List Coordinates) →
-    numbers_among (with_points (with_points vertices part.vertices.keys) (vertices_in rest)) part.vertices.keys ≡ numbers_among (with_points vertices part.vertices.keys) part.vertices.keys
+    vertex_numbers (with_points (with_points vertices part.vertices.keys) (vertices_in rest)) part.vertices.keys ≡ vertex_numbers (with_points vertices part.vertices.keys) part.vertices.keys
 names_stay rest part vertices = (all_kept (vertices_in rest) (with_points vertices part.vertices.keys) part.vertices.keys (grown_knows part.vertices.keys vertices)).1
 
 module _ (whole left rest : List Part) (part : Part) (e : left ≡ part ∷ rest) (vertices new : List Coordinates) (grows : new ≡ with_points vertices part.vertices.keys) where
@@ -108,14 +108,14 @@ module _ (whole left rest : List Part) (part : Part) (e : left ≡ part ∷ rest
 
   -- and its vertices have the names that they have among all
   pub part_named : (before more : List NamedPart) (one : NamedPart) → more ≡ before ++ one ∷ [] → with_points vertices (vertices_in left) ≡ with_points [] (vertices_in whole) →
-      one.faces ≡ part.faces → one.names.items ≡ numbers_among new part.vertices.keys →
+      one.faces ≡ part.faces → one.names.items ≡ vertex_numbers new part.vertices.keys →
       (names : List (FaceNumbers × List ℕ)) → map faces_and_names before ++ map (faces_and_names_in (with_points [] (vertices_in whole))) left ≡ names →
       map faces_and_names more ++ map (faces_and_names_in (with_points [] (vertices_in whole))) rest ≡ names
   part_named before more one m h w n names all =
       let last = with_points [] (vertices_in whole) in
-      let own : numbers_among new part.vertices.keys ≡ numbers_among last part.vertices.keys =
-      ap (λ (v : List Coordinates). numbers_among v part.vertices.keys) grows ∙ sym (names_stay rest part vertices)
-      ∙ ap (λ (v : List Coordinates). numbers_among v part.vertices.keys) (ap (λ (v : List Coordinates). with_points v (vertices_in rest)) (sym grows) ∙ part_grows h) in
+      let own : vertex_numbers new part.vertices.keys ≡ vertex_numbers last part.vertices.keys =
+      ap (λ (v : List Coordinates). vertex_numbers v part.vertices.keys) grows ∙ sym (names_stay rest part vertices)
+      ∙ ap (λ (v : List Coordinates). vertex_numbers v part.vertices.keys) (ap (λ (v : List Coordinates). with_points v (vertices_in rest)) (sym grows) ∙ part_grows h) in
       ap (λ (ns : List NamedPart). map faces_and_names ns ++ map (faces_and_names_in last) rest) m
       ∙ ap (λ (ns : List (FaceNumbers × List ℕ)). ns ++ map (faces_and_names_in last) rest) (map-append faces_and_names before (one ∷ []))
       ∙ append_assoc (map faces_and_names before) (faces_and_names one ∷ []) (map (faces_and_names_in last) rest)

@@ -5,20 +5,20 @@ use Rattle.plane_predicate.specs.Space.{Coordinates}
 use Rattle.plane_polygon.specs.Polygons.{Outline}
 use Rattle.off_text.specs.declared.numbering.FaceNumbers.{FaceNumbers}
 use Rattle.off_text.specs.Reading.{face_line}
-use Rattle.off_text.specs.Texts.{number_among}
+use Rattle.off_text.specs.Texts.{vertex_number}
 use Rattle.off_text.specs.Numbering.{AddsFace, AreNumberedFaces}
 
 -- how many corners each face has
-abbrev pub sides_of : List (List ℕ) → List ℕ
-sides_of faces = map (λ face. length face) faces
+abbrev pub corner_counts : List (List ℕ) → List ℕ
+corner_counts faces = map (λ face. length face) faces
 
 -- the numbers of all corners, one face after another
 abbrev pub all_numbers : List (List ℕ) → List ℕ
 all_numbers faces = flat_map (λ face. face) faces
 
 -- the numbers of points among numbered vertices
-abbrev pub numbers_among : List Coordinates → List Coordinates → List ℕ
-numbers_among vertices points = map (number_among vertices) points
+abbrev pub vertex_numbers : List Coordinates → List Coordinates → List ℕ
+vertex_numbers vertices points = map (vertex_number vertices) points
 
 -- a polygon's corners are numbered too, and its face goes last
 pub record AddsNumbers (unit : LengthUnit) (s : Outline) (old new : List Coordinates) (before after : FaceNumbers) : Type 0 where
@@ -31,7 +31,7 @@ pub record AddsNumbers (unit : LengthUnit) (s : Outline) (old new : List Coordin
 pub record HaveNumbers (unit : LengthUnit) (polygons : List Outline) (vertices : List Coordinates) (all : FaceNumbers) : Type 0 where
   pub faces : List (List ℕ)
   pub numbered : AreNumberedFaces unit polygons vertices faces
-  pub sides : all.sides.items ≡ sides_of faces
+  pub sides : all.sides.items ≡ corner_counts faces
   pub numbers : all.numbers.items ≡ all_numbers faces
 
 -- the name at a vertex's number, or the number where there is no name

@@ -3,12 +3,13 @@ use Rattle.std.specs.Prelude.{◌≡◌, ℕ, ◌^◌, ◌<◌, Bool, ℤ, pos, 
 use Rattle.std.specs.Ordering.{int_eq}
 use Rattle.indexmap.specs.IndexSet.{insert_key}
 use Rattle.plane_predicate.specs.declared.unit.Unit.{Unit as LengthUnit}
-use Rattle.plane_predicate.specs.Space.{Coordinates, IsPointTimes, HasNoCommonFactor}
+use Rattle.plane_predicate.specs.Space.{Coordinates, IsPointTimes, HasNoCommonFactor, has_same_numbers}
 use Rattle.plane_predicate.specs.InUnits.{in_units}
 use Rattle.plane_polygon.specs.Polygons.{Outline, AreReducedFrom, IsPolygon}
 use Rattle.text_place.specs.Decimals.{numeral}
-use Rattle.off_text.specs.Reading.{space, face_line}
-use Rattle.off_text.specs.Texts.{same_point, corners_in_units, from_least, number_among, AreCornersOf, vertices_of, numbered_faces}
+use Rattle.off_text.specs.Reading.{face_line}
+use Rattle.off_text.specs.Texts.{corners_in_units, from_least, vertex_number, AreCornersOf, vertices_of, numbered_faces}
+use Rattle.text_place.specs.Separators.{space}
 
 -- the numbers of a vertex of the program, which are written in decimal digits: each fits 128 bits with its sign changed
 pub record HasVertexSizes (p : Coordinates) : Type 0 where
@@ -29,7 +30,7 @@ pub record IsVertexAt (unit : LengthUnit) (p v : Coordinates) : Type 0 where
 -- the vertices once these points are numbered too
 abbrev pub with_points : List Coordinates → List Coordinates → List Coordinates
 with_points vertices [] = vertices
-with_points vertices (p ∷ points) = with_points (insert_key same_point vertices p) points
+with_points vertices (p ∷ points) = with_points (insert_key has_same_numbers vertices p) points
 
 -- a polygon's corners are numbered too, and these are their numbers
 pub record AddsFace (unit : LengthUnit) (s : Outline) (old new : List Coordinates) (face : List ℕ) : Type 0 where
@@ -37,7 +38,7 @@ pub record AddsFace (unit : LengthUnit) (s : Outline) (old new : List Coordinate
   pub found : List Coordinates
   pub corners : AreReducedFrom (corners_in_units unit s) found
   pub grows : new ≡ with_points old (from_least found)
-  pub numbers : face ≡ map (number_among new) (from_least found)
+  pub numbers : face ≡ map (vertex_number new) (from_least found)
 
 -- the vertices and the faces of the text of these polygons
 pub record AreNumberedFaces (unit : LengthUnit) (polygons : List Outline) (vertices : List Coordinates) (faces : List (List ℕ)) : Type 0 where

@@ -4,7 +4,7 @@ use Rattle.plane_predicate.specs.Space.{Coordinates}
 use Rattle.off_text.specs.declared.numbering.FaceNumbers.{FaceNumbers}
 use Rattle.off_text.specs.declared.part.Part.{Part}
 use Rattle.off_text.specs.declared.parts.NamedPart.{NamedPart}
-use Rattle.off_text.specs.FaceNumbers.{numbers_among, lines_of}
+use Rattle.off_text.specs.FaceNumbers.{vertex_numbers, lines_of}
 
 -- the list is cut into pieces, each with its own result
 abbrev pub IsCutIntoParts : {X R : Type 0} → (List X → R → Type 0) → List X → List R → Type 0
@@ -17,7 +17,7 @@ vertices_in parts = flat_map (λ part. part.vertices.keys) parts
 
 -- the faces of a part, and the numbers of its vertices among all
 abbrev pub faces_and_names_in : List Coordinates → Part → FaceNumbers × List ℕ
-faces_and_names_in vertices part = (part.faces, numbers_among vertices part.vertices.keys)
+faces_and_names_in vertices part = (part.faces, vertex_numbers vertices part.vertices.keys)
 
 -- the faces that a part has, and the names of its vertices
 abbrev pub faces_and_names : NamedPart → FaceNumbers × List ℕ

@@ -3,18 +3,18 @@ use Rattle.std.specs.Prelude.{◌≡◌, ◌↔◌, ℕ, ◌<◌, List, [], ◌�
 use Rattle.plane_predicate.specs.declared.unit.Unit.{Unit as LengthUnit}
 use Rattle.plane_predicate.specs.Space.{Coefficients, Coordinates, IsPlane, IsPointTimes}
 use Rattle.plane_predicate.specs.InUnits.{in_steps, in_units}
-use Rattle.plane_polygon.specs.Polygons.{Outline, sides, corner as corner_of, IsStrictlyWithin}
+use Rattle.plane_polygon.specs.Polygons.{Outline, edge_count, corner as corner_of, IsStrictlyWithin}
 use Rattle.plane_polygon.specs.Parts.{corners as all_corners}
 use Rattle.closed_surface.specs.Closed.{corners_at}
 use Rattle.closed_surface.specs.Printing.{IsRoundOf}
 use Rattle.off_text.specs.Reading.{IsOffText}
-use Rattle.off_text.specs.Boundaries.{corner, FacesPlane, FaceCovers}
+use Rattle.off_text.specs.Boundaries.{face_corner, FacesPlane, FaceCovers}
 use Rattle.off_text.specs.Vertices.{AreVerticesOf}
 
 -- the point is a corner of the polygon in units, by numbers of its own
-pub record IsCornerOf (unit : LengthUnit) (s : Outline) (p : Coordinates) : Type 0 where
+pub record IsPrintedCornerOf (unit : LengthUnit) (s : Outline) (p : Coordinates) : Type 0 where
   pub place : ℕ
-  pub within : place < sides s
+  pub within : place < edge_count s
   pub times : IsPointTimes (in_units unit (corner_of s place)) p
 
 -- the printed face covers exactly the points strictly within the polygon, facing no other plane
@@ -24,7 +24,7 @@ CoversPolygon unit vertices s face = (n : Coefficients) (p : Coordinates) → Is
 -- the printed face is the polygon: its corners are the polygon's, in order from one of them on, it faces the polygon's plane,
 -- and it covers exactly the points strictly within the polygon, facing no other plane
 pub record IsPrintedFaceOf (unit : LengthUnit) (vertices : List Coordinates) (s : Outline) (face : List ℕ) : Type 0 where
-  pub corners : (i : ℕ) → i < length face → IsCornerOf unit s (corner vertices face i)
+  pub corners : (i : ℕ) → i < length face → IsPrintedCornerOf unit s (face_corner vertices face i)
   pub round : IsRoundOf unit (all_corners s) (corners_at vertices face)
   pub facing : FacesPlane unit vertices s.plane face
   pub covering : CoversPolygon unit vertices s face

@@ -3,9 +3,9 @@ use Rattle.std.specs.Prelude.{◌≡◌, ℕ, ◌+◌, Bool, not, ◌&&◌, ◌|
 use Rattle.std.specs.List.{list_any, position_or_len}
 use Rattle.std.specs.Ordering.{int_eq}
 use Rattle.plane_predicate.specs.declared.unit.Unit.{Unit as LengthUnit}
-use Rattle.plane_predicate.specs.Space.{Coordinates}
+use Rattle.plane_predicate.specs.Space.{Coordinates, has_same_numbers}
 use Rattle.plane_predicate.specs.InUnits.{in_units}
-use Rattle.plane_polygon.specs.Polygons.{Outline, sides, AreReducedFrom}
+use Rattle.plane_polygon.specs.Polygons.{Outline, edge_count, AreReducedFrom}
 use Rattle.plane_polygon.specs.Parts.{corners}
 use Rattle.off_text.specs.Reading.{off_text}
 
@@ -25,18 +25,14 @@ place_of_least corners = position_or_len (is_least corners) corners
 abbrev pub from_least : List Coordinates → List Coordinates
 from_least corners = drop (place_of_least corners) corners ++ take (place_of_least corners) corners
 
--- whether two points have the same four numbers
-abbrev pub same_point : Coordinates → Coordinates → Bool
-same_point p q = int_eq p.x q.x && (int_eq p.y q.y && (int_eq p.z q.z && int_eq p.w q.w))
-
 -- each point once, by first appearance
 abbrev pub distinct_points : List Coordinates → List Coordinates
 distinct_points [] = []
-distinct_points (p ∷ points) = p ∷ filter (λ q. not (same_point p q)) (distinct_points points)
+distinct_points (p ∷ points) = p ∷ filter (λ q. not (has_same_numbers p q)) (distinct_points points)
 
 -- the number of a point among numbered vertices, from 0
-abbrev pub number_among : List Coordinates → Coordinates → ℕ
-number_among vertices p = position_or_len (same_point p) vertices
+abbrev pub vertex_number : List Coordinates → Coordinates → ℕ
+vertex_number vertices p = position_or_len (has_same_numbers p) vertices
 
 -- the corners of faces, as they are printed: each face from its least corner on
 abbrev pub printed_corners : List (List Coordinates) → List (List Coordinates)
@@ -48,7 +44,7 @@ vertices_of faces = distinct_points (flat_map (λ corners. corners) (printed_cor
 
 -- the faces as numbers of vertices
 abbrev pub numbered_faces : List (List Coordinates) → List (List ℕ)
-numbered_faces faces = map (map (number_among (vertices_of faces))) (printed_corners faces)
+numbered_faces faces = map (map (vertex_number (vertices_of faces))) (printed_corners faces)
 
 -- the text of faces that are given by their corners in units, reduced and counterclockwise seen from the side that they face
 abbrev pub text_of_faces : List (List Coordinates) → List ℕ
@@ -65,7 +61,7 @@ most_vertices = 60000
 -- how many corners polygons have together
 abbrev pub corner_count : List Outline → ℕ
 corner_count [] = 0
-corner_count (s ∷ polygons) = sides s + corner_count polygons
+corner_count (s ∷ polygons) = edge_count s + corner_count polygons
 
 -- the corners of a polygon in units
 abbrev pub corners_in_units : LengthUnit → Outline → List Coordinates

@@ -36,7 +36,8 @@ fn push_meetings(
     requires polygon { IsPolygon (record { plane = plane.now; edges = edges.now }) }
     ensures { OnOk result
         (AreReducedFrom
-        (corners_in_units unit (record { plane = plane.now; edges = edges.now })) corners.new.items) }
+        (corners_in_units unit (record { plane = plane.now; edges = edges.now }))
+        corners.new.items) }
 {
     for i in 0..edges.len() {
         corners.push(corner_at(plane, edges, i, unit))?;
@@ -58,7 +59,8 @@ fn corner_at(plane: &Plane, edges: &[Plane], i: usize, unit: Unit) -> Vertex
 // The vertex where three planes meet whose determinant is above 0.
 fn vertex_at(p: &Plane, q: &Plane, r: &Plane, unit: Unit) -> Vertex
     requires { pos 0 <ℤ (meeting_by_cramers_rule p.now q.now r.now).w }
-    ensures times { IsPointTimes (in_units unit (meeting_by_cramers_rule p.now q.now r.now)) result }
+    ensures times { IsPointTimes (in_units unit
+        (meeting_by_cramers_rule p.now q.now r.now)) result }
     ensures reduced { HasNoCommonFactor result }
 {
     Vertex::of(&lowest_terms(&meeting_of(p, q, r)), unit)

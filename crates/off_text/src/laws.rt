@@ -5,7 +5,7 @@ ghost use Rattle.plane_predicate.specs.declared.unit.Unit.{Unit as LengthUnit};
 ghost use Rattle.plane_predicate.specs.Space.{Coefficients, Coordinates, IsInClosedWorld, IsPlane, IsPointTimes};
 ghost use Rattle.plane_predicate.specs.InUnits.{in_steps, in_units};
 ghost use Rattle.plane_polygon.specs.Polygons.{Outline, IsPolygon};
-ghost use Rattle.csg_tree.specs.Formulas.{Formula, leaf, holds};
+ghost use Rattle.csg_tree.specs.HalfSpaceTrees.{Tree, leaf, holds};
 ghost use Rattle.csg_tree.specs.FacePlanes.{IsOnOneFacePlane, sides_just_ahead, sides_just_behind};
 ghost use Rattle.csg_tree.specs.ProperTrees.{IsProper};
 ghost use Rattle.bsp_tree.specs.Trees.{size};
@@ -66,16 +66,17 @@ pub fn printed_corners_stay_in_the_world()
 /// the walk of the tree's solid reaches with the point taken just behind that plane is inside exactly
 /// where the tree is solid just behind, and likewise just ahead.
 pub fn leaves_beside_face_planes()
-    ensures behind { (f : Formula) (n : Coefficients) (p : Coordinates) → IsProper f →
+    ensures behind { (f : Tree) (n : Coefficients) (p : Coordinates) → IsProper f →
         IsOnOneFacePlane f n p →
         walk_by (solid_of f) (sides_just_behind n p) ≡ holds f (sides_just_behind n p) }
-    ensures ahead { (f : Formula) (n : Coefficients) (p : Coordinates) → IsProper f →
-        IsOnOneFacePlane f n p → walk_by (solid_of f) (sides_just_ahead n p) ≡ holds f (sides_just_ahead n p) }
+    ensures ahead { (f : Tree) (n : Coefficients) (p : Coordinates) → IsProper f →
+        IsOnOneFacePlane f n p → walk_by (solid_of f) (sides_just_ahead n p) ≡ holds f
+        (sides_just_ahead n p) }
 {}
 
 /// In each unit the text of the facets of a proper tree's solid is the boundary of the tree.
 pub fn texts_are_boundaries()
-    ensures { (unit : LengthUnit) (f : Formula) (bytes : List ℕ) → IsProper f →
+    ensures { (unit : LengthUnit) (f : Tree) (bytes : List ℕ) → IsProper f →
         Prints unit (facets_of (solid_of f)) bytes → IsBoundary unit bytes f }
 {}
 

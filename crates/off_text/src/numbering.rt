@@ -2,7 +2,7 @@
 
 ghost use Rattle.std.specs.Prelude.{◌≡◌, ◌≤◌, ◌++◌, ◌∷◌, [], length, drop, take, OnOk};
 ghost use Rattle.off_text.specs.Numbering.{with_points};
-ghost use Rattle.off_text.specs.FaceNumbers.{numbers_among};
+ghost use Rattle.off_text.specs.FaceNumbers.{vertex_numbers};
 
 use crate::vertex::Vertex;
 use indexmap::IndexSet;
@@ -35,7 +35,7 @@ pub fn push_numbers(
 ) -> Result<(), NoMemory>
     ensures vertices { OnOk result (vertices.new.keys ≡ with_points vertices.old.keys corners.now) }
     ensures numbers { OnOk result
-        (numbers.new.items ≡ numbers.old.items ++ numbers_among vertices.new.keys corners.now) }
+        (numbers.new.items ≡ numbers.old.items ++ vertex_numbers vertices.new.keys corners.now) }
 {
     for corner in corners {
         let (index, _is_new) = vertices.insert_full(*corner)?;
@@ -59,7 +59,7 @@ pub fn push_face(
         (faces.new.sides.items ≡ faces.old.sides.items ++ length corners.now ∷ []) }
     ensures numbers { OnOk result
         (faces.new.numbers.items ≡ faces.old.numbers.items
-        ++ numbers_among vertices.new.keys (drop start corners.now ++ take start corners.now)) }
+        ++ vertex_numbers vertices.new.keys (drop start corners.now ++ take start corners.now)) }
 {
     let (front, back) = corners.split_at(start);
     push_number(&mut faces.sides, corners.len())?;

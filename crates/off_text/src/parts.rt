@@ -66,7 +66,8 @@ fn parts_by<R: Threads + Sync>(
     requires { 0 < size }
     ensures { IfOk result
         (λ parts.
-        IsCutIntoParts (λ polygons part. HaveNumbers unit polygons part.vertices.keys part.faces) facets.now
+        IsCutIntoParts (λ polygons part. HaveNumbers unit polygons part.vertices.keys part.faces)
+        facets.now
         parts.items) }
 {
     let part = |_start: usize, chunk: &[Facet]| -> Result<Part, NoMemory>
@@ -142,7 +143,8 @@ fn vertices_by<R: Threads + Sync>(
 ) -> Result<Vec<Vec<u8>>, NoMemory>
     requires { 0 < size }
     ensures { IfOk result
-        (λ pieces. flat_map (λ piece. piece.items) pieces.items ≡ flat_map vertex_line vertices.now) }
+        (λ pieces. flat_map (λ piece. piece.items) pieces.items
+        ≡ flat_map vertex_line vertices.now) }
 {
     let piece = |_start: usize, chunk: &[Vertex]| -> Result<Vec<u8>, NoMemory>
         ensures { IfOk result (λ lines. lines.items ≡ flat_map vertex_line chunk.now) }

@@ -2,7 +2,7 @@
 
 ghost use Rattle.std.specs.Prelude.{◌≡◌, ◌<◌, ◌≤◌, ◌↔◌, ltb, IfOk, OnOk, IsErrOf};
 ghost use Rattle.off_text.specs.Texts.{corner_count, most_corners, most_vertices, HasVertices, IsTextOf};
-ghost use Rattle.csg_tree.specs.Formulas.{Formula};
+ghost use Rattle.csg_tree.specs.HalfSpaceTrees.{Tree};
 ghost use Rattle.csg_tree.specs.ProperTrees.{IsProper};
 ghost use Rattle.bsp_boolean.specs.Solids.{solid_of};
 ghost use Rattle.facet_cut.specs.Facets.{facets_of};
@@ -78,7 +78,7 @@ pub fn off_bytes(alloc: Global, facets: &[Facet], unit: Unit) -> Result<Vec<u8>,
     ensures prints { IfOk result (λ text. Prints unit facets.now text.items) }
     // Where the facets are those of the solid of a proper tree, the text is the boundary of the tree.
     ensures boundary { IfOk result
-        (λ text. (f : Formula) → IsProper f → facets.now ≡ facets_of (solid_of f) →
+        (λ text. (f : Tree) → IsProper f → facets.now ≡ facets_of (solid_of f) →
         IsBoundary unit text.items f) }
 {
     if has_too_many_corners(facets) {
@@ -111,7 +111,7 @@ pub fn off_bytes_by<R: Threads + Sync>(
     ensures prints { IfOk result (λ text. Prints unit facets.now text.items) }
     // Where the facets are those of the solid of a proper tree, the text is the boundary of the tree.
     ensures boundary { IfOk result
-        (λ text. (f : Formula) → IsProper f → facets.now ≡ facets_of (solid_of f) →
+        (λ text. (f : Tree) → IsProper f → facets.now ≡ facets_of (solid_of f) →
         IsBoundary unit text.items f) }
 {
     let size = part_length(facets.len(), workers);

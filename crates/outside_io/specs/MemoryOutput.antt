@@ -1,7 +1,8 @@
 use Rattle.std.specs.Prelude.{ℕ, ◌-◌, ◌≤◌, ◌⊎◌, List, length, min}
 use Rattle.outside_io.specs.Counts.{IsNextFailing}
 
--- a sink in memory: the bytes held, the numbers of the calls that fail, the most bytes of a call and of all, and the calls and faults so far
+-- a sink in memory: the bytes held, the numbers of the calls that fail, the most bytes of a call and of all,
+-- and the calls and faults so far
 pub record MemoryOutput : Type 0 where
   pub held : List ℕ
   pub failing : List ℕ

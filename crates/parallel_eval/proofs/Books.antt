@@ -1,9 +1,9 @@
 -- What is counted for joins, put together.
 use Rattle.std.proofs.Common.{◌≡◌, ℕ, ◌+◌, ◌≤◌, refl, ◌∙◌, arith}
-use Rattle.subtree_memo.specs.Shares.{View}
+use Rattle.subtree_memo.specs.Shares.{ShareView}
 use Rattle.parallel_eval.specs.Joins.{AreAnswered, AreBegun, AreAsked}
 
-pub none_begun : (a b n : ℕ) (s : View) → a ≤ b → AreBegun a b s s n n
+pub none_begun : (a b n : ℕ) (s : ShareView) → a ≤ b → AreBegun a b s s n n
 none_begun a b n s h = record {
   order = h;
   hits = omega arith;
@@ -16,14 +16,14 @@ none_begun a b n s h = record {
   offered = omega arith;
 }
 
-pub none_answered : (a b n : ℕ) (s : View) → a ≡ b → AreAnswered a b s s n n
+pub none_answered : (a b n : ℕ) (s : ShareView) → a ≡ b → AreAnswered a b s s n n
 none_answered a b n s h = record {
   probes = omega arith;
   builds = omega arith;
   offered = omega arith;
 }
 
-pub begun_behind : (a b c l m n : ℕ) (s t u : View) → AreBegun a b s t l m → AreBegun b c t u m n → AreBegun a c s u l n
+pub begun_behind : (a b c l m n : ℕ) (s t u : ShareView) → AreBegun a b s t l m → AreBegun b c t u m n → AreBegun a c s u l n
 begun_behind a b c l m n s t u h k = record {
   order = omega (arith, h.order, k.order);
   hits = omega (arith, h.hits, k.hits);
@@ -36,14 +36,14 @@ begun_behind a b c l m n s t u h k = record {
   offered = omega (arith, h.offered, k.offered);
 }
 
-pub answered_behind : (a b c l m n : ℕ) (s t u : View) → AreAnswered a b s t l m → AreAnswered b c t u m n → AreAnswered a c s u l n
+pub answered_behind : (a b c l m n : ℕ) (s t u : ShareView) → AreAnswered a b s t l m → AreAnswered b c t u m n → AreAnswered a c s u l n
 answered_behind a b c l m n s t u h k = record {
   probes = omega (arith, h.probes, k.probes);
   builds = omega (arith, h.builds, k.builds);
   offered = omega (arith, h.offered, k.offered);
 }
 
-pub begun_up_to : (a b c m n : ℕ) (s t : View) → AreBegun a b s t m n → b ≤ c → AreBegun a c s t m n
+pub begun_up_to : (a b c m n : ℕ) (s t : ShareView) → AreBegun a b s t m n → b ≤ c → AreBegun a c s t m n
 begun_up_to a b c m n s t h le = record {
   order = omega (arith, h.order);
   hits = h.hits;
@@ -56,7 +56,7 @@ begun_up_to a b c m n s t h le = record {
   offered = h.offered;
 }
 
-pub begun_at : (a b m n : ℕ) (s t : View) → b ≡ a + 1 → AreBegun 0 1 s t m n → AreBegun a b s t m n
+pub begun_at : (a b m n : ℕ) (s t : ShareView) → b ≡ a + 1 → AreBegun 0 1 s t m n → AreBegun a b s t m n
 begun_at a b m n s t e h = record {
   order = omega arith;
   hits = h.hits;
@@ -69,7 +69,7 @@ begun_at a b m n s t e h = record {
   offered = h.offered;
 }
 
-pub answered_at : (a b m n : ℕ) (s t : View) → b ≡ a + 1 → AreAnswered 0 1 s t m n → AreAnswered a b s t m n
+pub answered_at : (a b m n : ℕ) (s t : ShareView) → b ≡ a + 1 → AreAnswered 0 1 s t m n → AreAnswered a b s t m n
 answered_at a b m n s t e h = record {
   probes = omega (arith, h.probes);
   builds = h.builds;
@@ -77,14 +77,14 @@ answered_at a b m n s t e h = record {
 }
 
 -- so many joins drop at most so many fills, and make a count at most so much greater
-pub few_dropped : (a b m n : ℕ) (s t : View) → AreBegun a b s t m n → t.dropped + a ≤ s.dropped + b
+pub few_dropped : (a b m n : ℕ) (s t : ShareView) → AreBegun a b s t m n → t.dropped + a ≤ s.dropped + b
 few_dropped a b m n s t h = omega (arith, h.hits, h.kept, h.heavy, h.probes, h.offered)
 
-pub few_builds : (a b m n : ℕ) (s t : View) → AreBegun a b s t m n → n + a ≤ m + b
+pub few_builds : (a b m n : ℕ) (s t : ShareView) → AreBegun a b s t m n → n + a ≤ m + b
 few_builds a b m n s t h = omega (arith, h.hits, h.probes, h.builds)
 
 -- nothing was asked
-pub none_asked : (done : Type 0) (a b n : ℕ) (s : View) → a ≤ b → (done → a ≡ b) → AreAsked done a b s s n n
+pub none_asked : (done : Type 0) (a b n : ℕ) (s : ShareView) → a ≤ b → (done → a ≡ b) → AreAsked done a b s s n n
 none_asked done a b n s h e = record {
   caller = refl;
   parts = refl;
@@ -93,7 +93,7 @@ none_asked done a b n s h e = record {
 }
 
 -- one join, at the number at which it stands
-pub asked_at : (done : Type 0) (a b m n : ℕ) (s t : View) → b ≡ a + 1 → AreAsked done 0 1 s t m n → AreAsked done a b s t m n
+pub asked_at : (done : Type 0) (a b m n : ℕ) (s t : ShareView) → b ≡ a + 1 → AreAsked done 0 1 s t m n → AreAsked done a b s t m n
 asked_at done a b m n s t e h = record {
   caller = h.caller;
   parts = h.parts;
@@ -102,7 +102,7 @@ asked_at done a b m n s t e h = record {
 }
 
 -- some joins and others behind them
-pub asked_behind : (first second both : Type 0) (a b c l m n : ℕ) (s t u : View) → (both → first) → (both → second) →
+pub asked_behind : (first second both : Type 0) (a b c l m n : ℕ) (s t u : ShareView) → (both → first) → (both → second) →
     AreAsked first a b s t l m → AreAsked second b c t u m n → AreAsked both a c s u l n
 asked_behind first second both a b c l m n s t u p q h k = record {
   caller = k.caller ∙ h.caller;
@@ -112,7 +112,7 @@ asked_behind first second both a b c l m n s t u p q h k = record {
 }
 
 -- joins that were not all done, as some of more
-pub asked_up_to : (some all : Type 0) (a b c m n : ℕ) (s t : View) → (all → ⊥) → AreAsked some a b s t m n → b ≤ c → AreAsked all a c s t m n
+pub asked_up_to : (some all : Type 0) (a b c m n : ℕ) (s t : ShareView) → (all → ⊥) → AreAsked some a b s t m n → b ≤ c → AreAsked all a c s t m n
 asked_up_to some all a b c m n s t never h le = record {
   caller = h.caller;
   parts = h.parts;

@@ -3,7 +3,7 @@ use Rattle.std.proofs.Common.{◌≡◌, ℕ, suc, ◌+◌, ◌-◌, ◌*◌, �
 use Rattle.std.proofs.Math.Nat.{suc-mul}
 use Rattle.std.proofs.lemmas.List.Elements.{All-head, All-tail, All-push}
 use Rattle.pair_work.specs.Pairs.{EachReady}
-use Rattle.subtree_memo.specs.Shares.{View, fresh_share}
+use Rattle.subtree_memo.specs.Shares.{ShareView, fresh_share}
 use Rattle.subtree_memo.specs.declared.ledgers.MemoLedger.{Ghosts}
 use Rattle.parallel_eval.specs.declared.lane.Lane.{Lane}
 use Rattle.parallel_eval.specs.Joins.{AreAnswered, AreBegun}
@@ -19,14 +19,14 @@ module _ {B S T H M K E : Type 0} {g : Ghosts H} where
       omega arith
 
 module _ {D B S T H M K E : Type 0} {g : Ghosts H} (count : D → ℕ) where
-  -- fresh lanes may be worked on, by builders with few builds
-  pub each_ready : (W : Type 0) → W → (start many before last caller most : ℕ) (bs : List D) (ls : List (Lane B S T H M K E g)) →
+  -- fresh lanes may be worked on, by builders with few builds and for a caller who may ask
+  pub each_ready : (W : Type 0) → W → (Allowed : ℕ → Type 0) (start many before last caller most : ℕ) (bs : List D) (ls : List (Lane B S T H M K E g)) →
       AreFreshLanes caller before last ls → start ≤ before → last ≤ start + many → AreAtMost count most bs → most ≤ 2 ^ 47 → length bs ≡ length ls →
-      EachReady (λ (b : D) (l : Lane B S T H M K E g). W × IsLaneReady start many (count b) l) bs ls
-  each_ready W w start many before last caller most [] [] e low high few enough same = tt
-  each_ready W w start many before last caller most [] (l ∷ ls) e low high few enough same = absurd (omega arith)
-  each_ready W w start many before last caller most (b ∷ bs) [] e low high few enough same = absurd (omega arith)
-  each_ready W w start many before last caller most (b ∷ bs) (l ∷ ls) e low high few enough same =
+      Allowed caller → EachReady (λ (b : D) (l : Lane B S T H M K E g). W × IsLaneReady start many (count b) l × Allowed l.share.share.caller) bs ls
+  each_ready W w Allowed start many before last caller most [] [] e low high few enough same allowed = tt
+  each_ready W w Allowed start many before last caller most [] (l ∷ ls) e low high few enough same allowed = absurd (omega arith)
+  each_ready W w Allowed start many before last caller most (b ∷ bs) [] e low high few enough same allowed = absurd (omega arith)
+  each_ready W w Allowed start many before last caller most (b ∷ bs) (l ∷ ls) e low high few enough same allowed =
       let share : l.share.share ≡ fresh_share caller 1 = e.0 in
       let parts : l.share.share.parts ≡ 1 = ap (λ s. s.parts) share in
       let none : l.share.share.dropped ≡ 0 = ap (λ s. s.dropped) share in
@@ -42,11 +42,13 @@ module _ {D B S T H M K E : Type 0} {g : Ghosts H} (count : D → ℕ) where
         empty = e.3;
         first = omega arith;
         last = omega arith;
-      } in
-      ((w, one), each_ready W w start many l.last last caller most bs ls e.4 (omega arith) high (All-tail (λ x. count x ≤ most) b bs few) enough (omega arith))
+      } in (
+        (w, one, subst Allowed (sym (ap (λ s. s.caller) share)) allowed),
+        each_ready W w Allowed start many l.last last caller most bs ls e.4 (omega arith) high (All-tail (λ x. count x ≤ most) b bs few) enough (omega arith) allowed,
+      )
 
 -- builds that stay as they were change nothing
-pub begun_beside : (a b m n more m' n' : ℕ) (s t : View) → AreBegun a b s t m n → m' ≡ m + more → n' ≡ n + more → AreBegun a b s t m' n'
+pub begun_beside : (a b m n more m' n' : ℕ) (s t : ShareView) → AreBegun a b s t m n → m' ≡ m + more → n' ≡ n + more → AreBegun a b s t m' n'
 begun_beside a b m n more m' n' s t h e f = record {
   order = h.order;
   hits = h.hits;
@@ -59,7 +61,7 @@ begun_beside a b m n more m' n' s t h e f = record {
   offered = h.offered;
 }
 
-pub answered_beside : (a b m n more m' n' : ℕ) (s t : View) → AreAnswered a b s t m n → m' ≡ m + more → n' ≡ n + more → AreAnswered a b s t m' n'
+pub answered_beside : (a b m n more m' n' : ℕ) (s t : ShareView) → AreAnswered a b s t m n → m' ≡ m + more → n' ≡ n + more → AreAnswered a b s t m' n'
 answered_beside a b m n more m' n' s t h e f = record {
   probes = h.probes;
   builds = omega (arith, h.builds);
@@ -67,7 +69,7 @@ answered_beside a b m n more m' n' s t h e f = record {
 }
 
 -- where parts of a share were split off, as much was counted on the whole
-pub begun_with_parts : (a b m n k : ℕ) (s t : View) → AreBegun a b (record s { parts = k }) t m n → AreBegun a b s t m n
+pub begun_with_parts : (a b m n k : ℕ) (s t : ShareView) → AreBegun a b (record s { parts = k }) t m n → AreBegun a b s t m n
 begun_with_parts a b m n k s t h = record {
   order = h.order;
   hits = h.hits;
@@ -80,7 +82,7 @@ begun_with_parts a b m n k s t h = record {
   offered = h.offered;
 }
 
-pub answered_with_parts : (a b m n k : ℕ) (s t : View) → AreAnswered a b (record s { parts = k }) t m n → AreAnswered a b s t m n
+pub answered_with_parts : (a b m n k : ℕ) (s t : ShareView) → AreAnswered a b (record s { parts = k }) t m n → AreAnswered a b s t m n
 answered_with_parts a b m n k s t h = record {
   probes = h.probes;
   builds = h.builds;

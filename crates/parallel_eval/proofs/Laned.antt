@@ -1,7 +1,7 @@
 -- What one builder does in its lane, node by node.
 use Rattle.std.proofs.Common.{◌≡◌, ℕ, zero, suc, ◌+◌, ◌≤◌, ◌<◌, List, [], ◌∷◌, ◌++◌, length, take, ap, sym, subst, ◌∙◌, arith, length-append}
 use Rattle.std.proofs.lemmas.List.Sums.{sum_by-cons}
-use Rattle.csg_tree.specs.Formulas.{Formula}
+use Rattle.csg_tree.specs.HalfSpaceTrees.{Tree}
 use Rattle.bsp_boolean.specs.TreeSolids.{one_if_join}
 use Rattle.subtree_memo.specs.declared.ledgers.MemoLedger.{Ghosts}
 use Rattle.parallel_eval.specs.declared.growth.NodeOutcome.{NodeOutcome}
@@ -11,7 +11,7 @@ use Rattle.parallel_eval.specs.Runs.{joins_to, IsNodeOutcome, IsMade, AreMade, A
 use Rattle.parallel_eval.proofs.Books.{asked_behind, asked_up_to}
 use Rattle.parallel_eval.proofs.Steps.{outcomes_more, made_but_last}
 
-pub more_joins : (trees : List Formula) (m n : ℕ) → m ≤ n → joins_to trees m ≤ joins_to trees n
+pub more_joins : (trees : List Tree) (m n : ℕ) → m ≤ n → joins_to trees m ≤ joins_to trees n
 more_joins trees zero n h = omega arith
 more_joins [] (suc m) zero h = omega arith
 more_joins [] (suc m) (suc n) h = omega arith
@@ -22,7 +22,7 @@ more_joins (tree ∷ trees) (suc m) (suc n) h =
     let rest : joins_to trees m ≤ joins_to trees n = more_joins trees m n (omega arith) in
     omega (arith, fewer, more, rest)
 
-module _ {B S T H M K E : Type 0} {g : Ghosts H} (trees : List Formula) where
+module _ {B S T H M K E : Type 0} {g : Ghosts H} (trees : List Tree) where
   pub lane_steps : (k l m n : ℕ) (first old new : Lane B S T H M K E g) (outcome : NodeOutcome) (done : Type 0) → IsLaneAt trees k first old l m →
       new.before ≡ old.before → new.last ≡ old.last → new.made.items ≡ old.made.items ++ outcome ∷ [] → IsNodeOutcome trees (k + 1) outcome →
       (IsMade outcome → done) → AreAsked done (joins_to trees k) (joins_to trees (k + 1)) old.share.share new.share.share m n →

@@ -2,9 +2,9 @@
 use Rattle.std.proofs.Common.{◌≡◌, ℕ, ◌+◌, ◌≤◌, List, [], ◌∷◌, length, sum_by, refl, ap, sym, subst, ◌∙◌, arith}
 use Rattle.std.proofs.lemmas.List.Elements.{All-nil, All-cons, All-head, All-tail}
 use Rattle.std.proofs.lemmas.List.Sums.{sum_by-cons}
-use Rattle.csg_tree.specs.Formulas.{Formula}
+use Rattle.csg_tree.specs.HalfSpaceTrees.{Tree}
 use Rattle.pair_work.specs.Pairs.{EachWorked}
-use Rattle.subtree_memo.specs.Shares.{View, fresh_share, joined_share, dropped_max}
+use Rattle.subtree_memo.specs.Shares.{ShareView, fresh_share, joined_share, dropped_max}
 use Rattle.subtree_memo.specs.declared.ledgers.MemoLedger.{Ghosts}
 use Rattle.parallel_eval.specs.declared.lane.Lane.{Lane}
 use Rattle.parallel_eval.specs.Joins.{AreAnswered, AreBegun}
@@ -12,7 +12,7 @@ use Rattle.parallel_eval.specs.Runs.{joins_to, AreAtMost, AreNodeOutcomes, IsCom
 use Rattle.parallel_eval.proofs.Books.{none_begun, none_answered, few_dropped, few_builds}
 
 -- what was counted on a fresh share counts the same on one that it is put to
-joined_begun : (a b caller m n : ℕ) (v w : View) → AreBegun a b (fresh_share caller 1) w m n → v.dropped + b ≤ dropped_max + a → AreBegun a b v (joined_share v w) m n
+joined_begun : (a b caller m n : ℕ) (v w : ShareView) → AreBegun a b (fresh_share caller 1) w m n → v.dropped + b ≤ dropped_max + a → AreBegun a b v (joined_share v w) m n
 joined_begun a b caller m n v w h room =
     let more = few_dropped a b m n (fresh_share caller 1) w h in
     let few : w.dropped + a ≤ b = omega (arith, more) in record {
@@ -27,7 +27,7 @@ joined_begun a b caller m n v w h room =
       offered = omega (arith, h.offered);
     }
 
-joined_answered : (a b caller m n : ℕ) (v w : View) → AreBegun a b (fresh_share caller 1) w m n → AreAnswered a b (fresh_share caller 1) w m n → v.dropped + b ≤ dropped_max + a → AreAnswered a b v (joined_share v w) m n
+joined_answered : (a b caller m n : ℕ) (v w : ShareView) → AreBegun a b (fresh_share caller 1) w m n → AreAnswered a b (fresh_share caller 1) w m n → v.dropped + b ≤ dropped_max + a → AreAnswered a b v (joined_share v w) m n
 joined_answered a b caller m n v w h k room =
     let more = few_dropped a b m n (fresh_share caller 1) w h in
     let few : w.dropped + a ≤ b = omega (arith, more) in record {
@@ -37,7 +37,7 @@ joined_answered a b caller m n v w h k room =
     }
 
 -- the counts of two parts together
-both_begun : (a b c l l' m m' : ℕ) (s t u : View) → AreBegun b c s t m m' → AreBegun a b t u l l' → AreBegun a c s u (l + m) (l' + m')
+both_begun : (a b c l l' m m' : ℕ) (s t u : ShareView) → AreBegun b c s t m m' → AreBegun a b t u l l' → AreBegun a c s u (l + m) (l' + m')
 both_begun a b c l l' m m' s t u h k = record {
   order = omega (arith, h.order, k.order);
   hits = omega (arith, h.hits, k.hits);
@@ -50,14 +50,14 @@ both_begun a b c l l' m m' s t u h k = record {
   offered = omega (arith, h.offered, k.offered);
 }
 
-both_answered : (a b c l l' m m' : ℕ) (s t u : View) → AreAnswered b c s t m m' → AreAnswered a b t u l l' → AreAnswered a c s u (l + m) (l' + m')
+both_answered : (a b c l l' m m' : ℕ) (s t u : ShareView) → AreAnswered b c s t m m' → AreAnswered a b t u l l' → AreAnswered a c s u (l + m) (l' + m')
 both_answered a b c l l' m m' s t u h k = record {
   probes = omega (arith, h.probes, k.probes);
   builds = omega (arith, h.builds, k.builds);
   offered = omega (arith, h.offered, k.offered);
 }
 
-module _ {D B S T H M K E : Type 0} {g : Ghosts H} (count : D → ℕ) (trees : List Formula) where
+module _ {D B S T H M K E : Type 0} {g : Ghosts H} (count : D → ℕ) (trees : List Tree) where
   abbrev pub Done : D → Lane B S T H M K E g → D → Lane B S T H M K E g → Type 0
   Done b l c m = IsLaneDone trees l m (count b) (count c)
 
@@ -75,7 +75,7 @@ module _ {D B S T H M K E : Type 0} {g : Ghosts H} (count : D → ℕ) (trees : 
       (subst (λ x. AreAnswered (joins_to trees l.before) (joins_to trees l.last) x m.share.share (count b) (count c)) s
       (h.asked.answered (subst (λ x. IsComplete x l.last m.made.items) h.before (subst (λ x. IsComplete m.before x m.made.items) h.last all))))
 
-  pub lanes_begun : (before last caller : ℕ) (v : View) (bs : List D) (ls : List (Lane B S T H M K E g)) (cs : List D) (ms : List (Lane B S T H M K E g)) →
+  pub lanes_begun : (before last caller : ℕ) (v : ShareView) (bs : List D) (ls : List (Lane B S T H M K E g)) (cs : List D) (ms : List (Lane B S T H M K E g)) →
       AreFreshLanes caller before last ls → EachWorked Done bs ls cs ms → v.dropped + joins_to trees last ≤ dropped_max + joins_to trees before →
       AreBegun (joins_to trees before) (joins_to trees last) v (with_lanes v ms) (sum_by count bs) (sum_by count cs)
   lanes_begun before last caller v [] [] [] [] e h room =
@@ -91,7 +91,7 @@ module _ {D B S T H M K E : Type 0} {g : Ghosts H} (count : D → ℕ) (trees : 
       (both_begun (joins_to trees before) (joins_to trees l.last) (joins_to trees last) (count b) (count c) (sum_by count bs) (sum_by count cs) v (with_lanes v ms) (joined_share (with_lanes v ms) m.share.share) others here))
   lanes_begun before last caller v bs ls cs ms e h room = absurd h
 
-  pub lanes_answered : (before last caller : ℕ) (v : View) (bs : List D) (ls : List (Lane B S T H M K E g)) (cs : List D) (ms : List (Lane B S T H M K E g)) →
+  pub lanes_answered : (before last caller : ℕ) (v : ShareView) (bs : List D) (ls : List (Lane B S T H M K E g)) (cs : List D) (ms : List (Lane B S T H M K E g)) →
       AreFreshLanes caller before last ls → EachWorked Done bs ls cs ms → v.dropped + joins_to trees last ≤ dropped_max + joins_to trees before → AreComplete ms →
       AreAnswered (joins_to trees before) (joins_to trees last) v (with_lanes v ms) (sum_by count bs) (sum_by count cs)
   lanes_answered before last caller v [] [] [] [] e h room all =
@@ -127,7 +127,7 @@ module _ {D B S T H M K E : Type 0} {g : Ghosts H} (count : D → ℕ) (trees : 
       (h.0.asked.caller ∙ ap (λ s. s.caller) e.0, lanes_caller l.last last caller bs ls cs ms e.4 h.1)
   lanes_caller before last caller bs ls cs ms e h = absurd h
 
-  pub lanes_parts : (before last caller : ℕ) (v : View) (bs : List D) (ls : List (Lane B S T H M K E g)) (cs : List D) (ms : List (Lane B S T H M K E g)) →
+  pub lanes_parts : (before last caller : ℕ) (v : ShareView) (bs : List D) (ls : List (Lane B S T H M K E g)) (cs : List D) (ms : List (Lane B S T H M K E g)) →
       AreFreshLanes caller before last ls → EachWorked Done bs ls cs ms → (with_lanes v ms).parts ≡ v.parts + length ls
   lanes_parts before last caller v [] [] [] [] e h = omega arith
   lanes_parts before last caller v (b ∷ bs) (l ∷ ls) (c ∷ cs) (m ∷ ms) e h =

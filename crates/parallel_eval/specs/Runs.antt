@@ -5,15 +5,15 @@ use Rattle.std.specs.declared.sync.Arc.{Arc}
 use Rattle.text_place.specs.declared.memory.NoMemory.{NoMemory}
 use Rattle.csg_tree.specs.declared.node.CsgNode.{CsgNode}
 use Rattle.csg_tree.specs.declared.node.CsgNode.TheVariants.{Leaf, Join}
-use Rattle.csg_tree.specs.Formulas.{Formula}
+use Rattle.csg_tree.specs.HalfSpaceTrees.{Tree}
 use Rattle.csg_tree.specs.ProperTrees.{IsProper}
 use Rattle.csg_tree.specs.Numberings.{tree_numbered}
 use Rattle.csg_tree.specs.Nodes.{IsNodeOf}
 use Rattle.bsp_tree.specs.Shapes.{SolidParts}
 use Rattle.bsp_tree.specs.Shapes.{tree_of}
 use Rattle.bsp_boolean.specs.Solids.{solid_of}
-use Rattle.bsp_boolean.specs.TreeSolids.{most_of_one, solid_size, total_size, joins, AreWithinSizeLimits}
-use Rattle.subtree_memo.specs.Shares.{View, fresh_share, joined_share}
+use Rattle.bsp_boolean.specs.TreeSolids.{most_solid_size, solid_size, total_size, join_count, AreWithinSizeLimits}
+use Rattle.subtree_memo.specs.Shares.{ShareView, fresh_share, joined_share}
 use Rattle.subtree_memo.specs.declared.ledgers.MemoLedger.{Ghosts}
 use Rattle.parallel_eval.specs.Known.{shared_solids}
 use Rattle.parallel_eval.specs.Joins.{AreAsked}
@@ -23,8 +23,8 @@ use Rattle.parallel_eval.specs.declared.growth.NodeOutcome.TheVariants.{Made, To
 use Rattle.parallel_eval.specs.declared.lane.Lane.{Lane}
 
 -- how many of the first n trees are joins
-abbrev pub joins_to : List Formula → ℕ → ℕ
-joins_to trees n = joins (take n trees)
+abbrev pub joins_to : List Tree → ℕ → ℕ
+joins_to trees n = join_count (take n trees)
 
 -- each builder's count is at most so many
 abbrev pub AreAtMost : {D : Type 0} → (D → ℕ) → ℕ → List D → Type 0
@@ -32,7 +32,7 @@ AreAtMost count most bs = All (λ b. count b ≤ most) bs
 
 -- Builders and a share, behind so many joins: there are 1 to 64 builders and a part of the share for each and
 -- one more, and what was counted so far leaves room for the other joins of a store.
-pub record AreReady {D : Type 0} (count : D → ℕ) (done : ℕ) (share : View) (builders : List D) : Type 0 where
+pub record AreReady {D : Type 0} (count : D → ℕ) (done : ℕ) (share : ShareView) (builders : List D) : Type 0 where
   pub some : 1 ≤ length builders
   pub many : length builders ≤ 64
   pub parts : length builders < share.parts
@@ -40,13 +40,13 @@ pub record AreReady {D : Type 0} (count : D → ℕ) (done : ℕ) (share : View)
   pub dropped : share.dropped ≤ 2 ^ 46 + done
 
 -- the first n nodes have their solids, which are within the limits
-pub record IsGrown (trees : List Formula) (n : ℕ) (growth : Growth) : Type 0 where
+pub record IsGrown (trees : List Tree) (n : ℕ) (growth : Growth) : Type 0 where
   pub solids : shared_solids growth.solids.items ≡ map solid_of (take n trees)
   pub sum : growth.sum ≡ total_size (take n trees)
   pub within : AreWithinSizeLimits (take n trees)
 
 -- a growth over these trees has so many solids, which is at most as many as there are trees
-pub record IsGrowing (trees : List Formula) (n : ℕ) (growth : Growth) : Type 0 where
+pub record IsGrowing (trees : List Tree) (n : ℕ) (growth : Growth) : Type 0 where
   pub store : growth.store.now ≡ trees
   pub grown : IsGrown trees n growth
   pub within : n ≤ length trees
@@ -57,18 +57,18 @@ IsBelow start (Leaf planes) = Unit {0}
 IsBelow start (Join op left right) = (left ≤ start) × (right ≤ start)
 
 -- what is told of the node of a number is true, and it has no tree behind the first ones
-pub record IsRunNode (trees : List Formula) (start number : ℕ) (node : CsgNode) : Type 0 where
+pub record IsRunNode (trees : List Tree) (start number : ℕ) (node : CsgNode) : Type 0 where
   pub told : IsNodeOf trees number node
   pub proper : IsProper (tree_numbered trees number)
   pub below : IsBelow start node
 
 -- nodes that stand one after another behind a number, and none over another
-abbrev pub AreRunNodes : List Formula → ℕ → ℕ → List CsgNode → Type 0
+abbrev pub AreRunNodes : List Tree → ℕ → ℕ → List CsgNode → Type 0
 AreRunNodes trees start before [] = Unit {0}
 AreRunNodes trees start before (node ∷ nodes) = IsRunNode trees start (before + 1) node × AreRunNodes trees start (before + 1) nodes
 
 -- a run: nodes behind the first ones, which have their solids
-pub record IsRunWork {Z : Type 0} (trees : List Formula) (start : ℕ)
+pub record IsRunWork {Z : Type 0} (trees : List Tree) (start : ℕ)
     (solids : List (Arc SolidParts Z)) (nodes : List CsgNode) : Type 0 where
   pub over : shared_solids solids ≡ map solid_of (take start trees)
   pub many : length solids ≡ start
@@ -78,13 +78,13 @@ pub record IsRunWork {Z : Type 0} (trees : List Formula) (start : ℕ)
   pub few : length trees < 2 ^ 32
 
 -- what came of the node of a number
-abbrev pub IsNodeOutcome : List Formula → ℕ → NodeOutcome → Type 0
+abbrev pub IsNodeOutcome : List Tree → ℕ → NodeOutcome → Type 0
 IsNodeOutcome trees number (Made solid) = (tree_of (arc_value solid) ≡ solid_of (tree_numbered trees number))
-    × (solid_size (tree_numbered trees number) ≤ most_of_one)
-IsNodeOutcome trees number TooBig = most_of_one < solid_size (tree_numbered trees number)
+    × (solid_size (tree_numbered trees number) ≤ most_solid_size)
+IsNodeOutcome trees number TooBig = most_solid_size < solid_size (tree_numbered trees number)
 
 -- what came of the nodes behind the first ones, in order of number
-abbrev pub AreNodeOutcomes : List Formula → ℕ → List NodeOutcome → Type 0
+abbrev pub AreNodeOutcomes : List Tree → ℕ → List NodeOutcome → Type 0
 AreNodeOutcomes trees before [] = Unit {0}
 AreNodeOutcomes trees before (outcome ∷ outcomes) =
     IsNodeOutcome trees (before + 1) outcome × AreNodeOutcomes trees (before + 1) outcomes
@@ -129,7 +129,7 @@ module _ {B S T H M K E : Type 0} {g : Ghosts H} where
   AreEven lanes = (least : ℕ) × All (λ lane. (lane.before + least ≤ lane.last) × (lane.last ≤ lane.before + least + 1)) lanes
 
   -- a lane was worked on: what came of its nodes, or of the first of them, and what was counted for it
-  pub record IsLaneDone (trees : List Formula) (lane lane' : Lane B S T H M K E g) (count count' : ℕ) : Type 0 where
+  pub record IsLaneDone (trees : List Tree) (lane lane' : Lane B S T H M K E g) (count count' : ℕ) : Type 0 where
     pub before : lane'.before ≡ lane.before
     pub last : lane'.last ≡ lane.last
     pub outcomes : AreNodeOutcomes trees lane.before lane'.made.items
@@ -137,7 +137,7 @@ module _ {B S T H M K E : Type 0} {g : Ghosts H} where
         (joins_to trees lane.before) (joins_to trees lane.last) lane.share.share lane'.share.share count count'
 
   -- a lane is worked on up to the number k, of which each node has an outcome
-  pub record IsLaneAt (trees : List Formula) (k : ℕ) (lane lane' : Lane B S T H M K E g) (count count' : ℕ) : Type 0 where
+  pub record IsLaneAt (trees : List Tree) (k : ℕ) (lane lane' : Lane B S T H M K E g) (count count' : ℕ) : Type 0 where
     pub before : lane'.before ≡ lane.before
     pub last : lane'.last ≡ lane.last
     pub outcomes : AreNodeOutcomes trees lane.before lane'.made.items
@@ -146,7 +146,7 @@ module _ {B S T H M K E : Type 0} {g : Ghosts H} where
         (joins_to trees lane.before) (joins_to trees k) lane.share.share lane'.share.share count count'
 
   -- lanes with what came of their nodes, which are those from one number to another
-  abbrev pub AreLanes : List Formula → ℕ → ℕ → List (Lane B S T H M K E g) → Type 0
+  abbrev pub AreLanes : List Tree → ℕ → ℕ → List (Lane B S T H M K E g) → Type 0
   AreLanes trees before last [] = before ≡ last
   AreLanes trees before last (lane ∷ lanes) =
       (lane.before ≡ before) × AreNodeOutcomes trees before lane.made.items × AreLanes trees lane.last last lanes
@@ -162,6 +162,6 @@ module _ {B S T H M K E : Type 0} {g : Ghosts H} where
   AreOfCaller caller (lane ∷ lanes) = (lane.share.share.caller ≡ caller) × AreOfCaller caller lanes
 
   -- a share with those of the lanes
-  abbrev pub with_lanes : View → List (Lane B S T H M K E g) → View
+  abbrev pub with_lanes : ShareView → List (Lane B S T H M K E g) → ShareView
   with_lanes share [] = share
   with_lanes share (lane ∷ lanes) = joined_share (with_lanes share lanes) lane.share.share

@@ -6,8 +6,8 @@ ghost use Rattle.bsp_tree.specs.Shapes.{tree_of};
 ghost use Rattle.bsp_boolean.specs.Merges.{merge_of};
 ghost use Rattle.bsp_boolean.specs.LeafSolids.{IsBuilt};
 ghost use Rattle.bsp_boolean.specs.Solids.{solid_of};
-ghost use Rattle.bsp_boolean.specs.TreeSolids.{most_of_one};
-ghost use Rattle.parallel_eval.specs.Joins.{IsJoinOf, Gives, AreBuilt, HasRoom, AreAsked};
+ghost use Rattle.bsp_boolean.specs.TreeSolids.{most_solid_size};
+ghost use Rattle.parallel_eval.specs.Joins.{IsJoinOf, GivesSolid, AreBuilt, MayTakeJoin, AreAsked};
 
 use crate::gate::Gate;
 use crate::solid_fit::SolidFit;
@@ -18,12 +18,13 @@ use flight_memo::{Claimed, Flight, FlightBooks, FlightShare};
 use memo_core::Namer;
 use std::alloc::Global;
 use std::sync::{Arc, Wait};
+use subtree_memo::AskPolicy;
 use text_place::NoMemory;
 
 /// What the builders of a tree's solids have in common: the memo whose joins they claim, and the gate that each
 /// build enters.
 #[derive(Drop)]
-pub struct Builds<'a, N: Namer<TreeKey>, B: FlightBooks, G: Gate, R: Wait> {
+pub struct Builds<'a, N: Namer<TreeKey>, B: FlightBooks + AskPolicy<TreeKey>, G: Gate, R: Wait> {
     pub rt: &'a R,
     pub alloc: Global,
     pub flight: &'a Flight<SolidFit, N, B>,
@@ -40,7 +41,13 @@ pub struct JoinNode<'a> {
     pub right: &'a Solid,
 }
 
-impl<'a, N: Namer<TreeKey>, B: FlightBooks, G: Gate, R: Wait> Builds<'a, N, B, G, R> {
+impl<'a, N: Namer<TreeKey>, B: FlightBooks + AskPolicy<TreeKey>, G: Gate, R: Wait> Builds<
+    'a,
+    N,
+    B,
+    G,
+    R,
+> {
     /// The solid of a join. It is claimed; where it was missed, it is built and offered, and the claim is finished, or given back
     /// where there is no solid. `TooBig` comes only where its size is above 50,000, and a solid only where it is not.
     pub fn join_solid<D: Builder>(
@@ -51,8 +58,9 @@ impl<'a, N: Namer<TreeKey>, B: FlightBooks, G: Gate, R: Wait> Builds<'a, N, B, G
     ) -> Result<Arc<Solid>, BuildStop>
         requires join { IsJoinOf node.op (tree_of node.left.now) (tree_of node.right.now)
             (arc_value node.key.now) }
-        requires room { HasRoom share.old.share (D.builds builder.old) }
-        ensures solid { Gives (solid_of (arc_value node.entry.key.now)) result }
+        requires room { MayTakeJoin share.old.share (D.builds builder.old) }
+        requires allowed { B.may_ask share.old.share.caller (arc_value node.key.now) }
+        ensures solid { GivesSolid (solid_of (arc_value node.entry.key.now)) result }
         ensures asked { AreAsked (IsOk result) 0 1 share.old.share share.new.share
             (D.builds builder.old) (D.builds builder.new) }
     {
@@ -60,7 +68,7 @@ impl<'a, N: Namer<TreeKey>, B: FlightBooks, G: Gate, R: Wait> Builds<'a, N, B, G
             Claimed::Value(solid) => return within(solid),
             Claimed::Mine(claim) => claim,
         };
-        let (kept, given) = match self.built_twice(node, share.caller(), builder) {
+        let (kept, given) = match self.built_and_shared(node, share.caller(), builder) {
             Ok(made) => made,
             Err(stop) => {
                 self.flight.give_back(self.rt, share, claim);
@@ -74,7 +82,7 @@ impl<'a, N: Namer<TreeKey>, B: FlightBooks, G: Gate, R: Wait> Builds<'a, N, B, G
     }
 
     // Builds a join that was missed, once the gate lets it through, and shares it.
-    fn built_twice<D: Builder>(
+    fn built_and_shared<D: Builder>(
         &self,
         node: JoinNode<'_>,
         client: u32,
@@ -100,7 +108,7 @@ impl<'a, N: Namer<TreeKey>, B: FlightBooks, G: Gate, R: Wait> Builds<'a, N, B, G
         requires { D.builds builder.old < 2 ^ 48 }
         ensures built { IsBuilt (merge_of node.entry.op (tree_of node.entry.left.now)
             (tree_of node.entry.right.now))
-            most_of_one result }
+            most_solid_size result }
         ensures counted { OnOk result (D.builds builder.new ≡ D.builds builder.old + 1) }
         ensures bounded { D.builds builder.new ≤ D.builds builder.old + 1 }
     {
@@ -120,7 +128,7 @@ fn shared(alloc: Global, solid: Solid) -> Result<(Arc<Solid>, Arc<Solid>), NoMem
 
 // A solid that was held, where it is not too big.
 fn within(solid: Arc<Solid>) -> Result<Arc<Solid>, BuildStop>
-    ensures { Gives (tree_of (arc_value solid)) result }
+    ensures { GivesSolid (tree_of (arc_value solid)) result }
 {
     if solid.count() > MOST_OF_ONE {
         return Err(BuildStop::TooBig);

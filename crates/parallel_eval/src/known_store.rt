@@ -3,7 +3,7 @@
 ghost use Rattle.std.specs.Prelude.{◌≡◌, ◌+◌, ◌≤◌, map, Some, IfSome, IfOk};
 ghost use Rattle.std.specs.Arc.{arc_value};
 ghost use Rattle.csg_tree.specs.Earlier.{IsNumberOf};
-ghost use Rattle.csg_tree.specs.Formulas.{Formula};
+ghost use Rattle.csg_tree.specs.HalfSpaceTrees.{Tree};
 ghost use Rattle.csg_tree.specs.Numberings.{tree_numbered, IsNumberIn};
 ghost use Rattle.bsp_boolean.specs.Solids.{solid_of};
 ghost use Rattle.bsp_boolean.specs.TreeSolids.{AreWithinSizeLimits};
@@ -31,12 +31,12 @@ pub struct KnownStore {
 impl Model for KnownStore {
     ghost use Rattle.std.specs.Prelude.{List};
     ghost use Rattle.std.specs.Coded.{coded_list};
-    ghost use Rattle.csg_tree.specs.Formulas.{Formula};
-    ghost use Rattle.csg_tree.specs.Codes.{coded_formula};
+    ghost use Rattle.csg_tree.specs.HalfSpaceTrees.{Tree};
+    ghost use Rattle.csg_tree.specs.Codes.{coded_tree};
 
-    ghost Value = { List Formula };
+    ghost Value = { List Tree };
 
-    ghost coded = { coded_list coded_formula };
+    ghost coded = { coded_list coded_tree };
 
     ghost use Rattle.parallel_eval.specs.Known.{AreAllKnown};
 
@@ -112,7 +112,7 @@ impl KnownStore {
     // The solid of a tree by its number here, where it has one and the solid is known.
     fn leaf_in(&self, number: Option<u32>) -> Result<Option<Arc<Solid>>, NoMemory>
         requires { IfSome number (IsNumberIn self.now) }
-        ensures { (tree : Formula) → IsNumberOf self.now tree number → IfOk result (IsKnown tree) }
+        ensures { (tree : Tree) → IsNumberOf self.now tree number → IfOk result (IsKnown tree) }
     {
         match number {
             Some(number) => self.leaf(number),
@@ -159,7 +159,7 @@ fn leaf_within(
     room: &mut u64,
 ) -> Result<Option<Arc<Solid>>, NoMemory>
     requires { room.old ≤ most_known }
-    ensures known { (tree : Formula) → IsKnown tree (Some solid.now) → IfOk result (IsKnown tree) }
+    ensures known { (tree : Tree) → IsKnown tree (Some solid.now) → IfOk result (IsKnown tree) }
     ensures room { IfOk result (λ leaf. room.new + known_size leaf ≡ room.old) }
 {
     match node {
@@ -171,7 +171,7 @@ fn leaf_within(
 // What is known of a node, where there is room for it.
 fn with_room(leaf: Option<Arc<Solid>>, room: &mut u64) -> Option<Arc<Solid>>
     requires { room.old ≤ most_known }
-    ensures known { (tree : Formula) → IsKnown tree leaf → IsKnown tree result }
+    ensures known { (tree : Tree) → IsKnown tree leaf → IsKnown tree result }
     ensures room { room.new + known_size result ≡ room.old }
 {
     let solid = leaf?;

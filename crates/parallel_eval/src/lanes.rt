@@ -3,12 +3,12 @@
 ghost use Rattle.std.specs.Prelude.{◌≡◌, ◌+◌, ◌-◌, ◌<◌, ◌≤◌, IfOk, IsOk, length, All};
 ghost use Rattle.std.specs.Arc.{arc_value};
 ghost use Rattle.plane_predicate.specs.Space.{ComesInReach};
-ghost use Rattle.csg_tree.specs.Formulas.{leaf};
+ghost use Rattle.csg_tree.specs.HalfSpaceTrees.{leaf};
 ghost use Rattle.csg_tree.specs.Numberings.{tree_numbered, IsNumberIn};
 ghost use Rattle.bsp_tree.specs.Shapes.{tree_of};
 ghost use Rattle.bsp_boolean.specs.LeafSolids.{solid_of_leaf};
 ghost use Rattle.bsp_boolean.specs.Solids.{solid_of};
-ghost use Rattle.parallel_eval.specs.Joins.{Gives, HasRoom, AreAsked};
+ghost use Rattle.parallel_eval.specs.Joins.{GivesSolid, MayTakeJoin, AreAsked, MayAskJoins};
 ghost use Rattle.parallel_eval.specs.Runs.{joins_to, IsRunWork, IsRunNode, IsNodeOutcome, HasMade, IsLaneReady, IsLaneDone};
 
 use crate::growth::NodeOutcome;
@@ -22,11 +22,19 @@ use memo_core::Namer;
 use pair_work::PairWork;
 use plane_predicate::Plane;
 use std::sync::{Arc, Wait};
+use subtree_memo::AskPolicy;
 use text_place::NoMemory;
 
 /// A run of nodes of a store, behind the first `start` ones, and over the solids of these.
 #[derive(Drop)]
-pub struct RunWork<'a, 'b, N: Namer<TreeKey>, B: FlightBooks, G: Gate, R: Wait> {
+pub struct RunWork<
+    'a,
+    'b,
+    N: Namer<TreeKey>,
+    B: FlightBooks + AskPolicy<TreeKey>,
+    G: Gate,
+    R: Wait,
+> {
     pub builds: Builds<'a, N, B, G, R>,
     pub store: &'a KnownStore,
     pub start: u32,
@@ -34,10 +42,18 @@ pub struct RunWork<'a, 'b, N: Namer<TreeKey>, B: FlightBooks, G: Gate, R: Wait> 
     pub nodes: &'a [CsgNode<'b>],
 }
 
-impl<'a, 'b, N: Namer<TreeKey>, B: FlightBooks, G: Gate, R: Wait, D: Builder> PairWork<D, Lane<B>>
-    for RunWork<'a, 'b, N, B, G, R> {
+impl<
+    'a,
+    'b,
+    N: Namer<TreeKey>,
+    B: FlightBooks + AskPolicy<TreeKey>,
+    G: Gate,
+    R: Wait,
+    D: Builder,
+> PairWork<D, Lane<B>> for RunWork<'a, 'b, N, B, G, R> {
     ghost ready = { λ w b lane. IsRunWork w.store.now w.start w.solids.now w.nodes.now
-        × IsLaneReady w.start (length w.nodes.now) (D.builds b) lane };
+        × IsLaneReady w.start (length w.nodes.now) (D.builds b) lane
+        × MayAskJoins (B.may_ask lane.share.share.caller) w.store.now };
 
     ghost worked = { λ w b lane c lane'. IsLaneDone w.store.now lane lane' (D.builds b)
         (D.builds c) };
@@ -47,7 +63,14 @@ impl<'a, 'b, N: Namer<TreeKey>, B: FlightBooks, G: Gate, R: Wait, D: Builder> Pa
     }
 }
 
-impl<'a, 'b, N: Namer<TreeKey>, B: FlightBooks, G: Gate, R: Wait> RunWork<'a, 'b, N, B, G, R> {
+impl<'a, 'b, N: Namer<TreeKey>, B: FlightBooks + AskPolicy<TreeKey>, G: Gate, R: Wait> RunWork<
+    'a,
+    'b,
+    N,
+    B,
+    G,
+    R,
+> {
     // Does the nodes of a lane, one after another. It goes on behind one that is too big, since a lower
     // number may be so in another lane, and ends where memory runs out.
     fn do_lane<D: Builder>(&self, builder: &mut D, lane: &mut Lane<B>)
@@ -55,9 +78,11 @@ impl<'a, 'b, N: Namer<TreeKey>, B: FlightBooks, G: Gate, R: Wait> RunWork<'a, 'b
             self.now.nodes.now }
         requires lane { IsLaneReady self.now.start (length self.now.nodes.now)
             (D.builds builder.old) lane.old }
+        requires allowed { MayAskJoins (B.may_ask lane.old.share.share.caller) self.now.store.now }
         ensures { IsLaneDone self.now.store.now lane.old lane.new (D.builds builder.old)
             (D.builds builder.new) }
     {
+        // Brings a law alone: what one tree more adds to the first ones of a list.
         one_tree_more();
         for before in lane.before..lane.last {
             let Ok(outcome) = self.outcome(before + 1, &mut lane.share, builder) else {
@@ -80,7 +105,8 @@ impl<'a, 'b, N: Namer<TreeKey>, B: FlightBooks, G: Gate, R: Wait> RunWork<'a, 'b
             self.now.nodes.now }
         requires number { (self.now.start < number)
             × (number ≤ self.now.start + length self.now.nodes.now) }
-        requires room { HasRoom share.old.share (D.builds builder.old) }
+        requires room { MayTakeJoin share.old.share (D.builds builder.old) }
+        requires allowed { MayAskJoins (B.may_ask share.old.share.caller) self.now.store.now }
         ensures outcome { IfOk result (IsNodeOutcome self.now.store.now number) }
         ensures asked { AreAsked (HasMade result) (joins_to self.now.store.now (number - 1))
             (joins_to self.now.store.now number)
@@ -104,12 +130,14 @@ impl<'a, 'b, N: Namer<TreeKey>, B: FlightBooks, G: Gate, R: Wait> RunWork<'a, 'b
             self.now.nodes.now }
         requires number { (self.now.start < number)
             × (number ≤ self.now.start + length self.now.nodes.now) }
-        requires room { HasRoom share.old.share (D.builds builder.old) }
-        ensures solid { Gives (solid_of (tree_numbered self.now.store.now number)) result }
+        requires room { MayTakeJoin share.old.share (D.builds builder.old) }
+        requires allowed { MayAskJoins (B.may_ask share.old.share.caller) self.now.store.now }
+        ensures solid { GivesSolid (solid_of (tree_numbered self.now.store.now number)) result }
         ensures asked { AreAsked (IsOk result) (joins_to self.now.store.now (number - 1))
             (joins_to self.now.store.now number)
             share.old.share share.new.share (D.builds builder.old) (D.builds builder.new) }
     {
+        // Brings a law alone: what one tree more adds to the first ones of a list.
         one_tree_more();
         match self.node(number) {
             CsgNode::Leaf(planes) => self.leaf(number, planes),
@@ -147,6 +175,7 @@ impl<'a, 'b, N: Namer<TreeKey>, B: FlightBooks, G: Gate, R: Wait> RunWork<'a, 'b
         requires number { (1 ≤ number) × (number ≤ self.now.start) }
         ensures { tree_of result.now ≡ solid_of (tree_numbered self.now.store.now number) }
     {
+        // Brings a law alone: what one tree more adds to the first ones of a list.
         one_tree_more();
         &self.solids[number as usize - 1]
     }
@@ -166,7 +195,7 @@ impl<'a, 'b, N: Namer<TreeKey>, B: FlightBooks, G: Gate, R: Wait> RunWork<'a, 'b
         requires leaf { tree_numbered self.now.store.now number ≡ leaf planes.now }
         requires some { 0 < length planes.now }
         requires reach { All ComesInReach planes.now }
-        ensures { Gives (solid_of_leaf planes.now) result }
+        ensures { GivesSolid (solid_of_leaf planes.now) result }
     {
         if let Some(known) = self.store.leaf(number)? {
             return Ok(known);

@@ -5,9 +5,9 @@ ghost use Rattle.std.specs.Arc.{arc_value};
 ghost use Rattle.csg_tree.specs.Numberings.{tree_numbered};
 ghost use Rattle.bsp_tree.specs.Shapes.{tree_of};
 ghost use Rattle.bsp_boolean.specs.Solids as solids;
-ghost use Rattle.bsp_boolean.specs.TreeSolids.{joins, AreWithinSizeLimits, IsTreeStop};
+ghost use Rattle.bsp_boolean.specs.TreeSolids.{join_count, AreWithinSizeLimits, IsTreeStop};
 ghost use Rattle.parallel_eval.specs.Known.{shared_solids};
-ghost use Rattle.parallel_eval.specs.Joins.{AreAsked};
+ghost use Rattle.parallel_eval.specs.Joins.{AreAsked, MayAskJoins};
 ghost use Rattle.parallel_eval.specs.Runs.{joins_to, AreAtMost, AreReady, IsGrowing, IsRunWork, AreFreshLanes, AreEven, AreLanes, AreComplete, AreOfCaller, with_lanes};
 
 use crate::growth::Growth;
@@ -25,7 +25,7 @@ use std::alloc::Global;
 use std::sync::ledger::Ledger;
 use std::sync::{Arc, Wait};
 use std::thread::Threads;
-use subtree_memo::MemoLedger;
+use subtree_memo::{AskPolicy, MemoLedger};
 use text_place::NoMemory;
 
 // Divides the nodes behind the first `before` ones, up to the number `last`, evenly among at most so many
@@ -105,7 +105,7 @@ fn take_back<B: FlightBooks>(share: &mut FlightShare<B>, mut lanes: Vec<Lane<B>>
 // Divides a run, and does it. Where memory runs out before, nothing is done.
 fn work_lanes<
     N: Namer<TreeKey> + Send + Sync,
-    H: MemoLedger + Send + Sync,
+    H: MemoLedger + AskPolicy<TreeKey> + Send + Sync,
     M: Ledger + Send + Sync,
     K: Ledger + Send + Sync,
     E: Ledger + Send + Sync,
@@ -122,7 +122,7 @@ fn work_lanes<
     requires run { IsRunWork work.now.store.now work.now.start work.now.solids.now
         work.now.nodes.now }
     requires ready { AreReady D.builds (joins_to work.now.store.now work.now.start) share.old.share
-        builders.old }
+        builders.old × MayAskJoins (H.may_ask share.old.share.caller) work.now.store.now }
     ensures lanes { IfOk result (λ v. AreLanes work.now.store.now work.now.start
         (work.now.start + length work.now.nodes.now) v.items) }
     ensures caller { IfOk result (λ v. AreOfCaller share.new.share.caller v.items) }
@@ -137,6 +137,7 @@ fn work_lanes<
     ensures many { length builders.new ≡ length builders.old }
     ensures err { OnErr result ((share.new ≡ share.old) × (builders.new ≡ builders.old)) }
 {
+    // Brings a law alone: what one tree more adds to the first ones of a list.
     one_tree_more();
     let last = work.start + work.nodes.len() as u32;
     let mut lanes = deal(work.builds.alloc, share, work.start, last, builders.len())?;
@@ -149,7 +150,7 @@ fn work_lanes<
 // are put back whatever that was. Answers the number of its last node.
 fn run<
     N: Namer<TreeKey> + Send + Sync,
-    H: MemoLedger + Send + Sync,
+    H: MemoLedger + AskPolicy<TreeKey> + Send + Sync,
     M: Ledger + Send + Sync,
     K: Ledger + Send + Sync,
     E: Ledger + Send + Sync,
@@ -167,7 +168,8 @@ fn run<
     builders: &mut [D],
 ) -> Result<u32, EvalStop>
     requires growing { IsGrowing store.now before growth.old × (before < length store.now) }
-    requires ready { AreReady D.builds (joins_to store.now before) share.old.share builders.old }
+    requires ready { AreReady D.builds (joins_to store.now before) share.old.share builders.old
+        × MayAskJoins (H.may_ask share.old.share.caller) store.now }
     ensures growing { IfOk result (λ last. IsGrowing store.now last growth.new × (before < last)) }
     ensures ready { IfOk result (λ last. AreReady D.builds (joins_to store.now last) share.new.share
         builders.new) }
@@ -176,7 +178,7 @@ fn run<
         share.old.share share.new.share (sum_by D.builds builders.old)
         (sum_by D.builds builders.new)) }
     ensures stopped { OnErr result (AreAsked (IsOk result) (joins_to store.now before)
-        (joins store.now)
+        (join_count store.now)
         share.old.share share.new.share (sum_by D.builds builders.old)
         (sum_by D.builds builders.new)) }
     ensures stop { IfErr result (IsTreeStop store.now) }
@@ -205,7 +207,7 @@ fn run<
 // The solids of all nodes of a store, in order of number.
 fn solids_of<
     N: Namer<TreeKey> + Send + Sync,
-    H: MemoLedger + Send + Sync,
+    H: MemoLedger + AskPolicy<TreeKey> + Send + Sync,
     M: Ledger + Send + Sync,
     K: Ledger + Send + Sync,
     E: Ledger + Send + Sync,
@@ -221,15 +223,17 @@ fn solids_of<
     builders: &mut [D],
 ) -> Result<Vec<Arc<Solid>>, EvalStop>
     requires some { 0 < length store.now }
-    requires ready { AreReady D.builds 0 share.old.share builders.old }
+    requires ready { AreReady D.builds 0 share.old.share builders.old
+        × MayAskJoins (H.may_ask share.old.share.caller) store.now }
     ensures solids { IfOk result (λ v. shared_solids v.items ≡ map solids.solid_of store.now) }
     ensures within { OnOk result (AreWithinSizeLimits store.now) }
     ensures stop { IfErr result (IsTreeStop store.now) }
-    ensures asked { AreAsked (IsOk result) 0 (joins store.now)
+    ensures asked { AreAsked (IsOk result) 0 (join_count store.now)
         share.old.share share.new.share (sum_by D.builds builders.old)
         (sum_by D.builds builders.new) }
-    ensures few { joins store.now < 2 ^ 32 }
+    ensures few { join_count store.now < 2 ^ 32 }
 {
+    // Brings a law alone: what one tree more adds to the first ones of a list.
     one_tree_more();
     let nodes = store.store();
     let mut growth = Growth {
@@ -252,7 +256,7 @@ fn solids_of<
 /// passes a limit.
 pub fn solid_of<
     N: Namer<TreeKey> + Send + Sync,
-    H: MemoLedger + Send + Sync,
+    H: MemoLedger + AskPolicy<TreeKey> + Send + Sync,
     M: Ledger + Send + Sync,
     K: Ledger + Send + Sync,
     E: Ledger + Send + Sync,
@@ -268,15 +272,16 @@ pub fn solid_of<
     builders: &mut [D],
 ) -> Result<Arc<Solid>, EvalStop>
     requires some { 0 < length store.old }
-    requires ready { AreReady D.builds 0 share.old.share builders.old }
+    requires ready { AreReady D.builds 0 share.old.share builders.old
+        × MayAskJoins (H.may_ask share.old.share.caller) store.old }
     ensures solid { IfOk result (λ s. tree_of (arc_value s) ≡
         solids.solid_of (tree_numbered store.old (length store.old))) }
     ensures within { OnOk result (AreWithinSizeLimits store.old) }
     ensures stop { IfErr result (IsTreeStop store.old) }
-    ensures asked { AreAsked (IsOk result) 0 (joins store.old)
+    ensures asked { AreAsked (IsOk result) 0 (join_count store.old)
         share.old.share share.new.share (sum_by D.builds builders.old)
         (sum_by D.builds builders.new) }
-    ensures few { joins store.old < 2 ^ 32 }
+    ensures few { join_count store.old < 2 ^ 32 }
     ensures store { store.new ≡ store.old }
 {
     let mut solids = solids_of(builds, store, share, builders)?;

@@ -6,8 +6,9 @@ use Rattle.plane_predicate.proofs.IntegerRing.{sums}
 use Rattle.plane_predicate.proofs.Polynomials.{Poly, var, num, minus, expand}
 use Rattle.plane_predicate.proofs.PolynomialSigns.{is_above, AreAbove, above_by_form}
 use Rattle.plane_predicate.proofs.Vectors.{Form, plane_of, valueP, cramerP}
-use Rattle.plane_polygon.specs.Polygons.{Outline, index_after, edge, corner, IsPolygon, Covers}
+use Rattle.plane_polygon.specs.Polygons.{Outline, edge_plane, corner, IsPolygon, Covers}
 use Rattle.plane_polygon.specs.Boxes.{high_x, low_x, high_y, low_y, high_z, low_z}
+use Rattle.plane_predicate.specs.Indices.{index_after}
 
 -- ---- four edges
 pub record FourTurns (n e f g h : Coefficients) : Type 0 where
@@ -46,7 +47,7 @@ four_turns n e f g h t i q1 = t.second
 four_turns n e f g h t i q2 = t.third
 four_turns n e f g h t i q3 = t.fourth
 
-four_behind : (n e f g h : Coefficients) → FourTurns n e f g h → (i j : ℕ) → Quarter i → Quarter j → j ≢ i → j ≢ index_after 4 i → value (edge (four n e f g h) j) (corner (four n e f g h) i) <ℤ pos 0
+four_behind : (n e f g h : Coefficients) → FourTurns n e f g h → (i j : ℕ) → Quarter i → Quarter j → j ≢ i → j ≢ index_after 4 i → value (edge_plane (four n e f g h) j) (corner (four n e f g h) i) <ℤ pos 0
 four_behind n e f g h t i j q0 q0 a b = absurd (a refl)
 four_behind n e f g h t i j q0 q1 a b = absurd (b refl)
 four_behind n e f g h t i j q0 q2 a b = t.first_g
@@ -71,7 +72,7 @@ four_polygon n e f g h t = record {
   behind = λ i j l k a b. four_behind n e f g h t i j (quarter i l) (quarter j k) a b;
 }
 
-four_within : (n e f g h : Coefficients) (p : Coordinates) → value e p ≤ℤ pos 0 → value f p ≤ℤ pos 0 → value g p ≤ℤ pos 0 → value h p ≤ℤ pos 0 → (j : ℕ) → Quarter j → value (edge (four n e f g h) j) p ≤ℤ pos 0
+four_within : (n e f g h : Coefficients) (p : Coordinates) → value e p ≤ℤ pos 0 → value f p ≤ℤ pos 0 → value g p ≤ℤ pos 0 → value h p ≤ℤ pos 0 → (j : ℕ) → Quarter j → value (edge_plane (four n e f g h) j) p ≤ℤ pos 0
 four_within n e f g h p a b c d j q0 = a
 four_within n e f g h p a b c d j q1 = b
 four_within n e f g h p a b c d j q2 = c

@@ -1,7 +1,7 @@
 -- Corners, and lists of them.
 use Rattle.std.proofs.Common.{◌≡◌, ◌≢◌, ℕ, zero, suc, ◌+◌, Bool, true, false, ◌||◌, List, [], ◌∷◌, ◌++◌, map, refl, sym, ap, ap₂, ◌∙◌, subst, arith, add-one, ℤ, pos, negsuc, ◌<ℤ◌, ◌≤ℤ◌, int_lt, neg_ℤ, inl, inr}
 use Rattle.std.proofs.lemmas.List.{map-append}
-use Rattle.plane_predicate.specs.Space.{Coefficients, Coordinates, meeting_by_cramers_rule, meeting, signed_by, IsPointTimes, HasNoCommonFactor}
+use Rattle.plane_predicate.specs.Space.{Coefficients, Coordinates, meeting_by_cramers_rule, meeting, with_weight_above_zero, IsPointTimes, HasNoCommonFactor}
 use Rattle.plane_predicate.specs.Sides.{side_of, is_side_behind, is_side_ahead}
 use Rattle.plane_predicate.proofs.IntegerRing.{sums}
 use Rattle.plane_predicate.specs.Space.{value, opposite_of}
@@ -10,9 +10,10 @@ use Rattle.plane_predicate.proofs.Vectors.{value-opposite}
 use Rattle.std.proofs.lemmas.Int.{ints}
 use Rattle.plane_polygon.specs.Polygons.{Outline, AreReducedFrom}
 use Rattle.plane_polygon.specs.declared.classes.Class.TheVariants.{Across}
-use Rattle.plane_polygon.specs.Parts.{indices_below, corners, some_of, is_behind, is_ahead, class_by_sides, class_of}
+use Rattle.plane_polygon.specs.Parts.{corners, some_of, is_behind, is_ahead, class_by_sides, class_of}
+use Rattle.plane_predicate.specs.Indices.{indices_below}
 
-signed_positive : (w : ℤ) (p : Coordinates) → pos 0 <ℤ w → signed_by w p ≡ p
+signed_positive : (w : ℤ) (p : Coordinates) → pos 0 <ℤ w → with_weight_above_zero w p ≡ p
 signed_positive (pos n) p h = refl
 signed_positive (negsuc n) p h = absurd (omega (arith, sums))
 

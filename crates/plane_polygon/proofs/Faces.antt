@@ -2,9 +2,10 @@
 use Rattle.std.proofs.Common.{sym, ◌≡◌, ◌≢◌, inl, inr, ℕ, zero, suc, ◌-◌, ◌<◌, subst, arith, ℤ, pos, ◌*ℤ◌, ◌<ℤ◌, ◌≤ℤ◌}
 use Rattle.plane_predicate.specs.Space.{Coordinates, value, orientation_seen_from, inner_product}
 use Rattle.plane_predicate.proofs.IntegerRing.{sums}
-use Rattle.plane_polygon.specs.Polygons.{Outline, index_after, edge, sides, corner, IsPolygon}
+use Rattle.plane_polygon.specs.Polygons.{Outline, edge_plane, edge_count, corner, IsPolygon}
 use Rattle.plane_predicate.proofs.Signs.{signs, most_least, least_least}
 use Rattle.plane_polygon.proofs.Hull.{after_is, corner_on, after_below, after_last, after_inside, plane_directed, turn_is, far_behind, strictly_left}
+use Rattle.plane_predicate.specs.Indices.{index_after}
 
 not_both : (x : ℤ) → pos 0 <ℤ x → x ≤ℤ pos 0 → ⊥
 not_both x h k = omega (arith, sums)
@@ -27,9 +28,9 @@ factor_behind g n f hg hn h =
       | inr (inr k) ↦ absurd (not_both (g *ℤ (n *ℤ f)) h (most_least g (n *ℤ f) (lt_most g hg) (least_least n f (lt_least n hn) (lt_least f k))))
     ]
 
-pub behind_from_left : (s : Outline) (h : IsPolygon s) (i : ℕ) → i < sides s → (q : Coordinates) → value s.plane q ≡ pos 0 → pos 0 <ℤ orientation_seen_from s.plane (corner s i) (corner s (index_after (sides s) i)) q → value (edge s (index_after (sides s) i)) q <ℤ pos 0
+pub behind_from_left : (s : Outline) (h : IsPolygon s) (i : ℕ) → i < edge_count s → (q : Coordinates) → value s.plane q ≡ pos 0 → pos 0 <ℤ orientation_seen_from s.plane (corner s i) (corner s (index_after (edge_count s) i)) q → value (edge_plane s (index_after (edge_count s) i)) q <ℤ pos 0
 behind_from_left s h i l q e t =
-    factor_behind (value (edge s (index_after (sides s) (index_after (sides s) i))) (corner s i)) (inner_product s.plane s.plane) (value (edge s (index_after (sides s) i)) q)
+    factor_behind (value (edge_plane s (index_after (edge_count s) (index_after (edge_count s) i))) (corner s i)) (inner_product s.plane s.plane) (value (edge_plane s (index_after (edge_count s) i)) q)
     (far_behind s h i l) (plane_directed s h) (subst (λ (x : ℤ). pos 0 <ℤ x) (turn_is s i q e) t)
 
 -- each index follows one
@@ -37,11 +38,11 @@ pub earlier : (k j : ℕ) → j < k → (i : ℕ) × (i < k) × (index_after k i
 earlier k zero h = (k - 1, omega arith, after_last k (k - 1) (omega arith))
 earlier k (suc j) h = (j, omega arith, after_inside k j h)
 
-pub within_by_turns : (s : Outline) → IsPolygon s → (q : Coordinates) → value s.plane q ≡ pos 0 → ((i : ℕ) → i < sides s → pos 0 <ℤ orientation_seen_from s.plane (corner s i) (corner s (index_after (sides s) i)) q) → (j : ℕ) → j < sides s → value (edge s j) q <ℤ pos 0
-within_by_turns s h q e t j l = let w = earlier (sides s) j l in subst (λ (n : ℕ). value (edge s n) q <ℤ pos 0) w.2 (behind_from_left s h w.0 w.1 q e (t w.0 w.1))
+pub within_by_turns : (s : Outline) → IsPolygon s → (q : Coordinates) → value s.plane q ≡ pos 0 → ((i : ℕ) → i < edge_count s → pos 0 <ℤ orientation_seen_from s.plane (corner s i) (corner s (index_after (edge_count s) i)) q) → (j : ℕ) → j < edge_count s → value (edge_plane s j) q <ℤ pos 0
+within_by_turns s h q e t j l = let w = earlier (edge_count s) j l in subst (λ (n : ℕ). value (edge_plane s n) q <ℤ pos 0) w.2 (behind_from_left s h w.0 w.1 q e (t w.0 w.1))
 
-pub turns_by_within : (s : Outline) → IsPolygon s → (q : Coordinates) → value s.plane q ≡ pos 0 → ((j : ℕ) → j < sides s → value (edge s j) q <ℤ pos 0) → (i : ℕ) → i < sides s → pos 0 <ℤ orientation_seen_from s.plane (corner s i) (corner s (index_after (sides s) i)) q
-turns_by_within s h q e b i l = strictly_left s h i l q e (b (index_after (sides s) i) (after_below (sides s) i l))
+pub turns_by_within : (s : Outline) → IsPolygon s → (q : Coordinates) → value s.plane q ≡ pos 0 → ((j : ℕ) → j < edge_count s → value (edge_plane s j) q <ℤ pos 0) → (i : ℕ) → i < edge_count s → pos 0 <ℤ orientation_seen_from s.plane (corner s i) (corner s (index_after (edge_count s) i)) q
+turns_by_within s h q e b i l = strictly_left s h i l q e (b (index_after (edge_count s) i) (after_below (edge_count s) i l))
 
 pub after_injective : (k i j : ℕ) → i < k → j < k → index_after k i ≡ index_after k j → i ≡ j
 after_injective k i j l m e =
@@ -50,7 +51,7 @@ after_injective k i j l m e =
       | inr p ↦ elim (after_is k j) [ inl q ↦ omega arith | inr q ↦ omega arith ]
     ]
 
-pub others_left : (s : Outline) → IsPolygon s → (i j : ℕ) → i < sides s → j < sides s → j ≢ i → j ≢ index_after (sides s) i → pos 0 <ℤ orientation_seen_from s.plane (corner s i) (corner s (index_after (sides s) i)) (corner s j)
+pub others_left : (s : Outline) → IsPolygon s → (i j : ℕ) → i < edge_count s → j < edge_count s → j ≢ i → j ≢ index_after (edge_count s) i → pos 0 <ℤ orientation_seen_from s.plane (corner s i) (corner s (index_after (edge_count s) i)) (corner s j)
 others_left s h i j l m a b =
     strictly_left s h i l (corner s j) (corner_on s j)
-    (h.behind j (index_after (sides s) i) m (after_below (sides s) i l) (λ e. b (sym e)) (λ e. a (sym (after_injective (sides s) i j l m e))))
+    (h.behind j (index_after (edge_count s) i) m (after_below (edge_count s) i l) (λ e. b (sym e)) (λ e. a (sym (after_injective (edge_count s) i j l m e))))

@@ -5,9 +5,10 @@ use Rattle.std.proofs.lemmas.Bool.Decides.{eqb_tells}
 use Rattle.plane_predicate.specs.Space.{Coefficients, Coordinates, value, orientation_seen_from, inner_product, meeting_by_cramers_rule}
 use Rattle.plane_predicate.proofs.IntegerRing.{sums, mul_neg_left}
 use Rattle.plane_predicate.proofs.Identities.{turn_at_edge, turn_round, turn_back, cramer_on_first, cramer_on_second, cramer_on_third}
-use Rattle.plane_polygon.specs.Polygons.{Outline, index_after, edge, sides, corner, IsPolygon, Covers, IsBetween}
+use Rattle.plane_polygon.specs.Polygons.{Outline, edge_plane, edge_count, corner, IsPolygon, Covers, IsBetween}
 use Rattle.plane_predicate.proofs.Signs.{signs, pos_pos, neg_neg, pos_neg, least_least, least_most, most_most}
 use Rattle.plane_polygon.proofs.FourPoints.{four_points}
+use Rattle.plane_predicate.specs.Indices.{index_after}
 
 dropped : (g a f : ℤ) → g *ℤ (a -ℤ pos 0 *ℤ f) ≡ g *ℤ a
 dropped g a f = rw (zero-*ℤ f) (ap (λ (v : ℤ). g *ℤ v) (omega (arith, sums)))
@@ -57,40 +58,40 @@ after_twice k i t h =
 
 -- ---- corners
 pub corner_on : (s : Outline) (i : ℕ) → value s.plane (corner s i) ≡ pos 0
-corner_on s i = cramer_on_first s.plane (edge s i) (edge s (index_after (sides s) i))
+corner_on s i = cramer_on_first s.plane (edge_plane s i) (edge_plane s (index_after (edge_count s) i))
 
-pub corner_on_edge : (s : Outline) (i : ℕ) → value (edge s i) (corner s i) ≡ pos 0
-corner_on_edge s i = cramer_on_second s.plane (edge s i) (edge s (index_after (sides s) i))
+pub corner_on_edge : (s : Outline) (i : ℕ) → value (edge_plane s i) (corner s i) ≡ pos 0
+corner_on_edge s i = cramer_on_second s.plane (edge_plane s i) (edge_plane s (index_after (edge_count s) i))
 
-pub corner_on_next : (s : Outline) (i : ℕ) → value (edge s (index_after (sides s) i)) (corner s i) ≡ pos 0
-corner_on_next s i = cramer_on_third s.plane (edge s i) (edge s (index_after (sides s) i))
+pub corner_on_next : (s : Outline) (i : ℕ) → value (edge_plane s (index_after (edge_count s) i)) (corner s i) ≡ pos 0
+corner_on_next s i = cramer_on_third s.plane (edge_plane s i) (edge_plane s (index_after (edge_count s) i))
 
 pub plane_directed : (s : Outline) → IsPolygon s → pos 0 <ℤ inner_product s.plane s.plane
-plane_directed s h = directed s.plane (edge s 0) (edge s (index_after (sides s) 0)) (h.turns_left 0 (omega (arith, h.three)))
+plane_directed s h = directed s.plane (edge_plane s 0) (edge_plane s (index_after (edge_count s) 0)) (h.turns_left 0 (omega (arith, h.three)))
 
 -- the orientation from corner i by the next one
 pub turn_is : (s : Outline) (i : ℕ) (q : Coordinates) → value s.plane q ≡ pos 0 →
-    orientation_seen_from s.plane (corner s i) (corner s (index_after (sides s) i)) q ≡ value (edge s (index_after (sides s) (index_after (sides s) i))) (corner s i) *ℤ (inner_product s.plane s.plane *ℤ value (edge s (index_after (sides s) i)) q)
+    orientation_seen_from s.plane (corner s i) (corner s (index_after (edge_count s) i)) q ≡ value (edge_plane s (index_after (edge_count s) (index_after (edge_count s) i))) (corner s i) *ℤ (inner_product s.plane s.plane *ℤ value (edge_plane s (index_after (edge_count s) i)) q)
 turn_is s i q e =
-    turn_at_edge s.plane (edge s i) (edge s (index_after (sides s) i)) (edge s (index_after (sides s) (index_after (sides s) i))) q
-    ∙ ap (λ (v : ℤ). value (edge s (index_after (sides s) (index_after (sides s) i))) (corner s i) *ℤ (inner_product s.plane s.plane *ℤ value (edge s (index_after (sides s) i)) q -ℤ v *ℤ inner_product (edge s (index_after (sides s) i)) s.plane)) e
-    ∙ dropped (value (edge s (index_after (sides s) (index_after (sides s) i))) (corner s i)) (inner_product s.plane s.plane *ℤ value (edge s (index_after (sides s) i)) q) (inner_product (edge s (index_after (sides s) i)) s.plane)
+    turn_at_edge s.plane (edge_plane s i) (edge_plane s (index_after (edge_count s) i)) (edge_plane s (index_after (edge_count s) (index_after (edge_count s) i))) q
+    ∙ ap (λ (v : ℤ). value (edge_plane s (index_after (edge_count s) (index_after (edge_count s) i))) (corner s i) *ℤ (inner_product s.plane s.plane *ℤ value (edge_plane s (index_after (edge_count s) i)) q -ℤ v *ℤ inner_product (edge_plane s (index_after (edge_count s) i)) s.plane)) e
+    ∙ dropped (value (edge_plane s (index_after (edge_count s) (index_after (edge_count s) i))) (corner s i)) (inner_product s.plane s.plane *ℤ value (edge_plane s (index_after (edge_count s) i)) q) (inner_product (edge_plane s (index_after (edge_count s) i)) s.plane)
 
-pub far_behind : (s : Outline) (h : IsPolygon s) (i : ℕ) → i < sides s → value (edge s (index_after (sides s) (index_after (sides s) i))) (corner s i) <ℤ pos 0
+pub far_behind : (s : Outline) (h : IsPolygon s) (i : ℕ) → i < edge_count s → value (edge_plane s (index_after (edge_count s) (index_after (edge_count s) i))) (corner s i) <ℤ pos 0
 far_behind s h i k =
-    let j = after_below (sides s) i k in
-    h.behind i (index_after (sides s) (index_after (sides s) i)) k (after_below (sides s) (index_after (sides s) i) j) (after_twice (sides s) i h.three k) (after_other (sides s) (index_after (sides s) i) h.three j)
+    let j = after_below (edge_count s) i k in
+    h.behind i (index_after (edge_count s) (index_after (edge_count s) i)) k (after_below (edge_count s) (index_after (edge_count s) i) j) (after_twice (edge_count s) i h.three k) (after_other (edge_count s) (index_after (edge_count s) i) h.three j)
 
 -- what is not ahead of an edge is not right of the way along it
-pub left : (s : Outline) (h : IsPolygon s) (i : ℕ) → i < sides s → (q : Coordinates) → value s.plane q ≡ pos 0 → value (edge s (index_after (sides s) i)) q ≤ℤ pos 0 → pos 0 ≤ℤ orientation_seen_from s.plane (corner s i) (corner s (index_after (sides s) i)) q
+pub left : (s : Outline) (h : IsPolygon s) (i : ℕ) → i < edge_count s → (q : Coordinates) → value s.plane q ≡ pos 0 → value (edge_plane s (index_after (edge_count s) i)) q ≤ℤ pos 0 → pos 0 ≤ℤ orientation_seen_from s.plane (corner s i) (corner s (index_after (edge_count s) i)) q
 left s h i k q e f =
     let far = far_behind s h i k in let d = plane_directed s h in
-    omega (arith, sums, turn_is s i q e, most_most (value (edge s (index_after (sides s) (index_after (sides s) i))) (corner s i)) (inner_product s.plane s.plane *ℤ value (edge s (index_after (sides s) i)) q) (omega (arith, sums)) (least_most (inner_product s.plane s.plane) (value (edge s (index_after (sides s) i)) q) (omega (arith, sums)) f))
+    omega (arith, sums, turn_is s i q e, most_most (value (edge_plane s (index_after (edge_count s) (index_after (edge_count s) i))) (corner s i)) (inner_product s.plane s.plane *ℤ value (edge_plane s (index_after (edge_count s) i)) q) (omega (arith, sums)) (least_most (inner_product s.plane s.plane) (value (edge_plane s (index_after (edge_count s) i)) q) (omega (arith, sums)) f))
 
-pub strictly_left : (s : Outline) (h : IsPolygon s) (i : ℕ) → i < sides s → (q : Coordinates) → value s.plane q ≡ pos 0 → value (edge s (index_after (sides s) i)) q <ℤ pos 0 → pos 0 <ℤ orientation_seen_from s.plane (corner s i) (corner s (index_after (sides s) i)) q
+pub strictly_left : (s : Outline) (h : IsPolygon s) (i : ℕ) → i < edge_count s → (q : Coordinates) → value s.plane q ≡ pos 0 → value (edge_plane s (index_after (edge_count s) i)) q <ℤ pos 0 → pos 0 <ℤ orientation_seen_from s.plane (corner s i) (corner s (index_after (edge_count s) i)) q
 strictly_left s h i k q e f =
     let far = far_behind s h i k in let d = plane_directed s h in
-    omega (arith, sums, turn_is s i q e, neg_neg (value (edge s (index_after (sides s) (index_after (sides s) i))) (corner s i)) (inner_product s.plane s.plane *ℤ value (edge s (index_after (sides s) i)) q) far (pos_neg (inner_product s.plane s.plane) (value (edge s (index_after (sides s) i)) q) d f))
+    omega (arith, sums, turn_is s i q e, neg_neg (value (edge_plane s (index_after (edge_count s) (index_after (edge_count s) i))) (corner s i)) (inner_product s.plane s.plane *ℤ value (edge_plane s (index_after (edge_count s) i)) q) far (pos_neg (inner_product s.plane s.plane) (value (edge_plane s (index_after (edge_count s) i)) q) d f))
 
 -- ---- the fan from corner 0
 -- three corners and a point of their plane: its weights are the turns
@@ -125,26 +126,26 @@ pub after_last : (k i : ℕ) → suc i ≡ k → index_after k i ≡ 0
 after_last k i h = elim (after_is k i) [ inl p ↦ p.1 | inr p ↦ absurd (p.0 h) ]
 
 -- left and strictly_left, where the next index is known
-left_to : (s : Outline) (h : IsPolygon s) (i j : ℕ) → i < sides s → index_after (sides s) i ≡ j → (q : Coordinates) → value s.plane q ≡ pos 0 → value (edge s j) q ≤ℤ pos 0 → pos 0 ≤ℤ orientation_seen_from s.plane (corner s i) (corner s j) q
+left_to : (s : Outline) (h : IsPolygon s) (i j : ℕ) → i < edge_count s → index_after (edge_count s) i ≡ j → (q : Coordinates) → value s.plane q ≡ pos 0 → value (edge_plane s j) q ≤ℤ pos 0 → pos 0 ≤ℤ orientation_seen_from s.plane (corner s i) (corner s j) q
 left_to s h i j k e q on f =
-    subst (λ (v : ℕ). pos 0 ≤ℤ orientation_seen_from s.plane (corner s i) (corner s v) q) e (left s h i k q on (subst (λ (v : ℕ). value (edge s v) q ≤ℤ pos 0) (sym e) f))
+    subst (λ (v : ℕ). pos 0 ≤ℤ orientation_seen_from s.plane (corner s i) (corner s v) q) e (left s h i k q on (subst (λ (v : ℕ). value (edge_plane s v) q ≤ℤ pos 0) (sym e) f))
 
-pub strictly_left_to : (s : Outline) (h : IsPolygon s) (i j : ℕ) → i < sides s → index_after (sides s) i ≡ j → (q : Coordinates) → value s.plane q ≡ pos 0 → value (edge s j) q <ℤ pos 0 → pos 0 <ℤ orientation_seen_from s.plane (corner s i) (corner s j) q
+pub strictly_left_to : (s : Outline) (h : IsPolygon s) (i j : ℕ) → i < edge_count s → index_after (edge_count s) i ≡ j → (q : Coordinates) → value s.plane q ≡ pos 0 → value (edge_plane s j) q <ℤ pos 0 → pos 0 <ℤ orientation_seen_from s.plane (corner s i) (corner s j) q
 strictly_left_to s h i j k e q on f =
-    subst (λ (v : ℕ). pos 0 <ℤ orientation_seen_from s.plane (corner s i) (corner s v) q) e (strictly_left s h i k q on (subst (λ (v : ℕ). value (edge s v) q <ℤ pos 0) (sym e) f))
+    subst (λ (v : ℕ). pos 0 <ℤ orientation_seen_from s.plane (corner s i) (corner s v) q) e (strictly_left s h i k q on (subst (λ (v : ℕ). value (edge_plane s v) q <ℤ pos 0) (sym e) f))
 
 -- corner 0 is strictly left of the way along each edge that it is not on
-fan : (s : Outline) (h : IsPolygon s) (i : ℕ) → 1 ≤ i → suc i < sides s → pos 0 <ℤ orientation_seen_from s.plane (corner s 0) (corner s i) (corner s (suc i))
+fan : (s : Outline) (h : IsPolygon s) (i : ℕ) → 1 ≤ i → suc i < edge_count s → pos 0 <ℤ orientation_seen_from s.plane (corner s 0) (corner s i) (corner s (suc i))
 fan s h i low high =
-    let e = after_inside (sides s) i high in
-    let apart : suc i ≢ index_after (sides s) 0 = λ w. (let o = after_inside (sides s) 0 (omega (arith, h.three)) in omega arith) in
+    let e = after_inside (edge_count s) i high in
+    let apart : suc i ≢ index_after (edge_count s) 0 = λ w. (let o = after_inside (edge_count s) 0 (omega (arith, h.three)) in omega arith) in
     let b = h.behind 0 (suc i) (omega (arith, h.three)) high (omega arith) apart in
     subst (λ (v : ℤ). pos 0 <ℤ v) (turn_round s.plane (corner s 0) (corner s i) (corner s (suc i))) (strictly_left_to s h i (suc i) (omega arith) e (corner s 0) (corner_on s 0) b)
 
 -- the hull lemma
-pub hull : (s : Outline) → IsPolygon s → (p : Coordinates) → Covers s p → (i : ℕ) × (suc i < sides s) × IsBetween (corner s 0) (corner s i) (corner s (suc i)) p
+pub hull : (s : Outline) → IsPolygon s → (p : Coordinates) → Covers s p → (i : ℕ) × (suc i < edge_count s) × IsBetween (corner s 0) (corner s i) (corner s (suc i)) p
 hull s h p c =
-    let k = sides s in
+    let k = edge_count s in
     let three = h.three in
     let around : ℕ → ℤ = λ m. orientation_seen_from s.plane (corner s 0) (corner s m) p in
     let first : pos 0 ≤ℤ around 1 = left_to s h 0 1 (omega arith) (after_inside k 0 (omega arith)) p c.on (c.within 1 (omega arith)) in

@@ -3,7 +3,7 @@ use Rattle.std.proofs.Common.{◌≡◌, ℕ, suc, ◌-◌, ◌<◌, List, [], �
 use Rattle.plane_predicate.specs.Space.{Coefficients, Coordinates, value, meeting_by_cramers_rule}
 use Rattle.plane_predicate.proofs.IntegerRing.{sums}
 use Rattle.plane_predicate.proofs.Identities.{value_swapped, weight_swapped}
-use Rattle.plane_polygon.specs.Polygons.{Outline, edge, sides, corner, IsPolygon, Covers, IsBetween}
+use Rattle.plane_polygon.specs.Polygons.{Outline, edge_plane, edge_count, corner, IsPolygon, Covers, IsBetween}
 use Rattle.plane_polygon.specs.declared.classes.Class.TheVariants.{Across}
 use Rattle.plane_polygon.specs.Parts.{class_of, part_behind}
 use Rattle.plane_predicate.proofs.Signs.{least_most, least_least, most_cancel, least_cancel, pos_pos, most_most}
@@ -45,17 +45,17 @@ meeting_not_ahead_in n e r m p q c t mp mq =
     (most_most (meeting_by_cramers_rule n e r).w (value r q *ℤ value m p +ℤ neg_ℤ (value r p) *ℤ value m q) (lt_most (meeting_by_cramers_rule n e r).w (neg_of_positive (meeting_by_cramers_rule n e r).w (meeting_by_cramers_rule n r e).w (weight_swapped n e r) t))
     (not_above_sum (value r q) (neg_ℤ (value r p)) (value m p) (value m q) c.past (lt_le (neg_ℤ (value r p)) (turned (value r p) c.before)) mp mq))))
 
-arc_corner_within : (s : Outline) (m : Coefficients) (a v i j : ℕ) → Cut s m a v → Which v i → j < sides s → value (edge s j) (corner (arc_outline s m a v) i) ≤ℤ pos 0
+arc_corner_within : (s : Outline) (m : Coefficients) (a v i j : ℕ) → Cut s m a v → Which v i → j < edge_count s → value (edge_plane s j) (corner (arc_outline s m a v) i) ≤ℤ pos 0
 arc_corner_within s m a v i j h (old l) b =
-    subst (λ (c : Coordinates). value (edge s j) c ≤ℤ pos 0) (sym (arc_corner s m a v i l)) (no_edge_behind s h.polygon (step (sides s) a i) j (step_below (sides s) a i h.arc.start) b)
+    subst (λ (c : Coordinates). value (edge_plane s j) c ≤ℤ pos 0) (sym (arc_corner s m a v i l)) (no_edge_behind s h.polygon (step (edge_count s) a i) j (step_below (edge_count s) a i h.arc.start) b)
 arc_corner_within s m a v i j h (out e) b =
-    subst (λ (c : Coordinates). value (edge s j) c ≤ℤ pos 0) (sym (ap (corner (arc_outline s m a v)) e ∙ arc_out s m a v))
-    (meeting_not_ahead s.plane (edge_from s a (suc v)) m (edge s j) (corner_from s a v) (corner_from s a (suc v)) (leaving s m a v h) (leaves s m a v h)
-    (no_edge_behind s h.polygon (step (sides s) a v) j (step_below (sides s) a v h.arc.start) b) (no_edge_behind s h.polygon (step (sides s) a (suc v)) j (step_below (sides s) a (suc v) h.arc.start) b))
+    subst (λ (c : Coordinates). value (edge_plane s j) c ≤ℤ pos 0) (sym (ap (corner (arc_outline s m a v)) e ∙ arc_out s m a v))
+    (meeting_not_ahead s.plane (edge_from s a (suc v)) m (edge_plane s j) (corner_from s a v) (corner_from s a (suc v)) (leaving s m a v h) (leaves s m a v h)
+    (no_edge_behind s h.polygon (step (edge_count s) a v) j (step_below (edge_count s) a v h.arc.start) b) (no_edge_behind s h.polygon (step (edge_count s) a (suc v)) j (step_below (edge_count s) a (suc v) h.arc.start) b))
 arc_corner_within s m a v i j h (into e) b =
-    subst (λ (c : Coordinates). value (edge s j) c ≤ℤ pos 0) (sym (ap (corner (arc_outline s m a v)) e ∙ arc_into s m a v))
-    (meeting_not_ahead_in s.plane (edge_from s a 0) m (edge s j) (corner_from s a 0) (corner_from s a (sides s - 1)) (coming s m a v h) (comes s m a v h)
-    (no_edge_behind s h.polygon a j h.arc.start b) (no_edge_behind s h.polygon (step (sides s) a (sides s - 1)) j (step_below (sides s) a (sides s - 1) h.arc.start) b))
+    subst (λ (c : Coordinates). value (edge_plane s j) c ≤ℤ pos 0) (sym (ap (corner (arc_outline s m a v)) e ∙ arc_into s m a v))
+    (meeting_not_ahead_in s.plane (edge_from s a 0) m (edge_plane s j) (corner_from s a 0) (corner_from s a (edge_count s - 1)) (coming s m a v h) (comes s m a v h)
+    (no_edge_behind s h.polygon a j h.arc.start b) (no_edge_behind s h.polygon (step (edge_count s) a (edge_count s - 1)) j (step_below (edge_count s) a (edge_count s - 1) h.arc.start) b))
 
 -- ---- points
 pub between_within : (a b c p : Coordinates) (e : Coefficients) → IsBetween a b c p → value e a ≤ℤ pos 0 → value e b ≤ℤ pos 0 → value e c ≤ℤ pos 0 → value e p ≤ℤ pos 0
@@ -72,7 +72,7 @@ arc_covers_out s m a v h p c =
       record {
         weight = c.weight;
         on = c.on;
-        within = λ j b. between_within (corner r 0) (corner r w.0) (corner r (suc w.0)) p (edge s j) w.2
+        within = λ j b. between_within (corner r 0) (corner r w.0) (corner r (suc w.0)) p (edge_plane s j) w.2
             (arc_corner_within s m a v 0 j h (which v 0 (omega arith)) b)
             (arc_corner_within s m a v w.0 j h (which v w.0 (omega arith)) b)
             (arc_corner_within s m a v (suc w.0) j h (which v (suc w.0) (omega arith)) b);
@@ -80,10 +80,10 @@ arc_covers_out s m a v h p c =
       subst (λ (e : Coefficients). value e p ≤ℤ pos 0) (arc_new s m a v) (c.within (suc (suc v)) (omega arith)),
     )
 
-arc_edge_within : (s : Outline) (m : Coefficients) (a v j : ℕ) → Cut s m a v → (p : Coordinates) → Covers s p → value m p ≤ℤ pos 0 → Which v j → value (edge (arc_outline s m a v) j) p ≤ℤ pos 0
-arc_edge_within s m a v j h p c b (old l) = subst (λ (e : Coefficients). value e p ≤ℤ pos 0) (sym (arc_edge s m a v j (omega arith))) (c.within (step (sides s) a j) (step_below (sides s) a j h.arc.start))
-arc_edge_within s m a v j h p c b (out e) = subst (λ (e : Coefficients). value e p ≤ℤ pos 0) (sym (arc_edge s m a v j (omega arith))) (c.within (step (sides s) a j) (step_below (sides s) a j h.arc.start))
-arc_edge_within s m a v j h p c b (into e) = subst (λ (e : Coefficients). value e p ≤ℤ pos 0) (sym (ap (edge (arc_outline s m a v)) e ∙ arc_new s m a v)) b
+arc_edge_within : (s : Outline) (m : Coefficients) (a v j : ℕ) → Cut s m a v → (p : Coordinates) → Covers s p → value m p ≤ℤ pos 0 → Which v j → value (edge_plane (arc_outline s m a v) j) p ≤ℤ pos 0
+arc_edge_within s m a v j h p c b (old l) = subst (λ (e : Coefficients). value e p ≤ℤ pos 0) (sym (arc_edge s m a v j (omega arith))) (c.within (step (edge_count s) a j) (step_below (edge_count s) a j h.arc.start))
+arc_edge_within s m a v j h p c b (out e) = subst (λ (e : Coefficients). value e p ≤ℤ pos 0) (sym (arc_edge s m a v j (omega arith))) (c.within (step (edge_count s) a j) (step_below (edge_count s) a j h.arc.start))
+arc_edge_within s m a v j h p c b (into e) = subst (λ (e : Coefficients). value e p ≤ℤ pos 0) (sym (ap (edge_plane (arc_outline s m a v)) e ∙ arc_new s m a v)) b
 
 arc_covers_in : (s : Outline) (m : Coefficients) (a v : ℕ) → Cut s m a v → (p : Coordinates) → Covers s p → value m p ≤ℤ pos 0 → Covers (arc_outline s m a v) p
 arc_covers_in s m a v h p c b =
@@ -98,7 +98,7 @@ turned_covers : (s r : Outline) (a : ℕ) → Turns s r a → (p : Coordinates) 
 turned_covers s r a h p c = record {
   weight = c.weight;
   on = subst (λ (n : Coefficients). value n p ≡ pos 0) (sym h.plane) c.on;
-  within = λ j l. (let b : j < sides s = subst (λ (k : ℕ). j < k) h.sides l in subst (λ (e : Coefficients). value e p ≤ℤ pos 0) (sym (h.edges j b)) (c.within (step (sides s) a j) (step_below (sides s) a j h.start)));
+  within = λ j l. (let b : j < edge_count s = subst (λ (k : ℕ). j < k) h.sides l in subst (λ (e : Coefficients). value e p ≤ℤ pos 0) (sym (h.edges j b)) (c.within (step (edge_count s) a j) (step_below (edge_count s) a j h.start)));
 }
 
 listed_covers : (m : Coefficients) (xs ys : List Coefficients) (p : Coordinates) → Covers (record { plane = m; edges = xs ++ ys }) p → Covers (record { plane = m; edges = ys ++ xs }) p

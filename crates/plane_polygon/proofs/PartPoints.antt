@@ -3,12 +3,13 @@ use Rattle.std.proofs.Common.{◌≡◌, ◌⊎◌, inl, inr, ℕ, zero, suc, �
 use Rattle.std.proofs.lemmas.List.{map-append}
 use Rattle.std.proofs.lemmas.Int.{ints}
 use Rattle.plane_predicate.specs.Space.{Coefficients, Coordinates, value}
-use Rattle.plane_polygon.specs.Polygons.{Outline, sides, corner, IsPolygon}
+use Rattle.plane_polygon.specs.Polygons.{Outline, edge_count, corner, IsPolygon}
 use Rattle.plane_polygon.specs.declared.classes.Class.TheVariants.{Across}
-use Rattle.plane_polygon.specs.Parts.{indices_below, corners, some_of, is_behind, is_ahead, class_by_sides, class_of}
+use Rattle.plane_polygon.specs.Parts.{corners, some_of, is_behind, is_ahead, class_by_sides, class_of}
 use Rattle.plane_polygon.proofs.Rounds.{step, step_below, step_is, at_most, corner_from, no_alternation}
 use Rattle.plane_polygon.proofs.PartLists.{before_after, before_first}
 use Rattle.plane_polygon.proofs.PartPolygons.{Cut, below, not_below, at_most_or}
+use Rattle.plane_predicate.specs.Indices.{indices_below}
 
 -- ---- an index at which a test holds
 either_left : (x : Bool) → (x || false) ≡ true → x ≡ true
@@ -70,18 +71,18 @@ not_false true h = absurd (true≢false (sym h))
 not_false false h = refl
 
 -- ---- the corners behind m stand together
-together : (s : Outline) (m : Coefficients) (a v : ℕ) → IsPolygon s → a < sides s → suc v < sides s →
-    is_behind m (corner_from s a 0) ≡ true → is_behind m (corner_from s a v) ≡ true → is_behind m (corner_from s a (suc v)) ≡ false → is_behind m (corner_from s a (sides s - 1)) ≡ false →
-    (u : ℕ) → u < sides s → (b : Bool) → is_behind m (corner_from s a u) ≡ b → (u < suc v → b ≡ true) × (suc v ≤ u → b ≡ false)
+together : (s : Outline) (m : Coefficients) (a v : ℕ) → IsPolygon s → a < edge_count s → suc v < edge_count s →
+    is_behind m (corner_from s a 0) ≡ true → is_behind m (corner_from s a v) ≡ true → is_behind m (corner_from s a (suc v)) ≡ false → is_behind m (corner_from s a (edge_count s - 1)) ≡ false →
+    (u : ℕ) → u < edge_count s → (b : Bool) → is_behind m (corner_from s a u) ≡ b → (u < suc v → b ≡ true) × (suc v ≤ u → b ≡ false)
 together s m a v h ha hv first inside outside final u hu true e = (
   λ _. refl,
   λ past.
       elim (at_most (suc v) u past) [
         | inl w ↦ sym e ∙ ap (λ (i : ℕ). is_behind m (corner_from s a i)) (sym w) ∙ outside
-        | inr w ↦ elim (at_most (suc u) (sides s) hu) [
-          | inl z ↦ (let y : u ≡ sides s - 1 = omega arith in sym e ∙ ap (λ (i : ℕ). is_behind m (corner_from s a i)) y ∙ final)
-          | inr z ↦ absurd (no_alternation s h a (suc v) u (sides s - 1) ha (omega arith) w (omega arith) (omega arith) m
-              (below (value m (corner_from s a 0)) first) (not_below (value m (corner_from s a (suc v))) outside) (below (value m (corner_from s a u)) e) (not_below (value m (corner_from s a (sides s - 1))) final))
+        | inr w ↦ elim (at_most (suc u) (edge_count s) hu) [
+          | inl z ↦ (let y : u ≡ edge_count s - 1 = omega arith in sym e ∙ ap (λ (i : ℕ). is_behind m (corner_from s a i)) y ∙ final)
+          | inr z ↦ absurd (no_alternation s h a (suc v) u (edge_count s - 1) ha (omega arith) w (omega arith) (omega arith) m
+              (below (value m (corner_from s a 0)) first) (not_below (value m (corner_from s a (suc v))) outside) (below (value m (corner_from s a u)) e) (not_below (value m (corner_from s a (edge_count s - 1))) final))
         ]
       ],
 )
@@ -91,8 +92,8 @@ together s m a v h ha hv first inside outside final u hu false e = (
         | inl w ↦ sym e ∙ ap (λ (i : ℕ). is_behind m (corner_from s a i)) w ∙ inside
         | inr w ↦ elim (at_most 0 u (omega arith)) [
           | inl z ↦ sym e ∙ ap (λ (i : ℕ). is_behind m (corner_from s a i)) (sym z) ∙ first
-          | inr z ↦ absurd (no_alternation s h a u v (sides s - 1) ha z w (omega arith) (omega arith) m
-              (below (value m (corner_from s a 0)) first) (not_below (value m (corner_from s a u)) e) (below (value m (corner_from s a v)) inside) (not_below (value m (corner_from s a (sides s - 1))) final))
+          | inr z ↦ absurd (no_alternation s h a u v (edge_count s - 1) ha z w (omega arith) (omega arith) m
+              (below (value m (corner_from s a 0)) first) (not_below (value m (corner_from s a u)) e) (below (value m (corner_from s a v)) inside) (not_below (value m (corner_from s a (edge_count s - 1))) final))
         ]
       ],
   λ _. refl,
@@ -101,7 +102,7 @@ together s m a v h ha hv first inside outside final u hu false e = (
 -- a plane across a polygon cuts it
 pub cut_of : (s : Outline) (m : Coefficients) → IsPolygon s → class_of s m ≡ Across → (a : ℕ) × (v : ℕ) × Cut s m a v
 cut_of s m h e =
-    let k = sides s in
+    let k = edge_count s in
     let both = both_sides (some_of (is_behind m) (corners s)) (some_of (is_ahead m) (corners s)) e in
     let i = some_index (is_behind m) (corner s) k both.0 in
     let j = some_index (is_ahead m) (corner s) k both.1 in

@@ -5,8 +5,8 @@ use Rattle.std.proofs.lemmas.Int.{ints}
 use Rattle.plane_predicate.specs.Space.{Coefficients, Coordinates, value, opposite_of}
 use Rattle.plane_predicate.proofs.IntegerRing.{sums}
 use Rattle.plane_predicate.proofs.Vectors.{value-opposite}
-use Rattle.plane_polygon.specs.Polygons.{Outline, sides, corner, IsPolygon, Covers}
-use Rattle.plane_polygon.specs.Parts.{indices_below, corners, some_of, is_behind, is_ahead, class_by_sides, class_of}
+use Rattle.plane_polygon.specs.Polygons.{Outline, edge_count, corner, IsPolygon, Covers}
+use Rattle.plane_polygon.specs.Parts.{corners, some_of, is_behind, is_ahead, class_by_sides, class_of}
 use Rattle.plane_polygon.specs.Boxes.{trimmed_outline, outline_trimmed_to}
 use Rattle.plane_polygon.specs.declared.classes.Class.{Class}
 use Rattle.plane_polygon.specs.declared.classes.Class.TheVariants.{Behind, Ahead, On, Across}
@@ -15,6 +15,7 @@ use Rattle.plane_polygon.proofs.Hull.{hull}
 use Rattle.plane_polygon.proofs.Rounds.{at_most}
 use Rattle.plane_polygon.proofs.Parts.{behind_polygon, behind_points}
 use Rattle.plane_polygon.proofs.PartCovers.{between_within}
+use Rattle.plane_predicate.specs.Indices.{indices_below}
 
 -- ---- a test that no corner passes
 neither : (x y : Bool) → (x || y) ≡ false → (x ≡ false) × (y ≡ false)
@@ -37,7 +38,7 @@ not_behind x h = omega (arith, ints)
 none_ahead : (s : Outline) (m : Coefficients) → IsPolygon s → some_of (is_ahead m) (corners s) ≡ false → (p : Coordinates) → Covers s p → value m p ≤ℤ pos 0
 none_ahead s m h e p c =
     let w = hull s h p c in
-    let at = λ (i : ℕ) (l : i < sides s). not_ahead (value m (corner s i)) (none_of (is_ahead m) (corner s) (sides s) e i l) in
+    let at = λ (i : ℕ) (l : i < edge_count s). not_ahead (value m (corner s i)) (none_of (is_ahead m) (corner s) (edge_count s) e i l) in
     between_within (corner s 0) (corner s w.0) (corner s (suc w.0)) p m w.2 (at 0 (omega arith)) (at w.0 (omega arith)) (at (suc w.0) (omega arith))
 
 flipped : (x y : ℤ) → y ≡ neg_ℤ x → pos 0 ≤ℤ x → y ≤ℤ pos 0
@@ -46,7 +47,7 @@ flipped x y e h = omega (arith, sums)
 none_behind : (s : Outline) (m : Coefficients) → IsPolygon s → some_of (is_behind m) (corners s) ≡ false → (p : Coordinates) → Covers s p → value (opposite_of m) p ≤ℤ pos 0
 none_behind s m h e p c =
     let w = hull s h p c in
-    let at = λ (i : ℕ) (l : i < sides s). flipped (value m (corner s i)) (value (opposite_of m) (corner s i)) (value-opposite m (corner s i)) (not_behind (value m (corner s i)) (none_of (is_behind m) (corner s) (sides s) e i l)) in
+    let at = λ (i : ℕ) (l : i < edge_count s). flipped (value m (corner s i)) (value (opposite_of m) (corner s i)) (value-opposite m (corner s i)) (not_behind (value m (corner s i)) (none_of (is_behind m) (corner s) (edge_count s) e i l)) in
     between_within (corner s 0) (corner s w.0) (corner s (suc w.0)) p (opposite_of m) w.2 (at 0 (omega arith)) (at w.0 (omega arith)) (at (suc w.0) (omega arith))
 
 -- ---- classes

@@ -46,7 +46,8 @@ outline_trimmed_to On s m = s
 abbrev pub trimmed_outline : Outline → Coefficients → Outline
 trimmed_outline s m = outline_trimmed_to (class_of s m) s m
 
--- four edges that go counterclockwise seen from ahead of a direction's part that is above 0, and the other way round where it is below
+-- four edges in this order where a number of a direction is 0 or above, and the other way round where it is below: so they
+-- go counterclockwise, seen from ahead
 abbrev pub counterclockwise_edges : ℤ → Coefficients → Coefficients → Coefficients → Coefficients → List Coefficients
 counterclockwise_edges (pos n) p q r s = p ∷ q ∷ r ∷ s ∷ []
 counterclockwise_edges (negsuc n) p q r s = p ∷ s ∷ r ∷ q ∷ []

@@ -1,18 +1,14 @@
 -- A polygon against a plane, and the parts into which the plane cuts it.
-use Rattle.std.specs.Prelude.{ℕ, zero, suc, ◌-◌, Bool, true, false, ◌||◌, List, [], ◌∷◌, ◌++◌, map, flat_map, pos, int_lt}
+use Rattle.std.specs.Prelude.{ℕ, zero, suc, ◌-◌, Bool, true, false, ◌||◌, List, [], ◌∷◌, map, flat_map, pos, int_lt}
 use Rattle.plane_predicate.specs.Space.{Coefficients, Coordinates, value, opposite_of}
-use Rattle.plane_polygon.specs.Polygons.{Outline, edge, sides, corner}
+use Rattle.plane_polygon.specs.Polygons.{Outline, edge_plane, edge_count, corner}
 use Rattle.plane_polygon.specs.declared.classes.Class.{Class}
 use Rattle.plane_polygon.specs.declared.classes.Class.TheVariants.{Behind, Ahead, On, Across}
-
--- 0, 1, .. below n
-abbrev pub indices_below : ℕ → List ℕ
-indices_below zero = []
-indices_below (suc n) = indices_below n ++ n ∷ []
+use Rattle.plane_predicate.specs.Indices.{indices_below}
 
 -- the corners in order
 abbrev pub corners : Outline → List Coordinates
-corners s = map (corner s) (indices_below (sides s))
+corners s = map (corner s) (indices_below (edge_count s))
 
 -- some item passes the test
 abbrev pub some_of : {A : Type 0} → (A → Bool) → List A → Bool
@@ -54,11 +50,11 @@ edges_kept_by false false e m = []
 
 -- what edge i gives to the part behind m
 abbrev pub edges_kept_at : Outline → Coefficients → ℕ → List Coefficients
-edges_kept_at s m i = edges_kept_by (is_behind m (corner s (index_before (sides s) i))) (is_behind m (corner s i)) (edge s i) m
+edges_kept_at s m i = edges_kept_by (is_behind m (corner s (index_before (edge_count s) i))) (is_behind m (corner s i)) (edge_plane s i) m
 
 -- the part of a polygon behind a plane that it is across
 abbrev pub part_behind : Outline → Coefficients → Outline
-part_behind s m = record { plane = s.plane; edges = flat_map (edges_kept_at s m) (indices_below (sides s)) }
+part_behind s m = record { plane = s.plane; edges = flat_map (edges_kept_at s m) (indices_below (edge_count s)) }
 
 -- the part ahead is the part behind the opposite plane
 abbrev pub part_ahead : Outline → Coefficients → Outline

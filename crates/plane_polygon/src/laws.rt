@@ -2,10 +2,11 @@
 
 ghost use Rattle.std.specs.Prelude.{◌≡◌, ◌≢◌, ◌↔◌, ◌<◌, ◌≤ℤ◌, ◌<ℤ◌, ℕ, pos};
 ghost use Rattle.plane_predicate.specs.Space.{Coefficients, Coordinates, orientation_seen_from, value, IsInClosedWorld, IsPlane, ComesInReach};
-ghost use Rattle.plane_polygon.specs.Polygons.{index_after, corner, sides, Covers, HasConvexCorners, IsInFan, IsPolygon, IsStrictlyLeft, IsStrictlyWithin, Outline};
+ghost use Rattle.plane_polygon.specs.Polygons.{corner, edge_count, Covers, HasConvexCorners, IsInFan, IsPolygon, IsStrictlyLeft, IsStrictlyWithin, Outline};
 ghost use Rattle.plane_polygon.specs.Parts.{class_of, part_ahead, part_behind};
 ghost use Rattle.plane_polygon.specs.Boxes.{box_outline};
 ghost use Rattle.plane_polygon.specs.declared.classes.Class.TheVariants.{Across};
+ghost use Rattle.plane_predicate.specs.Indices.{index_after};
 
 use crate::Polygon;
 
@@ -44,9 +45,11 @@ pub fn parts_are_polygons()
 /// The corners go counterclockwise, seen from ahead: each other corner lies strictly left of the
 /// way from a corner to the next.
 pub fn corners_go_counterclockwise()
-    ensures { (s : Outline) → IsPolygon s → (i j : ℕ) → i < sides s → j < sides s → j ≢ i →
-        j ≢ index_after (sides s) i →
-        pos 0 <ℤ orientation_seen_from s.plane (corner s i) (corner s (index_after (sides s) i)) (corner s j) }
+    ensures { (s : Outline) → IsPolygon s → (i j : ℕ) → i < edge_count s →
+        j < edge_count s → j ≢ i →
+        j ≢ index_after (edge_count s) i →
+        pos 0 <ℤ orientation_seen_from s.plane (corner s i)
+        (corner s (index_after (edge_count s) i)) (corner s j) }
 {}
 
 /// A point is strictly behind all edges exactly where it is strictly left of each way from a

@@ -3,7 +3,8 @@
 ghost use Rattle.std.specs.Prelude.{◌≡◌, ◌-◌, ◌<◌, ◌<ℤ◌, pos, length, IfSome};
 ghost use Rattle.plane_predicate.specs.Space.{value, meeting_by_cramers_rule};
 ghost use Rattle.plane_predicate.specs.Sides.{side_of};
-ghost use Rattle.plane_polygon.specs.Polygons.{index_after, corner, IsPolygon};
+ghost use Rattle.plane_polygon.specs.Polygons.{corner, IsPolygon};
+ghost use Rattle.plane_predicate.specs.Indices.{index_after};
 
 use crate::parallels::parallel_side;
 use plane_predicate::{Plane, Side, side};
@@ -28,7 +29,8 @@ pub fn side_at(p: &Plane, q: &Plane, r: &Plane, m: &Plane) -> Side
 // The same, where `m` is parallel to one of the planes that meet.
 fn parallel_to_one(p: &Plane, q: &Plane, r: &Plane, m: &Plane) -> Option<Side>
     requires { pos 0 <ℤ (meeting_by_cramers_rule p.now q.now r.now).w }
-    ensures { IfSome result (λ s. s ≡ side_of (value m.now (meeting_by_cramers_rule p.now q.now r.now))) }
+    ensures { IfSome result (λ s. s ≡ side_of
+        (value m.now (meeting_by_cramers_rule p.now q.now r.now))) }
 {
     if let Some(found) = parallel_side(p, m) {
         return Some(found);

@@ -4,23 +4,23 @@ use Rattle.plane_predicate.specs.declared.unit.Unit.{Unit as LengthUnit}
 use Rattle.plane_predicate.specs.declared.unit.Unit.TheVariants.{Whole, Half}
 use Rattle.plane_predicate.specs.Space.{Coefficients, Coordinates, value, orientation_seen_from, IsPointTimes}
 use Rattle.plane_predicate.specs.InUnits.{in_steps, in_units}
-use Rattle.plane_predicate.specs.Units.{steps_of}
+use Rattle.plane_predicate.specs.Units.{grid_steps_per_unit}
 use Rattle.plane_predicate.proofs.IntegerRing.{sums, one_mul}
 use Rattle.plane_predicate.proofs.Opposites.{same_point}
 use Rattle.plane_predicate.proofs.Polynomials.{Poly, var, plus, times, minus, ring}
 use Rattle.plane_predicate.proofs.Vectors.{Place, form, place, of_plane, of_point, valueP, turnP}
 
-pub steps_above : (unit : LengthUnit) → pos 0 <ℤ steps_of unit
+pub steps_above : (unit : LengthUnit) → pos 0 <ℤ grid_steps_per_unit unit
 steps_above Whole = omega (arith, sums)
 steps_above Half = omega (arith, sums)
 
 pub back_in_steps : (unit : LengthUnit) (p : Coordinates) → IsPointTimes (in_steps unit (in_units unit p)) p
 back_in_steps unit p =
-    record { by = steps_of unit; above = steps_above unit; x = refl; y = refl; z = refl; w = refl }
+    record { by = grid_steps_per_unit unit; above = steps_above unit; x = refl; y = refl; z = refl; w = refl }
 
 pub back_in_units : (unit : LengthUnit) (p : Coordinates) → IsPointTimes (in_units unit (in_steps unit p)) p
 back_in_units unit p =
-    record { by = steps_of unit; above = steps_above unit; x = refl; y = refl; z = refl; w = refl }
+    record { by = grid_steps_per_unit unit; above = steps_above unit; x = refl; y = refl; z = refl; w = refl }
 
 -- the point with its first three parts multiplied
 abbrev widened : ℤ → Coordinates → Coordinates
@@ -44,12 +44,12 @@ turn_widened k n p q r =
     (turnP (form 0) (widenedP K P) (widenedP K Q) (widenedP K R)) (times (times K K) (turnP (form 0) P Q R)) refl
 
 pub value_in_steps : (unit : LengthUnit) (m : Coefficients) (p : Coordinates) →
-    value m (in_steps unit p) ≡ steps_of unit *ℤ (m.a *ℤ p.x +ℤ m.b *ℤ p.y +ℤ m.c *ℤ p.z) -ℤ m.d *ℤ p.w
-value_in_steps unit m p = value_widened (steps_of unit) m p
+    value m (in_steps unit p) ≡ grid_steps_per_unit unit *ℤ (m.a *ℤ p.x +ℤ m.b *ℤ p.y +ℤ m.c *ℤ p.z) -ℤ m.d *ℤ p.w
+value_in_steps unit m p = value_widened (grid_steps_per_unit unit) m p
 
 pub turn_in_steps : (unit : LengthUnit) (n : Coefficients) (p q r : Coordinates) →
-    orientation_seen_from n (in_steps unit p) (in_steps unit q) (in_steps unit r) ≡ steps_of unit *ℤ steps_of unit *ℤ orientation_seen_from n p q r
-turn_in_steps unit n p q r = turn_widened (steps_of unit) n p q r
+    orientation_seen_from n (in_steps unit p) (in_steps unit q) (in_steps unit r) ≡ grid_steps_per_unit unit *ℤ grid_steps_per_unit unit *ℤ orientation_seen_from n p q r
+turn_in_steps unit n p q r = turn_widened (grid_steps_per_unit unit) n p q r
 
 pub whole_units : (p : Coordinates) → in_units Whole p ≡ p
 whole_units p = same_point p.x p.y p.z (pos 1 *ℤ p.w) p.x p.y p.z p.w refl refl refl (one_mul p.w)

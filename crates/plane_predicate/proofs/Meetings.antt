@@ -1,6 +1,6 @@
 -- Cramer's rule by cross products.
 use Rattle.std.proofs.Common.{◌≡◌, ℕ, ◌+◌, ◌*◌, ◌≤◌, [], refl, ◌∙◌, arith, ℤ, pos, negsuc, neg_ℤ, ◌+ℤ◌, ◌*ℤ◌, ◌<ℤ◌, unsigned_abs}
-use Rattle.plane_predicate.specs.Space.{Coefficients, Coordinates, minor, meeting_by_cramers_rule, value, negated_point, signed_by, meeting}
+use Rattle.plane_predicate.specs.Space.{Coefficients, Coordinates, minor, meeting_by_cramers_rule, value, negated_point, with_weight_above_zero, meeting}
 use Rattle.plane_predicate.specs.Sides.{value_signed_by}
 use Rattle.plane_predicate.proofs.IntegerRing.{sums, mul_neg_right}
 use Rattle.plane_predicate.proofs.Identities.{cramer_on_first, cramer_on_second, cramer_on_third}
@@ -49,11 +49,11 @@ sum_size s a b c x y z m h ha hb hc hx hy hz = omega (arith, three_products a b 
 value_negative : (m : Coefficients) (p : Coordinates) → value m (negated_point p) ≡ neg_ℤ (value m p)
 value_negative m p = omega (arith, sums, mul_neg_right m.a p.x, mul_neg_right m.b p.y, mul_neg_right m.c p.z, mul_neg_right m.d p.w)
 
-pub value_signed : (w : ℤ) (m : Coefficients) (p : Coordinates) → value m (signed_by w p) ≡ value_signed_by w (value m p)
+pub value_signed : (w : ℤ) (m : Coefficients) (p : Coordinates) → value m (with_weight_above_zero w p) ≡ value_signed_by w (value m p)
 value_signed (pos n) m p = refl
 value_signed (negsuc n) m p = value_negative m p
 
-pub signed_negative : (w : ℤ) (p : Coordinates) → w <ℤ pos 0 → signed_by w p ≡ negated_point p
+pub signed_negative : (w : ℤ) (p : Coordinates) → w <ℤ pos 0 → with_weight_above_zero w p ≡ negated_point p
 signed_negative (pos n) p h = absurd (omega (arith, sums))
 signed_negative (negsuc n) p h = refl
 

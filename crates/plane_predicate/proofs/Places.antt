@@ -10,7 +10,7 @@ use Rattle.plane_predicate.proofs.Polynomials.{plus, times, ring}
 use Rattle.plane_predicate.proofs.Signs.{signs, pos_pos, pos_neg}
 use Rattle.plane_predicate.proofs.Vectors.{form, of_plane, minorP, determinantP}
 use Rattle.plane_predicate.specs.declared.place.Place.{Place}
-use Rattle.plane_predicate.specs.Lines.{Axis, IsAxisOf, IsPlaceOf}
+use Rattle.plane_predicate.specs.Lines.{Axis, IsAxisOf, IsLinePlaceOf}
 
 -- ---- the side that a number says
 below_is_behind : (x : ℤ) → x <ℤ pos 0 → side_of x ≡ Behind
@@ -63,7 +63,7 @@ crossed p m q r line h =
     (swapped p q r m v) h.on.first h.on.second
     ∙ ap₂ (λ (f g : ℤ). value r v *ℤ f -ℤ value q v *ℤ g) (sym (along_is p m q line h)) (sym (along_is p m r line h))
 
-pub side_at_line : (p m q r : Coefficients) (line : Axis) (ends begins : Place) → IsAxisOf p m line → IsPlaceOf q line ends → IsPlaceOf r line begins →
+pub side_at_line : (p m q r : Coefficients) (line : Axis) (ends begins : Place) → IsAxisOf p m line → IsLinePlaceOf q line ends → IsLinePlaceOf r line begins →
     side_of (begins.at *ℤ ends.along -ℤ ends.at *ℤ begins.along) ≡ side_of (value m (meeting_by_cramers_rule p q r))
 side_at_line p m q r line ends begins h one other =
     ap side_of (rw (one.at, one.along, other.at, other.along) refl ∙ sym (crossed p m q r line h))

@@ -1,6 +1,6 @@
 -- Planes, meetings and sides that are written out.
 use Rattle.std.proofs.Common.{◌≡◌, [], ◌∷◌, refl, arith, ℤ, pos, negsuc}
-use Rattle.plane_predicate.specs.Space.{Coefficients, Coordinates, value, opposite_of, orientation_seen_from, meeting_by_cramers_rule, meeting, point_at, through, AreCollinear, IsInReach, IsInWorld, IsInClosedWorld, IsPlaneTimes, IsPointTimes}
+use Rattle.plane_predicate.specs.Space.{Coefficients, Coordinates, value, opposite_of, orientation_seen_from, meeting_by_cramers_rule, meeting, point_at, plane_of_points, AreCollinear, IsInReach, IsInWorld, IsInClosedWorld, IsPlaneTimes, IsPointTimes}
 use Rattle.plane_predicate.specs.Sides.{side_of}
 use Rattle.plane_predicate.specs.declared.sides.Side.TheVariants.{Behind, On, Ahead}
 use Rattle.plane_predicate.proofs.IntegerRing.{sums}
@@ -15,14 +15,14 @@ abbrev whole : ℤ → ℤ → ℤ → Coordinates
 whole x y z = point_at (x ∷ y ∷ z ∷ [])
 
 -- ---- through three points
-ground_is : through (whole (pos 0) (pos 0) (pos 0)) (whole (pos 1) (pos 0) (pos 0)) (whole (pos 0) (pos 1) (pos 0)) ≡ plane (pos 0) (pos 0) (pos 1) (pos 0)
+ground_is : plane_of_points (whole (pos 0) (pos 0) (pos 0)) (whole (pos 1) (pos 0) (pos 0)) (whole (pos 0) (pos 1) (pos 0)) ≡ plane (pos 0) (pos 0) (pos 1) (pos 0)
 ground_is = refl
 
-turned_ground_is : through (whole (pos 0) (pos 0) (pos 0)) (whole (pos 0) (pos 1) (pos 0)) (whole (pos 1) (pos 0) (pos 0)) ≡ plane (pos 0) (pos 0) (negsuc 0) (pos 0)
+turned_ground_is : plane_of_points (whole (pos 0) (pos 0) (pos 0)) (whole (pos 0) (pos 1) (pos 0)) (whole (pos 1) (pos 0) (pos 0)) ≡ plane (pos 0) (pos 0) (negsuc 0) (pos 0)
 turned_ground_is = refl
 
 -- across the whole range: the numbers are divided by 8189
-steep_is : IsPlaneTimes (through (whole (negsuc 4094) (negsuc 4094) (negsuc 4094)) (whole (pos 4095) (pos 4095) (negsuc 4093)) (whole (negsuc 4093) (pos 4095) (pos 4095))) (plane (pos 8190) (negsuc 8190) (pos 8190) (negsuc 33533954))
+steep_is : IsPlaneTimes (plane_of_points (whole (negsuc 4094) (negsuc 4094) (negsuc 4094)) (whole (pos 4095) (pos 4095) (negsuc 4093)) (whole (negsuc 4093) (pos 4095) (pos 4095))) (plane (pos 8190) (negsuc 8190) (pos 8190) (negsuc 33533954))
 steep_is = record { by = pos 8189; above = omega (arith, sums); a = refl; b = refl; c = refl; d = refl }
 
 on_a_line : AreCollinear (whole (pos 0) (pos 0) (pos 0)) (whole (pos 1) (pos 1) (pos 1)) (whole (pos 2) (pos 2) (pos 2))

@@ -1,6 +1,6 @@
 -- Points of the line in which two planes meet.
 use Rattle.std.proofs.Common.{◌≡◌, ◌≢◌, zero, suc, [], refl, sym, ap, ◌∙◌, arith, ℤ, pos, negsuc, ◌<ℤ◌, subst}
-use Rattle.plane_predicate.specs.Space.{Coefficients, Coordinates, minor, signed_by, value}
+use Rattle.plane_predicate.specs.Space.{Coefficients, Coordinates, minor, with_weight_above_zero, value}
 use Rattle.plane_predicate.specs.Sides.{value_signed_by}
 use Rattle.plane_predicate.proofs.IntegerRing.{sums}
 use Rattle.plane_predicate.proofs.Meetings.{value_signed}
@@ -10,7 +10,7 @@ use Rattle.plane_predicate.proofs.Vectors.{Place, form, of_plane, minorP, valueP
 use Rattle.plane_predicate.specs.Lines.{IsOnBoth}
 
 -- ---- the point with its w above 0
-signed_above : (w : ℤ) (v : Coordinates) → w ≢ pos 0 → v.w ≡ w → pos 0 <ℤ (signed_by w v).w
+signed_above : (w : ℤ) (v : Coordinates) → w ≢ pos 0 → v.w ≡ w → pos 0 <ℤ (with_weight_above_zero w v).w
 signed_above (pos zero) v h e = absurd (h refl)
 signed_above (pos (suc n)) v h e = omega (arith, sums, e)
 signed_above (negsuc n) v h e = omega (arith, sums, e)
@@ -19,7 +19,7 @@ turned_zero : (w v : ℤ) → v ≡ pos 0 → value_signed_by w v ≡ pos 0
 turned_zero (pos n) v h = h
 turned_zero (negsuc n) v h = rw h refl
 
-pub signed_on : (p m : Coefficients) (w : ℤ) (v : Coordinates) → w ≢ pos 0 → v.w ≡ w → value p v ≡ pos 0 → value m v ≡ pos 0 → IsOnBoth p m (signed_by w v)
+pub signed_on : (p m : Coefficients) (w : ℤ) (v : Coordinates) → w ≢ pos 0 → v.w ≡ w → value p v ≡ pos 0 → value m v ≡ pos 0 → IsOnBoth p m (with_weight_above_zero w v)
 signed_on p m w v h e f g = record {
   weight = signed_above w v h e;
   first = value_signed w p v ∙ turned_zero w (value p v) f;
@@ -65,21 +65,21 @@ no_z_second p m = ring (of_plane p (of_plane m [])) (valueP (form 4) no_z) (num 
 
 -- ---- the point with its w above 0, by its numbers
 pub over_x : (p m : Coefficients) (y z w : ℤ) (v : Coordinates) → y ≡ minor p.d p.c m.d m.c → z ≡ minor m.d m.b p.d p.b → w ≡ minor p.b p.c m.b m.c → w ≢ pos 0 →
-    v ≡ signed_by w (record { x = pos 0; y = y; z = z; w = w }) → IsOnBoth p m v
+    v ≡ with_weight_above_zero w (record { x = pos 0; y = y; z = z; w = w }) → IsOnBoth p m v
 over_x p m y z w v hy hz hw h e =
     let s : Coordinates = record { x = pos 0; y = y; z = z; w = w } in
     let is : s ≡ on_no_x p m = same_point _ _ _ _ _ _ _ _ refl hy hz hw in
     subst (IsOnBoth p m) (sym e) (signed_on p m w s h refl (ap (value p) is ∙ no_x_first p m) (ap (value m) is ∙ no_x_second p m))
 
 pub over_y : (p m : Coefficients) (x z w : ℤ) (v : Coordinates) → x ≡ minor m.d m.c p.d p.c → z ≡ minor p.d p.a m.d m.a → w ≡ minor p.c p.a m.c m.a → w ≢ pos 0 →
-    v ≡ signed_by w (record { x = x; y = pos 0; z = z; w = w }) → IsOnBoth p m v
+    v ≡ with_weight_above_zero w (record { x = x; y = pos 0; z = z; w = w }) → IsOnBoth p m v
 over_y p m x z w v hx hz hw h e =
     let s : Coordinates = record { x = x; y = pos 0; z = z; w = w } in
     let is : s ≡ on_no_y p m = same_point _ _ _ _ _ _ _ _ hx refl hz hw in
     subst (IsOnBoth p m) (sym e) (signed_on p m w s h refl (ap (value p) is ∙ no_y_first p m) (ap (value m) is ∙ no_y_second p m))
 
 pub over_z : (p m : Coefficients) (x y w : ℤ) (v : Coordinates) → x ≡ minor p.d p.b m.d m.b → y ≡ minor m.d m.a p.d p.a → w ≡ minor p.a p.b m.a m.b → w ≢ pos 0 →
-    v ≡ signed_by w (record { x = x; y = y; z = pos 0; w = w }) → IsOnBoth p m v
+    v ≡ with_weight_above_zero w (record { x = x; y = y; z = pos 0; w = w }) → IsOnBoth p m v
 over_z p m x y w v hx hy hw h e =
     let s : Coordinates = record { x = x; y = y; z = pos 0; w = w } in
     let is : s ≡ on_no_z p m = same_point _ _ _ _ _ _ _ _ hx hy refl hw in

@@ -1,6 +1,6 @@
 -- The plane through three points.
 use Rattle.std.proofs.Common.{◌≡◌, ◌↔◌, ℕ, zero, suc, ◌+◌, ◌*◌, ◌<◌, ◌≤◌, [], ◌∷◌, refl, sym, ◌∙◌, arith, ℤ, pos, ◌+ℤ◌, ◌-ℤ◌, ◌*ℤ◌, unsigned_abs, Option, Some, None, IfSome}
-use Rattle.plane_predicate.specs.Space.{Coefficients, Coordinates, value, through, AreCollinear, AreQuotients, IsPlane, IsPlaneTimes}
+use Rattle.plane_predicate.specs.Space.{Coefficients, Coordinates, value, plane_of_points, AreCollinear, AreQuotients, IsPlane, IsPlaneTimes}
 use Rattle.plane_predicate.proofs.Polynomials.{var, num, plus, times, minus, ring}
 use Rattle.plane_predicate.proofs.Vectors.{Form, Place, minorP, valueP}
 use Rattle.plane_predicate.proofs.Signs.{zero_cancel}
@@ -20,13 +20,13 @@ throughP =
 abbrev pub wholeP : ℕ → Place
 wholeP i = record { x = var i; y = var (i + 1); z = var (i + 2); w = num (pos 1) }
 
-on_first : (a b c d e f g h i : ℤ) → value (through (whole a b c) (whole d e f) (whole g h i)) (whole a b c) ≡ pos 0
+on_first : (a b c d e f g h i : ℤ) → value (plane_of_points (whole a b c) (whole d e f) (whole g h i)) (whole a b c) ≡ pos 0
 on_first a b c d e f g h i = ring (a ∷ b ∷ c ∷ d ∷ e ∷ f ∷ g ∷ h ∷ i ∷ []) (valueP throughP (wholeP 0)) (num (pos 0)) refl
 
-on_second : (a b c d e f g h i : ℤ) → value (through (whole a b c) (whole d e f) (whole g h i)) (whole d e f) ≡ pos 0
+on_second : (a b c d e f g h i : ℤ) → value (plane_of_points (whole a b c) (whole d e f) (whole g h i)) (whole d e f) ≡ pos 0
 on_second a b c d e f g h i = ring (a ∷ b ∷ c ∷ d ∷ e ∷ f ∷ g ∷ h ∷ i ∷ []) (valueP throughP (wholeP 3)) (num (pos 0)) refl
 
-on_third : (a b c d e f g h i : ℤ) → value (through (whole a b c) (whole d e f) (whole g h i)) (whole g h i) ≡ pos 0
+on_third : (a b c d e f g h i : ℤ) → value (plane_of_points (whole a b c) (whole d e f) (whole g h i)) (whole g h i) ≡ pos 0
 on_third a b c d e f g h i = ring (a ∷ b ∷ c ∷ d ∷ e ∷ f ∷ g ∷ h ∷ i ∷ []) (valueP throughP (wholeP 6)) (num (pos 0)) refl
 
 -- a plane and its multiple have the same points
@@ -42,7 +42,7 @@ value_times m n h p = rw (h.a, h.b, h.c, h.d) (factored h.by n.a n.b n.c n.d p.x
 pub on_times : (m n : Coefficients) → IsPlaneTimes m n → (p : Coordinates) → value m p ≡ pos 0 → value n p ≡ pos 0
 on_times m n h p e = zero_cancel h.by (value n p) h.above (sym (value_times m n h p) ∙ e)
 
-pub through_on : (a b c d e f g h i : ℤ) (m : Coefficients) → IsPlaneTimes (through (whole a b c) (whole d e f) (whole g h i)) m → (value m (whole a b c) ≡ pos 0) × (value m (whole d e f) ≡ pos 0) × (value m (whole g h i) ≡ pos 0)
+pub through_on : (a b c d e f g h i : ℤ) (m : Coefficients) → IsPlaneTimes (plane_of_points (whole a b c) (whole d e f) (whole g h i)) m → (value m (whole a b c) ≡ pos 0) × (value m (whole d e f) ≡ pos 0) × (value m (whole g h i) ≡ pos 0)
 through_on a b c d e f g h i m t = (
   on_times _ m t (whole a b c) (on_first a b c d e f g h i),
   on_times _ m t (whole d e f) (on_second a b c d e f g h i),
@@ -76,14 +76,14 @@ reduced_is_plane a b c d n ha hb hc hd h q = record {
 pub reduced_is_times : (m n : Coefficients) → AreQuotients m.a m.b m.c m.d n.a n.b n.c n.d → IsPlaneTimes m n
 reduced_is_times m n q = record { by = pos q.factor; above = above_positive q.factor q.above; a = q.x_is; b = q.y_is; c = q.z_is; d = q.w_is }
 
-pub collinear : (p q r : Coordinates) → ((through p q r).a ≡ pos 0) × ((through p q r).b ≡ pos 0) × ((through p q r).c ≡ pos 0) → AreCollinear p q r
+pub collinear : (p q r : Coordinates) → ((plane_of_points p q r).a ≡ pos 0) × ((plane_of_points p q r).b ≡ pos 0) × ((plane_of_points p q r).c ≡ pos 0) → AreCollinear p q r
 collinear p q r h = record { a = h.0; b = h.1; c = h.2 }
 
 pub if_some : {A : Type 0} (o : Option A) (P Q : A → Type 0) → ((a : A) → P a → Q a) → IfSome o P → IfSome o Q
 if_some None P Q f h = h
 if_some (Some a) P Q f h = f a h
 
-pub none_collinear : {N : Type 0} (p q r : Coordinates) (a b c : ℤ) → a ≡ (through p q r).a → b ≡ (through p q r).b → c ≡ (through p q r).c → N ↔ ((a ≡ pos 0) × (b ≡ pos 0) × (c ≡ pos 0)) → N ↔ AreCollinear p q r
+pub none_collinear : {N : Type 0} (p q r : Coordinates) (a b c : ℤ) → a ≡ (plane_of_points p q r).a → b ≡ (plane_of_points p q r).b → c ≡ (plane_of_points p q r).c → N ↔ ((a ≡ pos 0) × (b ≡ pos 0) × (c ≡ pos 0)) → N ↔ AreCollinear p q r
 none_collinear p q r a b c ea eb ec h = (
   λ n. (let z = h.0 n in record { a = sym ea ∙ z.0; b = sym eb ∙ z.1; c = sym ec ∙ z.2 }),
   λ k. h.1 (ea ∙ k.a, eb ∙ k.b, ec ∙ k.c),

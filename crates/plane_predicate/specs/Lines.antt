@@ -59,6 +59,6 @@ pub record IsAxisOf (p m : Coefficients) (line : Axis) : Type 0 where
   pub on : IsOnBoth p m line.point
 
 -- where a plane meets a line: its value at the line's point, and the product of its direction with the line's
-pub record IsPlaceOf (m : Coefficients) (line : Axis) (place : Place) : Type 0 where
+pub record IsLinePlaceOf (m : Coefficients) (line : Axis) (place : Place) : Type 0 where
   pub at : place.at ≡ value m line.point
   pub along : place.along ≡ m.a *ℤ line.a +ℤ m.b *ℤ line.b +ℤ m.c *ℤ line.c

@@ -37,7 +37,7 @@ product_with n p q = n.a *ℤ (p.y *ℤ q.z -ℤ p.z *ℤ q.y) +ℤ n.b *ℤ (p.
 abbrev pub orientation_seen_from : Coefficients → Coordinates → Coordinates → Coordinates → ℤ
 orientation_seen_from n p q r = p.w *ℤ product_with n q r +ℤ q.w *ℤ product_with n r p +ℤ r.w *ℤ product_with n p q
 
--- the product of two directions
+-- the scalar product of the directions of two planes
 abbrev pub inner_product : Coefficients → Coefficients → ℤ
 inner_product m n = m.a *ℤ n.a +ℤ m.b *ℤ n.b +ℤ m.c *ℤ n.c
 
@@ -64,13 +64,13 @@ abbrev pub negated_point : Coordinates → Coordinates
 negated_point p = record { x = neg_ℤ p.x; y = neg_ℤ p.y; z = neg_ℤ p.z; w = neg_ℤ p.w }
 
 -- the same point with its w above 0, by the sign of its w
-abbrev pub signed_by : ℤ → Coordinates → Coordinates
-signed_by (pos n) p = p
-signed_by (negsuc n) p = negated_point p
+abbrev pub with_weight_above_zero : ℤ → Coordinates → Coordinates
+with_weight_above_zero (pos n) p = p
+with_weight_above_zero (negsuc n) p = negated_point p
 
 -- the common point of three planes whose directions are independent, with its w above 0
 abbrev pub meeting : Coefficients → Coefficients → Coefficients → Coordinates
-meeting p q r = signed_by (meeting_by_cramers_rule p q r).w (meeting_by_cramers_rule p q r)
+meeting p q r = with_weight_above_zero (meeting_by_cramers_rule p q r).w (meeting_by_cramers_rule p q r)
 
 -- the point with these three coordinates
 abbrev pub point_at : List ℤ → Coordinates
@@ -78,8 +78,8 @@ point_at p = record { x = get_or p 0 (pos 0); y = get_or p 1 (pos 0); z = get_or
 
 -- the plane through three points whose w is 1, with the direction (q - p) x (r - p). Its direction is 0 exactly where
 -- the points are collinear
-abbrev pub through : Coordinates → Coordinates → Coordinates → Coefficients
-through p q r =
+abbrev pub plane_of_points : Coordinates → Coordinates → Coordinates → Coefficients
+plane_of_points p q r =
     let a = minor (q.y -ℤ p.y) (q.z -ℤ p.z) (r.y -ℤ p.y) (r.z -ℤ p.z) in
     let b = minor (q.z -ℤ p.z) (q.x -ℤ p.x) (r.z -ℤ p.z) (r.x -ℤ p.x) in
     let c = minor (q.x -ℤ p.x) (q.y -ℤ p.y) (r.x -ℤ p.x) (r.y -ℤ p.y) in
@@ -87,9 +87,9 @@ through p q r =
 
 -- three points whose w is 1 lie on one line
 pub record AreCollinear (p q r : Coordinates) : Type 0 where
-  pub a : (through p q r).a ≡ pos 0
-  pub b : (through p q r).b ≡ pos 0
-  pub c : (through p q r).c ≡ pos 0
+  pub a : (plane_of_points p q r).a ≡ pos 0
+  pub b : (plane_of_points p q r).b ≡ pos 0
+  pub c : (plane_of_points p q r).c ≡ pos 0
 
 -- the coordinates of shapes and of whatever a plane goes through: at most 4095 w in size
 pub record IsInReach (p : Coordinates) : Type 0 where
@@ -194,3 +194,11 @@ pub record HasItsPointsOn (m n : Coefficients) : Type 0 where
 -- the two planes are the same set of points
 pub record HaveSamePoints (m n : Coefficients) : Type 0 where
   pub points : (p : Coordinates) → pos 0 <ℤ p.w → (value m p ≡ pos 0) ↔ (value n p ≡ pos 0)
+
+-- the origin of space
+abbrev pub origin : Coordinates
+origin = record { x = pos 0; y = pos 0; z = pos 0; w = pos 1 }
+
+-- whether two points have the same four numbers; one point of space may be written with others too
+abbrev pub has_same_numbers : Coordinates → Coordinates → Bool
+has_same_numbers p q = int_eq p.x q.x && (int_eq p.y q.y && (int_eq p.z q.z && int_eq p.w q.w))

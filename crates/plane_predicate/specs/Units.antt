@@ -4,6 +4,6 @@ use Rattle.plane_predicate.specs.declared.unit.Unit.{Unit}
 use Rattle.plane_predicate.specs.declared.unit.Unit.TheVariants.{Whole, Half}
 
 -- the grid steps of one unit
-abbrev pub steps_of : Unit → ℤ
-steps_of Whole = pos 1
-steps_of Half = pos 2
+abbrev pub grid_steps_per_unit : Unit → ℤ
+grid_steps_per_unit Whole = pos 1
+grid_steps_per_unit Half = pos 2

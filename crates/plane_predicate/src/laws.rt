@@ -5,7 +5,7 @@ ghost use Rattle.plane_predicate.specs.declared.unit.Unit.{Unit as LengthUnit};
 ghost use Rattle.plane_predicate.specs.declared.unit.Unit.TheVariants.{Whole};
 ghost use Rattle.plane_predicate.specs.Space.{Coefficients, Coordinates, opposite_of, orientation_seen_from, value, IsPlane, IsPointTimes, HasItsPointsOn, HaveSamePoints};
 ghost use Rattle.plane_predicate.specs.InUnits.{in_steps, in_units};
-ghost use Rattle.plane_predicate.specs.Units.{steps_of};
+ghost use Rattle.plane_predicate.specs.Units.{grid_steps_per_unit};
 
 /// Two planes without a common factor are the same set of points exactly where they are equal or
 /// opposite, and it is enough for that if all points of the one are on the other.
@@ -27,11 +27,11 @@ pub fn points_in_units_and_grid_steps()
     ensures units { (unit : LengthUnit) (p : Coordinates) →
         IsPointTimes (in_units unit (in_steps unit p)) p }
     ensures value { (unit : LengthUnit) (m : Coefficients) (p : Coordinates) →
-        value m (in_steps unit p) ≡ steps_of unit *ℤ (m.a *ℤ p.x +ℤ m.b *ℤ p.y +ℤ m.c *ℤ p.z)
+        value m (in_steps unit p) ≡ grid_steps_per_unit unit *ℤ (m.a *ℤ p.x +ℤ m.b *ℤ p.y +ℤ m.c *ℤ p.z)
         -ℤ m.d *ℤ p.w }
     ensures orientation_seen_from { (unit : LengthUnit) (n : Coefficients) (p q r : Coordinates) →
         orientation_seen_from n (in_steps unit p) (in_steps unit q) (in_steps unit r)
-        ≡ steps_of unit *ℤ steps_of unit *ℤ orientation_seen_from n p q r }
+        ≡ grid_steps_per_unit unit *ℤ grid_steps_per_unit unit *ℤ orientation_seen_from n p q r }
     ensures whole_units { (p : Coordinates) → in_units Whole p ≡ p }
     ensures whole_steps { (p : Coordinates) → in_steps Whole p ≡ p }
 {}

@@ -1,7 +1,7 @@
 //! The line in which two planes meet.
 
 ghost use Rattle.std.specs.Prelude.{◌≡◌, ◌≢◌, ◌≤◌, ◌*◌, pos, unsigned_abs, IfSome};
-ghost use Rattle.plane_predicate.specs.Space.{minor, signed_by};
+ghost use Rattle.plane_predicate.specs.Space.{minor, with_weight_above_zero};
 ghost use Rattle.plane_predicate.specs.Lines.{small_direction, small_offset, HasDirectionSizes, IsAxisOf, IsOnBoth, IsSmall};
 
 use crate::Plane;
@@ -163,7 +163,7 @@ fn spot_of(x: i64, y: i64, z: i64, w: i64) -> Spot
     requires z_size { unsigned_abs z ≤ 2 * (small_direction * small_offset) }
     requires w_size { unsigned_abs w ≤ 2 * (small_direction * small_direction) }
     requires apart { w ≢ pos 0 }
-    ensures { result ≡ signed_by w (record { x = x; y = y; z = z; w = w }) }
+    ensures { result ≡ with_weight_above_zero w (record { x = x; y = y; z = z; w = w }) }
 {
     if w < 0 {
         Spot {

@@ -2,7 +2,7 @@
 
 ghost use Rattle.std.specs.Prelude.{◌≡◌, ◌≢◌, ◌↔◌, ◌*◌, ◌≤◌, ◌<◌, ◌^◌, ◌*ℤ◌, ◌+ℤ◌, ◌-ℤ◌, pos, unsigned_abs, IfSome, IsNone};
 ghost use Rattle.plane_predicate.specs.Space.{minor, meeting_by_cramers_rule, meeting, value, most_direction, most_offset, opposite_of};
-ghost use Rattle.plane_predicate.specs.Space.{signed_by, HaveSamePoints};
+ghost use Rattle.plane_predicate.specs.Space.{with_weight_above_zero, HaveSamePoints};
 ghost use Rattle.plane_predicate.specs.Sides.{side_of, value_signed_by};
 
 use crate::arithmetic::{dot, minor_of, minors_dot, minus, times};
@@ -148,7 +148,7 @@ fn value_of(a: i128, b: i128, c: i128, d: i128, at: &Cramer) -> i128
 // The point with these numbers, and with its `w` above 0.
 fn point_of(at: &Cramer) -> Point
     requires { at.now.w ≢ pos 0 }
-    ensures { result ≡ signed_by at.now.w at.now }
+    ensures { result ≡ with_weight_above_zero at.now.w at.now }
 {
     if at.w < 0 {
         Point {

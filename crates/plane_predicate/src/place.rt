@@ -3,7 +3,7 @@
 ghost use Rattle.std.specs.Prelude.{◌≡◌, ◌-ℤ◌, ◌*ℤ◌};
 ghost use Rattle.plane_predicate.specs.Space.{Coefficients, meeting_by_cramers_rule, value};
 ghost use Rattle.plane_predicate.specs.Sides.{side_of};
-ghost use Rattle.plane_predicate.specs.Lines.{Axis, IsAxisOf, IsPlaceOf, IsSmall};
+ghost use Rattle.plane_predicate.specs.Lines.{Axis, IsAxisOf, IsLinePlaceOf, IsSmall};
 
 use crate::small_arithmetic::{dot, minus, times};
 use crate::{Line, Plane, Side};
@@ -20,7 +20,7 @@ pub struct Place {
 /// The place at which a small plane meets a line.
 pub fn place_on(line: &Line, m: &Plane) -> Place
     requires { IsSmall m.now }
-    ensures { IsPlaceOf m.now line.now result }
+    ensures { IsLinePlaceOf m.now line.now result }
 {
     let high = dot(m.a, m.b, m.c, line.x, line.y, line.z);
     let low = times(m.d, line.w);
@@ -33,8 +33,8 @@ pub fn place_on(line: &Line, m: &Plane) -> Place
 /// The side of a plane on which another one meets two more, by the places of these two on the line in
 /// which the first two meet. It is that of what Cramer's rule gives, whatever the sign of its `w`.
 pub fn side_between(ends: Place, begins: Place) -> Side
-    ensures { (p m q r : Coefficients) (line : Axis) → IsAxisOf p m line → IsPlaceOf q line ends →
-        IsPlaceOf r line begins → result ≡ side_of (value m (meeting_by_cramers_rule p q r)) }
+    ensures { (p m q r : Coefficients) (line : Axis) → IsAxisOf p m line → IsLinePlaceOf q line ends →
+        IsLinePlaceOf r line begins → result ≡ side_of (value m (meeting_by_cramers_rule p q r)) }
 {
     side_past(
         product(begins.at, ends.along),

@@ -1,7 +1,7 @@
 //! The plane through three points.
 
 ghost use Rattle.std.specs.Prelude.{◌≡◌, ◌↔◌, ◌+◌, ◌*◌, ◌≤◌, ◌<◌, ◌*ℤ◌, ◌+ℤ◌, ◌-ℤ◌, pos, unsigned_abs, IfSome, IsNone};
-ghost use Rattle.plane_predicate.specs.Space.{point_at, minor, most_direction, most_offset, through, value, AreCollinear, IsInReach, IsPlaneTimes};
+ghost use Rattle.plane_predicate.specs.Space.{point_at, minor, most_direction, most_offset, plane_of_points, value, AreCollinear, IsInReach, IsPlaneTimes};
 
 use crate::Plane;
 use crate::reduction::quotients;
@@ -15,7 +15,7 @@ pub fn plane_through(p: [i64; 3], q: [i64; 3], r: [i64; 3]) -> Option<Plane>
     ensures on { IfSome result (λ m. (value m (point_at p) ≡ pos 0) × (value m (point_at q) ≡ pos 0)
         × (value m (point_at r) ≡ pos 0)) }
     ensures direction { IfSome result
-        (λ m. IsPlaneTimes (through (point_at p) (point_at q) (point_at r)) m) }
+        (λ m. IsPlaneTimes (plane_of_points (point_at p) (point_at q) (point_at r)) m) }
     ensures none { IsNone result ↔ AreCollinear (point_at p) (point_at q) (point_at r) }
 {
     let a = minor_between(p[1], p[2], q[1], q[2], r[1], r[2]);

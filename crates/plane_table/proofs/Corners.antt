@@ -10,14 +10,15 @@ use Rattle.plane_predicate.specs.declared.sides.Side.TheVariants.{Behind, On, Ah
 use Rattle.plane_polygon.specs.declared.classes.Class.TheVariants.{Across}
 use Rattle.plane_predicate.proofs.Identities.{cramer_on_first, cramer_on_second, cramer_on_third}
 use Rattle.plane_polygon.specs.Parallels.{HasAllOn}
-use Rattle.plane_polygon.specs.Polygons.{Outline, index_after, corner, edge, sides, missing_plane}
-use Rattle.plane_polygon.specs.Parts.{indices_below, corners, some_of, is_behind, is_ahead, class_by_sides, class_of}
+use Rattle.plane_polygon.specs.Polygons.{Outline, corner, edge_plane, edge_count, missing_plane}
+use Rattle.plane_polygon.specs.Parts.{corners, some_of, is_behind, is_ahead, class_by_sides, class_of}
 use Rattle.plane_table.specs.declared.faces.Face.{Face}
 use Rattle.plane_table.specs.declared.sorting.CornerSide.{CornerSide}
 use Rattle.plane_table.specs.declared.sorting.CornerSides.{CornerSides}
 use Rattle.plane_table.specs.Tables.{plane_named}
 use Rattle.plane_table.specs.Faces.{outline_of, side_against, AreFourSides, AreSidesOf, AreSidesWhereAcross, IsFaceOver, IsSideAt}
 use Rattle.plane_table.proofs.Numbers.{get_map}
+use Rattle.plane_predicate.specs.Indices.{indices_below, index_after}
 
 -- ---- sides
 pub side_behind : (v : ℤ) → is_side_behind (side_of v) ≡ int_lt v (pos 0)
@@ -80,8 +81,8 @@ map_map f g [] = refl
 map_map f g (x ∷ xs) = ap (λ (l : List _). f (g x) ∷ l) (map_map f g xs)
 
 -- the sides of the corners, corner by corner
-pub sides_map : (s : Outline) (m : Coefficients) → map (side_against m) (corners s) ≡ map (λ i. side_against m (corner s i)) (indices_below (sides s))
-sides_map s m = map_map (side_against m) (corner s) (indices_below (sides s))
+pub sides_map : (s : Outline) (m : Coefficients) → map (side_against m) (corners s) ≡ map (λ i. side_against m (corner s i)) (indices_below (edge_count s))
+sides_map s m = map_map (side_against m) (corner s) (indices_below (edge_count s))
 
 -- ---- the corners of a face
 pub corner_is : (planes : List Coefficients) (face : Face) (i : ℕ) → i < length face.edges → index_after (length face.edges) i < length face.edges →
@@ -171,10 +172,10 @@ pub all_of_class : (planes : List Coefficients) (face : Face) (m : Coefficients)
     class_by_sides (is_side_behind side) (is_side_ahead side) ≡ class_of (outline_of planes face) m
 all_of_class planes face m side h k =
     let s : Outline = outline_of planes face in
-    let n = sides s - 1 in
-    let count : n + 1 ≡ sides s = omega (arith, h.polygon.three) in
+    let n = edge_count s - 1 in
+    let count : n + 1 ≡ edge_count s = omega (arith, h.polygon.three) in
     let at : (i : ℕ) → i < n + 1 → side ≡ side_of (value m (corner s i)) = λ i l.
-    k (corner s i) (h.polygon.turns_left i (omega arith)) (cramer_on_first s.plane (edge s i) (edge s (index_after (sides s) i))) in
+    k (corner s i) (h.polygon.turns_left i (omega arith)) (cramer_on_first s.plane (edge_plane s i) (edge_plane s (index_after (edge_count s) i))) in
     ap₂ class_by_sides
     (sym (all_of (is_behind m) (corner s) (is_side_behind side) n (λ i l. sym (ap is_side_behind (at i l) ∙ side_behind (value m (corner s i))))) ∙ ap (λ (j : ℕ). some_of (is_behind m) (map (corner s) (indices_below j))) count)
     (sym (all_of (is_ahead m) (corner s) (is_side_ahead side) n (λ i l. sym (ap is_side_ahead (at i l) ∙ side_ahead (value m (corner s i))))) ∙ ap (λ (j : ℕ). some_of (is_ahead m) (map (corner s) (indices_below j))) count)
@@ -201,12 +202,12 @@ or_four a b c d w x y z p q r s = ap₂ (λ (u v : Bool). u || v) p (ap₂ (λ (
 four_list : {A : Type 0} (a b c d w x y z : A) → a ≡ w → b ≡ x → c ≡ y → d ≡ z → a ∷ b ∷ c ∷ d ∷ [] ≡ w ∷ x ∷ y ∷ z ∷ []
 four_list a b c d w x y z p q r s = λ i. p i ∷ q i ∷ r i ∷ s i ∷ []
 
-pub four_end : (planes : List Coefficients) (face : Face) (m : Coefficients) (a b c d : Side) (sides : CornerSides) → length face.edges ≡ 4 →
+pub four_end : (planes : List Coefficients) (face : Face) (m : Coefficients) (a b c d : Side) (edge_count : CornerSides) → length face.edges ≡ 4 →
     IsSideAt planes face m 0 a → IsSideAt planes face m 1 b → IsSideAt planes face m 2 c → IsSideAt planes face m 3 d →
-    AreFourSides a b c d sides → AreSidesWhereAcross (outline_of planes face) m sides
+    AreFourSides a b c d edge_count → AreSidesWhereAcross (outline_of planes face) m edge_count
 four_end planes face m a b c d found four x y z w h =
     let s : Outline = outline_of planes face in
-    let n : sides s ≡ 4 = length-map face.edges (plane_named planes) ∙ four in
+    let n : edge_count s ≡ 4 = length-map face.edges (plane_named planes) ∙ four in
     let at : ℕ → Coordinates = corner s in
     let behind = or_four _ _ _ _ _ _ _ _ (ap is_side_behind x ∙ side_behind (value m (at 0))) (ap is_side_behind y ∙ side_behind (value m (at 1)))
     (ap is_side_behind z ∙ side_behind (value m (at 2))) (ap is_side_behind w ∙ side_behind (value m (at 3))) in

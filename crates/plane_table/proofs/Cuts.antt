@@ -7,8 +7,8 @@ use Rattle.std.proofs.lemmas.List.Concat.{flat_map-append}
 use Rattle.std.proofs.lemmas.List.Elements.{All-append, All-nil, All-cons}
 use Rattle.plane_predicate.specs.Space.{Coefficients, Coordinates, value, opposite_of}
 use Rattle.plane_predicate.proofs.Vectors.{value-opposite}
-use Rattle.plane_polygon.specs.Polygons.{Outline, corner, sides, missing_plane, IsPolygon}
-use Rattle.plane_polygon.specs.Parts.{indices_below, index_before, edges_kept_at, edges_kept_by, corners, is_behind, is_ahead, part_behind, part_ahead}
+use Rattle.plane_polygon.specs.Polygons.{Outline, corner, edge_count, missing_plane, IsPolygon}
+use Rattle.plane_polygon.specs.Parts.{index_before, edges_kept_at, edges_kept_by, corners, is_behind, is_ahead, part_behind, part_ahead}
 use Rattle.plane_table.specs.declared.faces.Face.{Face}
 use Rattle.plane_table.specs.declared.sorting.CornerSide.{CornerSide}
 use Rattle.plane_table.specs.Tables.{plane_named, NamesPlaneIn}
@@ -18,6 +18,7 @@ use Rattle.plane_table.specs.declared.cutting.Half.TheVariants.{Behind, Ahead}
 use Rattle.plane_table.specs.Cuts.{is_strictly_in_half, numbers_kept_at, kept_numbers, on_the_plane, part_in, side_number}
 use Rattle.plane_table.proofs.Numbers.{get_map, named_opposite, opposite_in}
 use Rattle.plane_table.proofs.Corners.{get_up_to, length-indices_below, sides_map}
+use Rattle.plane_predicate.specs.Indices.{indices_below}
 
 -- ---- lists over 0, 1, .. below n
 pub flat_up_to : {A : Type 0} (f : ℕ → List A) (n : ℕ) → flat_map f (indices_below (suc n)) ≡ flat_map f (indices_below n) ++ f n
@@ -68,11 +69,11 @@ all_kept P false true e m h k = All-cons P e [] h (All-nil P)
 all_kept P false false e m h k = All-nil P
 
 -- the side of corner i in the list of sides
-side_in : (s : Outline) (m : Coefficients) (found : List CornerSide) (i : ℕ) → found ≡ map (side_against m) (corners s) → i < sides s → get_or found i on_the_plane ≡ side_against m (corner s i)
+side_in : (s : Outline) (m : Coefficients) (found : List CornerSide) (i : ℕ) → found ≡ map (side_against m) (corners s) → i < edge_count s → get_or found i on_the_plane ≡ side_against m (corner s i)
 side_in s m found i e h =
     ap (λ (l : List CornerSide). get_or l i on_the_plane) (e ∙ sides_map s m)
-    ∙ get_map (λ j. side_against m (corner s j)) (indices_below (sides s)) i 0 on_the_plane (let n = length-indices_below (sides s) in omega arith)
-    ∙ ap (λ (j : ℕ). side_against m (corner s j)) (get_up_to (sides s) i 0 h)
+    ∙ get_map (λ j. side_against m (corner s j)) (indices_below (edge_count s)) i 0 on_the_plane (let n = length-indices_below (edge_count s) in omega arith)
+    ∙ ap (λ (j : ℕ). side_against m (corner s j)) (get_up_to (edge_count s) i 0 h)
 
 before_in : (n i : ℕ) → i < n → index_before n i < n
 before_in n zero h = omega arith
@@ -113,9 +114,9 @@ part_is half planes face m found e =
     kept_named (plane_named planes) (is_strictly_in_half half (get_or found (index_before (length face.edges) i) on_the_plane)) (is_strictly_in_half half (get_or found i on_the_plane)) (get_or face.edges i 0) (side_number half m)
     ∙ ap (edges_kept_by (is_strictly_in_half half (get_or found (index_before (length face.edges) i) on_the_plane)) (is_strictly_in_half half (get_or found i on_the_plane)) (plane_named planes (get_or face.edges i 0))) (named_side half planes m)
     ∙ ap₂ (λ (b c : Bool). edges_kept_by b c (plane_named planes (get_or face.edges i 0)) t)
-    (ap (λ (k : ℕ). is_strictly_in_half half (get_or found (index_before k i) on_the_plane)) (sym n) ∙ ap (is_strictly_in_half half) (side_in s q found (index_before (sides s) i) e (before_in (sides s) i (omega arith))) ∙ within_is half q (corner s (index_before (sides s) i)))
+    (ap (λ (k : ℕ). is_strictly_in_half half (get_or found (index_before k i) on_the_plane)) (sym n) ∙ ap (is_strictly_in_half half) (side_in s q found (index_before (edge_count s) i) e (before_in (edge_count s) i (omega arith))) ∙ within_is half q (corner s (index_before (edge_count s) i)))
     (ap (is_strictly_in_half half) (side_in s q found i e (omega arith)) ∙ within_is half q (corner s i))
-    ∙ ap (λ (p : Coefficients). edges_kept_by (is_behind t (corner s (index_before (sides s) i))) (is_behind t (corner s i)) p t) (sym (get_map (plane_named planes) face.edges i 0 missing_plane l)))
+    ∙ ap (λ (p : Coefficients). edges_kept_by (is_behind t (corner s (index_before (edge_count s) i))) (is_behind t (corner s i)) p t) (sym (get_map (plane_named planes) face.edges i 0 missing_plane l)))
     ∙ ap (λ (k : ℕ). flat_map (edges_kept_at s t) (indices_below k)) (sym n)
 
 numbers_in : (half : Half) (planes : List Coefficients) (edges : List ℕ) (m : ℕ) (found : List CornerSide) → All (NamesPlaneIn planes) edges → NamesPlaneIn planes m →
@@ -132,7 +133,7 @@ pub sides_count : (planes : List Coefficients) (face : Face) (m : Coefficients) 
     found ≡ map (side_against m) (corners (outline_of planes face)) → length found ≡ length face.edges
 sides_count planes face m found e =
     let s : Outline = outline_of planes face in
-    ap length (e ∙ sides_map s m) ∙ length-map (indices_below (sides s)) (λ i. side_against m (corner s i)) ∙ length-indices_below (sides s) ∙ length-map face.edges (plane_named planes)
+    ap length (e ∙ sides_map s m) ∙ length-map (indices_below (edge_count s)) (λ i. side_against m (corner s i)) ∙ length-indices_below (edge_count s) ∙ length-map face.edges (plane_named planes)
 
 pub outline_in : (half : Half) (planes : List Coefficients) (face : Face) (m : ℕ) (found : List CornerSide) (edges : List ℕ) →
     found ≡ map (side_against (plane_named planes m)) (corners (outline_of planes face)) →

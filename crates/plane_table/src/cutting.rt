@@ -1,7 +1,7 @@
 //! The parts into which a plane cuts a face.
 
 ghost use Rattle.std.specs.Prelude.{◌≡◌, ◌<◌, ◌++◌, flat_map, length, IfOk, OnOk};
-ghost use Rattle.plane_polygon.specs.Parts.{indices_below};
+ghost use Rattle.plane_predicate.specs.Indices.{indices_below};
 ghost use Rattle.plane_table.specs.Tables.{plane_named};
 ghost use Rattle.plane_table.specs.Faces.{outline_of, IsFaceOver};
 ghost use Rattle.plane_table.specs.Cuts.{is_strictly_in_half, numbers_kept_at, kept_numbers, part_in, side_number, IsCrossing};
@@ -45,6 +45,7 @@ pub fn cut(
         (plane_named table.now crossing.entry.number)) }
     ensures face { IfOk result (IsFaceOver table.now) }
 {
+    // Brings a law alone: the two parts of a polygon are polygons.
     parts_are_polygons();
     let Crossing {
         face,

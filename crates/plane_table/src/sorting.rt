@@ -90,7 +90,8 @@ pub fn sides_where_across(
     requires face { IsFaceOver table.now face.now }
     requires number { NamesPlaneIn table.now number }
     ensures { IfOk result
-        (λ r. AreSidesWhereAcross (outline_of table.now face.now) (plane_named table.now number) r) }
+        (λ r. AreSidesWhereAcross (outline_of table.now face.now)
+        (plane_named table.now number) r) }
 {
     if let Some(side) = side_of_all(table, face.plane, number) {
         return Ok(CornerSides {

@@ -8,7 +8,7 @@ use Rattle.plane_predicate.proofs.Polynomials.{Poly, var, num, times, minus, rin
 use Rattle.plane_predicate.proofs.Signs.{pos_pos}
 use Rattle.plane_predicate.proofs.Vectors.{Form, valueP, minorP}
 use Rattle.int_transform.specs.Maps.{HasSafeCoordinates}
-use Rattle.primitives.specs.Shapes.{corner, value_at, IsFaceOfShape, IsShape}
+use Rattle.primitives.specs.Shapes.{mesh_point, value_at_point, IsFaceOfShape, IsShape}
 use Rattle.primitives.proofs.Moves.{whole, wholeP}
 use Rattle.primitives.specs.Boxes.{box_of, box_points, box_faces, cube_of}
 use Rattle.primitives.specs.Sizes.{AreSizes}
@@ -131,15 +131,15 @@ box_there =
       ),
     )
 
-on_face : (a b c d e f : ℤ) (m : Coefficients) (i j k l : ℕ) → value_at (box_points a b c d e f) m i ≡ pos 0 → value_at (box_points a b c d e f) m j ≡ pos 0 → value_at (box_points a b c d e f) m k ≡ pos 0 → value_at (box_points a b c d e f) m l ≡ pos 0 →
-    All (λ (n : ℕ). value_at (box_points a b c d e f) m n ≡ pos 0) (i ∷ j ∷ k ∷ l ∷ [])
-on_face a b c d e f m i j k l hi hj hk hl = All-from_recursion (λ (n : ℕ). value_at (box_points a b c d e f) m n ≡ pos 0) (i ∷ j ∷ k ∷ l ∷ []) (hi, (hj, (hk, (hl, tt))))
+on_face : (a b c d e f : ℤ) (m : Coefficients) (i j k l : ℕ) → value_at_point (box_points a b c d e f) m i ≡ pos 0 → value_at_point (box_points a b c d e f) m j ≡ pos 0 → value_at_point (box_points a b c d e f) m k ≡ pos 0 → value_at_point (box_points a b c d e f) m l ≡ pos 0 →
+    All (λ (n : ℕ). value_at_point (box_points a b c d e f) m n ≡ pos 0) (i ∷ j ∷ k ∷ l ∷ [])
+on_face a b c d e f m i j k l hi hj hk hl = All-from_recursion (λ (n : ℕ). value_at_point (box_points a b c d e f) m n ≡ pos 0) (i ∷ j ∷ k ∷ l ∷ []) (hi, (hj, (hk, (hl, tt))))
 
 -- ---- the six faces
 box_side : (a b c d e f : ℤ) → a <ℤ b → c <ℤ d → e <ℤ f → (face : List ℕ) → IsOutside (box_of a b c d e f) face → IsFaceOfShape (box_of a b c d e f) face
 box_side a b c d e f hx hy hz face h = outside_is_face (box_of a b c d e f) box_there face h
 
-at_corner : (a b c d e f : ℤ) → a <ℤ b → c <ℤ d → e <ℤ f → (i : ℕ) → i < 8 → IsCorner a b c d e f (corner (box_points a b c d e f) i)
+at_corner : (a b c d e f : ℤ) → a <ℤ b → c <ℤ d → e <ℤ f → (i : ℕ) → i < 8 → IsCorner a b c d e f (mesh_point (box_points a b c d e f) i)
 at_corner a b c d e f hx hy hz i lt = box_corners a b c d e f hx hy hz i [] lt
 
 side_low_x : (a b c d e f : ℤ) → a <ℤ b → c <ℤ d → e <ℤ f → IsOutside (box_of a b c d e f) (0 ∷ 2 ∷ 6 ∷ 4 ∷ [])

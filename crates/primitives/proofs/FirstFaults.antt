@@ -5,7 +5,7 @@ use Rattle.plane_predicate.specs.declared.unit.Unit.{Unit as LengthUnit}
 use Rattle.primitives.specs.declared.stop.ShapeStop.{ShapeStop}
 use Rattle.primitives.specs.declared.stop.ShapeStop.TheVariants.{Kind, NoMemory}
 use Rattle.text_place.specs.declared.fault.FaultKind.TheVariants.{LongList, FewPoints, BadPoint, OutOfRange, NotFlat, NotClosed, NotConvex}
-use Rattle.primitives.specs.Polyhedra.{checks, faults, mesh_of, written_checks, AnswersFirstFault, IsAnsweredWhere, IsFaultOf, IsFirstPolyhedronFault, IsFirstToFail, IsSurfaceFault, PassesWrittenChecks, IsWrittenFault}
+use Rattle.primitives.specs.Polyhedra.{polyhedron_checks, polyhedron_faults, polyhedron_of, written_checks, AnswersFirstFault, IsAnsweredWhere, IsFaultOf, IsFirstPolyhedronFault, IsFirstToFail, IsSurfaceFault, PassesWrittenChecks, IsWrittenFault}
 
 -- no two checks are the first to fail
 one_first : (list : List (Type 0)) (m n : ℕ) → IsFirstToFail list m → IsFirstToFail list n → m ≡ n
@@ -26,7 +26,7 @@ none_first (check ∷ more) zero a h = h a.0
 none_first (check ∷ more) (suc n) a h = none_first more n a.1 h.1
 
 -- ---- the faults of the two parts
-first_written : (unit : LengthUnit) (points : List (List ℤ)) (faces : List (List ℕ)) (n : ℕ) → IsFirstToFail (written_checks points faces []) n → IsFirstToFail (checks unit points faces) n
+first_written : (unit : LengthUnit) (points : List (List ℤ)) (faces : List (List ℕ)) (n : ℕ) → IsFirstToFail (written_checks points faces []) n → IsFirstToFail (polyhedron_checks unit points faces) n
 first_written unit points faces zero g = g
 first_written unit points faces (suc zero) g = g
 first_written unit points faces (suc (suc zero)) g = g
@@ -37,7 +37,7 @@ pub written_fault : (unit : LengthUnit) (points : List (List ℤ)) (faces : List
 written_fault unit points faces (Kind kind) h = record { number = h.number; is = h.is; fails = first_written unit points faces h.number h.fails }
 written_fault unit points faces NoMemory h = absurd h
 
-pub surface_fault : (unit : LengthUnit) (points : List (List ℤ)) (faces : List (List ℕ)) (stop : ShapeStop) → PassesWrittenChecks points faces → IsSurfaceFault (mesh_of unit points faces) stop → IsFirstPolyhedronFault unit points faces stop
+pub surface_fault : (unit : LengthUnit) (points : List (List ℤ)) (faces : List (List ℕ)) (stop : ShapeStop) → PassesWrittenChecks points faces → IsSurfaceFault (polyhedron_of unit points faces) stop → IsFirstPolyhedronFault unit points faces stop
 surface_fault unit points faces (Kind kind) w h = record { number = suc (suc (suc (suc h.number))); is = h.is; fails = (w.limits, (w.corners, (w.there, (w.range, h.fails)))) }
 surface_fault unit points faces NoMemory w h = h
 
@@ -58,7 +58,7 @@ place_of NotClosed = 5
 place_of NotConvex = 6
 place_of _ = 7
 
-place_at : (n : ℕ) → n < 7 → place_of (get_or faults n NotConvex) ≡ n
+place_at : (n : ℕ) → n < 7 → place_of (get_or polyhedron_faults n NotConvex) ≡ n
 place_at zero h = refl
 place_at (suc zero) h = refl
 place_at (suc (suc zero)) h = refl
@@ -68,28 +68,28 @@ place_at (suc (suc (suc (suc (suc zero))))) h = refl
 place_at (suc (suc (suc (suc (suc (suc zero)))))) h = refl
 place_at (suc (suc (suc (suc (suc (suc (suc n))))))) h = absurd (omega (arith, h))
 
-fails_at : (unit : LengthUnit) (points : List (List ℤ)) (faces : List (List ℕ)) (kind : FaultKind) → IsFaultOf (checks unit points faces) faults kind → IsFirstToFail (checks unit points faces) (place_of kind)
+fails_at : (unit : LengthUnit) (points : List (List ℤ)) (faces : List (List ℕ)) (kind : FaultKind) → IsFaultOf (polyhedron_checks unit points faces) polyhedron_faults kind → IsFirstToFail (polyhedron_checks unit points faces) (place_of kind)
 fails_at unit points faces kind h =
-    subst (IsFirstToFail (checks unit points faces)) (sym (ap place_of h.is ∙ place_at h.number (use_number (checks unit points faces) h.number h.fails))) h.fails
+    subst (IsFirstToFail (polyhedron_checks unit points faces)) (sym (ap place_of h.is ∙ place_at h.number (use_number (polyhedron_checks unit points faces) h.number h.fails))) h.fails
 
 same_kind : {A : Type 0} (j k : FaultKind) → (let r : Result A ShapeStop = Err (Kind j) in r ≡ Err (Kind k)) → j ≡ k
 same_kind j k e = cc
 
-only_at : {A : Type 0} (unit : LengthUnit) (points : List (List ℤ)) (faces : List (List ℕ)) (stop : ShapeStop) → IsFirstPolyhedronFault unit points faces stop → (kind : FaultKind) → (let r : Result A ShapeStop = Err stop in r ≡ Err (Kind kind)) → IsFirstToFail (checks unit points faces) (place_of kind)
-only_at unit points faces (Kind j) h kind e = fails_at unit points faces kind (subst (IsFaultOf (checks unit points faces) faults) (same_kind j kind e) h)
+only_at : {A : Type 0} (unit : LengthUnit) (points : List (List ℤ)) (faces : List (List ℕ)) (stop : ShapeStop) → IsFirstPolyhedronFault unit points faces stop → (kind : FaultKind) → (let r : Result A ShapeStop = Err stop in r ≡ Err (Kind kind)) → IsFirstToFail (polyhedron_checks unit points faces) (place_of kind)
+only_at unit points faces (Kind j) h kind e = fails_at unit points faces kind (subst (IsFaultOf (polyhedron_checks unit points faces) polyhedron_faults) (same_kind j kind e) h)
 only_at unit points faces NoMemory h kind e = cc
 
-always_at : {A : Type 0} (unit : LengthUnit) (points : List (List ℤ)) (faces : List (List ℕ)) (stop : ShapeStop) → IsFirstPolyhedronFault unit points faces stop → (n : ℕ) → IsFirstToFail (checks unit points faces) n →
-    (let r : Result A ShapeStop = Err stop in (r ≡ Err (Kind (get_or faults n NotConvex))) ⊎ (r ≡ Err NoMemory))
+always_at : {A : Type 0} (unit : LengthUnit) (points : List (List ℤ)) (faces : List (List ℕ)) (stop : ShapeStop) → IsFirstPolyhedronFault unit points faces stop → (n : ℕ) → IsFirstToFail (polyhedron_checks unit points faces) n →
+    (let r : Result A ShapeStop = Err stop in (r ≡ Err (Kind (get_or polyhedron_faults n NotConvex))) ⊎ (r ≡ Err NoMemory))
 always_at unit points faces (Kind j) h n g =
-    inl (ap (λ (k : FaultKind). Err (Kind k)) (h.is ∙ ap (λ (m : ℕ). get_or faults m NotConvex) (one_first (checks unit points faces) h.number n h.fails g)))
+    inl (ap (λ (k : FaultKind). Err (Kind k)) (h.is ∙ ap (λ (m : ℕ). get_or polyhedron_faults m NotConvex) (one_first (polyhedron_checks unit points faces) h.number n h.fails g)))
 always_at unit points faces NoMemory h n g = inr refl
 
 -- one fault, by the number of its check
-answered : {A : Type 0} (unit : LengthUnit) (points : List (List ℤ)) (faces : List (List ℕ)) (stop : ShapeStop) → IsFirstPolyhedronFault unit points faces stop → (r : Result A ShapeStop) → r ≡ Err stop → (kind : FaultKind) (n : ℕ) (P : Type 0) → place_of kind ≡ n → get_or faults n NotConvex ≡ kind →
-    (IsFirstToFail (checks unit points faces) n → P) → (P → IsFirstToFail (checks unit points faces) n) → IsAnsweredWhere r kind P
+answered : {A : Type 0} (unit : LengthUnit) (points : List (List ℤ)) (faces : List (List ℕ)) (stop : ShapeStop) → IsFirstPolyhedronFault unit points faces stop → (r : Result A ShapeStop) → r ≡ Err stop → (kind : FaultKind) (n : ℕ) (P : Type 0) → place_of kind ≡ n → get_or polyhedron_faults n NotConvex ≡ kind →
+    (IsFirstToFail (polyhedron_checks unit points faces) n → P) → (P → IsFirstToFail (polyhedron_checks unit points faces) n) → IsAnsweredWhere r kind P
 answered unit points faces stop h r e kind n P at named to from = record {
-  only = λ f. to (subst (IsFirstToFail (checks unit points faces)) at (only_at unit points faces stop h kind (sym e ∙ f)));
+  only = λ f. to (subst (IsFirstToFail (polyhedron_checks unit points faces)) at (only_at unit points faces stop h kind (sym e ∙ f)));
   always = λ p. elim (always_at unit points faces stop h n (from p)) [
     | inl f ↦ inl (e ∙ f ∙ ap (λ (k : FaultKind). Err (Kind k)) named)
     | inr f ↦ inr (e ∙ f)

@@ -28,3 +28,4 @@ pub mod Sets
 pub mod PolyhedronGrids
 pub mod FirstFaults
 pub mod Solids
+pub mod ConvexShapes

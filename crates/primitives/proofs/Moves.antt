@@ -1,6 +1,6 @@
 -- Planes under an affine map, forward and back.
 use Rattle.std.proofs.Common.{◌≡◌, ℕ, ◌+◌, [], ◌∷◌, refl, sym, ap, ◌∙◌, arith, ℤ, pos, ◌+ℤ◌, ◌-ℤ◌, ◌*ℤ◌, neg_ℤ, ◌<ℤ◌, inl, inr}
-use Rattle.plane_predicate.specs.Space.{Coefficients, Coordinates, value, opposite_of, minor, through, AreCollinear}
+use Rattle.plane_predicate.specs.Space.{Coefficients, Coordinates, value, opposite_of, minor, plane_of_points, AreCollinear}
 use Rattle.plane_predicate.proofs.IntegerRing.{sums, mul_neg_left}
 use Rattle.plane_predicate.proofs.Polynomials.{var, num, plus, times, minus, ring}
 use Rattle.plane_predicate.proofs.Signs.{signs}
@@ -89,21 +89,21 @@ abbrev pub whole : ℤ → ℤ → ℤ → Coordinates
 whole x y z = record { x = x; y = y; z = z; w = pos 1 }
 
 -- the direction of a plane through three points, against that through their images
-moved_a : (f : Affine) (a b c d e g h i j : ℤ) → let t = through (whole a b c) (whole d e g) (whole h i j) in let u = through (image f (whole a b c)) (image f (whole d e g)) (image f (whole h i j)) in
+moved_a : (f : Affine) (a b c d e g h i j : ℤ) → let t = plane_of_points (whole a b c) (whole d e g) (whole h i j) in let u = plane_of_points (image f (whole a b c)) (image f (whole d e g)) (image f (whole h i j)) in
     determinant_of f *ℤ t.a ≡ f.x.a *ℤ u.a +ℤ f.y.a *ℤ u.b +ℤ f.z.a *ℤ u.c
 moved_a f a b c d e g h i j =
     let X = form 0 in let Y = form 4 in let Z = form 8 in let P = wholeP 12 in let Q = wholeP 15 in let R = wholeP 18 in
     let T = throughP P Q R in let U = throughP (imageP X Y Z P) (imageP X Y Z Q) (imageP X Y Z R) in
     ring (of_map f (a ∷ b ∷ c ∷ d ∷ e ∷ g ∷ h ∷ i ∷ j ∷ [])) (times (determinantP X.a X.b X.c Y.a Y.b Y.c Z.a Z.b Z.c) T.a) (plus (plus (times X.a U.a) (times Y.a U.b)) (times Z.a U.c)) refl
 
-moved_b : (f : Affine) (a b c d e g h i j : ℤ) → let t = through (whole a b c) (whole d e g) (whole h i j) in let u = through (image f (whole a b c)) (image f (whole d e g)) (image f (whole h i j)) in
+moved_b : (f : Affine) (a b c d e g h i j : ℤ) → let t = plane_of_points (whole a b c) (whole d e g) (whole h i j) in let u = plane_of_points (image f (whole a b c)) (image f (whole d e g)) (image f (whole h i j)) in
     determinant_of f *ℤ t.b ≡ f.x.b *ℤ u.a +ℤ f.y.b *ℤ u.b +ℤ f.z.b *ℤ u.c
 moved_b f a b c d e g h i j =
     let X = form 0 in let Y = form 4 in let Z = form 8 in let P = wholeP 12 in let Q = wholeP 15 in let R = wholeP 18 in
     let T = throughP P Q R in let U = throughP (imageP X Y Z P) (imageP X Y Z Q) (imageP X Y Z R) in
     ring (of_map f (a ∷ b ∷ c ∷ d ∷ e ∷ g ∷ h ∷ i ∷ j ∷ [])) (times (determinantP X.a X.b X.c Y.a Y.b Y.c Z.a Z.b Z.c) T.b) (plus (plus (times X.b U.a) (times Y.b U.b)) (times Z.b U.c)) refl
 
-moved_c : (f : Affine) (a b c d e g h i j : ℤ) → let t = through (whole a b c) (whole d e g) (whole h i j) in let u = through (image f (whole a b c)) (image f (whole d e g)) (image f (whole h i j)) in
+moved_c : (f : Affine) (a b c d e g h i j : ℤ) → let t = plane_of_points (whole a b c) (whole d e g) (whole h i j) in let u = plane_of_points (image f (whole a b c)) (image f (whole d e g)) (image f (whole h i j)) in
     determinant_of f *ℤ t.c ≡ f.x.c *ℤ u.a +ℤ f.y.c *ℤ u.b +ℤ f.z.c *ℤ u.c
 moved_c f a b c d e g h i j =
     let X = form 0 in let Y = form 4 in let Z = form 8 in let P = wholeP 12 in let Q = wholeP 15 in let R = wholeP 18 in

@@ -1,6 +1,6 @@
 -- Planes through three points that are not on one line have their values in one proportion.
 use Rattle.std.proofs.Common.{◌≡◌, ◌+◌, ◌<◌, [], ◌∷◌, refl, sym, ap, ◌∙◌, arith, ℤ, pos, negsuc, zero, suc, ◌+ℤ◌, ◌-ℤ◌, ◌*ℤ◌, ◌<ℤ◌, unsigned_abs}
-use Rattle.plane_predicate.specs.Space.{Coefficients, Coordinates, value, determinant, through, AreCollinear}
+use Rattle.plane_predicate.specs.Space.{Coefficients, Coordinates, value, determinant, plane_of_points, AreCollinear}
 use Rattle.plane_predicate.proofs.IntegerRing.{sums, zero_mul, mul_comm_ℤ}
 use Rattle.plane_predicate.proofs.Polynomials.{Poly, var, num, plus, times, minus, ring}
 use Rattle.plane_predicate.proofs.Vectors.{Place, form, place, of_plane, of_point, valueP, determinantP}
@@ -20,7 +20,7 @@ volumeP p q r s =
 
 -- five points of space are dependent
 five_points : (m : Coefficients) (a b c d e g h i j : ℤ) (p q : Coordinates) →
-    let A = whole a b c in let B = whole d e g in let C = whole h i j in let t = through A B C in
+    let A = whole a b c in let B = whole d e g in let C = whole h i j in let t = plane_of_points A B C in
     value m p *ℤ value t q -ℤ value m q *ℤ value t p ≡ value m A *ℤ volume B C p q -ℤ value m B *ℤ volume A C p q +ℤ value m C *ℤ volume A B p q
 five_points m a b c d e g h i j p q =
     let M = form 0 in let P = place 4 in let Q = place 8 in let A = wholeP 12 in let B = wholeP 15 in let C = wholeP 18 in
@@ -42,7 +42,7 @@ pub record GoesThrough (m : Coefficients) (a b c : Coordinates) : Type 0 where
   pub second : value m b ≡ pos 0
   pub third : value m c ≡ pos 0
 
-pub in_proportion : (m : Coefficients) (a b c d e g h i j : ℤ) → let A = whole a b c in let B = whole d e g in let C = whole h i j in GoesThrough m A B C → (p q : Coordinates) → value m p *ℤ value (through A B C) q ≡ value m q *ℤ value (through A B C) p
+pub in_proportion : (m : Coefficients) (a b c d e g h i j : ℤ) → let A = whole a b c in let B = whole d e g in let C = whole h i j in GoesThrough m A B C → (p q : Coordinates) → value m p *ℤ value (plane_of_points A B C) q ≡ value m q *ℤ value (plane_of_points A B C) p
 in_proportion m a b c d e g h i j t p q = no_difference _ _ (five_points m a b c d e g h i j p q ∙ no_terms _ _ _ _ _ _ t.first t.second t.third)
 
 -- the values of a plane at the ends of the axes
@@ -67,9 +67,9 @@ pub not_zero_below : (x : ℤ) → x <ℤ pos 0 → x ≡ pos 0 → ⊥
 not_zero_below x h e = omega (arith, sums, h, e)
 
 -- a point that a plane through the three points doesn't hold is on no plane through them
-pub off_the_plane : (m : Coefficients) (a b c d e g h i j : ℤ) → let A = whole a b c in let B = whole d e g in let C = whole h i j in GoesThrough m A B C → (AreCollinear A B C → ⊥) → (q : Coordinates) → (value m q ≡ pos 0 → ⊥) → value (through A B C) q ≡ pos 0 → ⊥
+pub off_the_plane : (m : Coefficients) (a b c d e g h i j : ℤ) → let A = whole a b c in let B = whole d e g in let C = whole h i j in GoesThrough m A B C → (AreCollinear A B C → ⊥) → (q : Coordinates) → (value m q ≡ pos 0 → ⊥) → value (plane_of_points A B C) q ≡ pos 0 → ⊥
 off_the_plane m a b c d e g h i j t n q off zero_at =
-    let T = through (whole a b c) (whole d e g) (whole h i j) in
+    let T = plane_of_points (whole a b c) (whole d e g) (whole h i j) in
     let all : (p : Coordinates) → value T p ≡ pos 0 = λ p. cancelled (value m q) (value T p) off (sym (in_proportion m a b c d e g h i j t p q) ∙ ap (λ (z : ℤ). value m p *ℤ z) zero_at ∙ mul_comm_ℤ (value m p) (pos 0) ∙ zero_mul (value m p)) in
     let none = nowhere T all in
     n (record { a = none.0; b = none.1; c = none.2 })
@@ -87,7 +87,7 @@ crossed x y u v s t n e f =
 -- the values of two planes through the three points, one of which misses the point q
 pub two_planes : (m n : Coefficients) (a b c d e g h i j : ℤ) → let A = whole a b c in let B = whole d e g in let C = whole h i j in GoesThrough m A B C → GoesThrough n A B C → (AreCollinear A B C → ⊥) → (q : Coordinates) → (value m q ≡ pos 0 → ⊥) → (p : Coordinates) → value m p *ℤ value n q ≡ value n p *ℤ value m q
 two_planes m n a b c d e g h i j tm tn apart q off p =
-    let T = through (whole a b c) (whole d e g) (whole h i j) in
+    let T = plane_of_points (whole a b c) (whole d e g) (whole h i j) in
     crossed (value m p) (value n p) (value m q) (value n q) (value T q) (value T p) (off_the_plane m a b c d e g h i j tm apart q off) (in_proportion m a b c d e g h i j tm p q) (in_proportion n a b c d e g h i j tn p q)
 
 pub some_direction : (a b c : ℤ) → (a ≡ pos 0 → b ≡ pos 0 → c ≡ pos 0 → ⊥) → 0 < unsigned_abs a + unsigned_abs b + unsigned_abs c

@@ -1,19 +1,19 @@
 -- Planes that bound a convex solid, and the one that three corners of a face span.
 use Rattle.std.proofs.Common.{◌≡◌, ℕ, ◌+◌, ◌<◌, List, [], ◌∷◌, get_or, length, refl, sym, ap, ◌∙◌, All, Any, arith, inl, inr, ℤ, pos, negsuc, zero, suc, ◌*ℤ◌, neg_ℤ, ◌<ℤ◌, ◌≤ℤ◌, unsigned_abs}
 use Rattle.std.proofs.lemmas.List.{get_or_default}
-use Rattle.plane_predicate.specs.Space.{Coefficients, Coordinates, point_at, value, inner_product, through, opposite_of}
+use Rattle.plane_predicate.specs.Space.{Coefficients, Coordinates, point_at, value, inner_product, plane_of_points, opposite_of}
 use Rattle.plane_predicate.proofs.IntegerRing.{sums, mul_comm_ℤ, mul_neg_left}
 use Rattle.plane_predicate.proofs.Opposites.{size_of_negative}
 use Rattle.plane_predicate.proofs.Polynomials.{var, num, plus, times, minus, ring}
 use Rattle.plane_predicate.proofs.Signs.{signs, neg_pos, most_most}
 use Rattle.plane_predicate.proofs.Vectors.{value-opposite}
-use Rattle.primitives.specs.Shapes.{Mesh, corner, value_at, IsPlaneOfFace, IsOnOnePlane}
+use Rattle.primitives.specs.Shapes.{Mesh, mesh_point, value_at_point, IsPlaneOfFace, IsOnOnePlane}
 use Rattle.primitives.proofs.FacePlanes.{found}
-use Rattle.primitives.specs.declared.ways.Way.{Way}
+use Rattle.primitives.specs.declared.ways.DirectedEdge.{DirectedEdge}
 use Rattle.primitives.specs.Bounding.{IsOuterPlane, IsFaceOfBody}
 use Rattle.primitives.specs.Checks.{HasOuterPlane, IsFlatFace}
 use Rattle.primitives.specs.CornerPlanes.{IsCornerPlane}
-use Rattle.primitives.specs.Ways.{ways_of, IsClockwise}
+use Rattle.primitives.specs.DirectedEdges.{edges_of_mesh_face, IsClockwise}
 use Rattle.primitives.proofs.ThroughCorners.{flat_on, is_zero_or_not, proportion, spanned_directed, spanned_holds}
 
 -- the values of two planes are in proportion, at directions too
@@ -46,25 +46,25 @@ below_opposite : (m : Coefficients) (p : Coordinates) → pos 0 <ℤ value (oppo
 below_opposite m p h = omega (arith, sums, value-opposite m p, h)
 
 -- some point of a face is ahead of the opposite of a plane
-some_ahead : (mesh : Mesh) (n : Coefficients) (f : ℕ) (g : List ℕ) (i e : ℕ) → f < length mesh.faces → get_or mesh.faces f g ≡ g → i < length g → value_at mesh.points n (get_or g i e) <ℤ pos 0 →
-    Any (λ (h : List ℕ). Any (λ (j : ℕ). pos 0 <ℤ value_at mesh.points (opposite_of n) j) h) mesh.faces
+some_ahead : (mesh : Mesh) (n : Coefficients) (f : ℕ) (g : List ℕ) (i e : ℕ) → f < length mesh.faces → get_or mesh.faces f g ≡ g → i < length g → value_at_point mesh.points n (get_or g i e) <ℤ pos 0 →
+    Any (λ (h : List ℕ). Any (λ (j : ℕ). pos 0 <ℤ value_at_point mesh.points (opposite_of n) j) h) mesh.faces
 some_ahead mesh n f g i e hf here hi below =
-    (f, g, hf, here, (i, get_or g i e, hi, get_or_default g i (get_or g i e) e hi, above_opposite n (corner mesh.points (get_or g i e)) below))
+    (f, g, hf, here, (i, get_or g i e, hi, get_or_default g i (get_or g i e) e hi, above_opposite n (mesh_point mesh.points (get_or g i e)) below))
 
 -- a plane in proportion with a face's outer plane, where both are below 0 at some point of a face
 bounds_by : (mesh : Mesh) (face : List ℕ) (m n : Coefficients) → IsPlaneOfFace mesh face m → IsClockwise mesh.points face m → AreInProportion m n → (f : ℕ) (d : List ℕ) (i e : ℕ) → f < length mesh.faces → i < length (get_or mesh.faces f d) →
-    value_at mesh.points m (get_or (get_or mesh.faces f d) i e) <ℤ pos 0 → value_at mesh.points n (get_or (get_or mesh.faces f d) i e) <ℤ pos 0 → IsOuterPlane mesh face n
+    value_at_point mesh.points m (get_or (get_or mesh.faces f d) i e) <ℤ pos 0 → value_at_point mesh.points n (get_or (get_or mesh.faces f d) i e) <ℤ pos 0 → IsOuterPlane mesh face n
 bounds_by mesh face m n is clockwise prop f d i e hf hi hm hn =
     let g : List ℕ = get_or mesh.faces f d in
-    let q = corner mesh.points (get_or g i e) in
+    let q = mesh_point mesh.points (get_or g i e) in
     record {
       none_ahead = λ k c lt j b lj.
-          let p = corner mesh.points (get_or (get_or mesh.faces k c) j b) in
+          let p = mesh_point mesh.points (get_or (get_or mesh.faces k c) j b) in
           most_by (value m p) (value n p) (value m q) (value n q) (prop.values p q) hm hn (is.none_ahead k c lt j b lj);
       some_behind = some_ahead mesh n f g i e hf (get_or_default mesh.faces f g d hf) hi hn;
       clockwise = λ k c lt j b lj.
-          let w : Way = get_or (ways_of mesh.points face) k c in
-          let t = through (point_at w.from) (point_at w.to) (corner mesh.points (get_or face j b)) in
+          let w : DirectedEdge = get_or (edges_of_mesh_face mesh.points face) k c in
+          let t = plane_of_points (point_at w.from) (point_at w.to) (mesh_point mesh.points (get_or face j b)) in
           most_by (inner_product m t) (inner_product n t) (value m q) (value n q) (ap (λ (z : ℤ). z *ℤ value n q) (sym (inner_is m t)) ∙ prop.values (far t) q ∙ ap (λ (z : ℤ). value m q *ℤ z) (inner_is n t)) hm hn (clockwise k c lt j b lj);
     }
 
@@ -91,7 +91,7 @@ one_plane mesh face n s first second o =
       plane = n;
       directed = spanned_directed mesh.points face n s;
       on = λ f d hf i e hi.
-          let q = corner mesh.points (get_or (get_or mesh.faces f d) i e) in
+          let q = mesh_point mesh.points (get_or (get_or mesh.faces f d) i e) in
           is_zero_or_not (value n q) (λ off.
           let hm : value m q <ℤ pos 0 = below_by (value m q) (o.is.none_ahead f d hf i e hi) (λ z. off (spanned_holds mesh.points face m n o.is.directed o.is.on s q z)) in
           elim (signs (value n q)) [
@@ -102,10 +102,10 @@ one_plane mesh face n s first second o =
     }
 
 -- a plane through a face that bounds makes it a bounded face
-pub bounded_by : (mesh : Mesh) (face : List ℕ) (k : Coefficients) → 0 < unsigned_abs k.a + unsigned_abs k.b + unsigned_abs k.c → All (λ (i : ℕ). value_at mesh.points k i ≡ pos 0) face → IsOuterPlane mesh face k → IsFaceOfBody mesh face
+pub bounded_by : (mesh : Mesh) (face : List ℕ) (k : Coefficients) → 0 < unsigned_abs k.a + unsigned_abs k.b + unsigned_abs k.c → All (λ (i : ℕ). value_at_point mesh.points k i ≡ pos 0) face → IsOuterPlane mesh face k → IsFaceOfBody mesh face
 bounded_by mesh face k directed on b =
     let is : IsPlaneOfFace mesh face k = record { directed = directed; on = on; none_ahead = b.none_ahead } in
-    let f = found (λ (i : ℕ). pos 0 <ℤ value_at mesh.points (opposite_of k) i) mesh.faces b.some_behind in
+    let f = found (λ (i : ℕ). pos 0 <ℤ value_at_point mesh.points (opposite_of k) i) mesh.faces b.some_behind in
     record {
       outer = record { plane = k; is = is; clockwise = b.clockwise };
       body = record {
@@ -115,7 +115,7 @@ bounded_by mesh face k directed on b =
         at = f.at;
         at_face_in = f.face_in;
         at_in = f.at_in;
-        behind = below_opposite k (corner mesh.points (get_or (get_or mesh.faces f.face []) f.at 0)) f.holds;
+        behind = below_opposite k (mesh_point mesh.points (get_or (get_or mesh.faces f.face []) f.at 0)) f.holds;
       };
     }
 
@@ -125,7 +125,7 @@ bounded_spanned mesh face n s flat b = bounded_by mesh face n (spanned_directed 
 pub bounded_opposite : (mesh : Mesh) (face : List ℕ) (n : Coefficients) → IsCornerPlane mesh.points face n → IsFlatFace mesh.points face → IsOuterPlane mesh face (opposite_of n) → IsFaceOfBody mesh face
 bounded_opposite mesh face n s flat b =
     bounded_by mesh face (opposite_of n) (omega (arith, spanned_directed mesh.points face n s, size_of_negative n.a, size_of_negative n.b, size_of_negative n.c))
-    (λ k d lt. value-opposite n (corner mesh.points (get_or face k d)) ∙ ap neg_ℤ (flat_on mesh.points face n s flat k d lt)) b
+    (λ k d lt. value-opposite n (mesh_point mesh.points (get_or face k d)) ∙ ap neg_ℤ (flat_on mesh.points face n s flat k d lt)) b
 
 twice : (x : ℤ) → x ≡ neg_ℤ (neg_ℤ x)
 twice x = omega (arith, sums)

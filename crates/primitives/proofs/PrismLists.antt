@@ -7,23 +7,24 @@ use Rattle.std.proofs.lemmas.List.Concat.{flat_map-append}
 use Rattle.std.proofs.lemmas.List.Elements.{All-append, All-cons, All-head, All-nil, All-tail}
 use Rattle.std.proofs.lemmas.List.FromFn.{get_or-range_with_len, length-range_with_len, map-range_with_len_more}
 use Rattle.plane_predicate.specs.Space.{point_at}
-use Rattle.primitives.specs.Shapes.{corner}
+use Rattle.primitives.specs.Shapes.{mesh_point}
 use Rattle.primitives.proofs.Moves.{whole}
-use Rattle.primitives.specs.Polygons.{x_of, y_of, next_point, point}
-use Rattle.primitives.specs.Prisms.{at_height, is_same_point, side_over, sides_over, prism_faces, prism_points}
+use Rattle.primitives.specs.Polygons.{x_of, y_of, polygon_point}
+use Rattle.primitives.specs.Prisms.{at_height, is_same_flat_point, side_over, sides_over, prism_faces, prism_points}
+use Rattle.plane_predicate.specs.Indices.{index_after}
 
 -- ---- the corners
 pub length_points : (points : List (List ℤ)) (low high : ℤ) → length (prism_points points low high) ≡ length points + length points
 length_points points low high = omega (arith, length-append (map (at_height low) points) (map (at_height high) points), length-map points (at_height low), length-map points (at_height high))
 
-pub low_corner : (points : List (List ℤ)) (low high : ℤ) (i : ℕ) → i < length points → corner (prism_points points low high) i ≡ whole (x_of (point points i)) (y_of (point points i)) low
+pub low_corner : (points : List (List ℤ)) (low high : ℤ) (i : ℕ) → i < length points → mesh_point (prism_points points low high) i ≡ whole (x_of (polygon_point points i)) (y_of (polygon_point points i)) low
 low_corner points low high i lt =
     ap point_at (
     get_or_append_left (map (at_height low) points) (map (at_height high) points) [] i (omega (arith, lt, length-map points (at_height low)))
     ∙ get_or-map (at_height low) points i [] [] lt
     )
 
-pub high_corner : (points : List (List ℤ)) (low high : ℤ) (i : ℕ) → i < length points → corner (prism_points points low high) (length points + i) ≡ whole (x_of (point points i)) (y_of (point points i)) high
+pub high_corner : (points : List (List ℤ)) (low high : ℤ) (i : ℕ) → i < length points → mesh_point (prism_points points low high) (length points + i) ≡ whole (x_of (polygon_point points i)) (y_of (polygon_point points i)) high
 high_corner points low high i lt =
     ap point_at (
     ap (λ (n : ℕ). get_or (prism_points points low high) (n + i) []) (sym (length-map points (at_height low)))
@@ -56,13 +57,13 @@ abbrev pub side_face : ℕ → ℕ → ℕ → List ℕ
 side_face n i j = i ∷ j ∷ (n + j) ∷ (n + i) ∷ []
 
 -- the side over point i, with i as an item of the range
-all_from_zero : (P : List ℕ → Type 0) (points : List (List ℤ)) → ((i : ℕ) → i < length points → is_same_point (point points i) (point points (next_point (length points) i)) ≡ false → P (side_face (length points) i (next_point (length points) i))) → (i : ℕ) → i < length points → All P (side_over points (0 + i))
+all_from_zero : (P : List ℕ → Type 0) (points : List (List ℤ)) → ((i : ℕ) → i < length points → is_same_flat_point (polygon_point points i) (polygon_point points (index_after (length points) i)) ≡ false → P (side_face (length points) i (index_after (length points) i))) → (i : ℕ) → i < length points → All P (side_over points (0 + i))
 all_from_zero P points h i lt =
     let e : i ≡ 0 + i = omega arith in
     subst (λ (k : ℕ). All P (side_over points k)) e
-    (all_cond P (side_face (length points) i (next_point (length points) i)) (is_same_point (point points i) (point points (next_point (length points) i))) (h i lt))
+    (all_cond P (side_face (length points) i (index_after (length points) i)) (is_same_flat_point (polygon_point points i) (polygon_point points (index_after (length points) i))) (h i lt))
 
-pub all_sides : (P : List ℕ → Type 0) (points : List (List ℤ)) → ((i : ℕ) → i < length points → is_same_point (point points i) (point points (next_point (length points) i)) ≡ false → P (side_face (length points) i (next_point (length points) i))) → All P (sides_over points (length points))
+pub all_sides : (P : List ℕ → Type 0) (points : List (List ℤ)) → ((i : ℕ) → i < length points → is_same_flat_point (polygon_point points i) (polygon_point points (index_after (length points) i)) ≡ false → P (side_face (length points) i (index_after (length points) i))) → All P (sides_over points (length points))
 all_sides P points h =
     all_flat_map P (side_over points) (range_with_len 0 (length points))
     (all_range (λ (i : ℕ). All P (side_over points i)) 0 (length points) (λ i lt. all_from_zero P points h i lt))
@@ -86,15 +87,15 @@ after_case : (n i : ℕ) → i < n → (b : Bool) → eqb (suc i) n ≡ b → co
 after_case n i lt true e = omega arith
 after_case n i lt false e = let apart = eqb-false (suc i) n e in omega (arith, apart)
 
-pub after_in : (n i : ℕ) → i < n → next_point n i < n
+pub after_in : (n i : ℕ) → i < n → index_after n i < n
 after_in n i lt = after_case n i lt (eqb (suc i) n) refl
 
 -- ---- the steps of the loops
-pub end_next : (points : List (List ℤ)) (i : ℕ) (z : ℤ) (first corners more : List (List ℤ)) → i < length points → corners ≡ first ++ map (at_height z) (take i points) → more ≡ corners ++ at_height z (point points i) ∷ [] → more ≡ first ++ map (at_height z) (take (i + 1) points)
+pub end_next : (points : List (List ℤ)) (i : ℕ) (z : ℤ) (first corners more : List (List ℤ)) → i < length points → corners ≡ first ++ map (at_height z) (take i points) → more ≡ corners ++ at_height z (polygon_point points i) ∷ [] → more ≡ first ++ map (at_height z) (take (i + 1) points)
 end_next points i z first corners more lt ec em =
     em
-    ∙ ap (λ (xs : List (List ℤ)). xs ++ at_height z (point points i) ∷ []) ec
-    ∙ append_assoc first (map (at_height z) (take i points)) (at_height z (point points i) ∷ [])
+    ∙ ap (λ (xs : List (List ℤ)). xs ++ at_height z (polygon_point points i) ∷ []) ec
+    ∙ append_assoc first (map (at_height z) (take i points)) (at_height z (polygon_point points i) ∷ [])
     ∙ ap (λ (xs : List (List ℤ)). first ++ xs) (sym (map_more (at_height z) points i [] lt))
 
 pub range_next : (a n : ℕ) → range_with_len a (n + 1) ≡ range_with_len a n ++ (a + n) ∷ []
@@ -111,17 +112,17 @@ sides_next points i =
     ∙ ap (λ (fs : List (List ℕ)). sides_over points i ++ fs) (append-nil (side_over points (0 + i)) ∙ ap (side_over points) e)
 
 -- the side over one more point
-pub side_added : (points : List (List ℤ)) (i j : ℕ) (sides more : List (List ℕ)) (face : List ℕ) → sides ≡ sides_over points i → j ≡ next_point (length points) i → face ≡ side_face (length points) i j → is_same_point (point points i) (point points j) ≡ false → more ≡ sides ++ face ∷ [] → more ≡ sides_over points (i + 1)
+pub side_added : (points : List (List ℤ)) (i j : ℕ) (sides more : List (List ℕ)) (face : List ℕ) → sides ≡ sides_over points i → j ≡ index_after (length points) i → face ≡ side_face (length points) i j → is_same_flat_point (polygon_point points i) (polygon_point points j) ≡ false → more ≡ sides ++ face ∷ [] → more ≡ sides_over points (i + 1)
 side_added points i j sides more face es ej ef apart em =
     let n = length points in
-    let fixed : is_same_point (point points i) (point points (next_point n i)) ≡ false = subst (λ (k : ℕ). is_same_point (point points i) (point points k) ≡ false) ej apart in
-    let over : side_over points i ≡ face ∷ [] = ap (λ (b : Bool). cond b [] (side_face n i (next_point n i) ∷ [])) fixed ∙ ap (λ (f : List ℕ). f ∷ []) (sym (ef ∙ ap (side_face n i) ej)) in
+    let fixed : is_same_flat_point (polygon_point points i) (polygon_point points (index_after n i)) ≡ false = subst (λ (k : ℕ). is_same_flat_point (polygon_point points i) (polygon_point points k) ≡ false) ej apart in
+    let over : side_over points i ≡ face ∷ [] = ap (λ (b : Bool). cond b [] (side_face n i (index_after n i) ∷ [])) fixed ∙ ap (λ (f : List ℕ). f ∷ []) (sym (ef ∙ ap (side_face n i) ej)) in
     em ∙ ap₂ (λ (xs ys : List (List ℕ)). xs ++ ys) es (sym over) ∙ sym (sides_next points i)
 
 -- no side over one more point, which is the same as the next one
-pub side_skipped : (points : List (List ℤ)) (i j : ℕ) (sides more : List (List ℕ)) → sides ≡ sides_over points i → j ≡ next_point (length points) i → is_same_point (point points i) (point points j) ≡ true → more ≡ sides → more ≡ sides_over points (i + 1)
+pub side_skipped : (points : List (List ℤ)) (i j : ℕ) (sides more : List (List ℕ)) → sides ≡ sides_over points i → j ≡ index_after (length points) i → is_same_flat_point (polygon_point points i) (polygon_point points j) ≡ true → more ≡ sides → more ≡ sides_over points (i + 1)
 side_skipped points i j sides more es ej same em =
     let n = length points in
-    let fixed : is_same_point (point points i) (point points (next_point n i)) ≡ true = subst (λ (k : ℕ). is_same_point (point points i) (point points k) ≡ true) ej same in
-    let over : side_over points i ≡ [] = ap (λ (b : Bool). cond b [] (side_face n i (next_point n i) ∷ [])) fixed in
+    let fixed : is_same_flat_point (polygon_point points i) (polygon_point points (index_after n i)) ≡ true = subst (λ (k : ℕ). is_same_flat_point (polygon_point points i) (polygon_point points k) ≡ true) ej same in
+    let over : side_over points i ≡ [] = ap (λ (b : Bool). cond b [] (side_face n i (index_after n i) ∷ [])) fixed in
     em ∙ es ∙ sym (append-nil (sides_over points i)) ∙ ap (λ (xs : List (List ℕ)). sides_over points i ++ xs) (sym over) ∙ sym (sides_next points i)

@@ -4,8 +4,8 @@ use Rattle.std.proofs.lemmas.List.{get_or_default, length-map}
 use Rattle.std.proofs.lemmas.List.FromFn.{get_or-range_with_len, length-range_with_len}
 use Rattle.plane_predicate.specs.Space.{Coefficients, point_at, value}
 use Rattle.int_transform.specs.declared.affine.Affine.{Affine}
-use Rattle.int_transform.specs.Maps.{coordinates, image}
-use Rattle.primitives.specs.Shapes.{Mesh, value_at, IsPlaneOfFace}
+use Rattle.int_transform.specs.Maps.{coordinate_list, image}
+use Rattle.primitives.specs.Shapes.{Mesh, value_at_point, IsPlaneOfFace}
 use Rattle.primitives.specs.Placing.{moved_mesh, ArePlanesOf}
 use Rattle.primitives.proofs.Distinct.{all_of_distinct}
 use Rattle.primitives.proofs.Lists.{zip_second}
@@ -16,7 +16,7 @@ abbrev AreBehind : Mesh → Coefficients → Type 0
 AreBehind mesh m = All (λ (p : List ℤ). value m (point_at p) ≤ℤ pos 0) mesh.points
 
 abbrev IsAtMost : Mesh → Coefficients → ℕ → Type 0
-IsAtMost mesh m i = value_at mesh.points m i ≤ℤ pos 0
+IsAtMost mesh m i = value_at_point mesh.points m i ≤ℤ pos 0
 
 -- the corners of the ends, which are faces
 low_most : (f : Affine) (points : List (List ℤ)) (low high : ℤ) (face : List ℕ) (m : Coefficients) → IsPlaneOfFace (moved_mesh f (prism_of points low high)) face m → (i : ℕ) → i < length points → IsAtMost (moved_mesh f (prism_of points low high)) m i
@@ -45,7 +45,7 @@ each_behind f points low high face m is =
     let n = length points in
     let mesh = moved_mesh f (prism_of points low high) in
     let count : length mesh.points ≡ n + n =
-    length-map (prism_points points low high) (λ (p : List ℤ). coordinates (image f (point_at p))) ∙ length_points points low high in
+    length-map (prism_points points low high) (λ (p : List ℤ). coordinate_list (image f (point_at p))) ∙ length_points points low high in
     λ k d lt. subst (λ (p : List ℤ). value m (point_at p) ≤ℤ pos 0) (get_or_default mesh.points k [] d lt)
     (each_corner (IsAtMost mesh m) n (low_most f points low high face m is) (high_most f points low high face m is) k (omega (arith, lt, count)))
 

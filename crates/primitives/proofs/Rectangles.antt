@@ -7,7 +7,7 @@ use Rattle.plane_predicate.proofs.Polynomials.{Poly, var, minus, times, ring}
 use Rattle.plane_predicate.proofs.Signs.{least_least, pos_pos}
 use Rattle.plane_predicate.proofs.Vectors.{minorP}
 use Rattle.primitives.specs.Sizes.{AreSizes}
-use Rattle.primitives.specs.Polygons.{orientation, rectangle_of, square_of, GoesLeft, IsConvex, IsFlatShape, IsSafePoint}
+use Rattle.primitives.specs.Polygons.{orientation, rectangle_of, square_of, GoesLeft, IsConvexPolygon, IsFlatShape, IsSafePoint}
 use Rattle.primitives.proofs.EndFaces.{AreEnds, ends_of_side}
 
 abbrev turnP : Poly → Poly → Poly → Poly → Poly → Poly → Poly
@@ -63,7 +63,7 @@ goes_round a b c d hx hy (suc (suc (suc zero))) lt =
     (least_turn _ c d a a (left_way a c d a c) y (most_itself a), (least_turn _ c d a b (left_way a c d b c) y x, (least_turn _ c d a b (left_way a c d b d) y x, (least_turn _ c d a a (left_way a c d a d) y (most_itself a), tt))))
 goes_round a b c d hx hy (suc (suc (suc (suc n)))) lt = absurd (omega arith)
 
-rectangle_convex : (a b c d : ℤ) → a <ℤ b → c <ℤ d → IsConvex (rectangle_of a b c d)
+rectangle_convex : (a b c d : ℤ) → a <ℤ b → c <ℤ d → IsConvexPolygon (rectangle_of a b c d)
 rectangle_convex a b c d hx hy = record {
   goes = inl (goes_round a b c d hx hy);
   corner = record { first = 0; second = 1; third = 2; first_in = omega arith; second_in = omega arith; third_in = omega arith; apart = some_turn _ a b c d (low_way a b c b d) hx hy };

@@ -6,7 +6,7 @@ use Rattle.plane_predicate.specs.Space.{Coordinates, point_at, IsInReach}
 use Rattle.plane_predicate.proofs.IntegerRing.{sums}
 use Rattle.plane_predicate.proofs.Signs.{signs}
 use Rattle.int_transform.specs.Maps.{HasSafeCoordinates}
-use Rattle.primitives.specs.Shapes.{Mesh, value_at, HasBodyBehind, HasFreeSide, IsPlaneOfFace, IsInRange, IsShape, MakesShape}
+use Rattle.primitives.specs.Shapes.{Mesh, value_at_point, HasBodyBehind, HasFreeSide, IsPlaneOfFace, IsPointInRange, IsShape, MakesShape}
 use Rattle.primitives.specs.GridSizes.{IsWithinGridLimits}
 
 -- a corner at which a number isn't 0
@@ -50,8 +50,8 @@ face_plane : (mesh : Mesh) → MakesShape mesh → (face : List ℕ) (s : HasFre
 face_plane mesh m face s = record { directed = s.directed; on = s.on; none_ahead = λ f d hf i e hi. s.none_ahead (get_or (get_or mesh.faces f d) i e) [] (m.there f d hf i e hi) }
 
 has_body : (mesh : Mesh) → MakesShape mesh → (face : List ℕ) → HasFreeSide mesh.points face → HasBodyBehind mesh face
-has_body mesh m face s = elim (other_face (value_at mesh.points s.plane) mesh.faces) [
-  | inl all ↦ absurd (m.solid (record { plane = s.plane; directed = s.directed; on = All-from_recursion (λ g. All (λ i. value_at mesh.points s.plane i ≡ pos 0) g) mesh.faces all }))
+has_body mesh m face s = elim (other_face (value_at_point mesh.points s.plane) mesh.faces) [
+  | inl all ↦ absurd (m.solid (record { plane = s.plane; directed = s.directed; on = All-from_recursion (λ g. All (λ i. value_at_point mesh.points s.plane i ≡ pos 0) g) mesh.faces all }))
   | inr o ↦ (
       let is = face_plane mesh m face s in
       record {
@@ -61,11 +61,11 @@ has_body mesh m face s = elim (other_face (value_at mesh.points s.plane) mesh.fa
         at = o.corner.at;
         at_face_in = o.within;
         at_in = o.corner.within;
-        behind = below_by (value_at mesh.points s.plane (get_or (get_or mesh.faces o.face []) o.corner.at 0)) (is.none_ahead o.face [] o.within o.corner.at 0 o.corner.within) o.corner.off;
+        behind = below_by (value_at_point mesh.points s.plane (get_or (get_or mesh.faces o.face []) o.corner.at 0)) (is.none_ahead o.face [] o.within o.corner.at 0 o.corner.within) o.corner.off;
       })
 ]
 
-safe_by : (p : Coordinates) → IsInRange p → HasSafeCoordinates p
+safe_by : (p : Coordinates) → IsPointInRange p → HasSafeCoordinates p
 safe_by p h = record { x_size = omega (arith, h.x_size); y_size = omega (arith, h.y_size); z_size = omega (arith, h.z_size) }
 
 pub same_mesh : (p q : List (List ℤ)) (f g : List (List ℕ)) → p ≡ q → f ≡ g → let m : Mesh = record { points = p; faces = f } in m ≡ record { points = q; faces = g }
@@ -86,5 +86,5 @@ grid_by p h = record { x_size = omega (arith, h.x_size); y_size = omega (arith, 
 pub reach_on_grid : (points : List (List ℤ)) → All (λ p. IsInReach (point_at p)) points → All (λ p. IsWithinGridLimits (point_at p)) points
 reach_on_grid points h = λ k d lt. grid_by (get_or points k d) (h k d lt)
 
-pub range_on_grid : (points : List (List ℤ)) → All (λ p. IsInRange (point_at p)) points → All (λ p. IsWithinGridLimits (point_at p)) points
+pub range_on_grid : (points : List (List ℤ)) → All (λ p. IsPointInRange (point_at p)) points → All (λ p. IsWithinGridLimits (point_at p)) points
 range_on_grid points h = λ k d lt. (let r = h k d lt in record { x_size = omega (arith, r.x_size); y_size = omega (arith, r.y_size); z_size = omega (arith, r.z_size) })

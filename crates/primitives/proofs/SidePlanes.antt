@@ -9,8 +9,8 @@ use Rattle.plane_predicate.proofs.Signs.{signs, zero_cancel}
 use Rattle.plane_predicate.proofs.Vectors.{valueP, minorP}
 use Rattle.primitives.proofs.Moves.{cancelled, whole, wholeP}
 use Rattle.primitives.proofs.OnePlane.{some_direction}
-use Rattle.primitives.specs.Polygons.{x_of, y_of, orientation, point, HasCorner}
-use Rattle.primitives.specs.Prisms.{is_same_point}
+use Rattle.primitives.specs.Polygons.{x_of, y_of, orientation, polygon_point, HasCorner}
+use Rattle.primitives.specs.Prisms.{is_same_flat_point}
 
 -- upright, over the way from p to q, with what lies to the left behind it
 abbrev pub side_plane : List ℤ → List ℤ → Coefficients
@@ -58,7 +58,7 @@ both_true a b c d e f =
 true_is_false : {P : Type 0} → true ≡ false → P
 true_is_false e = cc
 
-pub points_differ : (p q : List ℤ) → is_same_point p q ≡ false → Differ p q
+pub points_differ : (p q : List ℤ) → is_same_flat_point p q ≡ false → Differ p q
 points_differ p q e = record { apart = λ f g. true_is_false (sym (both_true (x_of p) (y_of p) (x_of q) (y_of q) f g) ∙ e) }
 
 turned : (a b : ℤ) → b -ℤ a ≡ pos 0 → a -ℤ b ≡ pos 0
@@ -77,7 +77,7 @@ side_directed p q h = some_direction (side_plane p q).a (side_plane p q).b (side
 pub record IsLeftAt (points : List (List ℤ)) (p q : List ℤ) : Type 0 where
   pub at : ℕ
   pub at_in : at < length points
-  pub left : pos 0 <ℤ orientation p q (point points at)
+  pub left : pos 0 <ℤ orientation p q (polygon_point points at)
 
 across_x : (dx dy p q a b c d e f : ℤ) →
     let at = λ (x y : ℤ). minor dx dy (x -ℤ p) (y -ℤ q) in
@@ -115,7 +115,7 @@ one_line p q a b c h ha hb hc apart =
 -- some point is strictly to the left of a way that none is strictly to the right of
 pub left_of_way : (points : List (List ℤ)) (p q : List ℤ) → HasCorner points → Differ p q → All (λ (r : List ℤ). pos 0 ≤ℤ orientation p q r) points → IsLeftAt points p q
 left_of_way points p q k h least =
-    let a = point points k.first in let b = point points k.second in let c = point points k.third in
+    let a = polygon_point points k.first in let b = polygon_point points k.second in let c = polygon_point points k.third in
     elim (signs (orientation p q a)) [
       | inl below ↦ absurd (omega (arith, sums, below, least k.first [] k.first_in))
       | inr other ↦ elim other [

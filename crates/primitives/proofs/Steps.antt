@@ -2,8 +2,8 @@
 use Rattle.std.proofs.Common.{◌≤◌, arith, unsigned_abs}
 use Rattle.plane_predicate.specs.declared.unit.Unit.{Unit as LengthUnit}
 use Rattle.plane_predicate.specs.declared.unit.Unit.TheVariants.{Whole, Half}
-use Rattle.plane_predicate.specs.Units.{steps_of}
+use Rattle.plane_predicate.specs.Units.{grid_steps_per_unit}
 
-pub steps_size : (unit : LengthUnit) → unsigned_abs (steps_of unit) ≤ 2
+pub steps_size : (unit : LengthUnit) → unsigned_abs (grid_steps_per_unit unit) ≤ 2
 steps_size Whole = omega arith
 steps_size Half = omega arith

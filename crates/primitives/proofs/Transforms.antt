@@ -2,14 +2,14 @@
 use Rattle.std.proofs.Common.{◌≡◌, ℕ, ◌+◌, ◌<◌, List, [], ◌∷◌, length, get_or, map, refl, sym, ap, ◌∙◌, subst, arith, ℤ, pos, ◌+ℤ◌, ◌-ℤ◌, ◌*ℤ◌, ◌<ℤ◌, ◌≤ℤ◌, unsigned_abs, All, Any, ◌↔◌}
 use Rattle.std.specs.List.{AllZip}
 use Rattle.std.proofs.lemmas.List.{get_or-map, get_or_default, length-map}
-use Rattle.plane_predicate.specs.Space.{Coefficients, Coordinates, point_at, value, AreCollinear, IsInReach}
+use Rattle.plane_predicate.specs.Space.{Coefficients, Coordinates, point_at, value, AreCollinear, IsInReach, ComesInReach}
 use Rattle.plane_predicate.proofs.IntegerRing.{sums, mul_comm_ℤ, zero_mul}
 use Rattle.plane_predicate.proofs.Polynomials.{var, num, plus, times, minus, ring}
 use Rattle.plane_predicate.proofs.Signs.{pos_neg, least_most}
 use Rattle.int_transform.specs.declared.affine.Affine.{Affine}
-use Rattle.int_transform.specs.Maps.{coordinates, determinant_of, image}
-use Rattle.primitives.specs.Shapes.{Mesh, corner, value_at, HasTriangle, IsBehindFace, IsFaceOfShape, IsPlaneOfFace, IsInside, IsShape}
-use Rattle.primitives.specs.Placing.{moved_mesh, ArePlanesOf, IsBehindAll, MeetsReach}
+use Rattle.int_transform.specs.Maps.{coordinate_list, determinant_of, image}
+use Rattle.primitives.specs.Shapes.{Mesh, mesh_point, value_at_point, HasTriangle, IsBehindFace, IsFaceOfShape, IsPlaneOfFace, IsInside, IsShape}
+use Rattle.primitives.specs.Placing.{moved_mesh, ArePlanesOf, IsBehindAll}
 use Rattle.primitives.proofs.Distinct.{all_from_distinct, all_of_distinct, some_distinct}
 use Rattle.primitives.proofs.FacePlanes.{behind_body, behind_each}
 use Rattle.primitives.proofs.Lists.{zip_first, zip_second}
@@ -33,8 +33,8 @@ directed_by m p q on off =
     some_direction m.a m.b m.c (λ ea eb ec. not_zero_below (value m q) off (flat_at m.a m.b m.c m.d q.x q.y q.z q.w ea eb ec (flat_offset m.a m.b m.c m.d (get_or p 0 (pos 0)) (get_or p 1 (pos 0)) (get_or p 2 (pos 0)) ea eb ec on)))
 
 -- ---- corners
-pub corner-moved_mesh : (f : Affine) (points : List (List ℤ)) (i : ℕ) → i < length points → corner (map (λ (p : List ℤ). coordinates (image f (point_at p))) points) i ≡ image f (corner points i)
-corner-moved_mesh f points i lt = ap point_at (get_or-map (λ (p : List ℤ). coordinates (image f (point_at p))) points i [] [] lt)
+pub corner-moved_mesh : (f : Affine) (points : List (List ℤ)) (i : ℕ) → i < length points → mesh_point (map (λ (p : List ℤ). coordinate_list (image f (point_at p))) points) i ≡ image f (mesh_point points i)
+corner-moved_mesh f points i lt = ap point_at (get_or-map (λ (p : List ℤ). coordinate_list (image f (point_at p))) points i [] [] lt)
 
 -- the corners of all faces are there
 abbrev pub AreThere : Mesh → List ℕ → Type 0
@@ -44,7 +44,7 @@ faces_there : (mesh : Mesh) → All (IsFaceOfShape mesh) mesh.faces → All (Are
 faces_there mesh h = λ k d lt. (h k d lt).there
 
 -- the value of a plane at a moved corner
-value-moved_mesh : (f : Affine) (mesh : Mesh) (m : Coefficients) (i : ℕ) → i < length mesh.points → value_at (moved_mesh f mesh).points m i ≡ value m (image f (corner mesh.points i))
+value-moved_mesh : (f : Affine) (mesh : Mesh) (m : Coefficients) (i : ℕ) → i < length mesh.points → value_at_point (moved_mesh f mesh).points m i ≡ value m (image f (mesh_point mesh.points i))
 value-moved_mesh f mesh m i lt = ap (value m) (corner-moved_mesh f mesh.points i lt)
 
 times_zero : (x y z : ℤ) → x ≡ y *ℤ z → z ≡ pos 0 → x ≡ pos 0
@@ -59,24 +59,24 @@ times_below x y z e hy hz = subst (λ (n : ℤ). n <ℤ pos 0) (sym e) (pos_neg 
 -- ---- face planes
 pub plane_after : (f : Affine) (mesh : Mesh) (face : List ℕ) → All (AreThere mesh) mesh.faces → AreThere mesh face → 0 < length face → (m : Coefficients) (n : Follows f m) → IsPlaneOfFace mesh face m → (p : Coordinates) → value m p <ℤ pos 0 → IsPlaneOfFace (moved_mesh f mesh) face n.plane
 plane_after f mesh face all there some m n h p below =
-    let on : All (λ (i : ℕ). value_at (moved_mesh f mesh).points n.plane i ≡ pos 0) face = λ k d lt. times_zero _ n.by (value_at mesh.points m (get_or face k d)) (value-moved_mesh f mesh n.plane (get_or face k d) (there k d lt) ∙ n.times (corner mesh.points (get_or face k d))) (h.on k d lt) in
+    let on : All (λ (i : ℕ). value_at_point (moved_mesh f mesh).points n.plane i ≡ pos 0) face = λ k d lt. times_zero _ n.by (value_at_point mesh.points m (get_or face k d)) (value-moved_mesh f mesh n.plane (get_or face k d) (there k d lt) ∙ n.times (mesh_point mesh.points (get_or face k d))) (h.on k d lt) in
     record {
       directed = directed_by n.plane (get_or (moved_mesh f mesh).points (get_or face 0 0) []) (image f p) (on 0 0 some) (times_below _ n.by (value m p) (n.times p) n.above below);
       on = on;
       none_ahead = λ g e hg k d hk.
           let i = get_or (get_or mesh.faces g e) k d in
-          times_most _ n.by (value_at mesh.points m i) (value-moved_mesh f mesh n.plane i (all g e hg k d hk) ∙ n.times (corner mesh.points i)) n.above (h.none_ahead g e hg k d hk);
+          times_most _ n.by (value_at_point mesh.points m i) (value-moved_mesh f mesh n.plane i (all g e hg k d hk) ∙ n.times (mesh_point mesh.points i)) n.above (h.none_ahead g e hg k d hk);
     }
 
 pub plane_before : (f : Affine) (mesh : Mesh) (face : List ℕ) → All (AreThere mesh) mesh.faces → AreThere mesh face → 0 < length face → (m : Coefficients) → IsPlaneOfFace (moved_mesh f mesh) face m → (p : Coordinates) → value m (image f p) <ℤ pos 0 → IsPlaneOfFace mesh face (pulled m f)
 plane_before f mesh face all there some m h p below =
-    let on : All (λ (i : ℕ). value_at mesh.points (pulled m f) i ≡ pos 0) face = λ k d lt. value-pulled m f (corner mesh.points (get_or face k d)) ∙ sym (value-moved_mesh f mesh m (get_or face k d) (there k d lt)) ∙ h.on k d lt in
+    let on : All (λ (i : ℕ). value_at_point mesh.points (pulled m f) i ≡ pos 0) face = λ k d lt. value-pulled m f (mesh_point mesh.points (get_or face k d)) ∙ sym (value-moved_mesh f mesh m (get_or face k d) (there k d lt)) ∙ h.on k d lt in
     record {
       directed = directed_by (pulled m f) (get_or mesh.points (get_or face 0 0) []) p (on 0 0 some) (subst (λ (n : ℤ). n <ℤ pos 0) (sym (value-pulled m f p)) below);
       on = on;
       none_ahead = λ g e hg k d hk.
           let i = get_or (get_or mesh.faces g e) k d in
-          subst (λ (n : ℤ). n ≤ℤ pos 0) (value-moved_mesh f mesh m i (all g e hg k d hk) ∙ sym (value-pulled m f (corner mesh.points i))) (h.none_ahead g e hg k d hk);
+          subst (λ (n : ℤ). n ≤ℤ pos 0) (value-moved_mesh f mesh m i (all g e hg k d hk) ∙ sym (value-pulled m f (mesh_point mesh.points i))) (h.none_ahead g e hg k d hk);
     }
 
 -- ---- faces
@@ -106,16 +106,16 @@ face_after f mesh regular all face is =
     let n = plane_follows f is.body.plane regular in
     let i = get_or (get_or mesh.faces is.body.at_face []) is.body.at 0 in
     record {
-      there = λ k d lt. subst (λ (n : ℕ). get_or face k d < n) (sym (length-map mesh.points (λ (p : List ℤ). coordinates (image f (point_at p))))) (is.there k d lt);
+      there = λ k d lt. subst (λ (n : ℕ). get_or face k d < n) (sym (length-map mesh.points (λ (p : List ℤ). coordinate_list (image f (point_at p))))) (is.there k d lt);
       triangle = triangle_after f mesh face regular is.there is.triangle;
       body = record {
         plane = n.plane;
-        is = plane_after f mesh face (faces_there mesh all) is.there (some_corner mesh.points face is.triangle) is.body.plane n is.body.is (corner mesh.points i) is.body.behind;
+        is = plane_after f mesh face (faces_there mesh all) is.there (some_corner mesh.points face is.triangle) is.body.plane n is.body.is (mesh_point mesh.points i) is.body.behind;
         at_face = is.body.at_face;
         at = is.body.at;
         at_face_in = is.body.at_face_in;
         at_in = is.body.at_in;
-        behind = times_below _ n.by (value_at mesh.points is.body.plane i) (value-moved_mesh f mesh n.plane i (faces_there mesh all is.body.at_face [] is.body.at_face_in is.body.at 0 is.body.at_in) ∙ n.times (corner mesh.points i)) n.above is.body.behind;
+        behind = times_below _ n.by (value_at_point mesh.points is.body.plane i) (value-moved_mesh f mesh n.plane i (faces_there mesh all is.body.at_face [] is.body.at_face_in is.body.at 0 is.body.at_in) ∙ n.times (mesh_point mesh.points i)) n.above is.body.behind;
       };
     }
 
@@ -156,10 +156,10 @@ inside-planes mesh all planes h p =
     )
 
 -- ---- the planes of placed points
-pub planes_meet_reach : (mesh : Mesh) → All (IsFaceOfShape mesh) mesh.faces → All (λ (p : List ℤ). IsInReach (point_at p)) mesh.points → (planes : List Coefficients) → ArePlanesOf mesh mesh.faces planes → All MeetsReach planes
+pub planes_meet_reach : (mesh : Mesh) → All (IsFaceOfShape mesh) mesh.faces → All (λ (p : List ℤ). IsInReach (point_at p)) mesh.points → (planes : List Coefficients) → ArePlanesOf mesh mesh.faces planes → All ComesInReach planes
 planes_meet_reach mesh all reach planes h =
-    subst (All MeetsReach) (sym h.first) (all_of_distinct MeetsReach h.all (zip_second (IsPlaneOfFace mesh) (IsFaceOfShape mesh) MeetsReach
-    (λ face m r is. record { point = corner mesh.points (get_or face 0 0); reach = reach (get_or face 0 0) [] (is.there 0 0 (some_corner mesh.points face is.triangle)); on = r.on 0 0 (some_corner mesh.points face is.triangle) }) mesh.faces h.all h.each all))
+    subst (All ComesInReach) (sym h.first) (all_of_distinct ComesInReach h.all (zip_second (IsPlaneOfFace mesh) (IsFaceOfShape mesh) ComesInReach
+    (λ face m r is. record { point = mesh_point mesh.points (get_or face 0 0); reach = reach (get_or face 0 0) [] (is.there 0 0 (some_corner mesh.points face is.triangle)); on = r.on 0 0 (some_corner mesh.points face is.triangle) }) mesh.faces h.all h.each all))
 
 -- ---- a placed shape, by its points and faces
 pub record IsPlaced (f : Affine) (mesh : Mesh) (points : List (List ℤ)) (faces : List (List ℕ)) : Type 0 where
@@ -198,20 +198,20 @@ some_placed f mesh points faces planes h r =
     let q = planes_placed f mesh points faces planes h r in
     subst (λ (ps : List Coefficients). 0 < length ps) (sym q.first) (some_distinct q.all (some_planes (moved_mesh f mesh) mesh.faces q.all q.each h.shape.some))
 
-pub reach_placed : (f : Affine) (mesh : Mesh) (points : List (List ℤ)) (faces : List (List ℕ)) (planes : List Coefficients) → IsPlaced f mesh points faces → ArePlanesOf (record { points = points; faces = faces }) faces planes → All (λ (p : List ℤ). IsInReach (point_at p)) points → All MeetsReach planes
+pub reach_placed : (f : Affine) (mesh : Mesh) (points : List (List ℤ)) (faces : List (List ℕ)) (planes : List Coefficients) → IsPlaced f mesh points faces → ArePlanesOf (record { points = points; faces = faces }) faces planes → All (λ (p : List ℤ). IsInReach (point_at p)) points → All ComesInReach planes
 reach_placed f mesh points faces planes h r reach =
     planes_meet_reach (moved_mesh f mesh) (faces_after f mesh (h.regular (some_points mesh h.shape)) h.shape.faces) (subst (All (λ (p : List ℤ). IsInReach (point_at p))) h.points_are reach) planes (planes_placed f mesh points faces planes h r)
 
 -- ---- the points of a placed shape
-pub images_in_reach : (f : Affine) (points images : List (List ℤ)) → images ≡ map (λ (p : List ℤ). coordinates (image f (point_at p))) points → All (λ (p : List ℤ). IsInReach (point_at p)) images → All (λ (p : List ℤ). IsInReach (image f (point_at p))) points
+pub images_in_reach : (f : Affine) (points images : List (List ℤ)) → images ≡ map (λ (p : List ℤ). coordinate_list (image f (point_at p))) points → All (λ (p : List ℤ). IsInReach (point_at p)) images → All (λ (p : List ℤ). IsInReach (image f (point_at p))) points
 images_in_reach f points images e h k d lt =
-    let g = (λ (p : List ℤ). coordinates (image f (point_at p))) in
+    let g = (λ (p : List ℤ). coordinate_list (image f (point_at p))) in
     let lt' : k < length images = omega (arith, ap length e, length-map points g) in
     subst (λ (p : List ℤ). IsInReach (point_at p)) (ap (λ (ps : List (List ℤ)). get_or ps k []) e ∙ get_or-map g points k d [] lt) (h k [] lt')
 
-pub image_past_reach : (f : Affine) (points images : List (List ℤ)) → images ≡ map (λ (p : List ℤ). coordinates (image f (point_at p))) points → Any (λ (p : List ℤ). IsInReach (point_at p) → ⊥) images → Any (λ (p : List ℤ). IsInReach (image f (point_at p)) → ⊥) points
+pub image_past_reach : (f : Affine) (points images : List (List ℤ)) → images ≡ map (λ (p : List ℤ). coordinate_list (image f (point_at p))) points → Any (λ (p : List ℤ). IsInReach (point_at p) → ⊥) images → Any (λ (p : List ℤ). IsInReach (image f (point_at p)) → ⊥) points
 image_past_reach f points images e h =
-    let g = (λ (p : List ℤ). coordinates (image f (point_at p))) in
+    let g = (λ (p : List ℤ). coordinate_list (image f (point_at p))) in
     let lt : h.0 < length points = omega (arith, ap length e, length-map points g, h.2) in
     let same : h.1 ≡ g (get_or points h.0 []) = sym h.3 ∙ ap (λ (ps : List (List ℤ)). get_or ps h.0 h.1) e ∙ get_or-map g points h.0 [] h.1 lt in
     (h.0, get_or points h.0 [], lt, get_or_default points h.0 (get_or points h.0 []) [] lt, λ reach. h.4 (subst (λ (p : List ℤ). IsInReach (point_at p)) (sym same) reach))

@@ -1,11 +1,11 @@
 -- Corners of a face that are all on one line with the first of them.
 use Rattle.std.proofs.Common.{◌≡◌, ℕ, List, [], ◌∷◌, get_or, refl, subst, sym, arith, ℤ, pos, ◌-ℤ◌, All, Option, Some, None}
 use Rattle.std.specs.Option.{IsSome, IsNone}
-use Rattle.plane_predicate.specs.Space.{Coefficients, Coordinates, minor, through, AreCollinear}
+use Rattle.plane_predicate.specs.Space.{Coefficients, Coordinates, minor, plane_of_points, AreCollinear}
 use Rattle.plane_predicate.proofs.IntegerRing.{sums}
 use Rattle.plane_predicate.proofs.Polynomials.{var, minus, ring}
 use Rattle.plane_predicate.proofs.Vectors.{minorP}
-use Rattle.primitives.specs.Shapes.{corner, HasTriangle}
+use Rattle.primitives.specs.Shapes.{mesh_point, HasTriangle}
 use Rattle.primitives.specs.Spanning.{HasNoDirection}
 
 -- one part of a cross product, from any fourth point
@@ -29,19 +29,19 @@ collinear_from o p q r h g k = record {
 }
 
 -- a face with a triangle has one with any corner of space
-pub no_lines : (points : List (List ℤ)) (face : List ℕ) (first : ℕ) → HasTriangle points face → All (λ (j : ℕ). All (λ (k : ℕ). AreCollinear (corner points first) (corner points j) (corner points k)) face) face → ⊥
+pub no_lines : (points : List (List ℤ)) (face : List ℕ) (first : ℕ) → HasTriangle points face → All (λ (j : ℕ). All (λ (k : ℕ). AreCollinear (mesh_point points first) (mesh_point points j) (mesh_point points k)) face) face → ⊥
 no_lines points face first t h =
-    t.apart (collinear_from (corner points first) (corner points (get_or face t.first 0)) (corner points (get_or face t.second 0)) (corner points (get_or face t.third 0))
+    t.apart (collinear_from (mesh_point points first) (mesh_point points (get_or face t.first 0)) (mesh_point points (get_or face t.second 0)) (mesh_point points (get_or face t.third 0))
     (h t.second 0 t.second_in t.third 0 t.third_in) (h t.second 0 t.second_in t.first 0 t.first_in) (h t.first 0 t.first_in t.third 0 t.third_in))
 
 pub some_found : {A : Type 0} (o : Option A) → (IsNone o → ⊥) → IsSome o
 some_found None h = absurd (h refl)
 some_found (Some x) h = refl
 
-pub collinear_by : (m : Coefficients) (p q r : Coordinates) → m ≡ through p q r → HasNoDirection m → AreCollinear p q r
+pub collinear_by : (m : Coefficients) (p q r : Coordinates) → m ≡ plane_of_points p q r → HasNoDirection m → AreCollinear p q r
 collinear_by m p q r e h =
-    let n : HasNoDirection (through p q r) = subst HasNoDirection e h in
+    let n : HasNoDirection (plane_of_points p q r) = subst HasNoDirection e h in
     record { a = n.a; b = n.b; c = n.c }
 
-pub apart_by : (m : Coefficients) (p q r : Coordinates) → m ≡ through p q r → (HasNoDirection m → ⊥) → AreCollinear p q r → ⊥
+pub apart_by : (m : Coefficients) (p q r : Coordinates) → m ≡ plane_of_points p q r → (HasNoDirection m → ⊥) → AreCollinear p q r → ⊥
 apart_by m p q r e h l = h (subst HasNoDirection (sym e) (record { a = l.a; b = l.b; c = l.c }))

@@ -7,7 +7,7 @@ pub mod Placing
 pub mod Stops
 pub mod GridSizes
 pub mod Spanning
-pub mod Ways
+pub mod DirectedEdges
 pub mod Checks
 pub mod CornerPlanes
 pub mod Bounding

@@ -5,23 +5,23 @@ use Rattle.std.specs.List.{AllZip}
 use Rattle.text_place.specs.declared.fault.FaultKind.TheVariants.{TooLarge, OutOfRange}
 use Rattle.plane_predicate.specs.Space.{Coefficients, Coordinates, point_at, value, IsInReach}
 use Rattle.int_transform.specs.declared.affine.Affine.{Affine}
-use Rattle.int_transform.specs.Maps.{coordinates, image, map_of, LeavesRange, StaysInRange}
+use Rattle.int_transform.specs.Maps.{coordinate_list, image, map_of, LeavesSafeCoordinates, KeepsSafeCoordinates}
 use Rattle.primitives.specs.declared.stop.ShapeStop.{ShapeStop}
 use Rattle.primitives.specs.declared.stop.ShapeStop.TheVariants.{Kind, NoMemory}
 use Rattle.primitives.specs.Shapes.{Mesh, IsPlaneOfFace}
 
 -- the shape with its points moved
 abbrev pub moved_mesh : Affine → Mesh → Mesh
-moved_mesh m mesh = record { points = map (λ p. coordinates (image m (point_at p))) mesh.points; faces = mesh.faces }
+moved_mesh m mesh = record { points = map (λ p. coordinate_list (image m (point_at p))) mesh.points; faces = mesh.faces }
 
 -- the same four numbers
-abbrev pub same : Coefficients → Coefficients → Bool
-same m n = int_eq m.a n.a && int_eq m.b n.b && int_eq m.c n.c && int_eq m.d n.d
+abbrev pub is_same_plane : Coefficients → Coefficients → Bool
+is_same_plane m n = int_eq m.a n.a && int_eq m.b n.b && int_eq m.c n.c && int_eq m.d n.d
 
 -- of equal planes the first stays
 abbrev pub distinct_planes : List Coefficients → List Coefficients
 distinct_planes [] = []
-distinct_planes (m ∷ planes) = m ∷ filter (λ n. not (same m n)) (distinct_planes planes)
+distinct_planes (m ∷ planes) = m ∷ filter (λ n. not (is_same_plane m n)) (distinct_planes planes)
 
 -- the planes of some faces in order, of equal ones the first
 pub record ArePlanesOf (mesh : Mesh) (faces : List (List ℕ)) (planes : List Coefficients) : Type 0 where
@@ -33,17 +33,11 @@ pub record ArePlanesOf (mesh : Mesh) (faces : List (List ℕ)) (planes : List Co
 abbrev pub IsBehindAll : List Coefficients → Coordinates → Type 0
 IsBehindAll planes p = All (λ m. value m p <ℤ pos 0) planes
 
--- a plane with a point whose coordinates are at most 4095 in size
-pub record MeetsReach (m : Coefficients) : Type 0 where
-  pub point : Coordinates
-  pub reach : IsInReach point
-  pub on : value m point ≡ pos 0
-
 -- why steps place points nowhere: a coordinate of one is past 2^53 - 1 in size after some step; or else one is past 4095
 -- in size at the end; or memory ran out
 abbrev pub IsPlacingStop : List Affine → List (List ℤ) → ShapeStop → Type 0
-IsPlacingStop steps points (Kind TooLarge) = Any (λ p. LeavesRange steps (point_at p)) points
-IsPlacingStop steps points (Kind OutOfRange) = All (λ p. StaysInRange steps (point_at p)) points
+IsPlacingStop steps points (Kind TooLarge) = Any (λ p. LeavesSafeCoordinates steps (point_at p)) points
+IsPlacingStop steps points (Kind OutOfRange) = All (λ p. KeepsSafeCoordinates steps (point_at p)) points
     × Any (λ p. IsInReach (image (map_of steps) (point_at p)) → ⊥) points
 IsPlacingStop steps points (Kind kind) = ⊥
 IsPlacingStop steps points NoMemory = ⊤

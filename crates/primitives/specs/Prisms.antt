@@ -6,21 +6,22 @@ use Rattle.plane_predicate.specs.Space.{Coefficients, point_at, value}
 use Rattle.plane_predicate.specs.declared.unit.Unit.{Unit as LengthUnit}
 use Rattle.primitives.specs.Shapes.{Mesh}
 use Rattle.primitives.specs.Sizes.{low_end, high_end}
-use Rattle.primitives.specs.Polygons.{x_of, y_of, point, next_point}
+use Rattle.primitives.specs.Polygons.{x_of, y_of, polygon_point}
+use Rattle.plane_predicate.specs.Indices.{index_after}
 
 -- a point of the plane at a height
 abbrev pub at_height : ℤ → List ℤ → List ℤ
 at_height z p = x_of p ∷ y_of p ∷ z ∷ []
 
 -- the same point of the plane
-abbrev pub is_same_point : List ℤ → List ℤ → Bool
-is_same_point p q = int_eq (x_of p) (x_of q) && int_eq (y_of p) (y_of q)
+abbrev pub is_same_flat_point : List ℤ → List ℤ → Bool
+is_same_flat_point p q = int_eq (x_of p) (x_of q) && int_eq (y_of p) (y_of q)
 
 -- the corners of the side over the way from point i to the next one, where the two differ
 abbrev pub side_over : List (List ℤ) → ℕ → List (List ℕ)
 side_over points i =
-    let n = length points in let j = next_point n i in
-    cond (is_same_point (point points i) (point points j)) [] ((i ∷ j ∷ (n + j) ∷ (n + i) ∷ []) ∷ [])
+    let n = length points in let j = index_after n i in
+    cond (is_same_flat_point (polygon_point points i) (polygon_point points j)) [] ((i ∷ j ∷ (n + j) ∷ (n + i) ∷ []) ∷ [])
 
 -- the sides over the first so many points, in the order of the points
 abbrev pub sides_over : List (List ℤ) → ℕ → List (List ℕ)

@@ -3,7 +3,7 @@ use Rattle.std.specs.Prelude.{◌≡◌, ◌/◌, ◌%◌, ◌≤◌, ℤ, pos, 
 use Rattle.text_place.specs.declared.fault.FaultKind.{FaultKind}
 use Rattle.text_place.specs.declared.fault.FaultKind.TheVariants.{BadSize, NotOnGrid, TooLarge}
 use Rattle.plane_predicate.specs.declared.unit.Unit.{Unit as LengthUnit}
-use Rattle.plane_predicate.specs.Units.{steps_of}
+use Rattle.plane_predicate.specs.Units.{grid_steps_per_unit}
 use Rattle.primitives.specs.declared.stop.ShapeStop.{ShapeStop}
 use Rattle.primitives.specs.declared.stop.ShapeStop.TheVariants.{Kind, NoMemory}
 
@@ -13,7 +13,7 @@ pub record IsSafe (number : ℤ) : Type 0 where
 
 -- a side or height in grid steps
 abbrev pub length_in_grid_steps : LengthUnit → ℤ → ℤ
-length_in_grid_steps unit side = steps_of unit *ℤ side
+length_in_grid_steps unit side = grid_steps_per_unit unit *ℤ side
 
 -- a side or height that is at least 1
 abbrev pub IsAtLeastOne : ℤ → Type 0

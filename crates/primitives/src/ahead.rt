@@ -3,7 +3,7 @@
 ghost use Rattle.std.specs.Prelude.{◌<◌, ◌<ℤ◌, ◌≤ℤ◌, pos, All, Any, length};
 ghost use Rattle.std.specs.Bool.{OnTrue, OnFalse};
 ghost use Rattle.plane_predicate.specs.Space.{point_at, value};
-ghost use Rattle.primitives.specs.Shapes.{value_at};
+ghost use Rattle.primitives.specs.Shapes.{value_at_point};
 ghost use Rattle.primitives.specs.GridSizes.{IsWithinGridLimits};
 
 use crate::corners::Corners;
@@ -14,9 +14,11 @@ use crate::facing::{FacePlane, is_ahead};
 pub fn has_ahead(points: &[[i64; 3]], faces: &[Corners], plane: &FacePlane) -> bool
     requires grid { All (λ p. IsWithinGridLimits (point_at p)) points.now }
     requires there { All (λ f. All (λ i. i < length points.now) f) faces.now }
-    ensures some { OnTrue result (Any (λ f. Any (λ i. pos 0 <ℤ value_at points.now plane.now i) f)
+    ensures some { OnTrue result (Any (λ f. Any
+        (λ i. pos 0 <ℤ value_at_point points.now plane.now i) f)
         faces.now) }
-    ensures none { OnFalse result (All (λ f. All (λ i. value_at points.now plane.now i ≤ℤ pos 0) f)
+    ensures none { OnFalse result (All (λ f. All
+        (λ i. value_at_point points.now plane.now i ≤ℤ pos 0) f)
         faces.now) }
 {
     // A point is a corner of several faces. So where no point is ahead, the points are the shorter list.
@@ -40,9 +42,11 @@ fn has_point_ahead(points: &[[i64; 3]], plane: &FacePlane) -> bool
 fn has_corner_ahead(points: &[[i64; 3]], faces: &[Corners], plane: &FacePlane) -> bool
     requires grid { All (λ p. IsWithinGridLimits (point_at p)) points.now }
     requires there { All (λ f. All (λ i. i < length points.now) f) faces.now }
-    ensures some { OnTrue result (Any (λ f. Any (λ i. pos 0 <ℤ value_at points.now plane.now i) f)
+    ensures some { OnTrue result (Any (λ f. Any
+        (λ i. pos 0 <ℤ value_at_point points.now plane.now i) f)
         faces.now) }
-    ensures none { OnFalse result (All (λ f. All (λ i. value_at points.now plane.now i ≤ℤ pos 0) f)
+    ensures none { OnFalse result (All (λ f. All
+        (λ i. value_at_point points.now plane.now i ≤ℤ pos 0) f)
         faces.now) }
 {
     for face in faces {
@@ -57,8 +61,10 @@ fn has_corner_ahead(points: &[[i64; 3]], faces: &[Corners], plane: &FacePlane) -
 pub fn face_has_ahead(points: &[[i64; 3]], face: &[u32], plane: &FacePlane) -> bool
     requires grid { All (λ p. IsWithinGridLimits (point_at p)) points.now }
     requires there { All (λ i. i < length points.now) face.now }
-    ensures some { OnTrue result (Any (λ i. pos 0 <ℤ value_at points.now plane.now i) face.now) }
-    ensures none { OnFalse result (All (λ i. value_at points.now plane.now i ≤ℤ pos 0) face.now) }
+    ensures some { OnTrue result (Any (λ i. pos 0 <ℤ value_at_point points.now plane.now i)
+        face.now) }
+    ensures none { OnFalse result (All (λ i. value_at_point points.now plane.now i ≤ℤ pos 0)
+        face.now) }
 {
     for i in face {
         if is_ahead(plane, points[*i as usize]) {

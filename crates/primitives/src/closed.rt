@@ -3,26 +3,26 @@
 ghost use Rattle.std.specs.Prelude.{◌≡◌, ◌<◌, ◌↔◌, All, Any, IfOk, IfSome, IsNone, IsTrue, length};
 ghost use Rattle.std.specs.Bool.{OnTrue, OnFalse};
 ghost use Rattle.std.specs.BTreeSet.{contains};
-ghost use Rattle.primitives.specs.Checks.{AreCornersThere, IsClosed};
-ghost use Rattle.primitives.specs.Ways.{AreDifferent, AreMetBothWays, IsMet, reversed_way};
+ghost use Rattle.primitives.specs.Checks.{AreCornersThere, IsClosedMesh};
+ghost use Rattle.primitives.specs.DirectedEdges.{AreDifferent, AreMetBothWays, IsMet, reversed_edge};
 
 use crate::Corners;
-use crate::ways::{Way, ways_of_faces};
+use crate::ways::{DirectedEdge, ways_of_faces};
 use std::alloc::{AllocError, Global};
 use std::collections::BTreeSet;
 
-/// Whether each way along a face is met exactly once in its direction and exactly once in the other.
+/// Whether each directed edge of a face is met exactly once, and so is its reverse.
 pub fn are_closed(alloc: Global, points: &[[i64; 3]], faces: &[Corners]) -> Result<bool, AllocError>
     requires { AreCornersThere (length points.now) faces.now }
-    ensures all { IfOk result (λ b. OnTrue b (IsClosed points.now faces.now)) }
-    ensures past { IfOk result (λ b. OnFalse b (IsClosed points.now faces.now → ⊥)) }
+    ensures all { IfOk result (λ b. OnTrue b (IsClosedMesh points.now faces.now)) }
+    ensures past { IfOk result (λ b. OnFalse b (IsClosedMesh points.now faces.now → ⊥)) }
 {
     let ways = ways_of_faces(alloc, points, faces)?;
     are_met_both_ways(alloc, &ways)
 }
 
-// Whether each of some ways is met exactly once, and so is its way back.
-fn are_met_both_ways(alloc: Global, ways: &[Way]) -> Result<bool, AllocError>
+// Whether each of some directed edges is met exactly once, and so is its reverse.
+fn are_met_both_ways(alloc: Global, ways: &[DirectedEdge]) -> Result<bool, AllocError>
     ensures all { IfOk result (λ b. OnTrue b (AreMetBothWays ways.now)) }
     ensures past { IfOk result (λ b. OnFalse b (AreMetBothWays ways.now → ⊥)) }
 {
@@ -32,10 +32,10 @@ fn are_met_both_ways(alloc: Global, ways: &[Way]) -> Result<bool, AllocError>
     }
 }
 
-// The set of some ways. `None` where two of them are the same.
-fn met(alloc: Global, ways: &[Way]) -> Result<Option<BTreeSet<Way>>, AllocError>
-    ensures set { IfOk result (λ o. IfSome o (λ s. (w : Way) →
-        IsTrue (contains ⟦<Way as Ord>⟧.cmp s w) ↔ IsMet ways.now w)) }
+// The set of some directed edges. `None` where two of them are the same.
+fn met(alloc: Global, ways: &[DirectedEdge]) -> Result<Option<BTreeSet<DirectedEdge>>, AllocError>
+    ensures set { IfOk result (λ o. IfSome o (λ s. (w : DirectedEdge) →
+        IsTrue (contains ⟦<DirectedEdge as Ord>⟧.cmp s w) ↔ IsMet ways.now w)) }
     ensures different { IfOk result (λ o. IfSome o (λ s. AreDifferent ways.now)) }
     ensures same { IfOk result (λ o. IsNone o → AreDifferent ways.now → ⊥) }
 {
@@ -48,12 +48,13 @@ fn met(alloc: Global, ways: &[Way]) -> Result<Option<BTreeSet<Way>>, AllocError>
     Ok(Some(met))
 }
 
-// Whether each of some ways has its way back in a set.
-fn are_met_back(met: &BTreeSet<Way>, ways: &[Way]) -> bool
-    ensures all { OnTrue result (All (λ w. IsTrue (contains ⟦<Way as Ord>⟧.cmp met.now (reversed_way w)))
+// Whether each of some directed edges has its reverse in a set.
+fn are_met_back(met: &BTreeSet<DirectedEdge>, ways: &[DirectedEdge]) -> bool
+    ensures all { OnTrue result (All (λ w. IsTrue
+        (contains ⟦<DirectedEdge as Ord>⟧.cmp met.now (reversed_edge w)))
         ways.now) }
     ensures past { OnFalse result (All
-        (λ w. IsTrue (contains ⟦<Way as Ord>⟧.cmp met.now (reversed_way w))) ways.now → ⊥) }
+        (λ w. IsTrue (contains ⟦<DirectedEdge as Ord>⟧.cmp met.now (reversed_edge w))) ways.now → ⊥) }
 {
     for way in ways {
         if !met.contains(&way.back()) {

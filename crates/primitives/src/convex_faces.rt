@@ -5,7 +5,7 @@ ghost use Rattle.std.specs.Bool.{OnTrue, OnFalse};
 ghost use Rattle.plane_predicate.specs.Space.{point_at};
 ghost use Rattle.primitives.specs.Shapes.{IsOnOnePlane};
 ghost use Rattle.primitives.specs.GridSizes.{IsWithinGridLimits};
-ghost use Rattle.primitives.specs.Checks.{AreCornersThere, HasOuterPlane, IsConvex, IsFlatFace};
+ghost use Rattle.primitives.specs.Checks.{AreCornersThere, HasOuterPlane, IsConvexMesh, IsFlatFace};
 ghost use Rattle.primitives.specs.Bounding.{IsFaceOfBody};
 
 use crate::Corners;
@@ -22,7 +22,7 @@ pub fn are_convex(alloc: Global, points: &[[i64; 3]], faces: &[Corners]) -> Resu
     requires flat { All (IsFlatFace points.now) faces.now }
     ensures all { IfOk result (λ b. OnTrue b (All
         (IsFaceOfBody (record { points = points.now; faces = faces.now })) faces.now)) }
-    ensures past { IfOk result (λ b. OnFalse b (IsConvex
+    ensures past { IfOk result (λ b. OnFalse b (IsConvexMesh
         (record { points = points.now; faces = faces.now }) → ⊥)) }
 {
     for face in faces {

@@ -2,7 +2,7 @@
 
 ghost use Rattle.std.specs.Prelude.{◌≡◌, ◌+◌, ◌<◌, ◌≤◌, [], ◌∷◌, ◌++◌, IfOk, IfErr, OnOk, length, map};
 ghost use Rattle.std.specs.List.{range_with_len};
-ghost use Rattle.primitives.specs.Prisms.{at_height, extrusion_of, is_same_point as is_same, prism_faces, prism_points, sides_over};
+ghost use Rattle.primitives.specs.Prisms.{at_height, extrusion_of, is_same_flat_point as is_same, prism_faces, prism_points, sides_over};
 ghost use Rattle.primitives.specs.Sizes.{AreSizes, IsSafe, IsSizeStop};
 
 use crate::convex::next_point;

@@ -2,8 +2,8 @@
 
 ghost use Rattle.std.specs.Prelude.{◌≡◌, All, IfOk, map};
 ghost use Rattle.plane_predicate.specs.Space.{point_at};
-ghost use Rattle.primitives.specs.Shapes.{IsInRange};
-ghost use Rattle.primitives.specs.Checks.{grid_steps, in_grid_steps};
+ghost use Rattle.primitives.specs.Shapes.{IsPointInRange};
+ghost use Rattle.primitives.specs.Checks.{grid_point_of, grid_points_of};
 
 use crate::Corners;
 use plane_predicate::Unit;
@@ -15,8 +15,8 @@ pub fn points_in_grid_steps(
     points: &[[i64; 3]],
     unit: Unit,
 ) -> Result<Vec<[i64; 3]>, AllocError>
-    requires { All (λ p. IsInRange (point_at p)) points.now }
-    ensures { IfOk result (λ v. v.items ≡ in_grid_steps unit points.now) }
+    requires { All (λ p. IsPointInRange (point_at p)) points.now }
+    ensures { IfOk result (λ v. v.items ≡ grid_points_of unit points.now) }
 {
     let mut steps = Vec::new(alloc);
     for point in points {
@@ -27,8 +27,8 @@ pub fn points_in_grid_steps(
 
 // One point in grid steps.
 fn point_in_grid_steps(at: [i64; 3], unit: Unit) -> [i64; 3]
-    requires { IsInRange (point_at at) }
-    ensures { result ≡ grid_steps unit at }
+    requires { IsPointInRange (point_at at) }
+    ensures { result ≡ grid_point_of unit at }
 {
     let per = unit.per();
     [per * at[0], per * at[1], per * at[2]]

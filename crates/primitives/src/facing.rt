@@ -2,7 +2,7 @@
 
 ghost use Rattle.std.specs.Prelude.{◌≡◌, ◌≤◌, ◌*◌, ◌-ℤ◌, ◌*ℤ◌, ◌+ℤ◌, ◌<ℤ◌, ◌≤ℤ◌, pos, unsigned_abs};
 ghost use Rattle.std.specs.Bool.{OnTrue, OnFalse};
-ghost use Rattle.plane_predicate.specs.Space.{point_at, minor, opposite_of, through, value};
+ghost use Rattle.plane_predicate.specs.Space.{point_at, minor, opposite_of, plane_of_points, value};
 ghost use Rattle.primitives.specs.GridSizes.{IsWithinGridLimits};
 ghost use Rattle.primitives.specs.Spanning.{HasNoDirection};
 
@@ -40,7 +40,7 @@ pub fn plane_through(p: [i64; 3], q: [i64; 3], r: [i64; 3]) -> FacePlane
     requires p_grid { IsWithinGridLimits (point_at p) }
     requires q_grid { IsWithinGridLimits (point_at q) }
     requires r_grid { IsWithinGridLimits (point_at r) }
-    ensures { result ≡ through (point_at p) (point_at q) (point_at r) }
+    ensures { result ≡ plane_of_points (point_at p) (point_at q) (point_at r) }
 {
     let a = minor_between(p[1], p[2], q[1], q[2], r[1], r[2]);
     let b = minor_between(p[2], p[0], q[2], q[0], r[2], r[0]);

@@ -1,32 +1,34 @@
-//! The turns of ways as seen from ahead of a plane.
+//! The orientation of three points as seen from ahead of a plane.
 
 ghost use Rattle.std.specs.Prelude.{◌≡◌, ◌≤◌, ◌*◌, ◌*ℤ◌, ◌+ℤ◌, ◌<ℤ◌, ◌≤ℤ◌, pos, unsigned_abs};
 ghost use Rattle.std.specs.Bool.{OnTrue, OnFalse};
-ghost use Rattle.plane_predicate.specs.Space.{point_at, inner_product, through};
+ghost use Rattle.plane_predicate.specs.Space.{point_at, inner_product, plane_of_points};
 ghost use Rattle.primitives.specs.GridSizes.{IsWithinGridLimits};
 
 use crate::facing::{FacePlane, plane_through};
 
-/// Whether the way from `p` by `q` to `r` turns left as seen from ahead of a plane.
+/// Whether `p`, `q` and `r` are counterclockwise as seen from ahead of a plane.
 pub fn turns_left(m: &FacePlane, p: [i64; 3], q: [i64; 3], r: [i64; 3]) -> bool
     requires p_grid { IsWithinGridLimits (point_at p) }
     requires q_grid { IsWithinGridLimits (point_at q) }
     requires r_grid { IsWithinGridLimits (point_at r) }
     ensures left { OnTrue result (pos 0
-        <ℤ inner_product m.now (through (point_at p) (point_at q) (point_at r))) }
-    ensures other { OnFalse result (inner_product m.now (through (point_at p) (point_at q) (point_at r))
+        <ℤ inner_product m.now (plane_of_points (point_at p) (point_at q) (point_at r))) }
+    ensures other { OnFalse result (inner_product m.now
+        (plane_of_points (point_at p) (point_at q) (point_at r))
         ≤ℤ pos 0) }
 {
     turn_at(m, p, q, r) > 0
 }
 
-// How the way from `p` by `q` to `r` turns as seen from ahead of a plane: above 0 where it turns
-// left.
+// The orientation of `p`, `q` and `r` as seen from ahead of a plane: above 0 where they are
+// counterclockwise.
 fn turn_at(m: &FacePlane, p: [i64; 3], q: [i64; 3], r: [i64; 3]) -> i128
     requires p_grid { IsWithinGridLimits (point_at p) }
     requires q_grid { IsWithinGridLimits (point_at q) }
     requires r_grid { IsWithinGridLimits (point_at r) }
-    ensures { result ≡ inner_product m.now (through (point_at p) (point_at q) (point_at r)) }
+    ensures { result ≡ inner_product m.now (plane_of_points (point_at p) (point_at q)
+        (point_at r)) }
 {
     let n = plane_through(p, q, r);
     directions_dot(m.a, m.b, m.c, n.a, n.b, n.c)

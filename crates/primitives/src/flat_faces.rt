@@ -3,7 +3,7 @@
 ghost use Rattle.std.specs.Prelude.{◌≡◌, ◌<◌, pos, All, Any, length};
 ghost use Rattle.std.specs.Bool.{OnTrue, OnFalse};
 ghost use Rattle.plane_predicate.specs.Space.{point_at};
-ghost use Rattle.primitives.specs.Shapes.{value_at};
+ghost use Rattle.primitives.specs.Shapes.{value_at_point};
 ghost use Rattle.primitives.specs.GridSizes.{IsWithinGridLimits};
 ghost use Rattle.primitives.specs.Checks.{AreCornersThere, IsFlatFace};
 
@@ -45,8 +45,10 @@ fn is_flat(points: &[[i64; 3]], face: &[u32]) -> bool
 fn holds_all(points: &[[i64; 3]], face: &[u32], plane: &FacePlane) -> bool
     requires grid { All (λ p. IsWithinGridLimits (point_at p)) points.now }
     requires there { All (λ i. i < length points.now) face.now }
-    ensures all { OnTrue result (All (λ i. value_at points.now plane.now i ≡ pos 0) face.now) }
-    ensures past { OnFalse result (All (λ i. value_at points.now plane.now i ≡ pos 0) face.now →
+    ensures all { OnTrue result (All (λ i. value_at_point points.now plane.now i
+        ≡ pos 0) face.now) }
+    ensures past { OnFalse result (All (λ i. value_at_point points.now plane.now i
+        ≡ pos 0) face.now →
         ⊥) }
 {
     for i in face {

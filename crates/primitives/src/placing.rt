@@ -2,10 +2,10 @@
 
 ghost use Rattle.std.specs.Prelude.{◌<◌, ◌↔◌, All, Any, IfOk, IfErr, OnOk, length};
 ghost use Rattle.std.specs.Bool.{OnTrue, OnFalse};
-ghost use Rattle.plane_predicate.specs.Space.{Coordinates, point_at, IsInReach};
-ghost use Rattle.int_transform.specs.Maps.{image, map_of, StaysInRange};
+ghost use Rattle.plane_predicate.specs.Space.{Coordinates, point_at, IsInReach, ComesInReach};
+ghost use Rattle.int_transform.specs.Maps.{image, map_of, KeepsSafeCoordinates};
 ghost use Rattle.primitives.specs.Shapes.{IsFaceOfShape, IsInside};
-ghost use Rattle.primitives.specs.Placing.{moved_mesh, ArePlanesOf, IsBehindAll, IsPlacingStop, MeetsReach};
+ghost use Rattle.primitives.specs.Placing.{moved_mesh, ArePlanesOf, IsBehindAll, IsPlacingStop};
 
 use crate::planes::planes_of;
 use crate::shape::Shape;
@@ -26,12 +26,12 @@ pub fn place(alloc: Global, shape: &Shape, steps: &[Step]) -> Result<Vec<Plane>,
     ensures inside { IfOk result (λ v. (p : Coordinates) → IsInside shape.now p
         ↔ IsBehindAll v.items (image (map_of steps.now) p)) }
     ensures some { IfOk result (λ v. 0 < length v.items) }
-    ensures reach { IfOk result (λ v. All MeetsReach v.items) }
+    ensures reach { IfOk result (λ v. All ComesInReach v.items) }
     // no step flattens the shape: its faces stay faces of a body
     ensures solid { OnOk result (All (IsFaceOfShape (moved_mesh (map_of steps.now) shape.now))
         shape.now.faces) }
 
-    ensures in_range { OnOk result (All (λ p. StaysInRange steps.now (point_at p))
+    ensures in_range { OnOk result (All (λ p. KeepsSafeCoordinates steps.now (point_at p))
         shape.now.points) }
     ensures in_reach { OnOk result (All (λ p. IsInReach (image (map_of steps.now) (point_at p)))
         shape.now.points) }

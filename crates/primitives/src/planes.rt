@@ -4,7 +4,7 @@ ghost use Rattle.std.specs.Prelude.{◌≡◌, All, IfOk};
 ghost use Rattle.std.specs.List.{list_any};
 ghost use Rattle.plane_predicate.specs.Space.{point_at, IsInReach};
 ghost use Rattle.primitives.specs.Shapes.{IsFaceOfShape, IsPlaneOfFace};
-ghost use Rattle.primitives.specs.Placing.{same, ArePlanesOf};
+ghost use Rattle.primitives.specs.Placing.{is_same_plane, ArePlanesOf};
 
 use crate::ahead::has_ahead;
 use crate::corners::Corners;
@@ -53,7 +53,7 @@ fn face_plane(points: &[[i64; 3]], faces: &[Corners], face: &[u32]) -> Plane
 
 // Whether a plane is among some planes.
 fn holds(planes: &[Plane], plane: &Plane) -> bool
-    ensures { result ≡ list_any (λ m. same m plane.now) planes.now }
+    ensures { result ≡ list_any (λ m. is_same_plane m plane.now) planes.now }
 {
     planes.contains(plane)
 }

@@ -2,7 +2,7 @@
 
 ghost use Rattle.std.specs.Prelude.{◌≡◌, All, Any, IfOk, IfErr, OnOk};
 ghost use Rattle.std.specs.Bool.{OnTrue, OnFalse};
-ghost use Rattle.primitives.specs.Polygons.{on_grid as on_grid_of, polygon_of, IsInRange, IsWrittenPolygon, IsPolygonStop};
+ghost use Rattle.primitives.specs.Polygons.{flat_grid_point_of as on_grid_of, polygon_of, IsFlatPointInRange, IsWrittenPolygon, IsPolygonStop};
 
 use crate::ShapeStop;
 use crate::convex::is_convex;
@@ -40,8 +40,8 @@ pub fn polygon_flat(alloc: Global, points: &[[i64; 2]], unit: Unit) -> Result<Fl
 
 // Whether all coordinates are at most 65,535 in size.
 fn are_in_range(points: &[[i64; 2]]) -> bool
-    ensures all { OnTrue result (All IsInRange points.now) }
-    ensures past { OnFalse result (Any (λ p. IsInRange p → ⊥) points.now) }
+    ensures all { OnTrue result (All IsFlatPointInRange points.now) }
+    ensures past { OnFalse result (Any (λ p. IsFlatPointInRange p → ⊥) points.now) }
 {
     for point in points {
         if !is_in_range(*point) {
@@ -53,15 +53,15 @@ fn are_in_range(points: &[[i64; 2]]) -> bool
 
 // Whether the coordinates of a point are at most 65,535 in size.
 fn is_in_range(point: [i64; 2]) -> bool
-    ensures all { OnTrue result (IsInRange point) }
-    ensures past { OnFalse result (IsInRange point → ⊥) }
+    ensures all { OnTrue result (IsFlatPointInRange point) }
+    ensures past { OnFalse result (IsFlatPointInRange point → ⊥) }
 {
     point[0].unsigned_abs() <= 65535 && point[1].unsigned_abs() <= 65535
 }
 
 // Written points in grid steps.
 fn grid_points(alloc: Global, points: &[[i64; 2]], unit: Unit) -> Result<Vec<[i64; 2]>, AllocError>
-    requires { All IsInRange points.now }
+    requires { All IsFlatPointInRange points.now }
     ensures { IfOk result (λ v. v.items ≡ polygon_of unit points.now) }
 {
     let mut grid = Vec::new(alloc);
@@ -73,7 +73,7 @@ fn grid_points(alloc: Global, points: &[[i64; 2]], unit: Unit) -> Result<Vec<[i6
 
 // A written point in grid steps.
 fn on_grid(point: [i64; 2], unit: Unit) -> [i64; 2]
-    requires { IsInRange point }
+    requires { IsFlatPointInRange point }
     ensures { result ≡ on_grid_of unit point }
 {
     let [x, y] = point;

@@ -4,8 +4,8 @@ ghost use Rattle.std.specs.Prelude.{◌≡◌, ◌<◌, All, IfOk, IfErr, OnOk, 
 ghost use Rattle.plane_predicate.specs.Space.{point_at};
 ghost use Rattle.primitives.specs.Shapes.{HasBodyBehind};
 ghost use Rattle.primitives.specs.GridSizes.{IsWithinGridLimits};
-ghost use Rattle.primitives.specs.Checks.{in_grid_steps, AreCornersThere};
-ghost use Rattle.primitives.specs.Polyhedra.{mesh_of, AnswersFirstFault, IsFirstPolyhedronFault, IsPolyhedron, IsSurface, IsSurfaceFault, PassesWrittenChecks, IsWrittenFault};
+ghost use Rattle.primitives.specs.Checks.{grid_points_of, AreCornersThere};
+ghost use Rattle.primitives.specs.Polyhedra.{polyhedron_of, AnswersFirstFault, IsFirstPolyhedronFault, IsPolyhedron, IsSurface, IsSurfaceFault, PassesWrittenChecks, IsWrittenFault};
 
 use crate::closed::are_closed;
 use crate::convex_faces::are_convex;
@@ -25,7 +25,7 @@ pub fn polyhedron_shape(
     faces: &[Corners],
     unit: Unit,
 ) -> Result<Shape, ShapeStop>
-    ensures shape { IfOk result (λ s. s ≡ mesh_of unit points.now faces.now) }
+    ensures shape { IfOk result (λ s. s ≡ polyhedron_of unit points.now faces.now) }
     ensures polyhedron { OnOk result (IsPolyhedron unit points.now faces.now) }
     ensures first_fault { AnswersFirstFault unit points.now faces.now result }
     ensures fault { IfErr result (IsFirstPolyhedronFault unit points.now faces.now) }
@@ -41,9 +41,9 @@ fn checked_points(
     faces: &[Corners],
     unit: Unit,
 ) -> Result<Vec<[i64; 3]>, ShapeStop>
-    ensures points { IfOk result (λ v. v.items ≡ in_grid_steps unit points.now) }
+    ensures points { IfOk result (λ v. v.items ≡ grid_points_of unit points.now) }
     ensures polyhedron { OnOk result (IsPolyhedron unit points.now faces.now) }
-    ensures body { OnOk result (All (HasBodyBehind (mesh_of unit points.now faces.now)) faces.now) }
+    ensures body { OnOk result (All (HasBodyBehind (polyhedron_of unit points.now faces.now)) faces.now) }
     ensures fault { IfErr result (IsFirstPolyhedronFault unit points.now faces.now) }
 {
     check_written(points, faces)?;

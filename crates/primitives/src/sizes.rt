@@ -2,7 +2,7 @@
 
 ghost use Rattle.std.specs.Prelude.{◌≡◌, ◌≤◌, ℤ, pos, ◌%◌, ◌<ℤ◌, ◌≤ℤ◌, unsigned_abs, All, Any, IfSome, IsNone};
 ghost use Rattle.std.specs.Bool.{OnTrue, OnFalse};
-ghost use Rattle.plane_predicate.specs.Units.{steps_of};
+ghost use Rattle.plane_predicate.specs.Units.{grid_steps_per_unit};
 ghost use Rattle.primitives.specs.Sizes.{length_in_grid_steps, high_end, low_at, low_end, AreSizes, IsEven, IsAtLeastOne, IsSafe, IsSizeFault};
 
 use plane_predicate::Unit;
@@ -53,7 +53,8 @@ fn are_long(sides: &[i64]) -> bool
 fn are_even(sides: &[i64], unit: Unit) -> bool
     requires { All IsSafe sides.now }
     ensures all { OnTrue result (All (IsEven unit) sides.now) }
-    ensures some { OnFalse result (Any (λ s. unsigned_abs (length_in_grid_steps unit s) % 2 ≡ 1) sides.now) }
+    ensures some { OnFalse result (Any (λ s. unsigned_abs (length_in_grid_steps unit s) % 2
+        ≡ 1) sides.now) }
 {
     for side in sides {
         if in_steps(*side, unit).unsigned_abs() % 2 == 1 {

@@ -3,7 +3,7 @@
 ghost use Rattle.std.specs.Prelude.{◌<◌, All, IfSome, IsNone, get_or, length};
 ghost use Rattle.std.specs.Bool.{OnTrue};
 ghost use Rattle.plane_predicate.specs.Space.{point_at, AreCollinear, IsInReach};
-ghost use Rattle.primitives.specs.Shapes.{corner, HasTriangle};
+ghost use Rattle.primitives.specs.Shapes.{mesh_point, HasTriangle};
 ghost use Rattle.primitives.specs.GridSizes.{IsWithinGridLimits};
 ghost use Rattle.primitives.specs.Spanning.{IsThird, IsTriangle, SpansFace};
 
@@ -79,8 +79,8 @@ fn third_corner(points: &[[i64; 3]], face: &[u32], second: usize) -> Option<usiz
     requires second_in { second < length face.now }
     ensures some { IfSome result (IsThird points.now face.now second) }
     ensures none { IsNone result →
-        All (λ k. AreCollinear (corner points.now (get_or face.now 0 0))
-        (corner points.now (get_or face.now second 0)) (corner points.now k)) face.now }
+        All (λ k. AreCollinear (mesh_point points.now (get_or face.now 0 0))
+        (mesh_point points.now (get_or face.now second 0)) (mesh_point points.now k)) face.now }
 {
     let (from, by) = (points[face[0] as usize], points[face[second] as usize]);
     for third in 0..face.len() {

@@ -1,38 +1,38 @@
-//! The ways along the edges of faces.
+//! The directed edges of faces.
 
 ghost use Rattle.std.specs.Prelude.{◌≡◌, ◌<◌, ◌++◌, All, IfOk, OnOk, length};
-ghost use Rattle.primitives.specs.Ways.{next_in_face, all_ways, ways_of, way_between, reversed_way};
+ghost use Rattle.primitives.specs.DirectedEdges.{next_in_face, all_edges, edges_of_mesh_face, edge_between, reversed_edge};
 ghost use Rattle.primitives.specs.Checks.{AreCornersThere};
 
 use crate::Corners;
 use std::alloc::{AllocError, Global};
 
-/// The way along an edge of a face, from one point to the next one.
+/// A directed edge of a face, from one point to the next one.
 #[derive(Clone, Copy, PartialEq, Eq, PartialOrd, Ord)]
-pub struct Way {
+pub struct DirectedEdge {
     pub from: [i64; 3],
     pub to: [i64; 3],
 }
 
-impl Way {
-    /// The way back.
-    pub fn back(self) -> Way
-        ensures { result ≡ reversed_way self }
+impl DirectedEdge {
+    /// Its reverse.
+    pub fn back(self) -> DirectedEdge
+        ensures { result ≡ reversed_edge self }
     {
         let from = self.to;
         let to = self.from;
-        Way { from, to }
+        DirectedEdge { from, to }
     }
 }
 
-/// The ways along all faces, in order. Steps between equal points are left out.
+/// The directed edges of all faces, in order. Between equal points there is none.
 pub fn ways_of_faces(
     alloc: Global,
     points: &[[i64; 3]],
     faces: &[Corners],
-) -> Result<Vec<Way>, AllocError>
+) -> Result<Vec<DirectedEdge>, AllocError>
     requires { AreCornersThere (length points.now) faces.now }
-    ensures { IfOk result (λ v. v.items ≡ all_ways points.now faces.now) }
+    ensures { IfOk result (λ v. v.items ≡ all_edges points.now faces.now) }
 {
     let mut ways = Vec::new(alloc);
     for face in faces {
@@ -41,10 +41,14 @@ pub fn ways_of_faces(
     Ok(ways)
 }
 
-/// Adds the ways along one face.
-pub fn push_ways(ways: &mut Vec<Way>, points: &[[i64; 3]], face: &[u32]) -> Result<(), AllocError>
+/// Adds the directed edges of one face.
+pub fn push_ways(
+    ways: &mut Vec<DirectedEdge>,
+    points: &[[i64; 3]],
+    face: &[u32],
+) -> Result<(), AllocError>
     requires { All (λ i. i < length points.now) face.now }
-    ensures { OnOk result (ways.new.items ≡ ways.old.items ++ ways_of points.now face.now) }
+    ensures { OnOk result (ways.new.items ≡ ways.old.items ++ edges_of_mesh_face points.now face.now) }
 {
     for k in 0..face.len() {
         let next = next_place(k, face.len());
@@ -62,12 +66,12 @@ fn next_place(place: usize, corners: usize) -> usize
     if place + 1 == corners { 0 } else { place + 1 }
 }
 
-// Adds the way between two points, if they are different.
-fn push_way(ways: &mut Vec<Way>, from: [i64; 3], to: [i64; 3]) -> Result<(), AllocError>
-    ensures { OnOk result (ways.new.items ≡ ways.old.items ++ way_between from to) }
+// Adds the directed edge between two points, if they are different.
+fn push_way(ways: &mut Vec<DirectedEdge>, from: [i64; 3], to: [i64; 3]) -> Result<(), AllocError>
+    ensures { OnOk result (ways.new.items ≡ ways.old.items ++ edge_between from to) }
 {
     if from != to {
-        ways.push(Way { from, to })?;
+        ways.push(DirectedEdge { from, to })?;
     }
     Ok(())
 }

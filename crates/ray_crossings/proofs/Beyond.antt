@@ -4,7 +4,7 @@ use Rattle.std.specs.List.{list_all, list_any}
 use Rattle.std.proofs.lemmas.Bool.{or_parts, or_right, and_from}
 use Rattle.plane_predicate.specs.declared.unit.Unit.{Unit as LengthUnit}
 use Rattle.plane_predicate.specs.Space.{Coefficients, Coordinates, value, orientation_seen_from, inner_product}
-use Rattle.plane_predicate.specs.Units.{steps_of}
+use Rattle.plane_predicate.specs.Units.{grid_steps_per_unit}
 use Rattle.plane_predicate.specs.InUnits.{in_steps}
 use Rattle.plane_predicate.proofs.IntegerRing.{sums}
 use Rattle.plane_predicate.proofs.InUnits.{steps_above}
@@ -12,17 +12,17 @@ use Rattle.plane_predicate.proofs.Identities.{combine, volume, turn_back, turn_r
 use Rattle.plane_predicate.proofs.Signs.{signs, most_cancel, least_most, most_most}
 use Rattle.plane_polygon.proofs.FourPoints.{four_points}
 use Rattle.plane_polygon.proofs.Hull.{after_below, after_inside, after_last}
-use Rattle.csg_tree.specs.Formulas.{Formula, holds, sides_of}
+use Rattle.csg_tree.specs.HalfSpaceTrees.{Tree, holds, sides_of}
 use Rattle.csg_tree.specs.ProperTrees.{HasFullLeaves}
 use Rattle.closed_surface.specs.Closed.{Edge, edges_of, corners_at}
 use Rattle.closed_surface.specs.Near.{indicator}
 use Rattle.closed_surface.proofs.Each.{Each, each_both, each_from_all, total_zero}
 use Rattle.closed_surface.proofs.Numbers.{below, at_least, zero_at_least, false_by}
-use Rattle.off_text.specs.Boundaries.{corner_after, corner, grid_corner, FacesPlane}
+use Rattle.off_text.specs.Boundaries.{face_corner, grid_corner, FacesPlane}
 use Rattle.off_text.specs.Reading.{IsPrintedFace}
 use Rattle.off_text.specs.Bounding.{IsBoundary, IsBoundaryFace}
 use Rattle.watertight.proofs.Inner.{turning_point}
-use Rattle.ray_crossings.specs.Crossings.{height, passes_left, passes_right, passes_clear, goes_through, crossing}
+use Rattle.ray_crossings.specs.Crossings.{orientation_to_face, passes_left, passes_right, passes_clear, goes_through, crossing}
 use Rattle.ray_crossings.specs.Positions.{IsOffFacePlanes}
 use Rattle.ray_crossings.proofs.Volumes.{volume_in_steps, value_between}
 use Rattle.ray_crossings.proofs.Parts.{sum_above}
@@ -31,6 +31,7 @@ use Rattle.ray_crossings.proofs.Meets.{turn_volume, meeting_on, through_covers}
 use Rattle.ray_crossings.proofs.Single.{weights, directed, low_side, high_side, parted}
 use Rattle.ray_crossings.proofs.Clear.{right_is, times_below}
 use Rattle.ray_crossings.proofs.Moving.{told_clear}
+use Rattle.plane_predicate.specs.Indices.{index_after}
 
 -- ---- a point of a face, its border too, is behind or on each plane that no corner is ahead of
 between : (t u v s a b c d : ℤ) → pos 0 ≤ℤ t → u ≤ℤ pos 0 → pos 0 ≤ℤ v → pos 0 <ℤ s → a ≤ℤ pos 0 → b ≤ℤ pos 0 → c ≤ℤ pos 0 →
@@ -40,7 +41,7 @@ between t u v s a b c d ht hu hv hs ha hb hc e =
 
 module _ (unit : LengthUnit) (vertices : List Coordinates) (face : List ℕ) (three : 3 ≤ length face) (n : Coefficients) (is_directed : pos 0 <ℤ inner_product n n)
     (h : FacesPlane unit vertices n face) (q : Coordinates) (on : value n (in_steps unit q) ≡ pos 0)
-    (left : (i : ℕ) → i < length face → pos 0 ≤ℤ orientation_seen_from n (grid_corner unit vertices face i) (grid_corner unit vertices face (corner_after (length face) i)) (in_steps unit q)) where
+    (left : (i : ℕ) → i < length face → pos 0 ≤ℤ orientation_seen_from n (grid_corner unit vertices face i) (grid_corner unit vertices face (index_after (length face) i)) (in_steps unit q)) where
   abbrev spot : ℕ → Coordinates
   spot i = grid_corner unit vertices face i
 
@@ -50,7 +51,7 @@ module _ (unit : LengthUnit) (vertices : List Coordinates) (face : List ℕ) (th
   abbrev around : ℕ → ℤ
   around i = orientation_seen_from n (spot 0) (spot i) here
 
-  left_to : (i j : ℕ) → i < length face → corner_after (length face) i ≡ j → pos 0 ≤ℤ orientation_seen_from n (spot i) (spot j) here
+  left_to : (i j : ℕ) → i < length face → index_after (length face) i ≡ j → pos 0 ≤ℤ orientation_seen_from n (spot i) (spot j) here
   left_to i j l e = subst (λ (k : ℕ). pos 0 ≤ℤ orientation_seen_from n (spot i) (spot k) here) e (left i l)
 
   back : pos 0 ≤ℤ orientation_seen_from n (spot (length face - 1)) (spot 0) here
@@ -65,7 +66,7 @@ module _ (unit : LengthUnit) (vertices : List Coordinates) (face : List ℕ) (th
   fan : (i : ℕ) → 1 ≤ i → suc i < length face → pos 0 <ℤ orientation_seen_from n (spot 0) (spot i) (spot (suc i))
   fan i low high =
       let e = after_inside (length face) i high in
-      let apart : 0 ≢ corner_after (length face) i = subst (λ (k : ℕ). 0 ≢ k) (sym e) (omega arith) in
+      let apart : 0 ≢ index_after (length face) i = subst (λ (k : ℕ). 0 ≢ k) (sym e) (omega arith) in
       subst (λ (v : ℤ). pos 0 <ℤ v) (turn_round n (spot 0) (spot i) (spot (suc i)))
       (subst (λ (k : ℕ). pos 0 <ℤ orientation_seen_from n (spot i) (spot k) (spot 0)) e (h.left i 0 (omega arith) (omega arith) (omega arith) apart))
 
@@ -112,7 +113,7 @@ above_negative : (x : ℤ) → x <ℤ pos 0 → pos 0 <ℤ neg_ℤ x
 above_negative x h = omega (arith, sums)
 
 -- ---- the way stays ahead of k
-module _ (unit : LengthUnit) (bytes : List ℕ) (f : Formula) (full : HasFullLeaves f) (text : IsBoundary unit bytes f) (k : Coefficients)
+module _ (unit : LengthUnit) (bytes : List ℕ) (f : Tree) (full : HasFullLeaves f) (text : IsBoundary unit bytes f) (k : Coefficients)
     (behind : All (λ (v : Coordinates). value k (in_steps unit v) ≤ℤ pos 0) text.vertices) where
   abbrev at : Coefficients → Coordinates → ℤ
   at m p = value m (in_steps unit p)
@@ -145,27 +146,27 @@ module _ (unit : LengthUnit) (bytes : List ℕ) (f : Formula) (full : HasFullLea
 
       -- not all edges have the meeting point left of them or on them
       not_in : ((i : ℕ) → i < length face →
-          pos 0 ≤ℤ orientation_seen_from n (grid_corner unit text.vertices face i) (grid_corner unit text.vertices face (corner_after (length face) i)) (in_steps unit meeting)) → ⊥
+          pos 0 ≤ℤ orientation_seen_from n (grid_corner unit text.vertices face i) (grid_corner unit text.vertices face (index_after (length face) i)) (in_steps unit meeting)) → ⊥
       not_in left =
           ahead_not_behind (value k (in_steps unit meeting)) meeting_ahead
           (none_ahead unit text.vertices face h.1.three n is_directed h.0.faces meeting (meeting_on unit n is_directed a b oa.world.weight u v refl refl) left k (corner_behind face h))
 
-      cubed_below : (x : ℤ) → int_lt (steps_of unit *ℤ (steps_of unit *ℤ (steps_of unit *ℤ x))) (pos 0) ≡ int_lt x (pos 0)
+      cubed_below : (x : ℤ) → int_lt (grid_steps_per_unit unit *ℤ (grid_steps_per_unit unit *ℤ (grid_steps_per_unit unit *ℤ x))) (pos 0) ≡ int_lt x (pos 0)
       cubed_below x =
-          times_below (steps_of unit) (steps_of unit *ℤ (steps_of unit *ℤ x)) (steps_above unit) ∙ times_below (steps_of unit) (steps_of unit *ℤ x) (steps_above unit)
-          ∙ times_below (steps_of unit) x (steps_above unit)
+          times_below (grid_steps_per_unit unit) (grid_steps_per_unit unit *ℤ (grid_steps_per_unit unit *ℤ x)) (steps_above unit) ∙ times_below (grid_steps_per_unit unit) (grid_steps_per_unit unit *ℤ x) (steps_above unit)
+          ∙ times_below (grid_steps_per_unit unit) x (steps_above unit)
 
       abbrev edge_turn : ℕ → ℤ
-      edge_turn i = orientation_seen_from n (grid_corner unit text.vertices face i) (grid_corner unit text.vertices face (corner_after (length face) i)) (in_steps unit meeting)
+      edge_turn i = orientation_seen_from n (grid_corner unit text.vertices face i) (grid_corner unit text.vertices face (index_after (length face) i)) (in_steps unit meeting)
 
-      right_where : (i : ℕ) → i < length face → corner_after (length face) i < length face →
-          passes_right a b (corner text.vertices face i, corner text.vertices face (corner_after (length face) i)) ≡ int_lt (edge_turn i) (pos 0)
+      right_where : (i : ℕ) → i < length face → index_after (length face) i < length face →
+          passes_right a b (face_corner text.vertices face i, face_corner text.vertices face (index_after (length face) i)) ≡ int_lt (edge_turn i) (pos 0)
       right_where i l m =
-          let p = corner text.vertices face i in let q = corner text.vertices face (corner_after (length face) i) in
+          let p = face_corner text.vertices face i in let q = face_corner text.vertices face (index_after (length face) i) in
           let grid = volume (in_steps unit a) (in_steps unit b) (in_steps unit p) (in_steps unit q) in
           right_is a b (p, q) oa.world.weight ∙ sym (cubed_below (volume a b p q)) ∙ ap (λ (x : ℤ). int_lt x (pos 0)) (sym (volume_in_steps unit a b p q))
           ∙ sym (times_below (inner_product n n) grid is_directed)
-          ∙ ap (λ (x : ℤ). int_lt x (pos 0)) (sym (turn_volume unit n is_directed a b oa.world.weight u v refl refl p q (h.0.faces.on i l) (h.0.faces.on (corner_after (length face) i) m)))
+          ∙ ap (λ (x : ℤ). int_lt x (pos 0)) (sym (turn_volume unit n is_directed a b oa.world.weight u v refl refl p q (h.0.faces.on i l) (h.0.faces.on (index_after (length face) i) m)))
 
       abbrev some_right : Bool
       some_right = list_any (passes_right a b) (edges_of (corners_at text.vertices face))
@@ -187,7 +188,7 @@ module _ (unit : LengthUnit) (bytes : List ℕ) (f : Formula) (full : HasFullLea
           let c = through_covers unit text.vertices (weights unit bytes f full text) n is_directed a b oa.world.weight low high u v refl refl face h.1.three h.0.faces e in
           not_in (λ i l. at_least (edge_turn i) (c.left i l))
 
-    clear_out : (face : List ℕ) → IsFaceThere face → height (corners_at text.vertices face) a <ℤ pos 0 → pos 0 <ℤ height (corners_at text.vertices face) b →
+    clear_out : (face : List ℕ) → IsFaceThere face → orientation_to_face (corners_at text.vertices face) a <ℤ pos 0 → pos 0 <ℤ orientation_to_face (corners_at text.vertices face) b →
         passes_clear a b (corners_at text.vertices face) ≡ true
     clear_out face h x y =
         is_clear face h

@@ -4,7 +4,7 @@ use Rattle.std.proofs.Common.{◌≡◌, ◌≢◌, inl, inr, ℕ, suc, ◌+◌,
 use Rattle.std.proofs.Math.IntN.{*ℤ-zero}
 use Rattle.plane_predicate.specs.declared.unit.Unit.{Unit as LengthUnit}
 use Rattle.plane_predicate.specs.Space.{Coefficients, Coordinates, value, inner_product, IsInReach, IsInWorld}
-use Rattle.plane_predicate.specs.Units.{steps_of}
+use Rattle.plane_predicate.specs.Units.{grid_steps_per_unit}
 use Rattle.plane_predicate.specs.InUnits.{in_steps}
 use Rattle.plane_predicate.proofs.IntegerRing.{sums, one_mul}
 use Rattle.plane_predicate.proofs.InUnits.{steps_above}
@@ -14,7 +14,7 @@ use Rattle.plane_predicate.proofs.Vectors.{Form, Place, form, place, of_plane, o
 use Rattle.plane_predicate.proofs.SamePlanes.{directed_above}
 use Rattle.plane_predicate.proofs.Signs.{signs, pos_pos, pos_neg, least_least, least_most, most_cancel}
 use Rattle.plane_polygon.specs.Boxes.{high_x, low_x, high_y, low_y, high_z, low_z}
-use Rattle.csg_tree.specs.Formulas.{Formula, IsPlaneOf}
+use Rattle.csg_tree.specs.HalfSpaceTrees.{Tree, IsPlaneOf}
 use Rattle.csg_tree.specs.ProperTrees.{HasFullLeaves}
 use Rattle.csg_tree.specs.Reach.{KeepsWithinReach}
 use Rattle.bsp_tree.specs.Cells.{world_box, AllBehind, IsInCell}
@@ -28,17 +28,18 @@ use Rattle.watertight.proofs.Reach.{sides_by_reach}
 use Rattle.watertight.proofs.Vertices.{all_in_reach}
 use Rattle.ray_crossings.specs.Positions.{IsOffFacePlanes}
 use Rattle.ray_crossings.specs.Limits.{IsInsideSolid, IsLimitOfInside}
-use Rattle.ray_crossings.proofs.Sides.{planes_in, each_of, size_of, plane_size}
+use Rattle.ray_crossings.proofs.Sides.{size_of, plane_size}
 use Rattle.ray_crossings.proofs.Choice.{sizes, each_size, often_apart, once_left, value_often, square, zero_form, IsClearAt, IsChosen, chosen}
 use Rattle.ray_crossings.proofs.Moving.{all_stay_behind}
 use Rattle.ray_crossings.proofs.Places.{all_limits}
 use Rattle.ray_crossings.proofs.Beyond.{alike}
+use Rattle.watertight.proofs.Nearby.{planes_in, each_of}
 
 -- ---- points within reach are strictly inside the box
 reach_world : (p : Coordinates) → IsInReach p → IsInWorld p
 reach_world p h = (open_world p).0 (reach_in_box p h)
 
-pub limits_within : (unit : LengthUnit) (bytes : List ℕ) (f : Formula) → HasFullLeaves f → KeepsWithinReach f → (text : IsBoundary unit bytes f) →
+pub limits_within : (unit : LengthUnit) (bytes : List ℕ) (f : Tree) → HasFullLeaves f → KeepsWithinReach f → (text : IsBoundary unit bytes f) →
     All (λ (v : Coordinates). IsLimitOfInside f (in_steps unit v)) text.vertices
 limits_within unit bytes f full keeps text =
     all_limits unit bytes f full text (λ i d l. reach_world (in_steps unit _) (all_in_reach unit bytes f full keeps text i d l))
@@ -117,23 +118,23 @@ abbrev widenedP : Poly → Place → Place
 widenedP k p = record { x = times k p.x; y = times k p.y; z = times k p.z; w = p.w }
 
 abbrev far : LengthUnit → Coordinates → ℤ → ℤ → Coordinates
-far unit p t s = combine (steps_of unit +ℤ steps_of unit) p t (along s)
+far unit p t s = combine (grid_steps_per_unit unit +ℤ grid_steps_per_unit unit) p t (along s)
 
 value_far : (unit : LengthUnit) (m : Coefficients) (p : Coordinates) (t s : ℤ) →
-    value m (in_steps unit (far unit p t s)) ≡ steps_of unit *ℤ ((value m (in_steps unit p) +ℤ value m (in_steps unit p)) +ℤ t *ℤ (m.a *ℤ s))
+    value m (in_steps unit (far unit p t s)) ≡ grid_steps_per_unit unit *ℤ ((value m (in_steps unit p) +ℤ value m (in_steps unit p)) +ℤ t *ℤ (m.a *ℤ s))
 value_far unit m p t s =
     let M = form 0 in let P = place 4 in let T = var 8 in let S = var 9 in let K = var 10 in let Z = num (pos 0) in
     let V = valueP M (widenedP K P) in
-    ring (of_plane m (of_point p (t ∷ s ∷ steps_of unit ∷ [])))
+    ring (of_plane m (of_point p (t ∷ s ∷ grid_steps_per_unit unit ∷ [])))
     (valueP M (widenedP K (combineP (plus K K) P T (record { x = S; y = Z; z = Z; w = Z })))) (times K (plus (plus V V) (times T (times M.a S)))) refl
 
 far_below : (unit : LengthUnit) (m : Coefficients) (p : Coordinates) (t s : ℤ) →
     ((value m (in_steps unit p) +ℤ value m (in_steps unit p)) +ℤ t *ℤ (m.a *ℤ s)) <ℤ pos 0 → value m (in_steps unit (far unit p t s)) <ℤ pos 0
-far_below unit m p t s h = subst (λ (x : ℤ). x <ℤ pos 0) (sym (value_far unit m p t s)) (pos_neg (steps_of unit) _ (steps_above unit) h)
+far_below unit m p t s h = subst (λ (x : ℤ). x <ℤ pos 0) (sym (value_far unit m p t s)) (pos_neg (grid_steps_per_unit unit) _ (steps_above unit) h)
 
 far_above : (unit : LengthUnit) (m : Coefficients) (p : Coordinates) (t s : ℤ) →
     pos 0 <ℤ ((value m (in_steps unit p) +ℤ value m (in_steps unit p)) +ℤ t *ℤ (m.a *ℤ s)) → pos 0 <ℤ value m (in_steps unit (far unit p t s))
-far_above unit m p t s h = subst (λ (x : ℤ). pos 0 <ℤ x) (sym (value_far unit m p t s)) (pos_pos (steps_of unit) _ (steps_above unit) h)
+far_above unit m p t s h = subst (λ (x : ℤ). pos 0 <ℤ x) (sym (value_far unit m p t s)) (pos_pos (grid_steps_per_unit unit) _ (steps_above unit) h)
 
 in_box : (q : Coordinates) → value high_x q <ℤ pos 0 → value low_x q <ℤ pos 0 → value high_y q <ℤ pos 0 → value low_y q <ℤ pos 0 →
     value high_z q <ℤ pos 0 → value low_z q <ℤ pos 0 → AllBehind world_box q
@@ -173,7 +174,7 @@ module _ (unit : LengthUnit) (k : Coefficients) (p : Coordinates) (reach : IsInR
     bounds = λ q b. (sides_by_reach q b).0;
     point = far unit p high (pos 1);
     world = record {
-      weight = far_weight (steps_of unit) p.w high (steps_above unit) reach.weight;
+      weight = far_weight (grid_steps_per_unit unit) p.w high (steps_above unit) reach.weight;
       below =
           in_box (in_steps unit (far unit p high (pos 1))) (far_below unit high_x p high (pos 1) (near_wall _ high here.x (pos 4095 *ℤ p.w) p.w (high_box here) refl reach.weight))
           (far_below unit low_x p high (pos 1) (far_wall _ high here.x (pos 4095 *ℤ p.w) p.w (low_box here) refl r_least reach.weight))
@@ -194,7 +195,7 @@ module _ (unit : LengthUnit) (k : Coefficients) (p : Coordinates) (reach : IsInR
     bounds = λ q b. (sides_by_reach q b).1.0;
     point = far unit p low (negsuc 0);
     world = record {
-      weight = far_weight (steps_of unit) p.w low (steps_above unit) reach.weight;
+      weight = far_weight (grid_steps_per_unit unit) p.w low (steps_above unit) reach.weight;
       below =
           in_box (in_steps unit (far unit p low (negsuc 0))) (far_below unit high_x p low (negsuc 0) (far_wall _ low (pos 0 -ℤ here.x) (pos 4095 *ℤ p.w) p.w (high_box here ∙ twice here.x (pos 4095 *ℤ p.w +ℤ p.w)) refl r_least reach.weight))
           (far_below unit low_x p low (negsuc 0) (near_wall _ low (pos 0 -ℤ here.x) (pos 4095 *ℤ p.w) p.w (low_box here) refl reach.weight))
@@ -239,7 +240,7 @@ at_most_also a b n h k = omega arith
 not_flat : (m : Coefficients) → pos 0 <ℤ inner_product m m → square m ≢ pos 0
 not_flat m h e = not_zero_above (inner_product m m) h (sym (value_direction m m) ∙ zero_form m e (direction m))
 
-module _ (unit : LengthUnit) (f : Formula) (full : HasFullLeaves f) (k : Coefficients) (start : IsFar unit k) where
+module _ (unit : LengthUnit) (f : Tree) (full : HasFullLeaves f) (k : Coefficients) (start : IsFar unit k) where
   abbrev at : Coefficients → Coordinates → ℤ
   at m p = value m (in_steps unit p)
 
@@ -303,7 +304,7 @@ module _ (unit : LengthUnit) (f : Formula) (full : HasFullLeaves f) (k : Coeffic
   }
 
 -- ---- none is ahead, in grid steps and in units
-module _ (unit : LengthUnit) (bytes : List ℕ) (f : Formula) (full : HasFullLeaves f) (keeps : KeepsWithinReach f) (text : IsBoundary unit bytes f) where
+module _ (unit : LengthUnit) (bytes : List ℕ) (f : Tree) (full : HasFullLeaves f) (keeps : KeepsWithinReach f) (text : IsBoundary unit bytes f) where
   not_ahead : (k : Coefficients) → All (λ (v : Coordinates). value k (in_steps unit v) ≤ℤ pos 0) text.vertices → (p : Coordinates) → IsInsideSolid f (in_steps unit p) →
       pos 0 <ℤ value k (in_steps unit p) → ⊥
   not_ahead k behind p inside ahead =
@@ -325,17 +326,17 @@ module _ (unit : LengthUnit) (bytes : List ℕ) (f : Formula) (full : HasFullLea
 
   -- a plane whose numbers are in units, in grid steps
   abbrev stretched : Coefficients → Coefficients
-  stretched k = record { a = k.a; b = k.b; c = k.c; d = steps_of unit *ℤ k.d }
+  stretched k = record { a = k.a; b = k.b; c = k.c; d = grid_steps_per_unit unit *ℤ k.d }
 
-  value_stretched : (k : Coefficients) (p : Coordinates) → value (stretched k) (in_steps unit p) ≡ steps_of unit *ℤ value k p
+  value_stretched : (k : Coefficients) (p : Coordinates) → value (stretched k) (in_steps unit p) ≡ grid_steps_per_unit unit *ℤ value k p
   value_stretched k p =
       let M = form 0 in let P = place 4 in let K = var 8 in
-      ring (of_plane k (of_point p (steps_of unit ∷ [])))
+      ring (of_plane k (of_point p (grid_steps_per_unit unit ∷ [])))
       (valueP (record { a = M.a; b = M.b; c = M.c; d = times K M.d }) (widenedP K P)) (times K (valueP M P)) refl
 
   pub within_planes : (k : Coefficients) → All (λ (v : Coordinates). value k v ≤ℤ pos 0) text.vertices → (p : Coordinates) → IsInsideSolid f (in_steps unit p) → value k p ≤ℤ pos 0
   within_planes k behind p inside =
-      most_cancel (steps_of unit) (value k p) (steps_above unit)
+      most_cancel (grid_steps_per_unit unit) (value k p) (steps_above unit)
       (subst (λ (x : ℤ). x ≤ℤ pos 0) (value_stretched k p)
       (none_ahead (stretched k)
-      (λ i d l. subst (λ (x : ℤ). x ≤ℤ pos 0) (sym (value_stretched k (_))) (least_most (steps_of unit) _ (at_least (steps_of unit) (steps_above unit)) (behind i d l))) p inside))
+      (λ i d l. subst (λ (x : ℤ). x ≤ℤ pos 0) (sym (value_stretched k (_))) (least_most (grid_steps_per_unit unit) _ (at_least (grid_steps_per_unit unit) (steps_above unit)) (behind i d l))) p inside))

@@ -3,7 +3,7 @@ use Rattle.std.proofs.Common.{◌≡◌, ◌≢◌, ◌⊎◌, inl, inr, ℕ, su
 use Rattle.std.proofs.Math.IntN.{*ℤ-zero}
 use Rattle.plane_predicate.specs.declared.unit.Unit.{Unit as LengthUnit}
 use Rattle.plane_predicate.specs.Space.{Coefficients, Coordinates, value}
-use Rattle.plane_predicate.specs.Units.{steps_of}
+use Rattle.plane_predicate.specs.Units.{grid_steps_per_unit}
 use Rattle.plane_predicate.specs.InUnits.{in_steps}
 use Rattle.plane_predicate.proofs.IntegerRing.{sums, one_mul, zero_mul}
 use Rattle.plane_predicate.proofs.InUnits.{steps_above}
@@ -89,12 +89,12 @@ zero_form c e p =
 
 -- ---- a point at which one form is not 0
 abbrev apex : LengthUnit → Coefficients → Coordinates
-apex unit c = record { x = c.a; y = c.b; z = c.c; w = pos 0 -ℤ steps_of unit *ℤ c.d }
+apex unit c = record { x = c.a; y = c.b; z = c.c; w = pos 0 -ℤ grid_steps_per_unit unit *ℤ c.d }
 
-apex_value : (unit : LengthUnit) (c : Coefficients) → value c (in_steps unit (apex unit c)) ≡ steps_of unit *ℤ square c
+apex_value : (unit : LengthUnit) (c : Coefficients) → value c (in_steps unit (apex unit c)) ≡ grid_steps_per_unit unit *ℤ square c
 apex_value unit c =
     let C = form 0 in let K = var 4 in
-    ring (of_plane c (steps_of unit ∷ []))
+    ring (of_plane c (grid_steps_per_unit unit ∷ []))
     (valueP C (record { x = times K C.a; y = times K C.b; z = times K C.c; w = minus (num (pos 0)) (times K C.d) }))
     (times K (plus (plus (plus (times C.a C.a) (times C.b C.b)) (times C.c C.c)) (times C.d C.d))) refl
 
@@ -117,7 +117,7 @@ changed unit c forms g z h =
     let k = sizes (λ m. value m (in_steps unit q)) forms in record {
       point = combine (pos (suc k)) g.point (pos 1) q;
       clear = (
-        inr (λ e. not_zero_above (steps_of unit *ℤ square c) (pos_pos (steps_of unit) (square c) (steps_above unit) h)
+        inr (λ e. not_zero_above (grid_steps_per_unit unit *ℤ square c) (pos_pos (grid_steps_per_unit unit) (square c) (steps_above unit) h)
             (sym (value_often unit c k g.point q ∙ once_left (pos (suc k)) (value c (in_steps unit g.point)) (value c (in_steps unit q)) z ∙ apex_value unit c) ∙ e)),
         each_weaker (λ m. (unsigned_abs (value m (in_steps unit q)) ≤ k) × IsClearAt unit g.point m) (IsClearAt unit (combine (pos (suc k)) g.point (pos 1) q))
             (λ m x. still_clear unit k g.point q m x.0 x.1) forms

@@ -13,7 +13,7 @@ use Rattle.closed_surface.specs.Closed.{Edge, edges_of}
 use Rattle.closed_surface.specs.Near.{indicator}
 use Rattle.closed_surface.proofs.Numbers.{below, not_below, below_back, at_most, at_least, same_tests}
 use Rattle.closed_surface.proofs.Each.{Each}
-use Rattle.ray_crossings.specs.Crossings.{height, passes_left, passes_right, passes_clear, goes_through, crossing, TouchesNoEdge}
+use Rattle.ray_crossings.specs.Crossings.{orientation_to_face, passes_left, passes_right, passes_clear, goes_through, crossing, TouchesNoEdge}
 use Rattle.ray_crossings.proofs.Volumes.{volumeP, facing_turn}
 use Rattle.ray_crossings.proofs.Parts.{left_is, height_is}
 use Rattle.ray_crossings.proofs.Choice.{sizes, each_size}
@@ -99,7 +99,7 @@ once x y = ap (λ (z : ℤ). x +ℤ z) (one_mul y)
 -- ---- what a number must reach for a face
 abbrev pub face_size : Coordinates → Coordinates → List Coordinates → ℕ
 face_size a z corners =
-    unsigned_abs (height corners z) + (sizes (λ (e : Edge). volume a z e.0 e.1) (edges_of corners) + sizes (λ (e : Edge). volume z a e.0 e.1) (edges_of corners))
+    unsigned_abs (orientation_to_face corners z) + (sizes (λ (e : Edge). volume a z e.0 e.1) (edges_of corners) + sizes (λ (e : Edge). volume z a e.0 e.1) (edges_of corners))
 
 first_part : (a b c n : ℕ) → a + (b + c) ≤ n → a ≤ n
 first_part a b c n h = omega arith
@@ -116,7 +116,7 @@ same_through true false s t h = refl
 same_through false y s t h = refl
 
 module _ (a b z : Coordinates) (k : ℕ) (wa : pos 0 <ℤ a.w) (wb : pos 0 <ℤ b.w) (wc : pos 0 <ℤ (combine (pos (suc k)) b (pos 1) z).w)
-    (corners : List Coordinates) (hb : height corners b ≢ pos 0) (enough : face_size a z corners ≤ k) (clear : TouchesNoEdge a b corners) where
+    (corners : List Coordinates) (hb : orientation_to_face corners b ≢ pos 0) (enough : face_size a z corners ≤ k) (clear : TouchesNoEdge a b corners) where
   abbrev c : Coordinates
   c = combine (pos (suc k)) b (pos 1) z
 
@@ -126,29 +126,29 @@ module _ (a b z : Coordinates) (k : ℕ) (wa : pos 0 <ℤ a.w) (wb : pos 0 <ℤ 
   abbrev back_size : ℕ
   back_size = sizes (λ (e : Edge). volume z a e.0 e.1) (edges_of corners)
 
-  height_moved : height corners c ≡ pos (suc k) *ℤ height corners b +ℤ height corners z
-  height_moved = height_is corners (pos (suc k)) b (pos 1) z ∙ once (pos (suc k) *ℤ height corners b) (height corners z)
+  height_moved : orientation_to_face corners c ≡ pos (suc k) *ℤ orientation_to_face corners b +ℤ orientation_to_face corners z
+  height_moved = height_is corners (pos (suc k)) b (pos 1) z ∙ once (pos (suc k) *ℤ orientation_to_face corners b) (orientation_to_face corners z)
 
-  small : unsigned_abs (height corners z) ≤ k
-  small = first_part (unsigned_abs (height corners z)) out_size back_size k enough
+  small : unsigned_abs (orientation_to_face corners z) ≤ k
+  small = first_part (unsigned_abs (orientation_to_face corners z)) out_size back_size k enough
 
-  low_stays : int_lt (height corners c) (pos 0) ≡ int_lt (height corners b) (pos 0)
-  low_stays = elim (signs (height corners b)) [
-    | inl l ↦ below (height corners c) (pos 0) (subst (λ (x : ℤ). x <ℤ pos 0) (sym height_moved) (more_below k (height corners b) (height corners z) l small))
-        ∙ sym (below (height corners b) (pos 0) l)
+  low_stays : int_lt (orientation_to_face corners c) (pos 0) ≡ int_lt (orientation_to_face corners b) (pos 0)
+  low_stays = elim (signs (orientation_to_face corners b)) [
+    | inl l ↦ below (orientation_to_face corners c) (pos 0) (subst (λ (x : ℤ). x <ℤ pos 0) (sym height_moved) (more_below k (orientation_to_face corners b) (orientation_to_face corners z) l small))
+        ∙ sym (below (orientation_to_face corners b) (pos 0) l)
     | inr (inl e) ↦ absurd (hb e)
-    | inr (inr g) ↦ not_below (height corners c) (pos 0)
-        (at_least (height corners c) (subst (λ (x : ℤ). pos 0 <ℤ x) (sym height_moved) (more_above k (height corners b) (height corners z) g small)))
-        ∙ sym (not_below (height corners b) (pos 0) (at_least (height corners b) g))
+    | inr (inr g) ↦ not_below (orientation_to_face corners c) (pos 0)
+        (at_least (orientation_to_face corners c) (subst (λ (x : ℤ). pos 0 <ℤ x) (sym height_moved) (more_above k (orientation_to_face corners b) (orientation_to_face corners z) g small)))
+        ∙ sym (not_below (orientation_to_face corners b) (pos 0) (at_least (orientation_to_face corners b) g))
   ]
 
-  high_stays : int_lt (pos 0) (height corners c) ≡ int_lt (pos 0) (height corners b)
-  high_stays = elim (signs (height corners b)) [
-    | inl l ↦ not_above (height corners c) (subst (λ (x : ℤ). x <ℤ pos 0) (sym height_moved) (more_below k (height corners b) (height corners z) l small))
-        ∙ sym (not_above (height corners b) l)
+  high_stays : int_lt (pos 0) (orientation_to_face corners c) ≡ int_lt (pos 0) (orientation_to_face corners b)
+  high_stays = elim (signs (orientation_to_face corners b)) [
+    | inl l ↦ not_above (orientation_to_face corners c) (subst (λ (x : ℤ). x <ℤ pos 0) (sym height_moved) (more_below k (orientation_to_face corners b) (orientation_to_face corners z) l small))
+        ∙ sym (not_above (orientation_to_face corners b) l)
     | inr (inl e) ↦ absurd (hb e)
-    | inr (inr g) ↦ below (pos 0) (height corners c) (subst (λ (x : ℤ). pos 0 <ℤ x) (sym height_moved) (more_above k (height corners b) (height corners z) g small))
-        ∙ sym (below (pos 0) (height corners b) g)
+    | inr (inr g) ↦ below (pos 0) (orientation_to_face corners c) (subst (λ (x : ℤ). pos 0 <ℤ x) (sym height_moved) (more_above k (orientation_to_face corners b) (orientation_to_face corners z) g small))
+        ∙ sym (below (pos 0) (orientation_to_face corners b) g)
   ]
 
   -- ---- onward
@@ -174,7 +174,7 @@ module _ (a b z : Coordinates) (k : ℕ) (wa : pos 0 <ℤ a.w) (wb : pos 0 <ℤ 
   out_edges e =
       by_volumes a c wa (edges_of corners)
       ∙ edges_stay k out_volume (λ (x : Edge). volume a z x.0 x.1) (λ (x : Edge). volume a c x.0 x.1) out_often (edges_of corners)
-      (each_size (λ (x : Edge). volume a z x.0 x.1) (edges_of corners) k (second_part (unsigned_abs (height corners z)) out_size back_size k enough))
+      (each_size (λ (x : Edge). volume a z x.0 x.1) (edges_of corners) k (second_part (unsigned_abs (orientation_to_face corners z)) out_size back_size k enough))
       (sym (ap₂ (λ (s t : Bool). s || t) (by_volumes a b wa (edges_of corners)) (by_volumes_right a b wa (edges_of corners))) ∙ e)
       ∙ sym (by_volumes a b wa (edges_of corners))
 
@@ -182,21 +182,21 @@ module _ (a b z : Coordinates) (k : ℕ) (wa : pos 0 <ℤ a.w) (wb : pos 0 <ℤ 
   back_edges e =
       by_volumes c a wc (edges_of corners)
       ∙ edges_stay k back_volume (λ (x : Edge). volume z a x.0 x.1) (λ (x : Edge). volume c a x.0 x.1) back_often (edges_of corners)
-      (each_size (λ (x : Edge). volume z a x.0 x.1) (edges_of corners) k (third_part (unsigned_abs (height corners z)) out_size back_size k enough))
+      (each_size (λ (x : Edge). volume z a x.0 x.1) (edges_of corners) k (third_part (unsigned_abs (orientation_to_face corners z)) out_size back_size k enough))
       (sym (ap₂ (λ (s t : Bool). s || t) (by_volumes b a wb (edges_of corners)) (by_volumes_right b a wb (edges_of corners))) ∙ e)
       ∙ sym (by_volumes b a wb (edges_of corners))
 
   out_same : goes_through a c corners ≡ goes_through a b corners
   out_same =
-      ap (λ (t : Bool). int_lt (height corners a) (pos 0) && (t && list_all (passes_left a c) (edges_of corners))) high_stays
-      ∙ same_through (int_lt (height corners a) (pos 0)) (int_lt (pos 0) (height corners b)) (list_all (passes_left a c) (edges_of corners)) (list_all (passes_left a b) (edges_of corners))
-      (λ x y. out_edges (clear.out (below_back (height corners a) (pos 0) x) (below_back (pos 0) (height corners b) y)))
+      ap (λ (t : Bool). int_lt (orientation_to_face corners a) (pos 0) && (t && list_all (passes_left a c) (edges_of corners))) high_stays
+      ∙ same_through (int_lt (orientation_to_face corners a) (pos 0)) (int_lt (pos 0) (orientation_to_face corners b)) (list_all (passes_left a c) (edges_of corners)) (list_all (passes_left a b) (edges_of corners))
+      (λ x y. out_edges (clear.out (below_back (orientation_to_face corners a) (pos 0) x) (below_back (pos 0) (orientation_to_face corners b) y)))
 
   back_same : goes_through c a corners ≡ goes_through b a corners
   back_same =
-      ap (λ (t : Bool). t && (int_lt (pos 0) (height corners a) && list_all (passes_left c a) (edges_of corners))) low_stays
-      ∙ same_through (int_lt (height corners b) (pos 0)) (int_lt (pos 0) (height corners a)) (list_all (passes_left c a) (edges_of corners)) (list_all (passes_left b a) (edges_of corners))
-      (λ x y. back_edges (clear.back (below_back (height corners b) (pos 0) x) (below_back (pos 0) (height corners a) y)))
+      ap (λ (t : Bool). t && (int_lt (pos 0) (orientation_to_face corners a) && list_all (passes_left c a) (edges_of corners))) low_stays
+      ∙ same_through (int_lt (orientation_to_face corners b) (pos 0)) (int_lt (pos 0) (orientation_to_face corners a)) (list_all (passes_left c a) (edges_of corners)) (list_all (passes_left b a) (edges_of corners))
+      (λ x y. back_edges (clear.back (below_back (orientation_to_face corners b) (pos 0) x) (below_back (pos 0) (orientation_to_face corners a) y)))
 
   pub crossing_same : crossing a c corners ≡ crossing a b corners
   crossing_same = ap₂ (λ (x y : Bool). indicator x -ℤ indicator y) out_same back_same

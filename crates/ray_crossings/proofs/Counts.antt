@@ -6,13 +6,13 @@ use Rattle.std.proofs.lemmas.Bool.Decides.{eqb_tells}
 use Rattle.std.proofs.lemmas.List.{map-append}
 use Rattle.std.proofs.lemmas.List.Folds.{list_all-append}
 use Rattle.plane_predicate.specs.Space.{Coordinates}
-use Rattle.plane_polygon.specs.Parts.{indices_below}
-use Rattle.closed_surface.specs.Around.{sum_over}
+use Rattle.plane_predicate.specs.Indices.{indices_below, index_after}
+use Rattle.plane_predicate.specs.Sums.{sum_over}
 use Rattle.closed_surface.specs.Near.{indicator}
 use Rattle.closed_surface.specs.Closed.{Edge, edges_of, corners_at}
 use Rattle.closed_surface.proofs.Counting.{edges_by_number}
 use Rattle.closed_surface.proofs.Numbers.{false_by}
-use Rattle.off_text.specs.Boundaries.{corner_after, corner, OneExactlyWhere}
+use Rattle.off_text.specs.Boundaries.{face_corner, OneExactlyWhere}
 
 -- ---- the edges of a face by their numbers
 map_first : {X : Type 0} (f : ℕ → X) (n : ℕ) → map f (indices_below (suc n)) ≡ f 0 ∷ map (λ i. f (suc i)) (indices_below n)
@@ -27,12 +27,12 @@ by_number g [] = refl
 by_number g (x ∷ xs) = ap (λ ys. g x ∷ ys) (by_number g xs) ∙ sym (map_first (λ i. g (slice_index (x ∷ xs) i)) (length xs))
 
 abbrev edge_of : List Coordinates → List ℕ → ℕ → Edge
-edge_of vertices face i = (corner vertices face i, corner vertices face (corner_after (length face) i))
+edge_of vertices face i = (face_corner vertices face i, face_corner vertices face (index_after (length face) i))
 
 edges_are : (vertices : List Coordinates) (face : List ℕ) → 0 < length face → edges_of (corners_at vertices face) ≡ map (edge_of vertices face) (indices_below (length face))
 edges_are vertices face h =
     ap edges_of (by_number (λ i. slice_index_or vertices i (record { x = pos 0; y = pos 0; z = pos 0; w = pos 1 })) face)
-    ∙ edges_by_number (λ i. corner vertices face i) (length face) h
+    ∙ edges_by_number (λ i. face_corner vertices face i) (length face) h
 
 last_or_less : (i k : ℕ) → i < suc k → (i ≡ k) ⊎ (i < k)
 last_or_less i k h = elim (eqb_tells i k) [ inl p ↦ inl p.1 | inr p ↦ inr (omega (arith, p.1)) ]

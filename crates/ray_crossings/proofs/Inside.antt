@@ -11,7 +11,7 @@ use Rattle.plane_predicate.proofs.Identities.{combine, moved as point_behind, va
 use Rattle.plane_predicate.proofs.Opposites.{size_of_negative}
 use Rattle.plane_predicate.proofs.SamePlanes.{directed_above}
 use Rattle.plane_predicate.proofs.Signs.{signs, pos_pos}
-use Rattle.csg_tree.specs.Formulas.{Formula, holds, sides_of, IsPlaneOf}
+use Rattle.csg_tree.specs.HalfSpaceTrees.{Tree, holds, sides_of, IsPlaneOf}
 use Rattle.csg_tree.specs.FacePlanes.{IsFacePlane, IsOnOneFacePlane, sides_just_behind, sides_just_ahead, is_boundary_at}
 use Rattle.csg_tree.specs.ProperTrees.{HasFullLeaves}
 use Rattle.bsp_tree.specs.Cells.{AllBehind, IsInCell}
@@ -23,18 +23,19 @@ use Rattle.closed_surface.specs.Near.{near_point}
 use Rattle.closed_surface.proofs.Near.{near_behind, near_weight}
 use Rattle.closed_surface.proofs.Numbers.{below, not_below, at_least, not_zero_below, not_zero_above}
 use Rattle.closed_surface.proofs.Each.{Each}
-use Rattle.off_text.specs.Boundaries.{corner_after, corner, grid_corner, FacesPlane, FaceCovers}
+use Rattle.off_text.specs.Boundaries.{face_corner, grid_corner, FacesPlane, FaceCovers}
 use Rattle.off_text.specs.Bounding.{IsBoundary}
 use Rattle.off_text.proofs.BesideFaces.{face_plane_is_plane}
 use Rattle.watertight.proofs.Boxed.{corner_boxed}
-use Rattle.watertight.proofs.Nearby.{several, moved, is_where, face_slopes, still_covers, way_out, own_slopes, step_flat, alone_near}
+use Rattle.watertight.proofs.Nearby.{several, moved, is_where, face_slopes, still_covers, way_out, own_slopes, step_flat, alone_near, planes_in, each_of}
 use Rattle.ray_crossings.proofs.Volumes.{value_between}
-use Rattle.ray_crossings.proofs.Sides.{planes_in, each_of, holds_alike, between_world}
+use Rattle.ray_crossings.proofs.Sides.{holds_alike, between_world}
 use Rattle.ray_crossings.proofs.Single.{pick}
 use Rattle.ray_crossings.proofs.Choice.{sizes, each_size}
 use Rattle.ray_crossings.proofs.Moving.{all_stay_behind}
 use Rattle.ray_crossings.proofs.Means.{edge_turn, middle, middle_on, middle_left, mean_world, corner_least, both_zero, second_above, turn_combined}
 use Rattle.ray_crossings.specs.Limits.{IsInsideSolid, IsLimitOfInside}
+use Rattle.plane_predicate.specs.Indices.{index_after}
 
 -- ---- numbers that are large enough
 least_itself : (n : ℕ) → n ≤ n
@@ -97,7 +98,7 @@ own_below : (n : Coefficients) (number : ℕ) (q : Coordinates) → pos 0 <ℤ i
 own_below n number q d e = subst (λ (x : ℤ). x <ℤ pos 0) (sym (value_behind n n number q)) (only_less (pos (suc number)) (value n q) (inner_product n n) e d)
 
 -- ---- a point just behind a point that is on one face plane alone
-module _ (f : Formula) (n : Coefficients) (directed : pos 0 <ℤ inner_product n n) (q : Coordinates) (one : IsOnOneFacePlane f n q) (cell : List Coefficients) where
+module _ (f : Tree) (n : Coefficients) (directed : pos 0 <ℤ inner_product n n) (q : Coordinates) (one : IsOnOneFacePlane f n q) (cell : List Coefficients) where
   abbrev enough : ℕ
   enough = sizes (λ m. inner_product m n) cell + sizes (λ m. inner_product m n) (planes_in f)
 
@@ -147,7 +148,7 @@ module _ (f : Formula) (n : Coefficients) (directed : pos 0 <ℤ inner_product n
   }
 
 -- ---- a corner of a face
-module _ (unit : LengthUnit) (bytes : List ℕ) (f : Formula) (full : HasFullLeaves f) (text : IsBoundary unit bytes f)
+module _ (unit : LengthUnit) (bytes : List ℕ) (f : Tree) (full : HasFullLeaves f) (text : IsBoundary unit bytes f)
     (boxed : Each (λ p. IsInWorld (in_steps unit p)) text.vertices) (j : ℕ) (l : j < length text.faces) (t : ℕ) (k : t < length (slice_index_or text.faces j [])) where
   abbrev face : List ℕ
   face = slice_index_or text.faces j []
@@ -171,7 +172,7 @@ module _ (unit : LengthUnit) (bytes : List ℕ) (f : Formula) (full : HasFullLea
   world i = corner_boxed unit text.vertices boxed (slice_index face i)
 
   abbrev here : Coordinates
-  here = corner text.vertices face t
+  here = face_corner text.vertices face t
 
   abbrev mid : Coordinates
   mid = middle unit text.vertices n face three facing
@@ -200,7 +201,7 @@ module _ (unit : LengthUnit) (bytes : List ℕ) (f : Formula) (full : HasFullLea
       on = p_on;
       left = λ i m. second_above (pos (suc often)) (pos 1) (edge_turn unit text.vertices n face three facing i here) (edge_turn unit text.vertices n face three facing i mid)
           (edge_turn unit text.vertices n face three facing i p) (count_above often) one_above
-          (turn_combined unit n (corner text.vertices face i) (corner text.vertices face (corner_after (length face) i)) (pos (suc often)) here (pos 1) mid)
+          (turn_combined unit n (face_corner text.vertices face i) (face_corner text.vertices face (index_after (length face) i)) (pos (suc often)) here (pos 1) mid)
           (corner_least unit text.vertices n face three facing i t m k) (middle_left unit text.vertices n face three facing i m);
     }
 

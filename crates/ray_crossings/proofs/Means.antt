@@ -12,9 +12,10 @@ use Rattle.plane_predicate.proofs.Vectors.{form, place, of_plane, of_point, turn
 use Rattle.plane_predicate.proofs.Signs.{pos_pos, least_least}
 use Rattle.plane_polygon.proofs.Hull.{after_below, after_other, after_twice}
 use Rattle.closed_surface.proofs.Numbers.{at_least, zero_at_least}
-use Rattle.off_text.specs.Boundaries.{corner_after, corner, grid_corner, FacesPlane}
+use Rattle.off_text.specs.Boundaries.{face_corner, grid_corner, FacesPlane}
 use Rattle.ray_crossings.proofs.Volumes.{value_between, turn_between}
 use Rattle.ray_crossings.proofs.Sides.{between_world}
+use Rattle.plane_predicate.specs.Indices.{index_after}
 
 one_above : pos 0 <ℤ pos 1
 one_above = omega (arith, sums)
@@ -55,55 +56,55 @@ turn_combined unit n p q u a v b =
 module _ (unit : LengthUnit) (vertices : List Coordinates) (n : Coefficients) (face : List ℕ) (three : 3 ≤ length face) (h : FacesPlane unit vertices n face) where
   -- the mean of the corners up to number j
   abbrev pub mean : ℕ → Coordinates
-  mean zero = corner vertices face 0
-  mean (suc j) = combine (pos 1) (mean j) (pos 1) (corner vertices face (suc j))
+  mean zero = face_corner vertices face 0
+  mean (suc j) = combine (pos 1) (mean j) (pos 1) (face_corner vertices face (suc j))
 
   abbrev pub edge_turn : ℕ → Coordinates → ℤ
-  edge_turn i p = orientation_seen_from n (grid_corner unit vertices face i) (grid_corner unit vertices face (corner_after (length face) i)) (in_steps unit p)
+  edge_turn i p = orientation_seen_from n (grid_corner unit vertices face i) (grid_corner unit vertices face (index_after (length face) i)) (in_steps unit p)
 
   mean_on : (j : ℕ) → j < length face → value n (in_steps unit (mean j)) ≡ pos 0
   mean_on zero l = h.on 0 l
   mean_on (suc j) l =
       both_zero (pos 1) (pos 1) (value n (in_steps unit (mean j))) (value n (grid_corner unit vertices face (suc j))) (value n (in_steps unit (mean (suc j))))
-      (value_between unit n (pos 1) (mean j) (pos 1) (corner vertices face (suc j))) (mean_on j (omega arith)) (h.on (suc j) l)
+      (value_between unit n (pos 1) (mean j) (pos 1) (face_corner vertices face (suc j))) (mean_on j (omega arith)) (h.on (suc j) l)
 
-  by_number : (i j : ℕ) → i < length face → j < length face → ((j ≡ i) ⊎ (j ≢ i)) → ((j ≡ corner_after (length face) i) ⊎ (j ≢ corner_after (length face) i)) → pos 0 ≤ℤ edge_turn i (corner vertices face j)
+  by_number : (i j : ℕ) → i < length face → j < length face → ((j ≡ i) ⊎ (j ≢ i)) → ((j ≡ index_after (length face) i) ⊎ (j ≢ index_after (length face) i)) → pos 0 ≤ℤ edge_turn i (face_corner vertices face j)
   by_number i j l m (inl e) s =
-      zero_at_least (edge_turn i (corner vertices face j))
-      (ap (λ k. edge_turn i (corner vertices face k)) e ∙ turn_first n (grid_corner unit vertices face i) (grid_corner unit vertices face (corner_after (length face) i)))
+      zero_at_least (edge_turn i (face_corner vertices face j))
+      (ap (λ k. edge_turn i (face_corner vertices face k)) e ∙ turn_first n (grid_corner unit vertices face i) (grid_corner unit vertices face (index_after (length face) i)))
   by_number i j l m (inr e) (inl s) =
-      zero_at_least (edge_turn i (corner vertices face j))
-      (ap (λ k. edge_turn i (corner vertices face k)) s ∙ turn_second n (grid_corner unit vertices face i) (grid_corner unit vertices face (corner_after (length face) i)))
-  by_number i j l m (inr e) (inr s) = at_least (edge_turn i (corner vertices face j)) (h.left i j l m e s)
+      zero_at_least (edge_turn i (face_corner vertices face j))
+      (ap (λ k. edge_turn i (face_corner vertices face k)) s ∙ turn_second n (grid_corner unit vertices face i) (grid_corner unit vertices face (index_after (length face) i)))
+  by_number i j l m (inr e) (inr s) = at_least (edge_turn i (face_corner vertices face j)) (h.left i j l m e s)
 
   same_or_other : (i j : ℕ) → (i ≡ j) ⊎ (i ≢ j)
   same_or_other i j = elim (eqb_tells i j) [ inl p ↦ inl p.1 | inr p ↦ inr p.1 ]
 
-  pub corner_least : (i j : ℕ) → i < length face → j < length face → pos 0 ≤ℤ edge_turn i (corner vertices face j)
-  corner_least i j l m = by_number i j l m (same_or_other j i) (same_or_other j (corner_after (length face) i))
+  pub corner_least : (i j : ℕ) → i < length face → j < length face → pos 0 ≤ℤ edge_turn i (face_corner vertices face j)
+  corner_least i j l m = by_number i j l m (same_or_other j i) (same_or_other j (index_after (length face) i))
 
-  turn_next : (i j : ℕ) → edge_turn i (mean (suc j)) ≡ pos 1 *ℤ edge_turn i (mean j) +ℤ pos 1 *ℤ edge_turn i (corner vertices face (suc j))
-  turn_next i j = turn_combined unit n (corner vertices face i) (corner vertices face (corner_after (length face) i)) (pos 1) (mean j) (pos 1) (corner vertices face (suc j))
+  turn_next : (i j : ℕ) → edge_turn i (mean (suc j)) ≡ pos 1 *ℤ edge_turn i (mean j) +ℤ pos 1 *ℤ edge_turn i (face_corner vertices face (suc j))
+  turn_next i j = turn_combined unit n (face_corner vertices face i) (face_corner vertices face (index_after (length face) i)) (pos 1) (mean j) (pos 1) (face_corner vertices face (suc j))
 
   mean_least : (i j : ℕ) → i < length face → j < length face → pos 0 ≤ℤ edge_turn i (mean j)
   mean_least i zero l m = corner_least i 0 l m
   mean_least i (suc j) l m =
-      both_least (pos 1) (pos 1) (edge_turn i (mean j)) (edge_turn i (corner vertices face (suc j))) (edge_turn i (mean (suc j))) one_above one_above (turn_next i j)
+      both_least (pos 1) (pos 1) (edge_turn i (mean j)) (edge_turn i (face_corner vertices face (suc j))) (edge_turn i (mean (suc j))) one_above one_above (turn_next i j)
       (mean_least i j l (omega arith)) (corner_least i (suc j) l m)
 
-  mean_above : (i j o : ℕ) → i < length face → j < length face → o < suc j → o ≢ i → o ≢ corner_after (length face) i → pos 0 <ℤ edge_turn i (mean j)
+  mean_above : (i j o : ℕ) → i < length face → j < length face → o < suc j → o ≢ i → o ≢ index_after (length face) i → pos 0 <ℤ edge_turn i (mean j)
   mean_above i zero o l m b x y =
-      subst (λ k. pos 0 <ℤ edge_turn i (corner vertices face k)) (omega arith) (h.left i o l (omega arith) x y)
+      subst (λ k. pos 0 <ℤ edge_turn i (face_corner vertices face k)) (omega arith) (h.left i o l (omega arith) x y)
   mean_above i (suc j) o l m b x y = elim (last_or_less o (suc j) b) [
-    | inl e ↦ second_above (pos 1) (pos 1) (edge_turn i (mean j)) (edge_turn i (corner vertices face (suc j))) (edge_turn i (mean (suc j))) one_above one_above (turn_next i j)
-        (mean_least i j l (omega arith)) (subst (λ k. pos 0 <ℤ edge_turn i (corner vertices face k)) e (h.left i o l (omega arith) x y))
-    | inr c ↦ first_above (pos 1) (pos 1) (edge_turn i (mean j)) (edge_turn i (corner vertices face (suc j))) (edge_turn i (mean (suc j))) one_above one_above (turn_next i j)
+    | inl e ↦ second_above (pos 1) (pos 1) (edge_turn i (mean j)) (edge_turn i (face_corner vertices face (suc j))) (edge_turn i (mean (suc j))) one_above one_above (turn_next i j)
+        (mean_least i j l (omega arith)) (subst (λ k. pos 0 <ℤ edge_turn i (face_corner vertices face k)) e (h.left i o l (omega arith) x y))
+    | inr c ↦ first_above (pos 1) (pos 1) (edge_turn i (mean j)) (edge_turn i (face_corner vertices face (suc j))) (edge_turn i (mean (suc j))) one_above one_above (turn_next i j)
         (mean_above i j o l (omega arith) c x y) (corner_least i (suc j) l m)
   ]
 
   pub mean_world : ((j : ℕ) → IsInWorld (grid_corner unit vertices face j)) → (j : ℕ) → IsInWorld (in_steps unit (mean j))
   mean_world w zero = w 0
-  mean_world w (suc j) = between_world unit (pos 1) (pos 1) one_above one_above (mean j) (corner vertices face (suc j)) (mean_world w j) (w (suc j))
+  mean_world w (suc j) = between_world unit (pos 1) (pos 1) one_above one_above (mean j) (face_corner vertices face (suc j)) (mean_world w j) (w (suc j))
 
   -- ---- the mean of all corners
   abbrev pub middle : Coordinates
@@ -116,4 +117,4 @@ module _ (unit : LengthUnit) (vertices : List Coordinates) (n : Coefficients) (f
   middle_left i l =
       let k = length face in
       let next = after_below k i l in
-      mean_above i (k - 1) (corner_after k (corner_after k i)) l (omega arith) (bound_last k (corner_after k (corner_after k i)) (after_below k (corner_after k i) next) three) (after_twice k i three l) (after_other k (corner_after k i) three next)
+      mean_above i (k - 1) (index_after k (index_after k i)) l (omega arith) (bound_last k (index_after k (index_after k i)) (after_below k (index_after k i) next) three) (after_twice k i three l) (after_other k (index_after k i) three next)

@@ -6,7 +6,7 @@ use Rattle.std.proofs.Math.IntN.{*ℤ-zero}
 use Rattle.std.proofs.lemmas.Bool.{and_parts, and_from}
 use Rattle.plane_predicate.specs.declared.unit.Unit.{Unit as LengthUnit}
 use Rattle.plane_predicate.specs.Space.{Coefficients, Coordinates, value, orientation_seen_from, inner_product}
-use Rattle.plane_predicate.specs.Units.{steps_of}
+use Rattle.plane_predicate.specs.Units.{grid_steps_per_unit}
 use Rattle.plane_predicate.specs.InUnits.{in_steps}
 use Rattle.plane_predicate.proofs.IntegerRing.{sums, mul_comm_ℤ, mul_neg_left}
 use Rattle.plane_predicate.proofs.InUnits.{steps_above}
@@ -16,12 +16,13 @@ use Rattle.plane_polygon.proofs.Hull.{after_inside, after_below}
 use Rattle.closed_surface.specs.Closed.{edges_of, corners_at}
 use Rattle.closed_surface.proofs.Numbers.{below, below_back}
 use Rattle.closed_surface.proofs.Each.{Each}
-use Rattle.off_text.specs.Boundaries.{corner_after, corner, grid_corner, FacesPlane, FaceCovers}
+use Rattle.off_text.specs.Boundaries.{face_corner, grid_corner, FacesPlane, FaceCovers}
 use Rattle.off_text.proofs.Rounded.{below_three, not_two}
-use Rattle.ray_crossings.specs.Crossings.{plane_facing, height, passes_left, goes_through}
+use Rattle.ray_crossings.specs.Crossings.{plane_facing, orientation_to_face, passes_left, goes_through}
 use Rattle.ray_crossings.proofs.Volumes.{height_volume, volume_in_steps, value_between, turn_between}
 use Rattle.ray_crossings.proofs.Parts.{times_above, left_is}
 use Rattle.ray_crossings.proofs.Counts.{each_edge, all_edges}
+use Rattle.plane_predicate.specs.Indices.{index_after}
 
 -- ---- numbers
 first_of_four : (t u v s a b c d y : ℤ) → t *ℤ a -ℤ u *ℤ b +ℤ v *ℤ c -ℤ s *ℤ d ≡ y → b ≡ pos 0 → c ≡ pos 0 → d ≡ pos 0 → t *ℤ a ≡ y
@@ -65,7 +66,7 @@ on_meeting va vb u v t hu hv ht =
 
 module _ (unit : LengthUnit) (n : Coefficients) (directed : pos 0 <ℤ inner_product n n) where
   abbrev s : ℤ
-  s = steps_of unit
+  s = grid_steps_per_unit unit
 
   abbrev val : Coordinates → ℤ
   val p = value n (in_steps unit p)
@@ -156,20 +157,20 @@ module _ (unit : LengthUnit) (vertices : List Coordinates) (weights : Each (λ p
       (after_inside (length face) 0 (omega arith))
       (h.left 0 2 (below_three 0 (length face) three (omega arith)) (below_three 2 (length face) three (omega arith)) (omega arith) (not_two (length face) three))
 
-  pub height_behind : (face : List ℕ) → 3 ≤ length face → FacesPlane unit vertices n face → (x : Coordinates) → side x <ℤ pos 0 → height (corners_at vertices face) x <ℤ pos 0
+  pub height_behind : (face : List ℕ) → 3 ≤ length face → FacesPlane unit vertices n face → (x : Coordinates) → side x <ℤ pos 0 → orientation_to_face (corners_at vertices face) x <ℤ pos 0
   height_behind [] three h x b = absurd (omega arith)
   height_behind (i ∷ []) three h x b = absurd (omega arith)
   height_behind (i ∷ j ∷ []) three h x b = absurd (omega arith)
   height_behind (i ∷ j ∷ k ∷ face) three h x b =
-      low_height unit n directed (corner vertices (i ∷ j ∷ k ∷ face) 0) (corner vertices (i ∷ j ∷ k ∷ face) 1) (corner vertices (i ∷ j ∷ k ∷ face) 2)
+      low_height unit n directed (face_corner vertices (i ∷ j ∷ k ∷ face) 0) (face_corner vertices (i ∷ j ∷ k ∷ face) 1) (face_corner vertices (i ∷ j ∷ k ∷ face) 2)
       (vertex_weight vertices weights i) (h.on 0 (omega arith)) (h.on 1 (omega arith)) (h.on 2 (omega arith)) (first_turn (i ∷ j ∷ k ∷ face) three h) x b
 
-  pub height_ahead : (face : List ℕ) → 3 ≤ length face → FacesPlane unit vertices n face → (x : Coordinates) → pos 0 <ℤ side x → pos 0 <ℤ height (corners_at vertices face) x
+  pub height_ahead : (face : List ℕ) → 3 ≤ length face → FacesPlane unit vertices n face → (x : Coordinates) → pos 0 <ℤ side x → pos 0 <ℤ orientation_to_face (corners_at vertices face) x
   height_ahead [] three h x b = absurd (omega arith)
   height_ahead (i ∷ []) three h x b = absurd (omega arith)
   height_ahead (i ∷ j ∷ []) three h x b = absurd (omega arith)
   height_ahead (i ∷ j ∷ k ∷ face) three h x b =
-      high_height unit n directed (corner vertices (i ∷ j ∷ k ∷ face) 0) (corner vertices (i ∷ j ∷ k ∷ face) 1) (corner vertices (i ∷ j ∷ k ∷ face) 2)
+      high_height unit n directed (face_corner vertices (i ∷ j ∷ k ∷ face) 0) (face_corner vertices (i ∷ j ∷ k ∷ face) 1) (face_corner vertices (i ∷ j ∷ k ∷ face) 2)
       (vertex_weight vertices weights i) (h.on 0 (omega arith)) (h.on 1 (omega arith)) (h.on 2 (omega arith)) (first_turn (i ∷ j ∷ k ∷ face) three h) x b
 
   -- ---- going through the face is covering the meeting point
@@ -179,18 +180,18 @@ module _ (unit : LengthUnit) (vertices : List Coordinates) (weights : Each (λ p
     meeting_point = combine u a v b
 
     passes_edge : FacesPlane unit vertices n face → (i : ℕ) → i < length face →
-        passes_left a b (corner vertices face i, corner vertices face (corner_after (length face) i))
-        ≡ int_lt (pos 0) (orientation_seen_from n (grid_corner unit vertices face i) (grid_corner unit vertices face (corner_after (length face) i)) (in_steps unit meeting_point))
+        passes_left a b (face_corner vertices face i, face_corner vertices face (index_after (length face) i))
+        ≡ int_lt (pos 0) (orientation_seen_from n (grid_corner unit vertices face i) (grid_corner unit vertices face (index_after (length face) i)) (in_steps unit meeting_point))
     passes_edge h i l =
-        passes_where unit n directed a b wa u v hu hv (corner vertices face i) (corner vertices face (corner_after (length face) i))
-        (h.on i l) (h.on (corner_after (length face) i) (after_below (length face) i l))
+        passes_where unit n directed a b wa u v hu hv (face_corner vertices face i) (face_corner vertices face (index_after (length face) i))
+        (h.on i l) (h.on (index_after (length face) i) (after_below (length face) i l))
 
     pub through_covers : FacesPlane unit vertices n face → goes_through a b (corners_at vertices face) ≡ true → FaceCovers unit vertices n meeting_point face
     through_covers h e =
         let corners = corners_at vertices face in
         let all = list_all (passes_left a b) (edges_of corners) in
-        let k = and_parts (int_lt (pos 0) (height corners b)) all
-        (and_parts (int_lt (height corners a) (pos 0)) (int_lt (pos 0) (height corners b) && all) e).1 in record {
+        let k = and_parts (int_lt (pos 0) (orientation_to_face corners b)) all
+        (and_parts (int_lt (orientation_to_face corners a) (pos 0)) (int_lt (pos 0) (orientation_to_face corners b) && all) e).1 in record {
           faces = h;
           on = meeting_on unit n directed a b wa u v hu hv;
           left = λ i l. below_back (pos 0) _ (sym (passes_edge h i l) ∙ each_edge (passes_left a b) vertices face (omega arith) k.1 i l);
@@ -200,7 +201,7 @@ module _ (unit : LengthUnit) (vertices : List Coordinates) (weights : Each (λ p
     covers_through c =
         let corners = corners_at vertices face in
         let all = list_all (passes_left a b) (edges_of corners) in
-        and_from (int_lt (height corners a) (pos 0)) (int_lt (pos 0) (height corners b) && all)
-        (below (height corners a) (pos 0) (height_behind face three c.faces a low))
-        (and_from (int_lt (pos 0) (height corners b)) all (below (pos 0) (height corners b) (height_ahead face three c.faces b high))
+        and_from (int_lt (orientation_to_face corners a) (pos 0)) (int_lt (pos 0) (orientation_to_face corners b) && all)
+        (below (orientation_to_face corners a) (pos 0) (height_behind face three c.faces a low))
+        (and_from (int_lt (pos 0) (orientation_to_face corners b)) all (below (pos 0) (orientation_to_face corners b) (height_ahead face three c.faces b high))
         (all_edges (passes_left a b) vertices face (omega arith) (λ i l. passes_edge c.faces i l ∙ below (pos 0) _ (c.left i l))))

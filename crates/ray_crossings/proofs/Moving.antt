@@ -10,7 +10,7 @@ use Rattle.plane_predicate.proofs.Polynomials.{var, plus, times, minus, ring}
 use Rattle.plane_predicate.proofs.Vectors.{form, place, of_plane, of_point, valueP}
 use Rattle.plane_predicate.proofs.SamePlanes.{equal_or_opposite}
 use Rattle.plane_predicate.proofs.Signs.{signs, zero_cancel}
-use Rattle.csg_tree.specs.Formulas.{Formula, holds, sides_of, IsPlaneOf}
+use Rattle.csg_tree.specs.HalfSpaceTrees.{Tree, holds, sides_of, IsPlaneOf}
 use Rattle.csg_tree.specs.ProperTrees.{HasFullLeaves}
 use Rattle.bsp_tree.specs.Cells.{world_box, AllBehind}
 use Rattle.bsp_tree.proofs.Openness.{more_below, more_above}
@@ -25,11 +25,12 @@ use Rattle.off_text.specs.Bounding.{IsBoundary, IsBoundaryFace}
 use Rattle.off_text.proofs.BesideFaces.{face_plane_is_plane}
 use Rattle.ray_crossings.specs.Crossings.{crossing, TouchesNoEdge}
 use Rattle.ray_crossings.specs.Positions.{IsOffFacePlanes}
-use Rattle.ray_crossings.proofs.Sides.{holds_alike, planes_in, each_of, size_of, plane_size, IsAlone}
+use Rattle.ray_crossings.proofs.Sides.{holds_alike, size_of, plane_size, IsAlone}
 use Rattle.ray_crossings.proofs.Single.{height_off, Tells}
 use Rattle.ray_crossings.proofs.Telling.{told_alone}
 use Rattle.ray_crossings.proofs.Choice.{sizes, each_size, often_apart, once_left, value_often, zero_form, IsClearAt, IsChosen, chosen}
 use Rattle.ray_crossings.proofs.Clear.{face_size, crossing_same}
+use Rattle.watertight.proofs.Nearby.{planes_in, each_of}
 
 -- ---- numbers
 zero_factor : (x y : ℤ) → x ≢ pos 0 → x *ℤ y ≡ pos 0 → y ≡ pos 0
@@ -107,7 +108,7 @@ all_stay_behind unit k q p (m ∷ ms) e h = (
   all_stay_behind unit k q p ms e.1 h.1,
 )
 
-module _ (unit : LengthUnit) (bytes : List ℕ) (f : Formula) (full : HasFullLeaves f) (text : IsBoundary unit bytes f) (a b : Coordinates)
+module _ (unit : LengthUnit) (bytes : List ℕ) (f : Tree) (full : HasFullLeaves f) (text : IsBoundary unit bytes f) (a b : Coordinates)
     (oa : IsOffFacePlanes unit f a) (ob : IsOffFacePlanes unit f b) (clear : All (λ (face : List ℕ). TouchesNoEdge a b (corners_at text.vertices face)) text.faces) where
   abbrev at : Coefficients → Coordinates → ℤ
   at m p = value m (in_steps unit p)

@@ -9,7 +9,7 @@ use Rattle.plane_predicate.proofs.Signs.{signs, pos_pos, pos_neg, pos_cancel}
 use Rattle.closed_surface.specs.Closed.{Edge, edges_of}
 use Rattle.closed_surface.specs.Near.{indicator}
 use Rattle.closed_surface.proofs.Numbers.{below, not_below, below_back, same_tests, at_least, at_most}
-use Rattle.ray_crossings.specs.Crossings.{height, passes_left, goes_through, crossing}
+use Rattle.ray_crossings.specs.Crossings.{orientation_to_face, passes_left, goes_through, crossing}
 use Rattle.ray_crossings.proofs.Volumes.{facing_turn, height_between, first_part, second_part}
 
 -- ---- tests of numbers
@@ -80,7 +80,7 @@ zero_between : (u v : ℤ) → pos 0 ≡ u *ℤ pos 0 +ℤ v *ℤ pos 0
 zero_between u v = omega (arith, sums, *ℤ-zero u, *ℤ-zero v)
 
 pub height_is : (corners : List Coordinates) (u : ℤ) (a : Coordinates) (v : ℤ) (b : Coordinates) →
-    height corners (combine u a v b) ≡ u *ℤ height corners a +ℤ v *ℤ height corners b
+    orientation_to_face corners (combine u a v b) ≡ u *ℤ orientation_to_face corners a +ℤ v *ℤ orientation_to_face corners b
 height_is [] u a v b = zero_between u v
 height_is (p ∷ []) u a v b = zero_between u v
 height_is (p ∷ q ∷ []) u a v b = zero_between u v
@@ -100,29 +100,29 @@ add_parts false false true e f h k = omega (arith, sums)
 add_parts false false false e f h k = refl
 
 abbrev behind : List Coordinates → Coordinates → Bool
-behind corners p = int_lt (height corners p) (pos 0)
+behind corners p = int_lt (orientation_to_face corners p) (pos 0)
 
-by_behind : (corners : List Coordinates) (a b : Coordinates) (e : Bool) → height corners b ≢ pos 0 → list_all (passes_left a b) (edges_of corners) ≡ e →
+by_behind : (corners : List Coordinates) (a b : Coordinates) (e : Bool) → orientation_to_face corners b ≢ pos 0 → list_all (passes_left a b) (edges_of corners) ≡ e →
     goes_through a b corners ≡ (behind corners a && (not (behind corners b) && e))
-by_behind corners a b e hb l = ap₂ (λ (s t : Bool). behind corners a && (s && t)) (other_test (height corners b) hb) l
+by_behind corners a b e hb l = ap₂ (λ (s t : Bool). behind corners a && (s && t)) (other_test (orientation_to_face corners b) hb) l
 
 difference : (s t s' t' : Bool) → s ≡ s' → t ≡ t' → indicator s -ℤ indicator t ≡ indicator s' -ℤ indicator t'
 difference s t s' t' hs ht = ap₂ (λ (x y : Bool). indicator x -ℤ indicator y) hs ht
 
 module _ (corners : List Coordinates) (u v : ℤ) (hu : pos 0 <ℤ u) (hv : pos 0 <ℤ v) (a b : Coordinates) (wa : pos 0 <ℤ a.w) (wb : pos 0 <ℤ b.w)
-    (ha : height corners a ≢ pos 0) (hb : height corners b ≢ pos 0) (hc : height corners (combine u a v b) ≢ pos 0) where
+    (ha : orientation_to_face corners a ≢ pos 0) (hb : orientation_to_face corners b ≢ pos 0) (hc : orientation_to_face corners (combine u a v b) ≢ pos 0) where
   abbrev c : Coordinates
   c = combine u a v b
 
   both_behind : behind corners a ≡ true → behind corners b ≡ true → behind corners c ≡ true
   both_behind ea eb =
-      below (height corners c) (pos 0) (sum_below u v (height corners a) (height corners b) (height corners c) hu hv (height_is corners u a v b)
-      (below_back (height corners a) (pos 0) ea) (below_back (height corners b) (pos 0) eb))
+      below (orientation_to_face corners c) (pos 0) (sum_below u v (orientation_to_face corners a) (orientation_to_face corners b) (orientation_to_face corners c) hu hv (height_is corners u a v b)
+      (below_back (orientation_to_face corners a) (pos 0) ea) (below_back (orientation_to_face corners b) (pos 0) eb))
 
   both_ahead : behind corners a ≡ false → behind corners b ≡ false → behind corners c ≡ false
   both_ahead ea eb =
-      not_below (height corners c) (pos 0) (at_least (height corners c) (sum_above u v (height corners a) (height corners b) (height corners c) hu hv (height_is corners u a v b)
-      (above_by (height corners a) ha ea) (above_by (height corners b) hb eb)))
+      not_below (orientation_to_face corners c) (pos 0) (at_least (orientation_to_face corners c) (sum_above u v (orientation_to_face corners a) (orientation_to_face corners b) (orientation_to_face corners c) hu hv (height_is corners u a v b)
+      (above_by (orientation_to_face corners a) ha ea) (above_by (orientation_to_face corners b) hb eb)))
 
   abbrev onward : Bool
   onward = list_all (passes_left a b) (edges_of corners)

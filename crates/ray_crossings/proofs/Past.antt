@@ -8,7 +8,7 @@ use Rattle.plane_predicate.proofs.IntegerRing.{sums}
 use Rattle.plane_predicate.proofs.Identities.{combine}
 use Rattle.plane_predicate.proofs.Polynomials.{var, num, plus, times, ring}
 use Rattle.plane_predicate.proofs.Signs.{signs, pos_pos}
-use Rattle.csg_tree.specs.Formulas.{Formula, IsPlaneOf}
+use Rattle.csg_tree.specs.HalfSpaceTrees.{Tree, IsPlaneOf}
 use Rattle.csg_tree.specs.FacePlanes.{IsFacePlane}
 use Rattle.bsp_tree.proofs.Openness.{more_below, more_above}
 use Rattle.bsp_tree.proofs.Opposites.{opposite_zero, opposite_back}
@@ -40,7 +40,7 @@ neg_above x h = omega (arith, sums)
 pub no_either : (k n : Coefficients) → IsEither k n → is_either k n ≡ false → ⊥
 no_either k n h t = true≢false (sym (either_is k n h) ∙ t)
 
-module _ (unit : LengthUnit) (f : Formula) where
+module _ (unit : LengthUnit) (f : Tree) where
   abbrev at : Coefficients → Coordinates → ℤ
   at m p = value m (in_steps unit p)
 

@@ -4,7 +4,7 @@ use Rattle.std.specs.Prelude.{Contains}
 use Rattle.plane_predicate.specs.declared.unit.Unit.{Unit as LengthUnit}
 use Rattle.plane_predicate.specs.Space.{Coordinates, IsInWorld}
 use Rattle.plane_predicate.specs.InUnits.{in_steps}
-use Rattle.csg_tree.specs.Formulas.{Formula}
+use Rattle.csg_tree.specs.HalfSpaceTrees.{Tree}
 use Rattle.csg_tree.specs.ProperTrees.{HasFullLeaves}
 use Rattle.closed_surface.proofs.Each.{each_from_all}
 use Rattle.off_text.specs.Bounding.{IsBoundary}
@@ -45,7 +45,7 @@ vertex_default [] i d e l = absurd (omega arith)
 vertex_default (x ∷ xs) zero d e l = refl
 vertex_default (x ∷ xs) (suc i) d e l = vertex_default xs i d e (omega arith)
 
-pub all_limits : (unit : LengthUnit) (bytes : List ℕ) (f : Formula) → HasFullLeaves f → (text : IsBoundary unit bytes f) →
+pub all_limits : (unit : LengthUnit) (bytes : List ℕ) (f : Tree) → HasFullLeaves f → (text : IsBoundary unit bytes f) →
     All (λ (p : Coordinates). IsInWorld (in_steps unit p)) text.vertices → All (λ (v : Coordinates). IsLimitOfInside f (in_steps unit v)) text.vertices
 all_limits unit bytes f full text inside i d l =
     let s = stands text.faces i (text.own_vertices.used i l) in

@@ -3,14 +3,14 @@
 use Rattle.std.proofs.Common.{◌≡◌, ◌≢◌, inl, inr, ℕ, true, false, List, [], ◌∷◌, map, refl, arith, ℤ, pos, negsuc}
 use Rattle.plane_predicate.specs.Space.{Coefficients, Coordinates, value}
 use Rattle.plane_predicate.proofs.IntegerRing.{sums}
-use Rattle.csg_tree.specs.Formulas.{Formula, leaf, joined, holds, sides_of}
+use Rattle.csg_tree.specs.HalfSpaceTrees.{Tree, leaf, tree_join, holds, sides_of}
 use Rattle.csg_tree.specs.declared.op.Op.TheVariants.{Union, Difference}
 use Rattle.closed_surface.specs.Closed.{corners_at}
 use Rattle.closed_surface.proofs.Each.{Each}
 use Rattle.closed_surface.proofs.Numbers.{not_zero_below}
 use Rattle.ray_crossings.specs.Limits.{IsInsideSolid}
-use Rattle.ray_crossings.proofs.Sides.{planes_in, each_of}
-use Rattle.ray_crossings.specs.Crossings.{height, passes_clear, crossing, crossings}
+use Rattle.ray_crossings.specs.Crossings.{orientation_to_face, passes_clear, crossing, crossings}
+use Rattle.watertight.proofs.Nearby.{planes_in, each_of}
 
 abbrev point : ℤ → ℤ → ℤ → ℤ → Coordinates
 point x y z w = record { x = x; y = y; z = z; w = w }
@@ -43,7 +43,7 @@ abbrev at_the_side : ℤ → Coordinates
 at_the_side z = point (pos 12) (pos 4) z (pos 12)
 
 -- the point (1/2, 1/3, 1/4) is 3/4 below the face on top: its height times the weights is -9
-low : height (corners_at cube top) inner ≡ negsuc 8
+low : orientation_to_face (corners_at cube top) inner ≡ negsuc 8
 low = refl
 
 out : crossings inner above cube cube_faces ≡ pos 1
@@ -172,7 +172,7 @@ outside_tetrahedron : value (plane (pos 1) (pos 1) (pos 1) (pos 1)) inner ≡ po
 outside_tetrahedron = refl
 
 -- ---- points inside a solid: the cube's
-abbrev cube_formula : Formula
+abbrev cube_formula : Tree
 cube_formula = leaf (greatest_x ∷ least_x ∷ plane (pos 0) (pos 1) (pos 0) (pos 1) ∷ plane (pos 0) (negsuc 0) (pos 0) (pos 0)
     ∷ plane (pos 0) (pos 0) (pos 1) (pos 1) ∷ plane (pos 0) (pos 0) (negsuc 0) (pos 0) ∷ [])
 
@@ -195,9 +195,9 @@ corner_is_not_inside : IsInsideSolid cube_formula (whole 1 1 1) → ⊥
 corner_is_not_inside h = h.off greatest_x (0, omega arith, refl) refl
 
 -- a cube without its two halves has no solid: the formula holds between them, but only on a face plane
-abbrev without_halves : Formula
-without_halves = joined Difference cube_formula
-    (joined Union (leaf (plane (pos 2) (pos 0) (pos 0) (pos 1) ∷ [])) (leaf (plane (negsuc 1) (pos 0) (pos 0) (negsuc 0) ∷ [])))
+abbrev without_halves : Tree
+without_halves = tree_join Difference cube_formula
+    (tree_join Union (leaf (plane (pos 2) (pos 0) (pos 0) (pos 1) ∷ [])) (leaf (plane (negsuc 1) (pos 0) (pos 0) (negsuc 0) ∷ [])))
 
 holds_between : holds without_halves (sides_of inner) ≡ true
 holds_between = refl

@@ -1,5 +1,5 @@
 -- Points off all face planes, the planes that part two of them, and what stays as it is between two points.
-use Rattle.std.proofs.Common.{◌≡◌, ◌≢◌, inl, inr, ℕ, zero, suc, ◌+◌, ◌≤◌, ◌&&◌, List, [], ◌∷◌, ◌++◌, refl, sym, ap, ap₂, ◌∙◌, subst, arith, ℤ, pos, ◌+ℤ◌, ◌*ℤ◌, ◌<ℤ◌, unsigned_abs}
+use Rattle.std.proofs.Common.{◌≡◌, ◌≢◌, inl, inr, ℕ, suc, ◌+◌, ◌≤◌, ◌&&◌, List, [], ◌∷◌, refl, sym, ap, ap₂, ◌∙◌, subst, arith, ℤ, pos, ◌+ℤ◌, ◌*ℤ◌, ◌<ℤ◌, unsigned_abs}
 use Rattle.std.specs.Prelude.{Contains}
 use Rattle.std.specs.List.{list_all}
 use Rattle.plane_predicate.specs.declared.unit.Unit.{Unit as LengthUnit}
@@ -11,61 +11,30 @@ use Rattle.plane_predicate.proofs.Opposites.{size_of_negative}
 use Rattle.plane_predicate.proofs.Polynomials.{var, plus, times, ring}
 use Rattle.plane_predicate.proofs.Signs.{pos_pos}
 use Rattle.plane_predicate.proofs.Vectors.{value-opposite}
-use Rattle.csg_tree.specs.Formulas.{Formula, nothing, leaf, joined, SideAssignment, holds, truth_of_join, IsPlaneOf}
+use Rattle.csg_tree.specs.HalfSpaceTrees.{Tree, nothing, leaf, tree_join, SideAssignment, holds, truth_of_join, IsPlaneOf}
 use Rattle.csg_tree.specs.FacePlanes.{IsFacePlane}
 use Rattle.bsp_tree.specs.Cells.{world_box, AllBehind}
 use Rattle.bsp_tree.proofs.Opposites.{opposite_zero, opposite_twice}
 use Rattle.bsp_tree.proofs.Worlds.{open_world}
-use Rattle.closed_surface.proofs.Each.{Each, each_weaker, each_append, each_left, each_right}
+use Rattle.closed_surface.proofs.Each.{Each}
 use Rattle.closed_surface.proofs.Lines.{IsEither}
 use Rattle.ray_crossings.specs.Positions.{IsOffFacePlanes}
 use Rattle.ray_crossings.proofs.Volumes.{value_between}
 use Rattle.ray_crossings.proofs.Parts.{sum_below, sum_above}
+use Rattle.watertight.proofs.Nearby.{planes_in, each_of}
 
 -- ---- a formula holds alike under assignments that give its planes the same sides
 all_alike : (planes : List Coefficients) (a b : SideAssignment) → ((m : Coefficients) → Contains planes m → a m ≡ b m) → list_all a planes ≡ list_all b planes
 all_alike [] a b h = refl
 all_alike (m ∷ planes) a b h = ap₂ ◌&&◌ (h m (0, omega arith, refl)) (all_alike planes a b (λ n c. h n (suc c.0, omega (arith, c.1), c.2)))
 
-pub holds_alike : (f : Formula) (a b : SideAssignment) → ((m : Coefficients) → IsPlaneOf m f → a m ≡ b m) → holds f a ≡ holds f b
+pub holds_alike : (f : Tree) (a b : SideAssignment) → ((m : Coefficients) → IsPlaneOf m f → a m ≡ b m) → holds f a ≡ holds f b
 holds_alike nothing a b h = refl
 holds_alike (leaf planes) a b h = all_alike planes a b h
-holds_alike (joined op left right) a b h = ap₂ (truth_of_join op) (holds_alike left a b (λ m k. h m (inl k))) (holds_alike right a b (λ m k. h m (inr k)))
-
--- ---- the planes of a formula, in a list
-abbrev pub planes_in : Formula → List Coefficients
-planes_in nothing = []
-planes_in (leaf planes) = planes
-planes_in (joined op left right) = planes_in left ++ planes_in right
-
-contained : (planes : List Coefficients) → Each (Contains planes) planes
-contained [] = tt
-contained (n ∷ planes) = (
-  (0, omega arith, refl),
-  each_weaker (Contains planes) (Contains (n ∷ planes)) (λ m c. (suc c.0, omega (arith, c.1), c.2)) planes (contained planes),
-)
-
-pub each_is : (f : Formula) → Each (λ m. IsPlaneOf m f) (planes_in f)
-each_is nothing = tt
-each_is (leaf planes) = contained planes
-each_is (joined op left right) =
-    each_append (λ m. IsPlaneOf m (joined op left right)) (planes_in left) (planes_in right)
-    (each_weaker (λ m. IsPlaneOf m left) (λ m. IsPlaneOf m (joined op left right)) (λ m h. inl h) (planes_in left) (each_is left))
-    (each_weaker (λ m. IsPlaneOf m right) (λ m. IsPlaneOf m (joined op left right)) (λ m h. inr h) (planes_in right) (each_is right))
-
-each_contained : (P : Coefficients → Type 0) (planes : List Coefficients) → Each P planes → (m : Coefficients) → Contains planes m → P m
-each_contained P [] e m c = absurd (omega (arith, c.1))
-each_contained P (n ∷ planes) e m (zero, l, q) = subst P q e.0
-each_contained P (n ∷ planes) e m (suc i, l, q) = each_contained P planes e.1 m (i, omega (arith, l), q)
-
-pub each_of : (P : Coefficients → Type 0) (f : Formula) → Each P (planes_in f) → (m : Coefficients) → IsPlaneOf m f → P m
-each_of P nothing e m h = absurd h
-each_of P (leaf planes) e m h = each_contained P planes e m h
-each_of P (joined op left right) e m (inl h) = each_of P left (each_left P (planes_in left) (planes_in right) e) m h
-each_of P (joined op left right) e m (inr h) = each_of P right (each_right P (planes_in left) (planes_in right) e) m h
+holds_alike (tree_join op left right) a b h = ap₂ (truth_of_join op) (holds_alike left a b (λ m k. h m (inl k))) (holds_alike right a b (λ m k. h m (inr k)))
 
 -- ---- the other orientation
-pub opposite_face : (f : Formula) (n : Coefficients) → IsFacePlane n f → IsFacePlane (opposite_of n) f
+pub opposite_face : (f : Tree) (n : Coefficients) → IsFacePlane n f → IsFacePlane (opposite_of n) f
 opposite_face f n (inl h) = inr (subst (λ (m : Coefficients). IsPlaneOf m f) (sym (opposite_twice n)) h)
 opposite_face f n (inr h) = inl h
 
@@ -96,13 +65,13 @@ each_size unit (m ∷ ms) p number h = (omega arith, each_size unit ms p number 
 least_itself : (n : ℕ) → n ≤ n
 least_itself n = omega arith
 
-abbrev pub size_of : LengthUnit → Formula → Coordinates → ℕ
+abbrev pub size_of : LengthUnit → Tree → Coordinates → ℕ
 size_of unit f p = sizes unit (planes_in f) p
 
-own_size : (unit : LengthUnit) (f : Formula) (p : Coordinates) (k : Coefficients) → IsPlaneOf k f → unsigned_abs (value k (in_steps unit p)) ≤ size_of unit f p
+own_size : (unit : LengthUnit) (f : Tree) (p : Coordinates) (k : Coefficients) → IsPlaneOf k f → unsigned_abs (value k (in_steps unit p)) ≤ size_of unit f p
 own_size unit f p k h = each_of (λ m. unsigned_abs (value m (in_steps unit p)) ≤ size_of unit f p) f (each_size unit (planes_in f) p (size_of unit f p) (least_itself (size_of unit f p))) k h
 
-pub plane_size : (unit : LengthUnit) (f : Formula) (p : Coordinates) (k : Coefficients) → IsFacePlane k f → unsigned_abs (value k (in_steps unit p)) ≤ size_of unit f p
+pub plane_size : (unit : LengthUnit) (f : Tree) (p : Coordinates) (k : Coefficients) → IsFacePlane k f → unsigned_abs (value k (in_steps unit p)) ≤ size_of unit f p
 plane_size unit f p k (inl h) = own_size unit f p k h
 plane_size unit f p k (inr h) =
     subst (λ (n : ℕ). n ≤ size_of unit f p)
@@ -110,7 +79,7 @@ plane_size unit f p k (inr h) =
     (own_size unit f p (opposite_of k) h)
 
 -- ---- points off all face planes
-pub face_off : (unit : LengthUnit) (f : Formula) (p : Coordinates) → IsOffFacePlanes unit f p → (k : Coefficients) → IsFacePlane k f → value k (in_steps unit p) ≢ pos 0
+pub face_off : (unit : LengthUnit) (f : Tree) (p : Coordinates) → IsOffFacePlanes unit f p → (k : Coefficients) → IsFacePlane k f → value k (in_steps unit p) ≢ pos 0
 face_off unit f p h k (inl o) = h.off k o
 face_off unit f p h k (inr o) = λ e. h.off (opposite_of k) o (opposite_zero k (in_steps unit p) e)
 
@@ -133,7 +102,7 @@ between_world unit u v hu hv a b ha hb =
     })
 
 -- ---- ways on which each point lies on at most one face plane, by the values at both ends
-abbrev pub IsAlone : LengthUnit → Formula → Coordinates → Coordinates → Type 0
+abbrev pub IsAlone : LengthUnit → Tree → Coordinates → Coordinates → Type 0
 IsAlone unit f a b = (s t : ℤ) → pos 0 <ℤ s → pos 0 <ℤ t → (m n : Coefficients) → IsPlaneOf m f → IsPlaneOf n f →
     s *ℤ value m (in_steps unit a) +ℤ t *ℤ value m (in_steps unit b) ≡ pos 0 →
     s *ℤ value n (in_steps unit a) +ℤ t *ℤ value n (in_steps unit b) ≡ pos 0 → IsEither m n
@@ -153,7 +122,7 @@ first_sum s t u v x y z e h =
 above_sum : (x y : ℤ) → pos 0 <ℤ x → pos 0 <ℤ y → pos 0 <ℤ (x +ℤ y)
 above_sum x y h k = omega (arith, sums)
 
-module _ (unit : LengthUnit) (f : Formula) (u v : ℤ) (hu : pos 0 <ℤ u) (hv : pos 0 <ℤ v) (a b : Coordinates) (h : IsAlone unit f a b) where
+module _ (unit : LengthUnit) (f : Tree) (u v : ℤ) (hu : pos 0 <ℤ u) (hv : pos 0 <ℤ v) (a b : Coordinates) (h : IsAlone unit f a b) where
   abbrev at : Coefficients → Coordinates → ℤ
   at m p = value m (in_steps unit p)
 

@@ -9,12 +9,12 @@ use Rattle.plane_predicate.proofs.IntegerRing.{sums}
 use Rattle.plane_predicate.proofs.Identities.{combine}
 use Rattle.plane_predicate.proofs.SamePlanes.{directed_above}
 use Rattle.plane_predicate.proofs.Signs.{signs}
-use Rattle.csg_tree.specs.Formulas.{Formula, holds, sides_of, IsPlaneOf}
+use Rattle.csg_tree.specs.HalfSpaceTrees.{Tree, holds, sides_of, IsPlaneOf}
 use Rattle.csg_tree.specs.FacePlanes.{IsFacePlane, IsOnOneFacePlane, sides_just_behind, sides_just_ahead, is_boundary_at}
 use Rattle.csg_tree.specs.ProperTrees.{HasFullLeaves}
 use Rattle.bsp_tree.proofs.Opposites.{opposite_above, opposite_below}
 use Rattle.bsp_tree.proofs.SameNumbers.{same_equal, not_same}
-use Rattle.closed_surface.specs.Around.{sum_over}
+use Rattle.plane_predicate.specs.Sums.{sum_over}
 use Rattle.closed_surface.specs.Closed.{edges_of, corners_at}
 use Rattle.closed_surface.specs.Near.{indicator}
 use Rattle.closed_surface.proofs.Each.{Each, each_weaker, each_from_all, total_difference}
@@ -24,7 +24,7 @@ use Rattle.off_text.specs.Reading.{IsPrintedVertex}
 use Rattle.off_text.specs.Boundaries.{FacesPlane, FaceCovers}
 use Rattle.off_text.specs.Bounding.{IsBoundary}
 use Rattle.off_text.proofs.BesideFaces.{face_plane_is_plane}
-use Rattle.ray_crossings.specs.Crossings.{height, passes_left, goes_through, crossings}
+use Rattle.ray_crossings.specs.Crossings.{orientation_to_face, passes_left, goes_through, crossings}
 use Rattle.ray_crossings.specs.Positions.{IsOffFacePlanes}
 use Rattle.ray_crossings.proofs.Volumes.{value_between}
 use Rattle.ray_crossings.proofs.Parts.{sum_below, sum_above}
@@ -50,7 +50,7 @@ above_neg x y e h = omega (arith, sums)
 same_sign_above : (x y : ℤ) → x ≡ y → pos 0 <ℤ y → pos 0 <ℤ x
 same_sign_above x y e h = omega (arith, sums)
 
-module _ (unit : LengthUnit) (bytes : List ℕ) (f : Formula) (full : HasFullLeaves f) (text : IsBoundary unit bytes f) where
+module _ (unit : LengthUnit) (bytes : List ℕ) (f : Tree) (full : HasFullLeaves f) (text : IsBoundary unit bytes f) where
   abbrev pub at : Coefficients → Coordinates → ℤ
   at m p = value m (in_steps unit p)
 
@@ -65,7 +65,7 @@ module _ (unit : LengthUnit) (bytes : List ℕ) (f : Formula) (full : HasFullLea
 
   -- ---- a point off all face planes is off the plane of each face
   pub height_off : (k : Coefficients) → IsFacePlane k f → (face : List ℕ) → 3 ≤ length face → FacesPlane unit text.vertices k face → (p : Coordinates) → IsOffFacePlanes unit f p →
-      height (corners_at text.vertices face) p ≢ pos 0
+      orientation_to_face (corners_at text.vertices face) p ≢ pos 0
   height_off k fp face three h p off = elim (signs (at k p)) [
     | inl b ↦ not_zero_below _ (height_behind unit text.vertices weights k (directed k fp) face three h p b)
     | inr (inl e) ↦ absurd (face_off unit f p off k fp e)
@@ -73,7 +73,7 @@ module _ (unit : LengthUnit) (bytes : List ℕ) (f : Formula) (full : HasFullLea
   ]
 
   pub low_side : (k : Coefficients) → IsFacePlane k f → (face : List ℕ) → 3 ≤ length face → FacesPlane unit text.vertices k face → (p : Coordinates) → IsOffFacePlanes unit f p →
-      height (corners_at text.vertices face) p <ℤ pos 0 → at k p <ℤ pos 0
+      orientation_to_face (corners_at text.vertices face) p <ℤ pos 0 → at k p <ℤ pos 0
   low_side k fp face three h p off b = elim (signs (at k p)) [
     | inl l ↦ l
     | inr (inl e) ↦ absurd (face_off unit f p off k fp e)
@@ -81,7 +81,7 @@ module _ (unit : LengthUnit) (bytes : List ℕ) (f : Formula) (full : HasFullLea
   ]
 
   pub high_side : (k : Coefficients) → IsFacePlane k f → (face : List ℕ) → 3 ≤ length face → FacesPlane unit text.vertices k face → (p : Coordinates) → IsOffFacePlanes unit f p →
-      pos 0 <ℤ height (corners_at text.vertices face) p → pos 0 <ℤ at k p
+      pos 0 <ℤ orientation_to_face (corners_at text.vertices face) p → pos 0 <ℤ at k p
   high_side k fp face three h p off b = elim (signs (at k p)) [
     | inl l ↦ absurd (not_both _ b (height_behind unit text.vertices weights k (directed k fp) face three h p l))
     | inr (inl e) ↦ absurd (face_off unit f p off k fp e)
@@ -95,10 +95,10 @@ module _ (unit : LengthUnit) (bytes : List ℕ) (f : Formula) (full : HasFullLea
   parted k fp face three h a b oa ob e =
       let corners = corners_at text.vertices face in
       let all = list_all (passes_left a b) (edges_of corners) in
-      let x = and_parts (int_lt (height corners a) (pos 0)) (int_lt (pos 0) (height corners b) && all) e in
-      let y = and_parts (int_lt (pos 0) (height corners b)) all x.1 in (
-        low_side k fp face three h a oa (below_back (height corners a) (pos 0) x.0),
-        high_side k fp face three h b ob (below_back (pos 0) (height corners b) y.0),
+      let x = and_parts (int_lt (orientation_to_face corners a) (pos 0)) (int_lt (pos 0) (orientation_to_face corners b) && all) e in
+      let y = and_parts (int_lt (pos 0) (orientation_to_face corners b)) all x.1 in (
+        low_side k fp face three h a oa (below_back (orientation_to_face corners a) (pos 0) x.0),
+        high_side k fp face three h b ob (below_back (pos 0) (orientation_to_face corners b) y.0),
       )
 
   -- n alone parts a from b

@@ -8,7 +8,7 @@ use Rattle.plane_predicate.proofs.Identities.{combine}
 use Rattle.plane_predicate.proofs.Polynomials.{var, num, plus, times, minus, ring}
 use Rattle.plane_predicate.proofs.Signs.{signs, pos_pos, zero_cancel}
 use Rattle.plane_predicate.proofs.Vectors.{value-opposite}
-use Rattle.csg_tree.specs.Formulas.{Formula, holds, sides_of, IsPlaneOf}
+use Rattle.csg_tree.specs.HalfSpaceTrees.{Tree, holds, sides_of, IsPlaneOf}
 use Rattle.csg_tree.specs.FacePlanes.{IsFacePlane}
 use Rattle.csg_tree.specs.ProperTrees.{HasFullLeaves}
 use Rattle.bsp_tree.proofs.Opposites.{opposite_above, opposite_below, behind_opposite_above}
@@ -19,13 +19,14 @@ use Rattle.closed_surface.proofs.Lines.{IsEither, AmongEither, is_either, either
 use Rattle.closed_surface.proofs.Numbers.{below, not_below, at_least, not_both, false_by}
 use Rattle.off_text.specs.Reading.{IsPrintedFace}
 use Rattle.off_text.specs.Bounding.{IsBoundary, IsBoundaryFace}
-use Rattle.ray_crossings.specs.Crossings.{height, goes_through, crossing, crossings}
+use Rattle.ray_crossings.specs.Crossings.{orientation_to_face, goes_through, crossing, crossings}
 use Rattle.ray_crossings.specs.Positions.{IsOffFacePlanes, IsInGeneralPosition}
 use Rattle.ray_crossings.proofs.Volumes.{value_between}
 use Rattle.ray_crossings.proofs.Parts.{sum_below, sum_above, other_end, crossing_parts}
-use Rattle.ray_crossings.proofs.Sides.{holds_alike, planes_in, each_is, each_of, opposite_face, opposite_first, opposite_either, face_off, IsAlone, alone_first, alone_second}
+use Rattle.ray_crossings.proofs.Sides.{holds_alike, opposite_face, opposite_first, opposite_either, face_off, IsAlone, alone_first, alone_second}
 use Rattle.ray_crossings.proofs.Single.{height_off, parted, Tells, single}
 use Rattle.ray_crossings.proofs.Past.{meeting, MeetsAlone, IsPast, past, past_off, meets_alone, no_either}
+use Rattle.watertight.proofs.Nearby.{planes_in, each_is, each_of}
 
 -- ---- numbers
 joined_falls : (x y z p q r : ℤ) → x ≡ y +ℤ z → y ≡ p -ℤ q → z ≡ q -ℤ r → x ≡ p -ℤ r
@@ -54,7 +55,7 @@ opposite_own x y e h = omega (arith, sums)
 negated : (x y : ℤ) → x ≡ neg_ℤ y → neg_ℤ x ≡ y
 negated x y e = omega (arith, sums)
 
-module _ (unit : LengthUnit) (bytes : List ℕ) (f : Formula) (full : HasFullLeaves f) (text : IsBoundary unit bytes f) where
+module _ (unit : LengthUnit) (bytes : List ℕ) (f : Tree) (full : HasFullLeaves f) (text : IsBoundary unit bytes f) where
   abbrev at : Coefficients → Coordinates → ℤ
   at m p = value m (in_steps unit p)
 
@@ -73,7 +74,7 @@ module _ (unit : LengthUnit) (bytes : List ℕ) (f : Formula) (full : HasFullLea
       (each_from_all (IsBoundaryFace unit f text.vertices) text.faces text.bounding) (each_from_all (IsPrintedFace (length text.vertices)) text.faces text.read.loops)
 
   -- ---- both parts of a way tell of the whole
-  apart : (p : Coordinates) → Off p → (face : List ℕ) → IsFaceThere face → height (corners_at text.vertices face) p ≢ pos 0
+  apart : (p : Coordinates) → Off p → (face : List ℕ) → IsFaceThere face → orientation_to_face (corners_at text.vertices face) p ≢ pos 0
   apart p o face h = height_off unit bytes f full text h.0.plane h.0.of_formula face h.1.three h.0.faces p o
 
   crossings_parts : (u v : ℤ) → pos 0 <ℤ u → pos 0 <ℤ v → (a b : Coordinates) → Off a → Off b → Off (combine u a v b) →

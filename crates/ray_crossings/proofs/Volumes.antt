@@ -3,7 +3,7 @@ use Rattle.std.proofs.Common.{◌≡◌, [], ◌∷◌, refl, ℤ, pos, ◌+ℤ�
 use Rattle.plane_predicate.specs.declared.unit.Unit.{Unit as LengthUnit}
 use Rattle.plane_predicate.specs.Space.{Coefficients, Coordinates, value, orientation_seen_from}
 use Rattle.plane_predicate.specs.InUnits.{in_steps}
-use Rattle.plane_predicate.specs.Units.{steps_of}
+use Rattle.plane_predicate.specs.Units.{grid_steps_per_unit}
 use Rattle.plane_predicate.proofs.Identities.{combine, volume}
 use Rattle.plane_predicate.proofs.Polynomials.{Poly, var, num, plus, times, minus, ring}
 use Rattle.plane_predicate.proofs.Vectors.{Form, Place, form, place, of_plane, of_point, valueP, turnP, determinantP, combineP}
@@ -37,10 +37,10 @@ height_volume x p q r =
     ring (of_point x (of_point p (of_point q (of_point r [])))) (turnP (facingP P X) P Q R) (minus (num (pos 0)) (times P.w (volumeP X P Q R))) refl
 
 pub volume_in_steps : (unit : LengthUnit) (a b p q : Coordinates) →
-    volume (in_steps unit a) (in_steps unit b) (in_steps unit p) (in_steps unit q) ≡ steps_of unit *ℤ (steps_of unit *ℤ (steps_of unit *ℤ volume a b p q))
+    volume (in_steps unit a) (in_steps unit b) (in_steps unit p) (in_steps unit q) ≡ grid_steps_per_unit unit *ℤ (grid_steps_per_unit unit *ℤ (grid_steps_per_unit unit *ℤ volume a b p q))
 volume_in_steps unit a b p q =
     let K = var 16 in let A = place 0 in let B = place 4 in let P = place 8 in let Q = place 12 in
-    ring (of_point a (of_point b (of_point p (of_point q (steps_of unit ∷ [])))))
+    ring (of_point a (of_point b (of_point p (of_point q (grid_steps_per_unit unit ∷ [])))))
     (volumeP (widenedP K A) (widenedP K B) (widenedP K P) (widenedP K Q)) (times K (times K (times K (volumeP A B P Q)))) refl
 
 -- ---- points between two others
@@ -48,7 +48,7 @@ pub value_between : (unit : LengthUnit) (m : Coefficients) (u : ℤ) (a : Coordi
     value m (in_steps unit (combine u a v b)) ≡ u *ℤ value m (in_steps unit a) +ℤ v *ℤ value m (in_steps unit b)
 value_between unit m u a v b =
     let K = var 14 in let M = form 0 in let A = place 4 in let B = place 8 in let U = var 12 in let V = var 13 in
-    ring (of_plane m (of_point a (of_point b (u ∷ v ∷ steps_of unit ∷ []))))
+    ring (of_plane m (of_point a (of_point b (u ∷ v ∷ grid_steps_per_unit unit ∷ []))))
     (valueP M (widenedP K (combineP U A V B))) (plus (times U (valueP M (widenedP K A))) (times V (valueP M (widenedP K B)))) refl
 
 pub turn_between : (unit : LengthUnit) (n : Coefficients) (p q : Coordinates) (u : ℤ) (a : Coordinates) (v : ℤ) (b : Coordinates) →
@@ -56,7 +56,7 @@ pub turn_between : (unit : LengthUnit) (n : Coefficients) (p q : Coordinates) (u
     ≡ u *ℤ orientation_seen_from n (in_steps unit a) (in_steps unit p) (in_steps unit q) +ℤ v *ℤ orientation_seen_from n (in_steps unit b) (in_steps unit p) (in_steps unit q)
 turn_between unit n p q u a v b =
     let K = var 22 in let N = form 0 in let P = widenedP K (place 4) in let Q = widenedP K (place 8) in let A = place 12 in let B = place 16 in let U = var 20 in let V = var 21 in
-    ring (of_plane n (of_point p (of_point q (of_point a (of_point b (u ∷ v ∷ steps_of unit ∷ []))))))
+    ring (of_plane n (of_point p (of_point q (of_point a (of_point b (u ∷ v ∷ grid_steps_per_unit unit ∷ []))))))
     (turnP N P Q (widenedP K (combineP U A V B))) (plus (times U (turnP N (widenedP K A) P Q)) (times V (turnP N (widenedP K B) P Q))) refl
 
 -- ---- parts of a way

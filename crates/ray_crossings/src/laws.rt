@@ -4,7 +4,7 @@ ghost use Rattle.std.specs.Prelude.{◌≡◌, ℕ, ◌-ℤ◌, List, All, pos, 
 ghost use Rattle.plane_predicate.specs.declared.unit.Unit.{Unit as LengthUnit};
 ghost use Rattle.plane_predicate.specs.Space.{Coordinates, Coefficients, value, IsInWorld};
 ghost use Rattle.plane_predicate.specs.InUnits.{in_steps};
-ghost use Rattle.csg_tree.specs.Formulas.{Formula, holds, sides_of};
+ghost use Rattle.csg_tree.specs.HalfSpaceTrees.{Tree, holds, sides_of};
 ghost use Rattle.csg_tree.specs.ProperTrees.{IsProper};
 ghost use Rattle.csg_tree.specs.Reach.{KeepsWithinReach};
 ghost use Rattle.closed_surface.specs.Closed.{corners_at};
@@ -14,18 +14,15 @@ ghost use Rattle.ray_crossings.specs.Crossings.{crossings, TouchesNoEdge};
 ghost use Rattle.ray_crossings.specs.Positions.{IsInGeneralPosition, IsOffFacePlanes};
 ghost use Rattle.ray_crossings.specs.Limits.{IsInsideSolid, IsLimitOfInside};
 
-/// What a ray tells. Take a way between two points that are strictly inside the world box and off all face planes. How often it
-/// crosses the faces of the text of a boundary, 1 for each crossing from behind to ahead and -1 for each one back, is 1 where it
-/// leads from inside the solid to outside, -1 from outside to inside, and else 0. So the crossings from a point to one that is
-/// outside tell whether it is inside. That holds where each point of the way is on at most one face plane, and as well where the
-/// way touches no edge of a face, which can be seen on the text.
+/// What a ray tells: of a way in general position, or one that touches no edge, between points off all face planes, the
+/// crossings sum to 1 where it leaves the solid, to -1 where it enters, else to 0.
 pub fn crossings_tell_inside()
-    ensures planes { (unit : LengthUnit) (bytes : List ℕ) (f : Formula) → IsProper f →
+    ensures planes { (unit : LengthUnit) (bytes : List ℕ) (f : Tree) → IsProper f →
         (text : IsBoundary unit bytes f) → (a b : Coordinates) → IsInGeneralPosition unit f a b →
         crossings a b text.vertices text.faces
         ≡ indicator (holds f (sides_of (in_steps unit a)))
         -ℤ indicator (holds f (sides_of (in_steps unit b))) }
-    ensures edges { (unit : LengthUnit) (bytes : List ℕ) (f : Formula) → IsProper f →
+    ensures edges { (unit : LengthUnit) (bytes : List ℕ) (f : Tree) → IsProper f →
         (text : IsBoundary unit bytes f) → (a b : Coordinates) → IsOffFacePlanes unit f a →
         IsOffFacePlanes unit f b →
         All (λ face. TouchesNoEdge a b (corners_at text.vertices face)) text.faces →
@@ -34,19 +31,18 @@ pub fn crossings_tell_inside()
         -ℤ indicator (holds f (sides_of (in_steps unit b))) }
 {}
 
-/// Each vertex of the text of a boundary is a limit of points inside the solid, where all vertices are strictly inside the world
-/// box. So the printed box is no larger than the solid: there are points inside as near as may be to its least and its greatest
-/// coordinates. Points inside are those where the formula holds and which are on no face plane.
+/// Each vertex of the text of a boundary is a limit of points inside the solid, where all vertices are strictly inside the
+/// world box: so the printed box is no larger than the solid.
 pub fn vertices_are_limits()
-    ensures { (unit : LengthUnit) (bytes : List ℕ) (f : Formula) → IsProper f →
+    ensures { (unit : LengthUnit) (bytes : List ℕ) (f : Tree) → IsProper f →
         (text : IsBoundary unit bytes f) → All (λ p. IsInWorld (in_steps unit p)) text.vertices →
         All (λ v. IsLimitOfInside f (in_steps unit v)) text.vertices }
 {}
 
-/// Beyond all vertices nothing changes. Where no vertex of the text of a boundary is strictly ahead of some plane, two points
-/// strictly ahead of it, strictly inside the world box and off all face planes, are both inside the solid or both outside.
+/// Beyond all vertices nothing changes: two points inside the world box, off all face planes and strictly ahead of a plane that
+/// no vertex is ahead of, are both inside the solid or both outside.
 pub fn nothing_changes_beyond_vertices()
-    ensures { (unit : LengthUnit) (bytes : List ℕ) (f : Formula) → IsProper f →
+    ensures { (unit : LengthUnit) (bytes : List ℕ) (f : Tree) → IsProper f →
         (text : IsBoundary unit bytes f) → (k : Coefficients) →
         All (λ v. value k (in_steps unit v) ≤ℤ pos 0) text.vertices → (a b : Coordinates) →
         IsOffFacePlanes unit f a → IsOffFacePlanes unit f b → pos 0 <ℤ value k (in_steps unit a) →
@@ -54,15 +50,13 @@ pub fn nothing_changes_beyond_vertices()
         holds f (sides_of (in_steps unit a)) ≡ holds f (sides_of (in_steps unit b)) }
 {}
 
-/// The printed box is that of the solid, where the formula holds only within reach. Each vertex of the text of a boundary is a
-/// limit of points inside the solid, without a premise on vertices. And no point inside is ahead of a plane that no vertex is
-/// ahead of, with points and planes in units: so the least and the greatest coordinates of the vertices bound all points
-/// inside, and the solid lies in the hull of the vertices.
+/// The printed box is that of the solid, where the tree holds only within reach: each vertex is a limit of points inside,
+/// and no point inside is ahead of a plane that no vertex is ahead of.
 pub fn printed_boxes_are_those_of_solids()
-    ensures limits { (unit : LengthUnit) (bytes : List ℕ) (f : Formula) → IsProper f →
+    ensures limits { (unit : LengthUnit) (bytes : List ℕ) (f : Tree) → IsProper f →
         KeepsWithinReach f → (text : IsBoundary unit bytes f) →
         All (λ v. IsLimitOfInside f (in_steps unit v)) text.vertices }
-    ensures bounds { (unit : LengthUnit) (bytes : List ℕ) (f : Formula) → IsProper f →
+    ensures bounds { (unit : LengthUnit) (bytes : List ℕ) (f : Tree) → IsProper f →
         KeepsWithinReach f → (text : IsBoundary unit bytes f) → (k : Coefficients) →
         All (λ v. value k v ≤ℤ pos 0) text.vertices → (p : Coordinates) →
         IsInsideSolid f (in_steps unit p) → value k p ≤ℤ pos 0 }

@@ -7,9 +7,9 @@ use Rattle.edit_session.specs.declared.fault.SessionFault.{SessionFault}
 use Rattle.edit_session.specs.Sessions.{State, source_of, refusal, state_after_command}
 use Rattle.reply_text.specs.declared.reply.Reply.{Reply}
 use Rattle.reply_text.specs.declared.reply.Reply.TheVariants as reply
-use Rattle.reply_text.specs.Answers.{IsDone, Answers, Fits, SameWants, IsExport}
+use Rattle.reply_text.specs.Answers.{AnswersAccepted, Answers, Fits, SameWants, IsExport}
 
-one_done : (E : List ℕ → Reply → Type 0) → IsExport E → (s : State) (c : Command) (r q : Reply) → IsDone E s c r → IsDone E s c q → r ≡ q
+one_done : (E : List ℕ → Reply → Type 0) → IsExport E → (s : State) (c : Command) (r q : Reply) → AnswersAccepted E s c r → AnswersAccepted E s c q → r ≡ q
 one_done E x s (Put line text) r q h g = h ∙ sym g
 one_done E x s (Set line text) r q h g = h ∙ sym g
 one_done E x s (Cut from upto) r q h g = h ∙ sym g
@@ -18,14 +18,14 @@ one_done E x s Export r q h g = x.one (source_of s) r q h g
 one_done E x s Bad r q h g = absurd h
 
 one_answer_of : (E : List ℕ → Reply → Type 0) → IsExport E → (s : State) (c : Command) (why : Option SessionFault) (r q : Reply) →
-    MatchOption why (IsDone E s c r) (λ w. r ≡ reply.Refused w) → MatchOption why (IsDone E s c q) (λ w. q ≡ reply.Refused w) → r ≡ q
+    MatchOption why (AnswersAccepted E s c r) (λ w. r ≡ reply.Refused w) → MatchOption why (AnswersAccepted E s c q) (λ w. q ≡ reply.Refused w) → r ≡ q
 one_answer_of E x s c None r q h g = one_done E x s c r q h g
 one_answer_of E x s c (Some why) r q h g = h ∙ sym g
 
 pub one_answer : (E : List ℕ → Reply → Type 0) → IsExport E → (s : State) (c : Command) (r q : Reply) → Answers E s c r → Answers E s c q → r ≡ q
 one_answer E x s c r q h g = one_answer_of E x s c (refusal s c) r q h g
 
-done_has_memory : (E : List ℕ → Reply → Type 0) → IsExport E → (s : State) (c : Command) (r : Reply) → IsDone E s c r → r ≢ reply.NoMem
+done_has_memory : (E : List ℕ → Reply → Type 0) → IsExport E → (s : State) (c : Command) (r : Reply) → AnswersAccepted E s c r → r ≢ reply.NoMem
 done_has_memory E x s (Put line text) r h e = cc (h, e)
 done_has_memory E x s (Set line text) r h e = cc (h, e)
 done_has_memory E x s (Cut from upto) r h e = cc (h, e)
@@ -34,7 +34,7 @@ done_has_memory E x s Export r h e = x.has_memory (source_of s) r h e
 done_has_memory E x s Bad r h e = h
 
 answer_of_has_memory : (E : List ℕ → Reply → Type 0) → IsExport E → (s : State) (c : Command) (why : Option SessionFault) (r : Reply) →
-    MatchOption why (IsDone E s c r) (λ w. r ≡ reply.Refused w) → r ≢ reply.NoMem
+    MatchOption why (AnswersAccepted E s c r) (λ w. r ≡ reply.Refused w) → r ≢ reply.NoMem
 answer_of_has_memory E x s c None r h e = done_has_memory E x s c r h e
 answer_of_has_memory E x s c (Some why) r h e = cc (h, e)
 

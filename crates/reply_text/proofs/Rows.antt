@@ -12,7 +12,7 @@ use Rattle.reply_text.specs.declared.reply.Reply.{Reply}
 use Rattle.reply_text.specs.declared.reply.Reply.TheVariants as reply
 use Rattle.reply_text.specs.Texts.{replies_text, output}
 use Rattle.reply_text.specs.Answers.{Fits}
-use Rattle.reply_text.specs.Sums.{LackNoSolid, CountsWhereSolid, SumTo, AllSumTo}
+use Rattle.reply_text.specs.Sums.{AreSolvedReplies, CountsWhereSolved, SumTo, AllSumTo}
 
 -- an export gives its source back
 abbrev GivesBack : List ℕ → Reply → Type 0
@@ -88,7 +88,7 @@ HasLength source r n = n ≡ length source
 
 -- the same where the export lacks no solid
 abbrev HasSolidLength : List ℕ → Reply → ℕ → Type 0
-HasSolidLength = CountsWhereSolid (λ source n. n ≡ length source)
+HasSolidLength = CountsWhereSolved (λ source n. n ≡ length source)
 
 -- two lines of nine bytes, exported once
 sum_is : SumTo HasLength start_state commands replies 18
@@ -154,11 +154,11 @@ one_counts : SumTo HasSolidLength one_source (Export ∷ Export ∷ []) (reply.N
 one_counts = (0, 2, inr ((λ has. has), refl), (2, 0, inl (tt, refl), refl, refl), refl)
 
 -- a fault, a limit of the boundary and a refusal lack no solid, and a line that had no memory is no export
-none_lacks : LackNoSolid (Put 1 (codes "x") ∷ Export ∷ Export ∷ Export ∷ []) (reply.NoMem ∷ reply.Faulted (record { kind = UnknownName; place = record { line = 1; column = 1 } }) ∷ reply.PassedLimit limit.Facets ∷ reply.Refused TooManyExports ∷ [])
+none_lacks : AreSolvedReplies (Put 1 (codes "x") ∷ Export ∷ Export ∷ Export ∷ []) (reply.NoMem ∷ reply.Faulted (record { kind = UnknownName; place = record { line = 1; column = 1 } }) ∷ reply.PassedLimit limit.Facets ∷ reply.Refused TooManyExports ∷ [])
 none_lacks = (tt, ((λ size. size), (tt, tt)))
 
-one_wants : LackNoSolid (Export ∷ []) (reply.NoMem ∷ []) → ⊥
+one_wants : AreSolvedReplies (Export ∷ []) (reply.NoMem ∷ []) → ⊥
 one_wants h = h.0
 
-one_is_large : LackNoSolid (Export ∷ []) (reply.PassedLimit (limit.Sum 3) ∷ []) → ⊥
+one_is_large : AreSolvedReplies (Export ∷ []) (reply.PassedLimit (limit.Sum 3) ∷ []) → ⊥
 one_is_large h = h.0 tt

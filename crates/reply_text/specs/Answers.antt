@@ -3,7 +3,7 @@ use Rattle.std.specs.Prelude.{◌≡◌, ◌≢◌, ◌↔◌, ℕ, List, [], �
 use Rattle.script_reader.specs.declared.script.Command.{Command}
 use Rattle.script_reader.specs.declared.script.Command.TheVariants.{Put, Set, Cut, Show, Export, Bad}
 use Rattle.script_reader.specs.declared.script.ClientScript.{ClientScript}
-use Rattle.edit_session.specs.Sessions.{State, start_state, source_of, refusal, after_accepted, state_after_command}
+use Rattle.edit_session.specs.Sessions.{State, start_state, source_of, refusal, state_after_accepted, state_after_command}
 use Rattle.edit_session.specs.Asking.{MayWantMemory}
 use Rattle.reply_text.specs.declared.reply.Reply.{Reply}
 use Rattle.reply_text.specs.declared.reply.Reply.TheVariants as reply
@@ -11,17 +11,17 @@ use Rattle.reply_text.specs.declared.reply.Reply.TheVariants as reply
 -- `Exports` relates a source to the replies to its export
 module _ (Exports : List ℕ → Reply → Type 0) where
   -- what a command that is not refused is answered
-  abbrev pub IsDone : State → Command → Reply → Type 0
-  IsDone s (Put line text) r = r ≡ reply.Lines (length (after_accepted s (Put line text)).lines)
-  IsDone s (Set line text) r = r ≡ reply.Lines (length (after_accepted s (Set line text)).lines)
-  IsDone s (Cut from upto) r = r ≡ reply.Lines (length (after_accepted s (Cut from upto)).lines)
-  IsDone s Show r = r ≡ reply.Text s.lines
-  IsDone s Export r = Exports (source_of s) r
-  IsDone s Bad r = ⊥
+  abbrev pub AnswersAccepted : State → Command → Reply → Type 0
+  AnswersAccepted s (Put line text) r = r ≡ reply.Lines (length (state_after_accepted s (Put line text)).lines)
+  AnswersAccepted s (Set line text) r = r ≡ reply.Lines (length (state_after_accepted s (Set line text)).lines)
+  AnswersAccepted s (Cut from upto) r = r ≡ reply.Lines (length (state_after_accepted s (Cut from upto)).lines)
+  AnswersAccepted s Show r = r ≡ reply.Text s.lines
+  AnswersAccepted s Export r = Exports (source_of s) r
+  AnswersAccepted s Bad r = ⊥
 
   -- what a command is answered in a state
   abbrev pub Answers : State → Command → Reply → Type 0
-  Answers s c r = MatchOption (refusal s c) (IsDone s c r) (λ why. r ≡ reply.Refused why)
+  Answers s c r = MatchOption (refusal s c) (AnswersAccepted s c r) (λ why. r ≡ reply.Refused why)
 
   -- The replies are those that the client's own commands define: each is the answer in the state after those before it, or
   -- memory ran out at a command at which it may, which counts as not given.
@@ -50,7 +50,7 @@ abbrev pub state_after : State → Command → Reply → State
 state_after s c reply.NoMem = s
 state_after s c _ = state_after_command s c
 
--- a source has one reply to its export, and it isn't that of want of memory
+-- a source has at most one reply to its export, and it isn't that of want of memory
 pub record IsExport (Exports : List ℕ → Reply → Type 0) : Type 0 where
   pub one : (source : List ℕ) (r q : Reply) → Exports source r → Exports source q → r ≡ q
   pub has_memory : (source : List ℕ) (r : Reply) → Exports source r → r ≢ reply.NoMem

@@ -3,20 +3,20 @@ use Rattle.std.specs.Prelude.{◌≡◌, ℕ, List, [], ◌++◌, flat_map, leng
 use Rattle.text_place.specs.declared.fault.Fault.{Fault}
 use Rattle.text_place.specs.Decimals.{numeral}
 use Rattle.text_place.specs.Words.{word_of}
-use Rattle.script_reader.specs.Lines.{space, newline}
 use Rattle.reply_text.specs.declared.reply.Reply.{Reply}
 use Rattle.reply_text.specs.declared.reply.Reply.TheVariants as reply
 use Rattle.reply_text.specs.Texts.{refusal_word, limit_words, line_count}
+use Rattle.text_place.specs.Separators.{space, newline}
 
 -- how a fault is told: its line, its column and its word
-abbrev pub fault_words : Fault → List ℕ
-fault_words f = codes " fault " ++ numeral f.place.line ++ codes ":" ++ numeral f.place.column ++ space ++ word_of f.kind
+abbrev pub source_fault_words : Fault → List ℕ
+source_fault_words f = codes " fault " ++ numeral f.place.line ++ codes ":" ++ numeral f.place.column ++ space ++ word_of f.kind
 
 -- the first line behind the number, without its newline
 abbrev pub first_words : Reply → List ℕ
 first_words (reply.Lines n) = codes " ok " ++ numeral n
 first_words (reply.Refused why) = codes " refused " ++ refusal_word why
-first_words (reply.Faulted f) = fault_words f
+first_words (reply.Faulted f) = source_fault_words f
 first_words (reply.PassedLimit c) = codes " complex " ++ limit_words c
 first_words reply.NoMem = codes " nomem"
 first_words (reply.Text lines) = codes " text " ++ numeral (length lines)

@@ -16,26 +16,26 @@ IsSizeLimit (limit.Solid number) = Unit {0}
 IsSizeLimit (limit.Sum number) = Unit {0}
 IsSizeLimit _ = ⊥
 
--- an export that is answered so lacks no solid: memory did not run out, and no limit of size was passed
-abbrev pub LacksNoSolid : Reply → Type 0
-LacksNoSolid reply.NoMem = ⊥
-LacksNoSolid (reply.PassedLimit passed) = IsSizeLimit passed → ⊥
-LacksNoSolid _ = Unit {0}
+-- an export that is answered so is solved: memory did not run out, and no limit of size was passed
+abbrev pub IsSolvedReply : Reply → Type 0
+IsSolvedReply reply.NoMem = ⊥
+IsSolvedReply (reply.PassedLimit passed) = IsSizeLimit passed → ⊥
+IsSolvedReply _ = Unit {0}
 
--- no export among these commands lacks its solid
-abbrev pub LackNoSolid : List Command → List Reply → Type 0
-LackNoSolid (Export ∷ cs) (r ∷ rs) = LacksNoSolid r × LackNoSolid cs rs
-LackNoSolid (c ∷ cs) (r ∷ rs) = LackNoSolid cs rs
-LackNoSolid _ _ = Unit {0}
+-- each export among these commands has a solved reply: memory did not run out, and no limit of size was passed
+abbrev pub AreSolvedReplies : List Command → List Reply → Type 0
+AreSolvedReplies (Export ∷ cs) (r ∷ rs) = IsSolvedReply r × AreSolvedReplies cs rs
+AreSolvedReplies (c ∷ cs) (r ∷ rs) = AreSolvedReplies cs rs
+AreSolvedReplies _ _ = Unit {0}
 
--- no export of any client lacks its solid
-abbrev pub AllLackNoSolid : List ClientScript → List (List Reply) → Type 0
-AllLackNoSolid (client ∷ clients) (replies ∷ more) = LackNoSolid client.commands replies × AllLackNoSolid clients more
-AllLackNoSolid _ _ = Unit {0}
+-- each export of each client has a solved reply
+abbrev pub AllAreSolved : List ClientScript → List (List Reply) → Type 0
+AllAreSolved (client ∷ clients) (replies ∷ more) = AreSolvedReplies client.commands replies × AllAreSolved clients more
+AllAreSolved _ _ = Unit {0}
 
--- a number of a source counts where the reply to its export lacks no solid, and else there is none
-abbrev pub CountsWhereSolid : (List ℕ → ℕ → Type 0) → List ℕ → Reply → ℕ → Type 0
-CountsWhereSolid Counts source r n = (LacksNoSolid r × Counts source n) ⊎ ((LacksNoSolid r → ⊥) × (n ≡ 0))
+-- a number of a source counts where the reply to its export is a solved one, and else there is none
+abbrev pub CountsWhereSolved : (List ℕ → ℕ → Type 0) → List ℕ → Reply → ℕ → Type 0
+CountsWhereSolved Counts source r n = (IsSolvedReply r × Counts source n) ⊎ ((IsSolvedReply r → ⊥) × (n ≡ 0))
 
 -- `Counts` relates a source and the reply to its export to a number
 module _ (Counts : List ℕ → Reply → ℕ → Type 0) where

@@ -2,9 +2,9 @@
 
 ghost use Rattle.std.specs.Prelude.{◌≡◌, ◌++◌, ℕ, List, flat_map, IfOk, OnOk, OnErr};
 ghost use Rattle.text_place.specs.Decimals.{numeral};
-ghost use Rattle.script_reader.specs.Lines.{newline};
+ghost use Rattle.text_place.specs.Separators.{newline};
 ghost use Rattle.reply_text.specs.Texts.{refusal_word, limit_words, line_count, reply_body};
-ghost use Rattle.reply_text.specs.Parts.{fault_words, first_words, further_lines, Grows};
+ghost use Rattle.reply_text.specs.Parts.{source_fault_words, first_words, further_lines, Grows};
 
 use crate::reply::{PassedLimit, Reply};
 use edit_session::SessionFault;
@@ -56,7 +56,7 @@ fn push_limit(alloc: Global, out: &mut Vec<u8>, limit: PassedLimit) -> Result<()
 }
 
 fn push_fault(alloc: Global, out: &mut Vec<u8>, fault: Fault) -> Result<(), NoMemory>
-    ensures { OnOk result (out.new.items ≡ out.old.items ++ fault_words fault) }
+    ensures { OnOk result (out.new.items ≡ out.old.items ++ source_fault_words fault) }
 {
     push_text(out, " fault ")?;
     push_number(alloc, out, u64::from(fault.place.line))?;

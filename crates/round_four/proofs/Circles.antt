@@ -7,7 +7,7 @@ use Rattle.plane_predicate.proofs.Opposites.{from_zero, size_of_negative}
 use Rattle.plane_predicate.proofs.Polynomials.{Poly, var, num, plus, minus, times, ring}
 use Rattle.plane_predicate.proofs.Signs.{least_least, zero_cancel}
 use Rattle.plane_predicate.proofs.Vectors.{minorP}
-use Rattle.primitives.specs.Polygons.{orientation, x_of, y_of, GoesLeft, IsConvex, IsFlatShape, IsSafePoint}
+use Rattle.primitives.specs.Polygons.{orientation, x_of, y_of, GoesLeft, IsConvexPolygon, IsFlatShape, IsSafePoint}
 use Rattle.primitives.specs.Sizes.{length_in_grid_steps, IsSafe}
 use Rattle.round_four.specs.Circles.{circle_of, circle_points, IsCircleSize}
 use Rattle.round_four.proofs.Corners.{circle_within, left_far, minus_sign, plus_sign, reach}
@@ -58,7 +58,7 @@ goes_round r h (suc (suc (suc (suc n)))) lt = absurd (omega arith)
 some_turn : (r t n : ℤ) → t ≡ r *ℤ (r -ℤ n) → n ≡ neg_ℤ r → pos 0 <ℤ r → t ≡ pos 0 → ⊥
 some_turn r t n e g h none = let flat = zero_cancel r (r -ℤ n) h (sym e ∙ none) in omega (arith, sums, flat, g, h)
 
-circle_convex : (r : ℤ) → pos 0 <ℤ r → IsConvex (circle_points r)
+circle_convex : (r : ℤ) → pos 0 <ℤ r → IsConvexPolygon (circle_points r)
 circle_convex r h = record {
   goes = inl (goes_round r h);
   corner = record { first = 0; second = 1; third = 2; first_in = omega arith; second_in = omega arith; third_in = omega arith; apart = some_turn r _ _ (first_way r (neg_ℤ r) (pos 0)) (left_far (pos 1) r) h };

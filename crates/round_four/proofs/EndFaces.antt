@@ -5,7 +5,7 @@ use Rattle.plane_predicate.proofs.IntegerRing.{sums}
 use Rattle.plane_predicate.proofs.Polynomials.{var, num, times, minus, ring}
 use Rattle.plane_predicate.proofs.Signs.{zero_cancel}
 use Rattle.plane_predicate.proofs.Vectors.{valueP, minorP}
-use Rattle.primitives.specs.Shapes.{Mesh, corner}
+use Rattle.primitives.specs.Shapes.{Mesh, mesh_point}
 use Rattle.primitives.proofs.Moves.{whole, wholeP}
 use Rattle.primitives.proofs.Bodies.{IsOutside}
 use Rattle.round_four.proofs.Corners.{IsCorner}
@@ -62,7 +62,7 @@ low_is_outside mesh face a b l k hk all h = record {
   plane = low_plane l;
   directed = omega arith;
   on = h.on;
-  within = λ i lt. low_within a b l k hk (corner mesh.points i) (all i [] lt);
+  within = λ i lt. low_within a b l k hk (mesh_point mesh.points i) (all i [] lt);
   far = h.far;
 }
 
@@ -73,6 +73,6 @@ high_is_outside mesh face a b l k hk all h = record {
   plane = high_plane (l +ℤ k);
   directed = omega arith;
   on = h.on;
-  within = λ i lt. high_within a b l k hk (corner mesh.points i) (all i [] lt);
+  within = λ i lt. high_within a b l k hk (mesh_point mesh.points i) (all i [] lt);
   far = h.far;
 }

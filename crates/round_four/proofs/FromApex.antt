@@ -3,7 +3,7 @@ use Rattle.std.proofs.Common.{◌≡◌, ℕ, ◌<◌, List, [], ◌∷◌, ◌+
 use Rattle.std.proofs.lemmas.List.Elements.{All-from_recursion}
 use Rattle.plane_predicate.specs.Space.{point_at}
 use Rattle.plane_predicate.proofs.IntegerRing.{sums}
-use Rattle.primitives.specs.Shapes.{Mesh, value_at, IsFaceOfShape}
+use Rattle.primitives.specs.Shapes.{Mesh, value_at_point, IsFaceOfShape}
 use Rattle.primitives.specs.Prisms.{at_height}
 use Rattle.round_four.specs.Circles.{circle_points}
 use Rattle.round_four.specs.Cylinders.{faces_from_apex}
@@ -19,7 +19,7 @@ from_apex b l h = record { points = apex_at l ++ map (at_height h) (circle_point
 first_side : (b l k : ℤ) → pos 0 <ℤ b → pos 0 <ℤ k → All (λ (p : List ℤ). IsCorner (pos 0) b l (l +ℤ k) (point_at p)) (from_apex b l (l +ℤ k)).points → IsOutside (from_apex b l (l +ℤ k)) (0 ∷ 2 ∷ 1 ∷ [])
 first_side b l k hb hk all =
     let s = pos 1 in let t = pos 1 in let mesh = from_apex b l (l +ℤ k) in let P : ℕ → Type 0 = λ i. i < 5 in
-    let On : ℕ → Type 0 = λ i. value_at mesh.points (side_plane s t (pos 0) b l k) i ≡ pos 0 in
+    let On : ℕ → Type 0 = λ i. value_at_point mesh.points (side_plane s t (pos 0) b l k) i ≡ pos 0 in
     side_is_outside mesh (0 ∷ 2 ∷ 1 ∷ []) s t (pos 0) b l k plus_sign plus_sign hk all (record {
       there = three P 0 2 1 (omega arith) (omega arith) (omega arith);
       triangle = record { first = 1; second = 2; third = 0; first_in = omega arith; second_in = omega arith; third_in = omega arith; apart = high_apart (pos 0) b b (pos 0) (pos 0) (pos 0) l k (λ e. omega (arith, sums, e, hb)) hk };
@@ -30,7 +30,7 @@ first_side b l k hb hk all =
 second_side : (b l k : ℤ) → pos 0 <ℤ b → pos 0 <ℤ k → All (λ (p : List ℤ). IsCorner (pos 0) b l (l +ℤ k) (point_at p)) (from_apex b l (l +ℤ k)).points → IsOutside (from_apex b l (l +ℤ k)) (0 ∷ 3 ∷ 2 ∷ [])
 second_side b l k hb hk all =
     let s = negsuc 0 in let t = pos 1 in let mesh = from_apex b l (l +ℤ k) in let P : ℕ → Type 0 = λ i. i < 5 in
-    let On : ℕ → Type 0 = λ i. value_at mesh.points (side_plane s t (pos 0) b l k) i ≡ pos 0 in
+    let On : ℕ → Type 0 = λ i. value_at_point mesh.points (side_plane s t (pos 0) b l k) i ≡ pos 0 in
     side_is_outside mesh (0 ∷ 3 ∷ 2 ∷ []) s t (pos 0) b l k minus_sign plus_sign hk all (record {
       there = three P 0 3 2 (omega arith) (omega arith) (omega arith);
       triangle = record { first = 1; second = 2; third = 0; first_in = omega arith; second_in = omega arith; third_in = omega arith; apart = high_apart (neg_ℤ b) (pos 0) (pos 0) b (pos 0) (pos 0) l k (λ e. omega (arith, sums, e, hb)) hk };
@@ -41,7 +41,7 @@ second_side b l k hb hk all =
 third_side : (b l k : ℤ) → pos 0 <ℤ b → pos 0 <ℤ k → All (λ (p : List ℤ). IsCorner (pos 0) b l (l +ℤ k) (point_at p)) (from_apex b l (l +ℤ k)).points → IsOutside (from_apex b l (l +ℤ k)) (0 ∷ 4 ∷ 3 ∷ [])
 third_side b l k hb hk all =
     let s = negsuc 0 in let t = negsuc 0 in let mesh = from_apex b l (l +ℤ k) in let P : ℕ → Type 0 = λ i. i < 5 in
-    let On : ℕ → Type 0 = λ i. value_at mesh.points (side_plane s t (pos 0) b l k) i ≡ pos 0 in
+    let On : ℕ → Type 0 = λ i. value_at_point mesh.points (side_plane s t (pos 0) b l k) i ≡ pos 0 in
     side_is_outside mesh (0 ∷ 4 ∷ 3 ∷ []) s t (pos 0) b l k minus_sign minus_sign hk all (record {
       there = three P 0 4 3 (omega arith) (omega arith) (omega arith);
       triangle = record { first = 1; second = 2; third = 0; first_in = omega arith; second_in = omega arith; third_in = omega arith; apart = high_apart (pos 0) (neg_ℤ b) (neg_ℤ b) (pos 0) (pos 0) (pos 0) l k (λ e. omega (arith, sums, e, hb)) hk };
@@ -52,7 +52,7 @@ third_side b l k hb hk all =
 fourth_side : (b l k : ℤ) → pos 0 <ℤ b → pos 0 <ℤ k → All (λ (p : List ℤ). IsCorner (pos 0) b l (l +ℤ k) (point_at p)) (from_apex b l (l +ℤ k)).points → IsOutside (from_apex b l (l +ℤ k)) (0 ∷ 1 ∷ 4 ∷ [])
 fourth_side b l k hb hk all =
     let s = pos 1 in let t = negsuc 0 in let mesh = from_apex b l (l +ℤ k) in let P : ℕ → Type 0 = λ i. i < 5 in
-    let On : ℕ → Type 0 = λ i. value_at mesh.points (side_plane s t (pos 0) b l k) i ≡ pos 0 in
+    let On : ℕ → Type 0 = λ i. value_at_point mesh.points (side_plane s t (pos 0) b l k) i ≡ pos 0 in
     side_is_outside mesh (0 ∷ 1 ∷ 4 ∷ []) s t (pos 0) b l k plus_sign minus_sign hk all (record {
       there = three P 0 1 4 (omega arith) (omega arith) (omega arith);
       triangle = record { first = 1; second = 2; third = 0; first_in = omega arith; second_in = omega arith; third_in = omega arith; apart = high_apart b (pos 0) (pos 0) (neg_ℤ b) (pos 0) (pos 0) l k (λ e. omega (arith, sums, e, hb)) hk };
@@ -63,7 +63,7 @@ fourth_side b l k hb hk all =
 high_end : (b l k : ℤ) → pos 0 <ℤ b → pos 0 <ℤ k → All (λ (p : List ℤ). IsCorner (pos 0) b l (l +ℤ k) (point_at p)) (from_apex b l (l +ℤ k)).points → IsOutside (from_apex b l (l +ℤ k)) (1 ∷ 2 ∷ 3 ∷ 4 ∷ [])
 high_end b l k hb hk all =
     let mesh = from_apex b l (l +ℤ k) in let P : ℕ → Type 0 = λ i. i < 5 in
-    let On : ℕ → Type 0 = λ i. value_at mesh.points (high_plane (l +ℤ k)) i ≡ pos 0 in
+    let On : ℕ → Type 0 = λ i. value_at_point mesh.points (high_plane (l +ℤ k)) i ≡ pos 0 in
     high_is_outside mesh (1 ∷ 2 ∷ 3 ∷ 4 ∷ []) (pos 0) b l k hk all (record {
       there = four P 1 2 3 4 (omega arith) (omega arith) (omega arith) (omega arith);
       triangle = record { first = 0; second = 1; third = 2; first_in = omega arith; second_in = omega arith; third_in = omega arith; apart = circle_apart b (l +ℤ k) hb };

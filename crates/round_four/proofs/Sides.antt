@@ -8,7 +8,7 @@ use Rattle.plane_predicate.proofs.IntegerRing.{sums, one_mul}
 use Rattle.plane_predicate.proofs.Polynomials.{Poly, var, num, plus, times, minus, ring}
 use Rattle.plane_predicate.proofs.Signs.{pos_neg, least_most, zero_cancel}
 use Rattle.plane_predicate.proofs.Vectors.{Form, Place, valueP, minorP}
-use Rattle.primitives.specs.Shapes.{Mesh, corner, value_at, HasTriangle}
+use Rattle.primitives.specs.Shapes.{Mesh, mesh_point, value_at_point, HasTriangle}
 use Rattle.primitives.proofs.Moves.{whole}
 use Rattle.primitives.proofs.Bodies.{HasFar, IsOutside}
 use Rattle.round_four.proofs.Corners.{reach, IsCorner, IsSign}
@@ -101,7 +101,7 @@ AreCorners a b l k points = All (λ (p : List ℤ). IsCorner a b l (l +ℤ k) (p
 pub record IsFaceOf (mesh : Mesh) (face : List ℕ) (m : Coefficients) : Type 0 where
   pub there : All (λ (i : ℕ). i < length mesh.points) face
   pub triangle : HasTriangle mesh.points face
-  pub on : All (λ (i : ℕ). value_at mesh.points m i ≡ pos 0) face
+  pub on : All (λ (i : ℕ). value_at_point mesh.points m i ≡ pos 0) face
   pub far : HasFar mesh m
 
 pub side_is_outside : (mesh : Mesh) (face : List ℕ) (s t a b l k : ℤ) → IsSign s → IsSign t → pos 0 <ℤ k → AreCorners a b l k mesh.points → IsFaceOf mesh face (side_plane s t a b l k) → IsOutside mesh face
@@ -111,6 +111,6 @@ side_is_outside mesh face s t a b l k es et hk all h = record {
   plane = side_plane s t a b l k;
   directed = omega (arith, some_size (s *ℤ k) (some_step s k es hk));
   on = h.on;
-  within = λ i lt. side_within s t a b l k es et hk (corner mesh.points i) (all i [] lt);
+  within = λ i lt. side_within s t a b l k es et hk (mesh_point mesh.points i) (all i [] lt);
   far = h.far;
 }

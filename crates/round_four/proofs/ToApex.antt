@@ -3,7 +3,7 @@ use Rattle.std.proofs.Common.{◌≡◌, ℕ, ◌<◌, List, [], ◌∷◌, ◌+
 use Rattle.std.proofs.lemmas.List.Elements.{All-from_recursion}
 use Rattle.plane_predicate.specs.Space.{point_at}
 use Rattle.plane_predicate.proofs.IntegerRing.{sums}
-use Rattle.primitives.specs.Shapes.{Mesh, value_at, IsFaceOfShape}
+use Rattle.primitives.specs.Shapes.{Mesh, value_at_point, IsFaceOfShape}
 use Rattle.primitives.specs.Prisms.{at_height}
 use Rattle.round_four.specs.Circles.{circle_points}
 use Rattle.round_four.specs.Cylinders.{faces_to_apex}
@@ -19,7 +19,7 @@ to_apex a l h = record { points = map (at_height l) (circle_points a) ++ apex_at
 first_side : (a l k : ℤ) → pos 0 <ℤ a → pos 0 <ℤ k → All (λ (p : List ℤ). IsCorner a (pos 0) l (l +ℤ k) (point_at p)) (to_apex a l (l +ℤ k)).points → IsOutside (to_apex a l (l +ℤ k)) (0 ∷ 1 ∷ 4 ∷ [])
 first_side a l k ha hk all =
     let s = pos 1 in let t = pos 1 in let mesh = to_apex a l (l +ℤ k) in let P : ℕ → Type 0 = λ i. i < 5 in
-    let On : ℕ → Type 0 = λ i. value_at mesh.points (side_plane s t a (pos 0) l k) i ≡ pos 0 in
+    let On : ℕ → Type 0 = λ i. value_at_point mesh.points (side_plane s t a (pos 0) l k) i ≡ pos 0 in
     side_is_outside mesh (0 ∷ 1 ∷ 4 ∷ []) s t a (pos 0) l k plus_sign plus_sign hk all (record {
       there = three P 0 1 4 (omega arith) (omega arith) (omega arith);
       triangle = record { first = 0; second = 1; third = 2; first_in = omega arith; second_in = omega arith; third_in = omega arith; apart = low_apart a (pos 0) (pos 0) a (pos 0) (pos 0) l k (λ e. omega (arith, sums, e, ha)) hk };
@@ -30,7 +30,7 @@ first_side a l k ha hk all =
 second_side : (a l k : ℤ) → pos 0 <ℤ a → pos 0 <ℤ k → All (λ (p : List ℤ). IsCorner a (pos 0) l (l +ℤ k) (point_at p)) (to_apex a l (l +ℤ k)).points → IsOutside (to_apex a l (l +ℤ k)) (1 ∷ 2 ∷ 4 ∷ [])
 second_side a l k ha hk all =
     let s = negsuc 0 in let t = pos 1 in let mesh = to_apex a l (l +ℤ k) in let P : ℕ → Type 0 = λ i. i < 5 in
-    let On : ℕ → Type 0 = λ i. value_at mesh.points (side_plane s t a (pos 0) l k) i ≡ pos 0 in
+    let On : ℕ → Type 0 = λ i. value_at_point mesh.points (side_plane s t a (pos 0) l k) i ≡ pos 0 in
     side_is_outside mesh (1 ∷ 2 ∷ 4 ∷ []) s t a (pos 0) l k minus_sign plus_sign hk all (record {
       there = three P 1 2 4 (omega arith) (omega arith) (omega arith);
       triangle = record { first = 0; second = 1; third = 2; first_in = omega arith; second_in = omega arith; third_in = omega arith; apart = low_apart (pos 0) a (neg_ℤ a) (pos 0) (pos 0) (pos 0) l k (λ e. omega (arith, sums, e, ha)) hk };
@@ -41,7 +41,7 @@ second_side a l k ha hk all =
 third_side : (a l k : ℤ) → pos 0 <ℤ a → pos 0 <ℤ k → All (λ (p : List ℤ). IsCorner a (pos 0) l (l +ℤ k) (point_at p)) (to_apex a l (l +ℤ k)).points → IsOutside (to_apex a l (l +ℤ k)) (2 ∷ 3 ∷ 4 ∷ [])
 third_side a l k ha hk all =
     let s = negsuc 0 in let t = negsuc 0 in let mesh = to_apex a l (l +ℤ k) in let P : ℕ → Type 0 = λ i. i < 5 in
-    let On : ℕ → Type 0 = λ i. value_at mesh.points (side_plane s t a (pos 0) l k) i ≡ pos 0 in
+    let On : ℕ → Type 0 = λ i. value_at_point mesh.points (side_plane s t a (pos 0) l k) i ≡ pos 0 in
     side_is_outside mesh (2 ∷ 3 ∷ 4 ∷ []) s t a (pos 0) l k minus_sign minus_sign hk all (record {
       there = three P 2 3 4 (omega arith) (omega arith) (omega arith);
       triangle = record { first = 0; second = 1; third = 2; first_in = omega arith; second_in = omega arith; third_in = omega arith; apart = low_apart (neg_ℤ a) (pos 0) (pos 0) (neg_ℤ a) (pos 0) (pos 0) l k (λ e. omega (arith, sums, e, ha)) hk };
@@ -52,7 +52,7 @@ third_side a l k ha hk all =
 fourth_side : (a l k : ℤ) → pos 0 <ℤ a → pos 0 <ℤ k → All (λ (p : List ℤ). IsCorner a (pos 0) l (l +ℤ k) (point_at p)) (to_apex a l (l +ℤ k)).points → IsOutside (to_apex a l (l +ℤ k)) (3 ∷ 0 ∷ 4 ∷ [])
 fourth_side a l k ha hk all =
     let s = pos 1 in let t = negsuc 0 in let mesh = to_apex a l (l +ℤ k) in let P : ℕ → Type 0 = λ i. i < 5 in
-    let On : ℕ → Type 0 = λ i. value_at mesh.points (side_plane s t a (pos 0) l k) i ≡ pos 0 in
+    let On : ℕ → Type 0 = λ i. value_at_point mesh.points (side_plane s t a (pos 0) l k) i ≡ pos 0 in
     side_is_outside mesh (3 ∷ 0 ∷ 4 ∷ []) s t a (pos 0) l k plus_sign minus_sign hk all (record {
       there = three P 3 0 4 (omega arith) (omega arith) (omega arith);
       triangle = record { first = 0; second = 1; third = 2; first_in = omega arith; second_in = omega arith; third_in = omega arith; apart = low_apart (pos 0) (neg_ℤ a) a (pos 0) (pos 0) (pos 0) l k (λ e. omega (arith, sums, e, ha)) hk };
@@ -63,7 +63,7 @@ fourth_side a l k ha hk all =
 low_end : (a l k : ℤ) → pos 0 <ℤ a → pos 0 <ℤ k → All (λ (p : List ℤ). IsCorner a (pos 0) l (l +ℤ k) (point_at p)) (to_apex a l (l +ℤ k)).points → IsOutside (to_apex a l (l +ℤ k)) (0 ∷ 1 ∷ 2 ∷ 3 ∷ [])
 low_end a l k ha hk all =
     let mesh = to_apex a l (l +ℤ k) in let P : ℕ → Type 0 = λ i. i < 5 in
-    let On : ℕ → Type 0 = λ i. value_at mesh.points (low_plane l) i ≡ pos 0 in
+    let On : ℕ → Type 0 = λ i. value_at_point mesh.points (low_plane l) i ≡ pos 0 in
     low_is_outside mesh (0 ∷ 1 ∷ 2 ∷ 3 ∷ []) a (pos 0) l k hk all (record {
       there = four P 0 1 2 3 (omega arith) (omega arith) (omega arith) (omega arith);
       triangle = record { first = 0; second = 1; third = 2; first_in = omega arith; second_in = omega arith; third_in = omega arith; apart = circle_apart a l ha };

@@ -3,7 +3,7 @@ use Rattle.std.proofs.Common.{◌≡◌, ℕ, ◌<◌, List, [], ◌∷◌, ◌+
 use Rattle.std.proofs.lemmas.List.Elements.{All-from_recursion}
 use Rattle.plane_predicate.specs.Space.{point_at}
 use Rattle.plane_predicate.proofs.IntegerRing.{sums}
-use Rattle.primitives.specs.Shapes.{Mesh, value_at, IsFaceOfShape}
+use Rattle.primitives.specs.Shapes.{Mesh, value_at_point, IsFaceOfShape}
 use Rattle.primitives.specs.Prisms.{at_height}
 use Rattle.round_four.specs.Circles.{circle_points}
 use Rattle.round_four.specs.Cylinders.{faces_of_two}
@@ -19,7 +19,7 @@ two a b l h = record { points = map (at_height l) (circle_points a) ++ map (at_h
 first_side : (a b l k : ℤ) → pos 0 <ℤ a → pos 0 <ℤ b → pos 0 <ℤ k → All (λ (p : List ℤ). IsCorner a b l (l +ℤ k) (point_at p)) (two a b l (l +ℤ k)).points → IsOutside (two a b l (l +ℤ k)) (0 ∷ 1 ∷ 5 ∷ 4 ∷ [])
 first_side a b l k ha hb hk all =
     let s = pos 1 in let t = pos 1 in let mesh = two a b l (l +ℤ k) in let P : ℕ → Type 0 = λ i. i < 8 in
-    let On : ℕ → Type 0 = λ i. value_at mesh.points (side_plane s t a b l k) i ≡ pos 0 in
+    let On : ℕ → Type 0 = λ i. value_at_point mesh.points (side_plane s t a b l k) i ≡ pos 0 in
     side_is_outside mesh (0 ∷ 1 ∷ 5 ∷ 4 ∷ []) s t a b l k plus_sign plus_sign hk all (record {
       there = four P 0 1 5 4 (omega arith) (omega arith) (omega arith) (omega arith);
       triangle = record { first = 0; second = 1; third = 2; first_in = omega arith; second_in = omega arith; third_in = omega arith; apart = low_apart a (pos 0) (pos 0) a (pos 0) b l k (λ e. omega (arith, sums, e, ha)) hk };
@@ -30,7 +30,7 @@ first_side a b l k ha hb hk all =
 second_side : (a b l k : ℤ) → pos 0 <ℤ a → pos 0 <ℤ b → pos 0 <ℤ k → All (λ (p : List ℤ). IsCorner a b l (l +ℤ k) (point_at p)) (two a b l (l +ℤ k)).points → IsOutside (two a b l (l +ℤ k)) (1 ∷ 2 ∷ 6 ∷ 5 ∷ [])
 second_side a b l k ha hb hk all =
     let s = negsuc 0 in let t = pos 1 in let mesh = two a b l (l +ℤ k) in let P : ℕ → Type 0 = λ i. i < 8 in
-    let On : ℕ → Type 0 = λ i. value_at mesh.points (side_plane s t a b l k) i ≡ pos 0 in
+    let On : ℕ → Type 0 = λ i. value_at_point mesh.points (side_plane s t a b l k) i ≡ pos 0 in
     side_is_outside mesh (1 ∷ 2 ∷ 6 ∷ 5 ∷ []) s t a b l k minus_sign plus_sign hk all (record {
       there = four P 1 2 6 5 (omega arith) (omega arith) (omega arith) (omega arith);
       triangle = record { first = 0; second = 1; third = 2; first_in = omega arith; second_in = omega arith; third_in = omega arith; apart = low_apart (pos 0) a (neg_ℤ a) (pos 0) (neg_ℤ b) (pos 0) l k (λ e. omega (arith, sums, e, ha)) hk };
@@ -41,7 +41,7 @@ second_side a b l k ha hb hk all =
 third_side : (a b l k : ℤ) → pos 0 <ℤ a → pos 0 <ℤ b → pos 0 <ℤ k → All (λ (p : List ℤ). IsCorner a b l (l +ℤ k) (point_at p)) (two a b l (l +ℤ k)).points → IsOutside (two a b l (l +ℤ k)) (2 ∷ 3 ∷ 7 ∷ 6 ∷ [])
 third_side a b l k ha hb hk all =
     let s = negsuc 0 in let t = negsuc 0 in let mesh = two a b l (l +ℤ k) in let P : ℕ → Type 0 = λ i. i < 8 in
-    let On : ℕ → Type 0 = λ i. value_at mesh.points (side_plane s t a b l k) i ≡ pos 0 in
+    let On : ℕ → Type 0 = λ i. value_at_point mesh.points (side_plane s t a b l k) i ≡ pos 0 in
     side_is_outside mesh (2 ∷ 3 ∷ 7 ∷ 6 ∷ []) s t a b l k minus_sign minus_sign hk all (record {
       there = four P 2 3 7 6 (omega arith) (omega arith) (omega arith) (omega arith);
       triangle = record { first = 0; second = 1; third = 2; first_in = omega arith; second_in = omega arith; third_in = omega arith; apart = low_apart (neg_ℤ a) (pos 0) (pos 0) (neg_ℤ a) (pos 0) (neg_ℤ b) l k (λ e. omega (arith, sums, e, ha)) hk };
@@ -52,7 +52,7 @@ third_side a b l k ha hb hk all =
 fourth_side : (a b l k : ℤ) → pos 0 <ℤ a → pos 0 <ℤ b → pos 0 <ℤ k → All (λ (p : List ℤ). IsCorner a b l (l +ℤ k) (point_at p)) (two a b l (l +ℤ k)).points → IsOutside (two a b l (l +ℤ k)) (3 ∷ 0 ∷ 4 ∷ 7 ∷ [])
 fourth_side a b l k ha hb hk all =
     let s = pos 1 in let t = negsuc 0 in let mesh = two a b l (l +ℤ k) in let P : ℕ → Type 0 = λ i. i < 8 in
-    let On : ℕ → Type 0 = λ i. value_at mesh.points (side_plane s t a b l k) i ≡ pos 0 in
+    let On : ℕ → Type 0 = λ i. value_at_point mesh.points (side_plane s t a b l k) i ≡ pos 0 in
     side_is_outside mesh (3 ∷ 0 ∷ 4 ∷ 7 ∷ []) s t a b l k plus_sign minus_sign hk all (record {
       there = four P 3 0 4 7 (omega arith) (omega arith) (omega arith) (omega arith);
       triangle = record { first = 0; second = 1; third = 2; first_in = omega arith; second_in = omega arith; third_in = omega arith; apart = low_apart (pos 0) (neg_ℤ a) a (pos 0) b (pos 0) l k (λ e. omega (arith, sums, e, ha)) hk };
@@ -63,7 +63,7 @@ fourth_side a b l k ha hb hk all =
 low_end : (a b l k : ℤ) → pos 0 <ℤ a → pos 0 <ℤ b → pos 0 <ℤ k → All (λ (p : List ℤ). IsCorner a b l (l +ℤ k) (point_at p)) (two a b l (l +ℤ k)).points → IsOutside (two a b l (l +ℤ k)) (0 ∷ 1 ∷ 2 ∷ 3 ∷ [])
 low_end a b l k ha hb hk all =
     let mesh = two a b l (l +ℤ k) in let P : ℕ → Type 0 = λ i. i < 8 in
-    let On : ℕ → Type 0 = λ i. value_at mesh.points (low_plane l) i ≡ pos 0 in
+    let On : ℕ → Type 0 = λ i. value_at_point mesh.points (low_plane l) i ≡ pos 0 in
     low_is_outside mesh (0 ∷ 1 ∷ 2 ∷ 3 ∷ []) a b l k hk all (record {
       there = four P 0 1 2 3 (omega arith) (omega arith) (omega arith) (omega arith);
       triangle = record { first = 0; second = 1; third = 2; first_in = omega arith; second_in = omega arith; third_in = omega arith; apart = circle_apart a l ha };
@@ -74,7 +74,7 @@ low_end a b l k ha hb hk all =
 high_end : (a b l k : ℤ) → pos 0 <ℤ a → pos 0 <ℤ b → pos 0 <ℤ k → All (λ (p : List ℤ). IsCorner a b l (l +ℤ k) (point_at p)) (two a b l (l +ℤ k)).points → IsOutside (two a b l (l +ℤ k)) (4 ∷ 5 ∷ 6 ∷ 7 ∷ [])
 high_end a b l k ha hb hk all =
     let mesh = two a b l (l +ℤ k) in let P : ℕ → Type 0 = λ i. i < 8 in
-    let On : ℕ → Type 0 = λ i. value_at mesh.points (high_plane (l +ℤ k)) i ≡ pos 0 in
+    let On : ℕ → Type 0 = λ i. value_at_point mesh.points (high_plane (l +ℤ k)) i ≡ pos 0 in
     high_is_outside mesh (4 ∷ 5 ∷ 6 ∷ 7 ∷ []) a b l k hk all (record {
       there = four P 4 5 6 7 (omega arith) (omega arith) (omega arith) (omega arith);
       triangle = record { first = 0; second = 1; third = 2; first_in = omega arith; second_in = omega arith; third_in = omega arith; apart = circle_apart b (l +ℤ k) hb };

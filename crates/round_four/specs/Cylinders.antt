@@ -72,29 +72,29 @@ IsOnGrid unit false height = ⊤
 IsOnGrid unit true height = IsEven unit height
 
 -- four numbers that are at most 65535 in size
-pub record AreNear (a b c d : ℤ) : Type 0 where
+pub record AreFourInRange (a b c d : ℤ) : Type 0 where
   pub first : unsigned_abs a ≤ 65535
   pub second : unsigned_abs b ≤ 65535
   pub third : unsigned_abs c ≤ 65535
   pub fourth : unsigned_abs d ≤ 65535
 
 -- radii and heights of both ends, in grid steps, that are at most 65535 in size
-abbrev pub IsInRange : LengthUnit → Bool → ℤ → ℤ → ℤ → Type 0
-IsInRange unit center height low high =
-    AreNear (length_in_grid_steps unit low) (length_in_grid_steps unit high) (low_end unit center height) (high_end unit center height)
+abbrev pub IsCylinderInRange : LengthUnit → Bool → ℤ → ℤ → ℤ → Type 0
+IsCylinderInRange unit center height low high =
+    AreFourInRange (length_in_grid_steps unit low) (length_in_grid_steps unit high) (low_end unit center height) (high_end unit center height)
 
 -- sizes with nothing wrong
 pub record AreCylinderSizes (unit : LengthUnit) (center : Bool) (height low high : ℤ) : Type 0 where
   pub body : HasBody height low high
   pub on_grid : IsOnGrid unit center height
-  pub range : IsInRange unit center height low high
+  pub range : IsCylinderInRange unit center height low high
 
 -- the first fault of a cylinder's sizes: they make no body; else the height is centred and odd in grid steps; else a radius or
 -- the height of an end is past 65535 grid steps in size
 abbrev pub IsCylinderFault : LengthUnit → Bool → ℤ → ℤ → ℤ → FaultKind → Type 0
 IsCylinderFault unit center height low high BadSize = HasBody height low high → ⊥
 IsCylinderFault unit center height low high NotOnGrid = HasBody height low high × (center ≡ true) × (unsigned_abs (length_in_grid_steps unit height) % 2 ≡ 1)
-IsCylinderFault unit center height low high OutOfRange = HasBody height low high × IsOnGrid unit center height × (IsInRange unit center height low high → ⊥)
+IsCylinderFault unit center height low high OutOfRange = HasBody height low high × IsOnGrid unit center height × (IsCylinderInRange unit center height low high → ⊥)
 IsCylinderFault unit center height low high kind = ⊥
 
 -- the stops of a cylinder: its first fault, or want of memory

@@ -3,7 +3,7 @@
 ghost use Rattle.std.specs.Prelude.{◌≡◌, ◌≤◌, ◌%◌, true, unsigned_abs, IfSome, IsNone};
 ghost use Rattle.std.specs.Bool.{OnTrue, OnFalse};
 ghost use Rattle.primitives.specs.Sizes.{length_in_grid_steps, IsEven, IsSafe};
-ghost use Rattle.round_four.specs.Cylinders.{AreCylinderSizes, AreNear, HasBody, IsCylinderFault, IsInRange, IsOnGrid};
+ghost use Rattle.round_four.specs.Cylinders.{AreCylinderSizes, AreFourInRange, HasBody, IsCylinderFault, IsCylinderInRange, IsOnGrid};
 
 use plane_predicate::Unit;
 use primitives::{Ends, ends_of, in_steps};
@@ -67,8 +67,9 @@ fn is_in_range(height: i64, low_radius: i64, high_radius: i64, center: bool, uni
     requires height_safe { IsSafe height }
     requires low_safe { IsSafe low_radius }
     requires high_safe { IsSafe high_radius }
-    ensures all { OnTrue result (IsInRange unit center height low_radius high_radius) }
-    ensures none { OnFalse result (IsInRange unit center height low_radius high_radius → ⊥) }
+    ensures all { OnTrue result (IsCylinderInRange unit center height low_radius high_radius) }
+    ensures none { OnFalse result (IsCylinderInRange unit center height low_radius
+        high_radius → ⊥) }
 {
     are_near(
         in_steps(low_radius, unit),
@@ -79,8 +80,8 @@ fn is_in_range(height: i64, low_radius: i64, high_radius: i64, center: bool, uni
 
 // Whether two radii and the heights of two ends are at most 65535 in size.
 fn are_near(low_radius: i64, high_radius: i64, ends: Ends) -> bool
-    ensures all { OnTrue result (AreNear low_radius high_radius ends.low ends.high) }
-    ensures none { OnFalse result (AreNear low_radius high_radius ends.low ends.high → ⊥) }
+    ensures all { OnTrue result (AreFourInRange low_radius high_radius ends.low ends.high) }
+    ensures none { OnFalse result (AreFourInRange low_radius high_radius ends.low ends.high → ⊥) }
 {
     is_near(low_radius) && is_near(high_radius) && is_near(ends.low) && is_near(ends.high)
 }

@@ -13,7 +13,7 @@ use Rattle.clap.proofs.WalkLemmas.{first_value-rows, one_text-rows}
 use Rattle.run_words.specs.declared.given.GivenOptions.{GivenOptions}
 use Rattle.run_words.specs.declared.settings.Settings.{Settings}
 use Rattle.run_words.specs.Words.{AreSettingsInRange, chosen_settings}
-use Rattle.run_words.specs.Reading.{MakeSettings, SayGiven, Says, SaysFlag}
+use Rattle.run_words.specs.Reading.{MakeSettings, WriteOptions, WritesNumberIfThere, SaysFlag}
 use Rattle.run_words.proofs.Rows.{one_says}
 
 pub if_none : {T : Type 0} (r : Option T) (P : Type 0) → P → IfNone r P
@@ -24,13 +24,13 @@ pub text_in : (m : ArgMatches) (name : Text) (r : Option (Bor Text)) (o : Option
     → first_of name (rows_of (found_of m)) ≡ option_map (λ s. s.now) o
 text_in m name r o e is = sym (first_value-rows (found_of m) name) ∙ sym e ∙ ap (option_map (λ s. s.now)) is
 
-pub says_none : (o : Option Text) → o ≡ None → Says o None
+pub says_none : (o : Option Text) → o ≡ None → WritesNumberIfThere o None
 says_none o e = rw e tt
 
-pub says_number : (o : Option Text) (t : Text) (n : ℕ) → o ≡ Some t → IsShortNumeral t → n ≡ digits_value 10 t → Says o (Some n)
+pub says_number : (o : Option Text) (t : Text) (n : ℕ) → o ≡ Some t → IsShortNumeral t → n ≡ digits_value 10 t → WritesNumberIfThere o (Some n)
 says_number o t n e short value = rw e (short, value)
 
-pub says_nothing : (o : Option Text) (t : Text) → o ≡ Some t → (IsShortNumeral t → ⊥) → (number : Option ℕ) → Says o number → ⊥
+pub says_nothing : (o : Option Text) (t : Text) → o ≡ Some t → (IsShortNumeral t → ⊥) → (number : Option ℕ) → WritesNumberIfThere o number → ⊥
 says_nothing o t e none None h = rw e at h
 says_nothing o t e none (Some n) h = none (rw e at h).0
 
@@ -55,16 +55,16 @@ found_is m r p name rows is = go (out-ArgMatches m).subcommand (sym (ap (option_
         λ i. Some (the_name i, the_rows i)
 
 -- ---- one choice
-same_made : (rows : List Row) (given : GivenOptions) (ones other : Settings) → ones ≡ chosen_settings given → SayGiven rows given → MakeSettings (Some (codes "run", rows)) other → other ≡ ones
+same_made : (rows : List Row) (given : GivenOptions) (ones other : Settings) → ones ≡ chosen_settings given → WriteOptions rows given → MakeSettings (Some (codes "run", rows)) other → other ≡ ones
 same_made rows given ones other is says (inl h) = h.3 ∙ ap (λ (g : GivenOptions). chosen_settings g) (one_says rows h.1 given h.2 says) ∙ sym is
 same_made rows given ones other is says (inr h) = cc h.0
 
-pub one_made : (r : Option Settings) (rows : List Row) (given : GivenOptions) (ones : Settings) → ones ≡ chosen_settings given → SayGiven rows given
+pub one_made : (r : Option Settings) (rows : List Row) (given : GivenOptions) (ones : Settings) → ones ≡ chosen_settings given → WriteOptions rows given
     → IfSome r (λ same. (same ≡ ones) × AreSettingsInRange ones) → IfSome r (λ same. (other : Settings) → MakeSettings (Some (codes "run", rows)) other → other ≡ same)
 one_made None rows given ones is says found = tt
 one_made (Some same) rows given ones is says found = λ other h. same_made rows given ones other is says h ∙ sym found.0
 
-pub none_made : (r : Option Settings) (rows : List Row) (given : GivenOptions) (ones : Settings) → ones ≡ chosen_settings given → SayGiven rows given
+pub none_made : (r : Option Settings) (rows : List Row) (given : GivenOptions) (ones : Settings) → ones ≡ chosen_settings given → WriteOptions rows given
     → IfNone r (AreSettingsInRange ones → ⊥) → IfNone r ((other : Settings) → MakeSettings (Some (codes "run", rows)) other → AreSettingsInRange other → ⊥)
 none_made (Some same) rows given ones is says none = tt
 none_made None rows given ones is says none = λ other h range. none (subst AreSettingsInRange (same_made rows given ones other is says h) range)

@@ -3,11 +3,12 @@ use Rattle.std.proofs.Common.{◌≡◌, ◌∙◌, ℕ, Bool, true, false, inl,
 use Rattle.std.specs.Prelude.{bytes_eq}
 use Rattle.clap.specs.Walk.{Held, Row, Text, Walk, first_of, has_row}
 use Rattle.run_words.specs.declared.given.GivenOptions.{GivenOptions}
-use Rattle.run_words.specs.Words.{OptionKey, Workers, Memo, Share, RunOption, Number, Half, Tally, key_name, equals_sign, IsNumeralOf, BeginsWithOption, AreOptions, with_option, AddOptions}
+use Rattle.run_words.specs.Words.{OptionKey, Workers, Memo, Share, RunOption, Number, Half, Tally, key_name, equals_sign, BeginsWithOption, AreOptions, with_option, AddOptions}
 use Rattle.run_words.proofs.Rows.{FlagRow, RowsSay, first_more, first_new, flag_kept, flag_new}
 use Rattle.run_words.proofs.Built.{HasNoSeparator, run_leaf, Leads, both_fine, ends, faults, next_word, then}
 use Rattle.run_words.proofs.Steps.{Piece, Valued, HalfGiven, TallyGiven, Stands, apart_of, doomed, idle_at, joined, joined_leads, key_id, name_leads, name_of, new_stands, row_at, value_leads, value_met, value_missing, value_stands, waits}
 use Rattle.run_words.proofs.Options.{IsOption, IsSpelled, final, is_free, option_at, say_more}
+use Rattle.text_place.specs.Decimals.{IsNumeralOf}
 
 -- each value is a numeral
 abbrev pub AreNumerals : List Row → Type 0

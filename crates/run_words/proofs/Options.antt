@@ -11,10 +11,11 @@ use Rattle.clap.proofs.OnLiterals.{clap_on_literals}
 use Rattle.clap.proofs.CutLemmas.{Lacks}
 use Rattle.clap.proofs.LexerLemmas.{name_and_value-at, name_and_value-without}
 use Rattle.run_words.specs.declared.given.GivenOptions.{GivenOptions}
-use Rattle.run_words.specs.Words.{OptionKey, Workers, Memo, Share, RunOption, Number, Half, Tally, key_name, equals_sign, IsNumeralOf, AreOptions, IsNotGiven, with_option, AddOptions}
+use Rattle.run_words.specs.Words.{OptionKey, Workers, Memo, Share, RunOption, Number, Half, Tally, key_name, equals_sign, AreOptions, IsNotGiven, with_option, AddOptions}
 use Rattle.run_words.proofs.Rows.{KeyRow, FlagRow, RowsSay, full, first_new, flag_kept, flag_new, key_kept, no_flag, no_text, row}
 use Rattle.run_words.proofs.Built.{run_leaf, Leads, at_hand, ends, faults, separator, test, then}
 use Rattle.run_words.proofs.Steps.{Piece, Valued, HalfGiven, TallyGiven, Stands, idle_at, idle_turn, joined, joined_leads, key_id, name_leads, name_of, new_stands, row_at, run_defaults, used_once, value_leads, value_stands, waits, plain_fine, plain_met}
+use Rattle.text_place.specs.Decimals.{IsNumeralOf}
 
 -- ---- how a long option is spelled
 abbrev spelled : Text → Option Text → Text

@@ -8,8 +8,8 @@ use Rattle.clap.specs.declared.builder.value_parser.Reading.TheVariants.{AsWritt
 use Rattle.clap.specs.declared.parser.matches.ValueSource.{ValueSource}
 use Rattle.clap.specs.declared.parser.matches.ValueSource.TheVariants.{CommandLine, DefaultValue}
 use Rattle.run_words.specs.declared.given.GivenOptions.{GivenOptions}
-use Rattle.run_words.specs.Words.{IsNumeralOf}
-use Rattle.run_words.specs.Reading.{Says, SaysFlag, SayGiven, flag_text}
+use Rattle.text_place.specs.Decimals.{IsNumeralOf}
+use Rattle.run_words.specs.Reading.{WritesNumberIfThere, SaysFlag, WriteOptions, flag_text}
 
 -- a row with these values, from the words or from a default
 abbrev pub row : ValueSource → Text → List Text → Row
@@ -148,7 +148,7 @@ whole rows =
     halved ++ added (codes "tally") (has_row (codes "tally") halved)
 
 pub whole_key : (name : Text) (rows : List Row) (o : Option ℕ) → bytes_eq (codes "half") name ≡ false → bytes_eq (codes "tally") name ≡ false
-    → KeyRow rows name o → Says (first_of name (whole rows)) o
+    → KeyRow rows name o → WritesNumberIfThere (first_of name (whole rows)) o
 whole_key name rows None half tally h =
     let none : first_of name (whole rows) ≡ None =
     picked_none value_in name (whole rows) (none_added name (codes "tally") _ _ tally (none_added name (codes "half") _ _ half h)) in
@@ -182,7 +182,7 @@ whole_tally rows false h =
     ap (λ l. one_of (codes "tally") (halved rows ++ l)) here
     ∙ picked_new row_text (codes "tally") (halved rows) (row DefaultValue (codes "tally") (codes "false" ∷ [])) (codes "false") none refl refl
 
-pub whole_says : (rows : List Row) (given : GivenOptions) → RowsSay rows given → SayGiven (whole rows) given
+pub whole_says : (rows : List Row) (given : GivenOptions) → RowsSay rows given → WriteOptions (whole rows) given
 whole_says rows given h = (
   whole_key (codes "workers") rows given.workers refl refl h.0,
   whole_key (codes "memo") rows given.memo refl refl h.1,
@@ -192,7 +192,7 @@ whole_says rows given h = (
 )
 
 -- ---- what is said is one thing
-one_number : (o : Option Text) (a b : Option ℕ) → Says o a → Says o b → a ≡ b
+one_number : (o : Option Text) (a b : Option ℕ) → WritesNumberIfThere o a → WritesNumberIfThere o b → a ≡ b
 one_number None None None h g = refl
 one_number None None (Some n) h g = absurd g
 one_number None (Some n) b h g = absurd h
@@ -201,7 +201,7 @@ one_number (Some t) (Some n) None h g = absurd g
 one_number (Some t) (Some n) (Some m) h g = ap Some (h.1 ∙ sym g.1)
 
 -- the number that is said of a text is the one that it writes
-pub number : (o : Option Text) (t : Text) (a : Option ℕ) → o ≡ Some t → Says o a → (n : ℕ) × IsNumeralOf t n
+pub number : (o : Option Text) (t : Text) (a : Option ℕ) → o ≡ Some t → WritesNumberIfThere o a → (n : ℕ) × IsNumeralOf t n
 number o t None e h = absurd (rw e at h)
 number o t (Some n) e h = (n, rw e at h)
 
@@ -211,7 +211,7 @@ one_flag o false false h g = refl
 one_flag o true false h g = cc (h, g)
 one_flag o false true h g = cc (h, g)
 
-pub one_says : (rows : List Row) (given other : GivenOptions) → SayGiven rows given → SayGiven rows other → given ≡ other
+pub one_says : (rows : List Row) (given other : GivenOptions) → WriteOptions rows given → WriteOptions rows other → given ≡ other
 one_says rows given other h g =
     let workers : given.workers ≡ other.workers = one_number _ _ _ h.0 g.0 in
     let memo : given.memo ≡ other.memo = one_number _ _ _ h.1 g.1 in

@@ -18,14 +18,15 @@ use Rattle.clap.proofs.WalkLemmas.{walk_stopped}
 use Rattle.run_words.specs.declared.given.GivenOptions.{GivenOptions}
 use Rattle.run_words.specs.declared.settings.Settings.{Settings}
 use Rattle.run_words.specs.declared.settings.Settings.TheVariants.{Demo}
-use Rattle.run_words.specs.Words.{OptionKey, Workers, Memo, Share, RunOption, Number, Half, Tally, key_name, equals_sign, AreOptions, IsNumeralOf, AddOptions, AreRunOptions, AreDemoWords, AreSettingsInRange, Chooses, chosen_settings, no_options}
+use Rattle.run_words.specs.Words.{OptionKey, Workers, Memo, Share, RunOption, Number, Half, Tally, key_name, equals_sign, AreOptions, AddOptions, AreRunOptions, AreDemoWords, AreSettingsInRange, Chooses, chosen_settings, no_options}
 use Rattle.run_words.specs.Program.{program}
-use Rattle.run_words.specs.Reading.{has_separator, HaveFlags, HasFlags, MakeSettings, Says, SayGiven}
+use Rattle.run_words.specs.Reading.{has_separator, HaveFlags, HasFlags, MakeSettings, WritesNumberIfThere, WriteOptions}
 use Rattle.run_words.proofs.Rows.{RowsSay, added, number, flag_default, full, no_default, one_says, whole, whole_first, whole_half, whole_says, whole_tally}
 use Rattle.run_words.proofs.Built.{HasNoSeparator, run_leaf, demo_leaf, top, names, both_fine, ends, faults, fine_then, next_word, separator, test, word_is, workers_rule, memo_rule, share_rule, half_rule, tally_rule}
 use Rattle.run_words.proofs.Steps.{apart_of, idle_at, new_stands}
 use Rattle.run_words.proofs.Options.{final, numeral_plain, taken}
 use Rattle.run_words.proofs.Gathered.{AreNumerals, gathered}
+use Rattle.text_place.specs.Decimals.{IsNumeralOf}
 
 -- ---- `run`
 abbrev run_rows : List Text → List Row
@@ -48,22 +49,22 @@ run_rows_are words = go (final (ends run_leaf (walk_from nothing_held) words))
 nothing_said : RowsSay [] no_options
 nothing_said = (refl, refl, refl, refl, refl)
 
-numerals_in : (rows : List Row) (given : GivenOptions) → SayGiven (whole rows) given → AreNumerals rows
+numerals_in : (rows : List Row) (given : GivenOptions) → WriteOptions (whole rows) given → AreNumerals rows
 numerals_in rows given h Workers text is = number (first_of (codes "workers") (whole rows)) text given.workers (whole_first (codes "workers") rows text is) h.0
 numerals_in rows given h Memo text is = number (first_of (codes "memo") (whole rows)) text given.memo (whole_first (codes "memo") rows text is) h.1
 numerals_in rows given h Share text is = number (first_of (codes "share") (whole rows)) text given.share (whole_first (codes "share") rows text is) h.2
 
 run_taken : (words : List Text) (settings : Settings) → AreRunOptions words settings
-    → (faults run_leaf (walk_from nothing_held) words ≡ []) × (given : GivenOptions) × SayGiven (run_rows words) given × (settings ≡ chosen_settings given)
+    → (faults run_leaf (walk_from nothing_held) words ≡ []) × (given : GivenOptions) × WriteOptions (run_rows words) given × (settings ≡ chosen_settings given)
 run_taken words settings (options, given, are, adds, is) =
     let h = taken options words no_options given [] [] None are adds (new_stands []) nothing_said in
     (h.0, given, rw (run_rows_are words) (whole_says (final (ends run_leaf (walk_from nothing_held) words)) given h.1), is)
 
 pub run_found : (words : List Text) (settings : Settings) → HasNoSeparator words → faults run_leaf (walk_from nothing_held) words ≡ []
-    → (given : GivenOptions) → SayGiven (run_rows words) given → settings ≡ chosen_settings given → AreRunOptions words settings
+    → (given : GivenOptions) → WriteOptions (run_rows words) given → settings ≡ chosen_settings given → AreRunOptions words settings
 run_found words settings none fine given says is =
     let rows = final (ends run_leaf (walk_from nothing_held) words) in
-    let says' : SayGiven (whole rows) given = subst (λ (xs : List Row). SayGiven xs given) (run_rows_are words) says in
+    let says' : WriteOptions (whole rows) given = subst (λ (xs : List Row). WriteOptions xs given) (run_rows_are words) says in
     let h = (gathered words [] [] None none (new_stands []) fine).options no_options nothing_said (numerals_in rows given says') in
     (h.0, given, h.2, subst (λ (g : GivenOptions). AddOptions no_options h.0 g) (one_says (whole rows) h.1 given (whole_says rows h.1 h.4) says') h.3, is)
 
@@ -133,21 +134,21 @@ demo_text : (text : Text) → walked demo_leaf.rules [] (walk_from nothing_held)
 demo_text text leads = ap (λ (w : Walk). first_of (codes "parts") (finished demo_leaf.rules w.held)) leads
 
 demo_taken : (words : List Text) (settings : Settings) → AreDemoWords words settings
-    → (faults demo_leaf (walk_from nothing_held) words ≡ []) × (n : ℕ) × Says (first_of (codes "parts") (demo_rows words)) (Some n) × (settings ≡ Demo n)
+    → (faults demo_leaf (walk_from nothing_held) words ≡ []) × (n : ℕ) × WritesNumberIfThere (first_of (codes "parts") (demo_rows words)) (Some n) × (settings ≡ Demo n)
 demo_taken words settings (text, n, is, numeral, chosen_is) =
     let one = demo_one text n numeral in
     rw is (one.0, n, rw (demo_text text one.1) numeral, chosen_is)
 
 demo_found : (words : List Text) (settings : Settings) → HasNoSeparator words → faults demo_leaf (walk_from nothing_held) words ≡ []
-    → (n : ℕ) → Says (first_of (codes "parts") (demo_rows words)) (Some n) → settings ≡ Demo n → AreDemoWords words settings
+    → (n : ℕ) → WritesNumberIfThere (first_of (codes "parts") (demo_rows words)) (Some n) → settings ≡ Demo n → AreDemoWords words settings
 demo_found words settings none fine n says is = one (demo_words words none fine)
   where
     one : (text : Text) × (words ≡ text ∷ []) → AreDemoWords words settings
     one (text, e) =
         let apart = subst (λ (ws : List Text). HasNoSeparator ws) e none in
         let fine' = subst (λ (ws : List Text). faults demo_leaf (walk_from nothing_held) ws ≡ []) e fine in
-        let says' = subst (λ (ws : List Text). Says (first_of (codes "parts") (demo_rows ws)) (Some n)) e says in
-        (text, n, e, subst (λ (o : Option Text). Says o (Some n)) (demo_text text (demo_walk text apart.0 fine')) says', is)
+        let says' = subst (λ (ws : List Text). WritesNumberIfThere (first_of (codes "parts") (demo_rows ws)) (Some n)) e says in
+        (text, n, e, subst (λ (o : Option Text). WritesNumberIfThere o (Some n)) (demo_text text (demo_walk text apart.0 fine')) says', is)
       where
         demo_walk : (t : Text) → t ≢ separator → faults demo_leaf (walk_from nothing_held) (t ∷ []) ≡ [] → walked demo_leaf.rules [] (walk_from nothing_held) t ≡ one_word t
         demo_walk t apart f =

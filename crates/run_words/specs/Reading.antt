@@ -5,28 +5,30 @@ use Rattle.clap.specs.Words.{Row, Text, first_of, one_of}
 use Rattle.run_words.specs.declared.given.GivenOptions.{GivenOptions}
 use Rattle.run_words.specs.declared.settings.Settings.{Settings}
 use Rattle.run_words.specs.declared.settings.Settings.TheVariants.{Demo}
-use Rattle.run_words.specs.Words.{IsNumeralOf, chosen_settings}
+use Rattle.run_words.specs.Words.{chosen_settings}
+use Rattle.text_place.specs.Decimals.{IsNumeralOf}
 
 -- no text and no number, or a text that writes the number
-abbrev pub Says : Option Text → Option ℕ → Type 0
-Says None None = Unit {0}
-Says (Some text) (Some n) = IsNumeralOf text n
-Says _ _ = ⊥
+abbrev pub WritesNumberIfThere : Option Text → Option ℕ → Type 0
+WritesNumberIfThere None None = Unit {0}
+WritesNumberIfThere (Some text) (Some n) = IsNumeralOf text n
+WritesNumberIfThere _ _ = ⊥
 
 -- what clap reads of an option without a value, as it was given or not
 abbrev pub flag_text : Bool → Text
 flag_text true = codes "true"
 flag_text false = codes "false"
 
--- the rows have these options
+-- the rows have one text for an option without a value: whether it was given
 abbrev pub SaysFlag : List Row → Text → Bool → Type 0
 SaysFlag rows name given = one_of name rows ≡ Some (flag_text given)
 
-abbrev pub SayGiven : List Row → GivenOptions → Type 0
-SayGiven rows given =
-    Says (first_of (codes "workers") rows) given.workers
-    × Says (first_of (codes "memo") rows) given.memo
-    × Says (first_of (codes "share") rows) given.share
+-- the rows have these options
+abbrev pub WriteOptions : List Row → GivenOptions → Type 0
+WriteOptions rows given =
+    WritesNumberIfThere (first_of (codes "workers") rows) given.workers
+    × WritesNumberIfThere (first_of (codes "memo") rows) given.memo
+    × WritesNumberIfThere (first_of (codes "share") rows) given.share
     × SaysFlag rows (codes "half") given.half
     × SaysFlag rows (codes "tally") given.tally
 
@@ -38,8 +40,8 @@ HaveFlags rows = ((half : Bool) × SaysFlag rows (codes "half") half) × ((tally
 abbrev pub MakeSettings : Option (Text × List Row) → Settings → Type 0
 MakeSettings None settings = ⊥
 MakeSettings (Some found) settings =
-    ((found.0 ≡ codes "run") × (given : GivenOptions) × SayGiven found.1 given × (settings ≡ chosen_settings given))
-    ⊎ ((found.0 ≡ codes "demo") × (n : ℕ) × Says (first_of (codes "parts") found.1) (Some n) × (settings ≡ Demo n))
+    ((found.0 ≡ codes "run") × (given : GivenOptions) × WriteOptions found.1 given × (settings ≡ chosen_settings given))
+    ⊎ ((found.0 ≡ codes "demo") × (n : ℕ) × WritesNumberIfThere (first_of (codes "parts") found.1) (Some n) × (settings ≡ Demo n))
 
 -- where `run` was found, each option without a value was read
 abbrev pub HasFlags : Option (Text × List Row) → Type 0

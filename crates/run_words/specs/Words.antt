@@ -1,7 +1,6 @@
 -- The grammar of the words: `run`, and options in any order, each at most once, or `demo` and a number.
 use Rattle.std.specs.Prelude.{◌≡◌, ℕ, ◌*◌, ◌≤◌, true, false, List, [], ◌∷◌, ◌++◌, codes, ◌⊎◌, Option, Some, None}
-use Rattle.std.specs.Str.Parse.{digits_value}
-use Rattle.text_place.specs.Decimals.{IsShortNumeral}
+use Rattle.text_place.specs.Decimals.{IsNumeralOf}
 use Rattle.run_words.specs.declared.given.GivenOptions.{GivenOptions}
 use Rattle.run_words.specs.declared.settings.Settings.{Settings}
 use Rattle.run_words.specs.declared.settings.Settings.TheVariants.{Run, Demo}
@@ -21,10 +20,6 @@ pub data RunOption : Type 0 where
 -- the byte of `=`
 abbrev pub equals_sign : List ℕ
 equals_sign = 61 ∷ []
-
--- 1 to 7 digits that write this number; leading zeros are allowed
-abbrev pub IsNumeralOf : List ℕ → ℕ → Type 0
-IsNumeralOf digits n = IsShortNumeral digits × (n ≡ digits_value 10 digits)
 
 -- how an option that has a value is written
 abbrev pub key_name : OptionKey → List ℕ
@@ -108,5 +103,5 @@ Chooses (first ∷ rest) settings =
     × (((first ≡ codes "run") × AreRunOptions rest settings) ⊎ ((first ≡ codes "demo") × AreDemoWords rest settings))
 
 -- the words are outside the grammar
-abbrev pub AreOutside : List (List ℕ) → Type 0
-AreOutside words = (settings : Settings) → Chooses words settings → ⊥
+abbrev pub AreOutsideGrammar : List (List ℕ) → Type 0
+AreOutsideGrammar words = (settings : Settings) → Chooses words settings → ⊥

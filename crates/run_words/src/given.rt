@@ -3,7 +3,7 @@
 ghost use Rattle.std.specs.Prelude.{ℕ, Option, IfSome, IfNone};
 ghost use Rattle.clap.specs.Words.{found_of, first_of, rows_of};
 ghost use Rattle.run_words.specs.declared.given.GivenOptions.{GivenOptions};
-ghost use Rattle.run_words.specs.Reading.{Says, SayGiven, HaveFlags};
+ghost use Rattle.run_words.specs.Reading.{WritesNumberIfThere, WriteOptions, HaveFlags};
 
 use clap::ArgMatches;
 use text_place::read_decimal;
@@ -21,9 +21,9 @@ pub struct GivenOptions {
 /// The number that was given under this name, if one was, and `None` where its text is no numeral.
 pub fn number_in(matches: &ArgMatches<'_>, name: &str) -> Option<Option<u64>>
     ensures found { IfSome result (λ number.
-        Says (first_of name.now (rows_of (found_of matches.now))) number) }
+        WritesNumberIfThere (first_of name.now (rows_of (found_of matches.now))) number) }
     ensures none { IfNone result
-        ((number : Option ℕ) → Says (first_of name.now (rows_of (found_of matches.now))) number
+        ((number : Option ℕ) → WritesNumberIfThere (first_of name.now (rows_of (found_of matches.now))) number
         → ⊥) }
 {
     match matches.get_str(name) {
@@ -35,9 +35,9 @@ pub fn number_in(matches: &ArgMatches<'_>, name: &str) -> Option<Option<u64>>
 /// The options that clap found behind `run`, unless the text of a number is no numeral.
 pub fn given_in(run: &ArgMatches<'_>) -> Option<GivenOptions>
     requires { HaveFlags (rows_of (found_of run.now)) }
-    ensures found { IfSome result (λ given. SayGiven (rows_of (found_of run.now)) given) }
+    ensures found { IfSome result (λ given. WriteOptions (rows_of (found_of run.now)) given) }
     ensures none { IfNone result
-        ((given : GivenOptions) → SayGiven (rows_of (found_of run.now)) given → ⊥) }
+        ((given : GivenOptions) → WriteOptions (rows_of (found_of run.now)) given → ⊥) }
 {
     Some(GivenOptions {
         workers: number_in(run, "workers")?,

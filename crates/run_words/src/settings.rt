@@ -5,7 +5,7 @@ ghost use Rattle.clap.specs.Words.{found_of, kind_of, rows_of, subcommand_rows_o
 ghost use Rattle.clap.specs.declared.error.kind.ErrorKind.TheVariants.{OutOfMemory};
 ghost use Rattle.run_words.specs.declared.settings.Settings.{Settings};
 ghost use Rattle.run_words.specs.declared.settings.WordsFault.TheVariants.{NoMemory};
-ghost use Rattle.run_words.specs.Words.{chosen_settings, AreSettingsInRange, Chooses, AreOutside};
+ghost use Rattle.run_words.specs.Words.{chosen_settings, AreSettingsInRange, Chooses, AreOutsideGrammar};
 ghost use Rattle.run_words.specs.Reading.{HaveFlags, HasFlags, MakeSettings, has_separator as have_separator};
 
 use crate::command::program;
@@ -108,7 +108,7 @@ fn parse<'a>(alloc: Global, words: &'a [String]) -> Result<ArgMatches<'a>, Words
         → MakeSettings (subcommand_rows_of matches) settings
         → Chooses (map string_bytes words.now) settings) }
     ensures flags { IfOk result (λ matches. HasFlags (subcommand_rows_of matches)) }
-    ensures refused { IsErrOf result WordsFault.BadWords → AreOutside (map string_bytes words.now) }
+    ensures refused { IsErrOf result WordsFault.BadWords → AreOutsideGrammar (map string_bytes words.now) }
 {
     let command = program(alloc)?;
     match command.try_get_matches_from(words) {
@@ -121,11 +121,13 @@ fn parse<'a>(alloc: Global, words: &'a [String]) -> Result<ArgMatches<'a>, Words
 fn run_settings(run: &ArgMatches<'_>) -> Option<Settings>
     requires { HaveFlags (rows_of (found_of run.now)) }
     ensures found { IfSome result (λ settings.
-        MakeSettings (Some (codes "run", rows_of (found_of run.now))) settings × AreSettingsInRange settings) }
+        MakeSettings (Some (codes "run", rows_of (found_of run.now))) settings
+        × AreSettingsInRange settings) }
     ensures only { IfSome result (λ settings. (other : Settings)
         → MakeSettings (Some (codes "run", rows_of (found_of run.now))) other → other ≡ settings) }
     ensures none { IfNone result
-        ((settings : Settings) → MakeSettings (Some (codes "run", rows_of (found_of run.now))) settings
+        ((settings : Settings) → MakeSettings
+        (Some (codes "run", rows_of (found_of run.now))) settings
         → AreSettingsInRange settings → ⊥) }
 {
     let given = given_in(run)?;
@@ -135,11 +137,14 @@ fn run_settings(run: &ArgMatches<'_>) -> Option<Settings>
 // The settings of what clap found behind `demo`.
 fn demo_settings(demo: &ArgMatches<'_>) -> Option<Settings>
     ensures found { IfSome result (λ settings.
-        MakeSettings (Some (codes "demo", rows_of (found_of demo.now))) settings × AreSettingsInRange settings) }
+        MakeSettings (Some (codes "demo", rows_of (found_of demo.now))) settings
+        × AreSettingsInRange settings) }
     ensures only { IfSome result (λ settings. (other : Settings)
-        → MakeSettings (Some (codes "demo", rows_of (found_of demo.now))) other → other ≡ settings) }
+        → MakeSettings (Some (codes "demo", rows_of (found_of demo.now))) other →
+        other ≡ settings) }
     ensures none { IfNone result
-        ((settings : Settings) → MakeSettings (Some (codes "demo", rows_of (found_of demo.now))) settings
+        ((settings : Settings) → MakeSettings
+        (Some (codes "demo", rows_of (found_of demo.now))) settings
         → AreSettingsInRange settings → ⊥) }
 {
     let parts = number_in(demo, "parts")??;
@@ -149,7 +154,8 @@ fn demo_settings(demo: &ArgMatches<'_>) -> Option<Settings>
 // The settings of what clap found.
 fn settings_in(matches: &ArgMatches<'_>) -> Option<Settings>
     requires { HasFlags (subcommand_rows_of matches.now) }
-    ensures found { IfSome result (λ settings. MakeSettings (subcommand_rows_of matches.now) settings
+    ensures found { IfSome result (λ settings. MakeSettings
+        (subcommand_rows_of matches.now) settings
         × AreSettingsInRange settings) }
     ensures only { IfSome result (λ settings. (other : Settings)
         → MakeSettings (subcommand_rows_of matches.now) other → other ≡ settings) }
@@ -185,7 +191,7 @@ pub fn read_words(alloc: Global, words: &[String]) -> Result<Settings, WordsFaul
     ensures found { IfOk result (λ settings. Chooses (map string_bytes words.now) settings) }
     ensures only { IfOk result (λ settings. (other : Settings)
         → Chooses (map string_bytes words.now) other → other ≡ settings) }
-    ensures fault { IsErrOf result WordsFault.BadWords → AreOutside (map string_bytes words.now) }
+    ensures fault { IsErrOf result WordsFault.BadWords → AreOutsideGrammar (map string_bytes words.now) }
 {
     if has_separator(words) {
         return Err(WordsFault::BadWords);

@@ -3,9 +3,8 @@ use Rattle.std.specs.Prelude.{List, [], ◌∷◌, ◌++◌, flat_map, Contains}
 use Rattle.text_place.specs.declared.fault.Place.{Place}
 use Rattle.scad_ast.specs.Terms.{Term, NumberTerm, TextTerm, TruthTerm, UndefTerm, ChildCountTerm, SpecialTerm, NameTerm, CallTerm, ParenTerm, ListTerm, RangeTerm, SteppedRangeTerm, PostfixTerm, UnaryTerm, ChainTerm, ChoiceTerm, Terms, no_terms, and_term, ArgTerms, no_args, and_named, and_special, and_positional, SuffixTerms, no_suffixes, and_index, and_member, LinkTerms, no_links, and_link, ParamTerm, PlainTerm, DefaultTerm, BinderTerm, ModifierTerm, StatementTerm, EmptyStatement, BlockStatement, AssignmentTerm, SpecialAssignmentTerm, ModuleTerm, FunctionTerm, InstanceStatement, StatementTerms, no_statements, and_statement, InstanceTerm, AnInstance, CoreTerm, IfTerm, IfElseTerm, ForTerm, IntersectionForTerm, ModuleCallTerm, BodyTerm, EmptyBody, BlockBody, InstanceBody, args_from, statements_from}
 
--- those of an expression, and of what stands in one: of its first token and of the first token of each expression in it,
--- of named arguments and members, and of operators, `?`, `.` and the `[` of indices; the brackets of calls' arguments
--- stand nowhere in it
+-- those of an expression: of its first token and of that of each expression in it, of named arguments and members, and
+-- of operators, `?`, `.` and the `[` of indices, but not of the brackets of calls' arguments
 abbrev mutual
   pub places_of_term : Term → List Place
   places_of_term (NumberTerm at n) = at ∷ []

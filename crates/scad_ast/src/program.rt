@@ -1,5 +1,5 @@
 ghost use Rattle.std.specs.Prelude.{◌<◌, ◌^◌};
-ghost use Rattle.scad_ast.specs.Counts.{begun_by_program};
+ghost use Rattle.scad_ast.specs.Counts.{count_begun_by_program};
 ghost use Rattle.scad_ast.specs.StatementView.{statements_of};
 
 use crate::statement::Statements;
@@ -9,5 +9,5 @@ use crate::statement::Statements;
 #[derive(Drop)]
 pub struct Program {
     pub statements: Statements,
-    pub ghost few: { begun_by_program (statements_of statements) < 2 ^ 32 },
+    pub ghost few: { count_begun_by_program (statements_of statements) < 2 ^ 32 },
 }

@@ -5,7 +5,7 @@ use Rattle.std.proofs.lemmas.Bool.{and_parts, and_from, ltb-false, lt-ltb}
 use Rattle.text_place.specs.declared.fault.FaultKind.TheVariants.{TooLarge, LongList}
 use Rattle.scad_value.specs.declared.value.Value.{Value}
 use Rattle.scad_value.specs.declared.stop.ValueStop.{ValueStop}
-use Rattle.scad_value.specs.Values.{Val, NumberVal, TruthVal, TextVal, ListVal, Vals, no_vals, and_val, vals_from, count_of, parts_of, is_too_long_or_deep, is_small, has_small_numbers, have_small_numbers, is_bounded}
+use Rattle.scad_value.specs.Values.{Val, NumberVal, TruthVal, TextVal, ListVal, Vals, no_vals, and_val, vals_from, count_of, element_count, is_too_long_or_deep, is_small, has_small_numbers, have_small_numbers, is_bounded}
 use Rattle.scad_value.specs.Operators.{AnswerOrFault, number_or_too_large, number_answer, value_or_long_list}
 use Rattle.scad_value.specs.View.{MeetsAnswer, GivesBounded}
 use Rattle.scad_builtin.specs.declared.function.Builtin.{Builtin}
@@ -122,8 +122,8 @@ or_first false y h = refl
 made_bounded : (v : Val) → IsTrue (has_small_numbers v) → IsBoundedAnswer (value_or_long_list (Ok v))
 made_bounded v s = by_length (is_too_long_or_deep v) refl
   where
-    few : is_too_long_or_deep v ≡ false → ltb (parts_of v) (2 ^ 20) ≡ true
-    few h = lt-ltb (parts_of v) (2 ^ 20) (omega (arith, ltb-false 4096 (parts_of v) (or_first _ _ h)))
+    few : is_too_long_or_deep v ≡ false → ltb (element_count v) (2 ^ 20) ≡ true
+    few h = lt-ltb (element_count v) (2 ^ 20) (omega (arith, ltb-false 4096 (element_count v) (or_first _ _ h)))
 
     by_length : (b : Bool) → is_too_long_or_deep v ≡ b → IsBoundedAnswer (cond b (Err LongList) (Ok v))
     by_length true e = tt

@@ -5,7 +5,8 @@ use scad_value::Value;
 
 /// The value, where there is one.
 pub(crate) fn only(values: &[Value]) -> Option<&Value>
-    ensures { MatchOption result (¬ (length values.now ≡ 1)) (λ v. vals_in values.now ≡ val_of v.now ∷ []) }
+    ensures { MatchOption result (¬ (length values.now ≡ 1))
+        (λ v. vals_in values.now ≡ val_of v.now ∷ []) }
 {
     match values {
         [value] => Some(value),

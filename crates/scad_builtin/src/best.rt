@@ -54,7 +54,8 @@ pub(crate) fn best_among(wanted: Wanted, values: &Values) -> Result<Value, Value
 
 // The best of the items of a list, or a number alone.
 fn best_in(wanted: Wanted, value: &Value) -> Result<Value, ValueStop>
-    ensures { MeetsAnswer result (best_among (is_before wanted) (and_val (val_of value.now) no_vals)) }
+    ensures { MeetsAnswer result (best_among (is_before wanted)
+        (and_val (val_of value.now) no_vals)) }
 {
     match value {
         Value::List(values) => best(wanted, values.items()),
@@ -86,7 +87,8 @@ fn best_from(wanted: Wanted, first: &Value, rest: &[Value]) -> Result<Value, Val
 
 // The best of a number and further ones.
 fn best_of(wanted: Wanted, first: i64, rest: &[Value]) -> Result<i64, FaultKind>
-    ensures { number_answer result ≡ best_of (is_before wanted) first (vals_from (vals_in rest.now)) }
+    ensures { number_answer result ≡ best_of (is_before wanted) first
+        (vals_from (vals_in rest.now)) }
 {
     let mut best = first;
     for value in rest {

@@ -29,7 +29,8 @@ fn item_count(values: &Values) -> u64
 
 /// The list of the items of each list, and of another value as one item. They are moved.
 pub(crate) fn concat(alloc: Global, values: Values) -> Result<Value, ValueStop>
-    ensures { MeetsAnswer result (value_or_long_list (Ok (ListVal (vals_from (joined_items (vals_from (vals_of values))))))) }
+    ensures { MeetsAnswer result (value_or_long_list
+        (Ok (ListVal (vals_from (joined_items (vals_from (vals_of values))))))) }
 {
     Ok(value_or_long_list(list(joined(alloc, values.into_items())?))?)
 }
@@ -43,7 +44,8 @@ fn list(items: Vec<Value>) -> Value
 
 // The items of all values, one behind the other.
 fn joined(alloc: Global, values: Vec<Value>) -> Result<Vec<Value>, NoMemory>
-    ensures { IfOk result (λ items. vals_in items.items ≡ joined_items (vals_from (vals_in values.items))) }
+    ensures { IfOk result (λ items. vals_in items.items ≡ joined_items
+        (vals_from (vals_in values.items))) }
 {
     let mut items = Vec::new(alloc);
     for value in values {
@@ -54,7 +56,8 @@ fn joined(alloc: Global, values: Vec<Value>) -> Result<Vec<Value>, NoMemory>
 
 // The items of a value behind those that are there.
 fn append(items: &mut Vec<Value>, value: Value) -> Result<(), NoMemory>
-    ensures { OnOk result (vals_in items.new.items ≡ vals_in items.old.items ++ items_as (val_of value)) }
+    ensures { OnOk result (vals_in items.new.items ≡ vals_in items.old.items ++ items_as
+        (val_of value)) }
 {
     match into_list(value) {
         Ok(values) => {

@@ -3,13 +3,13 @@ use Rattle.std.proofs.Common.{◌≡◌, ℕ, suc, ◌+◌, ◌<◌, ◌^◌, Li
 use Rattle.scad_ast.specs.Terms.{StatementTerm, EmptyStatement, BlockStatement, AssignmentTerm, SpecialAssignmentTerm, ModuleTerm, FunctionTerm, InstanceStatement, StatementTerms, no_statements, and_statement, InstanceTerm, AnInstance, CoreTerm, IfTerm, IfElseTerm, ForTerm, IntersectionForTerm, ModuleCallTerm, BodyTerm, EmptyBody, BlockBody, InstanceBody, statements_from}
 use Rattle.scad_ast.specs.declared.statement.Statement.{Statement}
 use Rattle.scad_ast.specs.StatementView.{statement_of}
-use Rattle.scad_ast.specs.Counts.{begun_by, begun_in, begun_by_instance, begun_by_core, begun_by_body}
+use Rattle.scad_ast.specs.Counts.{count_begun_by_statement, count_begun_by_statements, count_begun_by_instance, count_begun_by_core, count_begun_by_body}
 use Rattle.scad_definitions.specs.Blocks.{Entity, a_block, a_function, a_module, entities_of, entities_in, entities_of_instance, entities_of_core, entities_of_body, no_locals, SourceBlock, entry_at, BlockTable}
 use Rattle.scad_definitions.specs.Walk.{count_numbered, with_entity, with_entities, with_block_begun}
 use Rattle.scad_definitions.proofs.Scans.{statements_here}
 
 mutual
-  beginnings_begun : (s : StatementTerm) → length (entities_of s) ≡ begun_by s
+  beginnings_begun : (s : StatementTerm) → length (entities_of s) ≡ count_begun_by_statement s
   beginnings_begun (EmptyStatement at) = refl
   beginnings_begun (BlockStatement at statements) = all_begun statements
   beginnings_begun (AssignmentTerm at name value) = refl
@@ -18,21 +18,21 @@ mutual
   beginnings_begun (FunctionTerm at name name_at params value) = refl
   beginnings_begun (InstanceStatement instance) = instance_begun instance
 
-  pub all_begun : (ss : StatementTerms) → length (entities_in ss) ≡ begun_in ss
+  pub all_begun : (ss : StatementTerms) → length (entities_in ss) ≡ count_begun_by_statements ss
   all_begun no_statements = refl
   all_begun (and_statement s rest) = omega (arith, length-append (entities_of s) (entities_in rest), beginnings_begun s, all_begun rest)
 
-  instance_begun : (i : InstanceTerm) → length (entities_of_instance i) ≡ begun_by_instance i
+  instance_begun : (i : InstanceTerm) → length (entities_of_instance i) ≡ count_begun_by_instance i
   instance_begun (AnInstance at marks core) = core_begun core
 
-  core_begun : (c : CoreTerm) → length (entities_of_core c) ≡ begun_by_core c
+  core_begun : (c : CoreTerm) → length (entities_of_core c) ≡ count_begun_by_core c
   core_begun (IfTerm at test body) = body_begun body
   core_begun (IfElseTerm at test body other) = omega (arith, length-append (entities_of_body body) (entities_of_body other), body_begun body, body_begun other)
   core_begun (ForTerm at binders body) = body_begun body
   core_begun (IntersectionForTerm at binders body) = body_begun body
   core_begun (ModuleCallTerm at name args body) = body_begun body
 
-  body_begun : (b : BodyTerm) → length (entities_of_body b) ≡ begun_by_body b
+  body_begun : (b : BodyTerm) → length (entities_of_body b) ≡ count_begun_by_body b
   body_begun (EmptyBody at) = refl
   body_begun (BlockBody at statements) = ap suc (all_begun statements)
   body_begun (InstanceBody instance) = ap suc (instance_begun instance)

@@ -6,8 +6,8 @@ use Rattle.scad_definitions.specs.Blocks.{SourceAssignment, same_assigned_name, 
 use Rattle.scad_definitions.specs.declared.text.Entry.{Entry}
 use Rattle.scad_definitions.specs.declared.text.LocalDefinitions.{LocalDefinitions}
 use Rattle.scad_definitions.specs.declared.text.Assignment.{Assignment}
-use Rattle.scad_definitions.specs.TextView.{entry_of, locals_of, assigned_of}
-use Rattle.scad_definitions.specs.Walk.{entry_ended}
+use Rattle.scad_definitions.specs.TextView.{block_of_entry, locals_of, source_assignment_of}
+use Rattle.scad_definitions.specs.Walk.{block_with_end}
 
 pub mapped_length : {A B : Type 0} (f : A → B) (xs : List A) → length (map f xs) ≡ length xs
 mapped_length f [] = refl
@@ -19,20 +19,20 @@ at_mapped f (y ∷ ys) zero x d h e = ap f (sym e)
 at_mapped f (y ∷ ys) (suc k) x d h e = at_mapped f ys k x d (omega arith) e
 
 pub entry_set : (es : List Entry) (k : ℕ) (x : Entry) (local : LocalDefinitions) (b : ℕ) → k < length es → x ≡ get_or es k x → b ≡ length es
-    → map entry_of (set es k (record { text = x.text; local = local; block_end = b }))
-    ≡ set (map entry_of es) k (entry_ended (get_or (map entry_of es) k nothing_there) (locals_of local) (length (map entry_of es)))
+    → map block_of_entry (set es k (record { text = x.text; local = local; block_end = b }))
+    ≡ set (map block_of_entry es) k (block_with_end (get_or (map block_of_entry es) k nothing_there) (locals_of local) (length (map block_of_entry es)))
 entry_set es k x local b h e n =
-    map-set entry_of es k (record { text = x.text; local = local; block_end = b })
-    ∙ ap (λ m. set (map entry_of es) k (entry_ended (entry_of x) (locals_of local) m)) (n ∙ sym (mapped_length entry_of es))
-    ∙ ap (λ (y : SourceBlock). set (map entry_of es) k (entry_ended y (locals_of local) (length (map entry_of es))))
-    (sym (at_mapped entry_of es k x nothing_there h e))
+    map-set block_of_entry es k (record { text = x.text; local = local; block_end = b })
+    ∙ ap (λ m. set (map block_of_entry es) k (block_with_end (block_of_entry x) (locals_of local) m)) (n ∙ sym (mapped_length block_of_entry es))
+    ∙ ap (λ (y : SourceBlock). set (map block_of_entry es) k (block_with_end y (locals_of local) (length (map block_of_entry es))))
+    (sym (at_mapped block_of_entry es k x nothing_there h e))
 
 -- an entry in whose place one stands that means the same
-pub entry_alike : (es : List Entry) (k : ℕ) (x y : Entry) → k < length es → x ≡ get_or es k x → entry_of y ≡ entry_of x
-    → map entry_of (set es k y) ≡ map entry_of es
+pub entry_alike : (es : List Entry) (k : ℕ) (x y : Entry) → k < length es → x ≡ get_or es k x → block_of_entry y ≡ block_of_entry x
+    → map block_of_entry (set es k y) ≡ map block_of_entry es
 entry_alike [] k x y h e f = refl
-entry_alike (z ∷ es) zero x y h e f = ap (λ (s : SourceBlock). s ∷ map entry_of es) (f ∙ ap entry_of e)
-entry_alike (z ∷ es) (suc k) x y h e f = ap (λ (l : List SourceBlock). entry_of z ∷ l) (entry_alike es k x y (omega arith) e f)
+entry_alike (z ∷ es) zero x y h e f = ap (λ (s : SourceBlock). s ∷ map block_of_entry es) (f ∙ ap block_of_entry e)
+entry_alike (z ∷ es) (suc k) x y h e f = ap (λ (l : List SourceBlock). block_of_entry z ∷ l) (entry_alike es k x y (omega arith) e f)
 
 none_some : (i : ℕ) (o : Option ℕ) → o ≡ None → o ≡ Some i → ⊥
 none_some i o f g = cc
@@ -72,19 +72,19 @@ module _ (a : SourceAssignment) where
   assigned_new (b ∷ bs) e = behind_first b bs (same_assigned_name b a) (place_of_assignment bs a) (assigned_new bs) e
 
 pub assigned_set : (bs : List Assignment) (i : ℕ) (x a : Assignment) → i < length bs → x ≡ get_or bs i x
-    → Some i ≡ place_of_assignment (map assigned_of bs) (assigned_of a)
-    → map assigned_of (set bs i (record { place = x.place; special = x.special; name = x.name; value = a.value }))
-    ≡ with_assigned (map assigned_of bs) (assigned_of a)
+    → Some i ≡ place_of_assignment (map source_assignment_of bs) (source_assignment_of a)
+    → map source_assignment_of (set bs i (record { place = x.place; special = x.special; name = x.name; value = a.value }))
+    ≡ with_assigned (map source_assignment_of bs) (source_assignment_of a)
 unfolding changed
 assigned_set bs i x a h e f =
-    map-set assigned_of bs i (record { place = x.place; special = x.special; name = x.name; value = a.value })
-    ∙ ap (λ (y : SourceAssignment). set (map assigned_of bs) i (changed (assigned_of a) y)) (sym (at_mapped assigned_of bs i x (assigned_of a) h e))
-    ∙ sym (assigned_there (assigned_of a) (map assigned_of bs) i (sym f))
+    map-set source_assignment_of bs i (record { place = x.place; special = x.special; name = x.name; value = a.value })
+    ∙ ap (λ (y : SourceAssignment). set (map source_assignment_of bs) i (changed (source_assignment_of a) y)) (sym (at_mapped source_assignment_of bs i x (source_assignment_of a) h e))
+    ∙ sym (assigned_there (source_assignment_of a) (map source_assignment_of bs) i (sym f))
 
-pub assigned_pushed : (bs cs : List Assignment) (a : Assignment) → cs ≡ bs ++ a ∷ [] → None ≡ place_of_assignment (map assigned_of bs) (assigned_of a)
-    → map assigned_of cs ≡ with_assigned (map assigned_of bs) (assigned_of a)
-assigned_pushed bs cs a e f = ap (map assigned_of) e ∙ mapped bs ∙ sym (assigned_new (assigned_of a) (map assigned_of bs) (sym f))
+pub assigned_pushed : (bs cs : List Assignment) (a : Assignment) → cs ≡ bs ++ a ∷ [] → None ≡ place_of_assignment (map source_assignment_of bs) (source_assignment_of a)
+    → map source_assignment_of cs ≡ with_assigned (map source_assignment_of bs) (source_assignment_of a)
+assigned_pushed bs cs a e f = ap (map source_assignment_of) e ∙ mapped bs ∙ sym (assigned_new (source_assignment_of a) (map source_assignment_of bs) (sym f))
   where
-    mapped : (bs : List Assignment) → map assigned_of (bs ++ a ∷ []) ≡ map assigned_of bs ++ assigned_of a ∷ []
+    mapped : (bs : List Assignment) → map source_assignment_of (bs ++ a ∷ []) ≡ map source_assignment_of bs ++ source_assignment_of a ∷ []
     mapped [] = refl
-    mapped (b ∷ bs) = ap (λ l. assigned_of b ∷ l) (mapped bs)
+    mapped (b ∷ bs) = ap (λ l. source_assignment_of b ∷ l) (mapped bs)

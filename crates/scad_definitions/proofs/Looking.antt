@@ -8,7 +8,7 @@ use Rattle.scad_definitions.specs.Newest.{Pairs, find_in}
 use Rattle.scad_ast.specs.declared.statement.Param.{Param}
 use Rattle.scad_ast.specs.Names.{is_among}
 use Rattle.scad_ast.specs.StatementView.{param_of}
-use Rattle.scad_definitions.specs.Arguments.{first_named, number_behind, parameter_name, parameter_names, ArgumentsOf, with_argument}
+use Rattle.scad_definitions.specs.Arguments.{first_named, number_after, parameter_name, parameter_names, ArgumentsOf, with_argument}
 use Rattle.scad_definitions.specs.Newest.{one_further}
 use Rattle.scad_definitions.specs.ArgumentsView.{destination_term}
 use Rattle.scad_definitions.specs.declared.parameters.Destination.{Destination}
@@ -26,7 +26,7 @@ told_found (p ∷ ps) name = by_name (bytes_eq p.0 name) (told_found ps name)
     by_name true rest = refl
     by_name false rest = rest
 
-later_next : (i : ℕ) (o : Option ℕ) → number_behind (i + 1) o ≡ number_behind i (one_further o)
+later_next : (i : ℕ) (o : Option ℕ) → number_after (i + 1) o ≡ number_after i (one_further o)
 later_next i None = refl
 later_next i (Some k) = let e : i + 1 + k ≡ i + suc k = omega arith in ap (λ n. Some n) e
 
@@ -35,18 +35,18 @@ first_here i = omega arith
 
 -- the newest number of a name is that of the first
 number_found : (names : List (List ℕ)) (i : ℕ) (name : List ℕ)
-    → find_in (numbered_from i names) name ≡ number_behind i (first_named names name)
+    → find_in (numbered_from i names) name ≡ number_after i (first_named names name)
 number_found [] i name = refl
 number_found (n ∷ ns) i name = by_name (bytes_eq n name)
     (number_found ns (i + 1) name ∙ later_next i (first_named ns name))
   where
-    by_name : (b : Bool) → find_in (numbered_from (i + 1) ns) name ≡ number_behind i (one_further (first_named ns name))
+    by_name : (b : Bool) → find_in (numbered_from (i + 1) ns) name ≡ number_after i (one_further (first_named ns name))
         → cond b (Some i) (find_in (numbered_from (i + 1) ns) name)
-        ≡ number_behind i (cond b (Some zero) (one_further (first_named ns name)))
+        ≡ number_after i (cond b (Some zero) (one_further (first_named ns name)))
     by_name true rest = ap (λ n. Some n) (first_here i)
     by_name false rest = rest
 
-later_zero : (o : Option ℕ) → number_behind 0 o ≡ o
+later_zero : (o : Option ℕ) → number_after 0 o ≡ o
 later_zero None = refl
 later_zero (Some k) = let e : 0 + k ≡ k = omega arith in ap (λ n. Some n) e
 

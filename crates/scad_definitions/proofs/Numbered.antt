@@ -6,9 +6,9 @@ use Rattle.scad_definitions.specs.Newest.{Pairs}
 use Rattle.scad_ast.specs.Terms.{StatementTerm, EmptyStatement, BlockStatement, AssignmentTerm, SpecialAssignmentTerm, ModuleTerm, FunctionTerm, InstanceStatement, StatementTerms, no_statements, and_statement, InstanceTerm, AnInstance, CoreTerm, IfTerm, IfElseTerm, ForTerm, IntersectionForTerm, ModuleCallTerm, BodyTerm, EmptyBody, BlockBody, InstanceBody, statements_from}
 use Rattle.scad_definitions.specs.declared.blocks.Blocks.{Blocks}
 use Rattle.scad_definitions.specs.Blocks.{SourceFunction, SourceModule, Entity, a_block, a_function, a_module, entities_of, entities_in, entities_of_instance, entities_of_core, entities_of_body, entities_of_program, functions_of_program, modules_of_program, count_functions, count_modules, local_functions, local_function, local_modules, local_module, SourceBlock, nothing_there, entries_from}
-use Rattle.scad_definitions.specs.Tables.{table_held, functions_held, modules_held}
+use Rattle.scad_definitions.specs.Tables.{block_table_in, source_functions_in, source_modules_in}
 use Rattle.scad_definitions.specs.TextView.{function_of, module_of}
-use Rattle.scad_definitions.specs.Numbered.{numbers_below, entries_below}
+use Rattle.scad_definitions.specs.Numbered.{are_numbers_below, are_entries_below}
 
 pub functions_joined : (xs ys : List Entity) → count_functions (xs ++ ys) ≡ count_functions xs + count_functions ys
 functions_joined [] ys = omega arith
@@ -22,8 +22,8 @@ modules_joined (a_block s ∷ xs) ys = modules_joined xs ys
 modules_joined (a_function g ∷ xs) ys = modules_joined xs ys
 modules_joined (a_module d ∷ xs) ys = omega (arith, modules_joined xs ys)
 
-pub below_joined : (n : ℕ) (ps qs : Pairs ℕ) → IsTrue (numbers_below n ps) → IsTrue (numbers_below n qs)
-    → IsTrue (numbers_below n (ps ++ qs))
+pub below_joined : (n : ℕ) (ps qs : Pairs ℕ) → IsTrue (are_numbers_below n ps) → IsTrue (are_numbers_below n qs)
+    → IsTrue (are_numbers_below n (ps ++ qs))
 below_joined n [] qs h g = g
 below_joined n (p ∷ ps) qs h g = let parts = and_parts _ _ h in and_from _ _ parts.0
     (below_joined n ps qs parts.1 g)
@@ -31,7 +31,7 @@ below_joined n (p ∷ ps) qs h g = let parts = and_parts _ _ h in and_from _ _ p
 -- what stands in a text and in no inner block is counted in it
 abbrev Fit : ℕ → ℕ → ℕ → ℕ → List Entity → Pairs ℕ → Pairs ℕ → Type 0
 Fit f m n k xs fs ms = f + count_functions xs ≤ n → m + count_modules xs ≤ k
-    → IsTrue (numbers_below n fs) × IsTrue (numbers_below k ms)
+    → IsTrue (are_numbers_below n fs) × IsTrue (are_numbers_below k ms)
 
 mutual
   own_fit : (f m n k : ℕ) (s : StatementTerm) → Fit f m n k (entities_of s) (local_function f s) (local_module m s)
@@ -58,13 +58,13 @@ mutual
 
 -- a text whose blocks have no function and no module beyond these counts
 abbrev IsText : List Entity → Type 0
-IsText xs = (b f m n k : ℕ) → f + count_functions xs ≤ n → m + count_modules xs ≤ k → IsTrue (entries_below n k (entries_from b f m xs))
+IsText xs = (b f m n k : ℕ) → f + count_functions xs ≤ n → m + count_modules xs ≤ k → IsTrue (are_entries_below n k (entries_from b f m xs))
 
 empty_text : IsText []
 empty_text b f m n k p q = refl
 
 joined_entries : (b f m n k : ℕ) (xs ys : List Entity) → f + count_functions (xs ++ ys) ≤ n → m + count_modules (xs ++ ys) ≤ k
-    → IsTrue (entries_below n k (entries_from b f m xs)) → IsText ys → IsTrue (entries_below n k (entries_from b f m (xs ++ ys)))
+    → IsTrue (are_entries_below n k (entries_from b f m xs)) → IsText ys → IsTrue (are_entries_below n k (entries_from b f m (xs ++ ys)))
 joined_entries b f m n k [] ys p q h block_end = block_end b f m n k p q
 joined_entries b f m n k (a_block s ∷ xs) ys p q h block_end =
     let parts = and_parts _ _ h in
@@ -126,25 +126,25 @@ mutual
   text_of_body (InstanceBody instance) = single_text instance (text_of_instance instance)
 
 -- the numbers in a program's blocks are below the program's counts
-pub program_below : (program : List StatementTerm) → IsTrue (entries_below (length (functions_of_program program))
+pub program_below : (program : List StatementTerm) → IsTrue (are_entries_below (length (functions_of_program program))
     (length (modules_of_program program)) (entries_from 0 0 0 (entities_of_program program)))
 program_below program = block_text (statements_from program) (table_of (statements_from program)) 0 0 0
     (length (functions_of_program program)) (length (modules_of_program program)) (omega arith) (omega arith)
 
-entry_below : (n k : ℕ) (es : List SourceBlock) (i : ℕ) → IsTrue (entries_below n k es)
-    → IsTrue (numbers_below n (get_or es i nothing_there).local.functions) × IsTrue (numbers_below k (get_or es i nothing_there).local.modules)
+entry_below : (n k : ℕ) (es : List SourceBlock) (i : ℕ) → IsTrue (are_entries_below n k es)
+    → IsTrue (are_numbers_below n (get_or es i nothing_there).local.functions) × IsTrue (are_numbers_below k (get_or es i nothing_there).local.modules)
 entry_below n k [] i h = (refl, refl)
 entry_below n k (e ∷ es) zero h = and_parts _ _ (and_parts _ _ h).0
 entry_below n k (e ∷ es) (suc i) h = entry_below n k es i (and_parts _ _ h).1
 
 -- a block's local definitions have numbers below the counts of those that are held
 pub own_below : (b : Blocks) (number : ℕ)
-    → IsTrue (numbers_below (length (functions_held b)) (get_or (table_held b).entries number nothing_there).local.functions)
-    × IsTrue (numbers_below (length (modules_held b)) (get_or (table_held b).entries number nothing_there).local.modules)
+    → IsTrue (are_numbers_below (length (source_functions_in b)) (get_or (block_table_in b).entries number nothing_there).local.functions)
+    × IsTrue (are_numbers_below (length (source_modules_in b)) (get_or (block_table_in b).entries number nothing_there).local.modules)
 own_below b number =
-    let counts = ap (λ n. entries_below n (length b.modules.items) (table_held b).entries) (mapped function_of b.functions.items)
-    ∙ ap (λ n. entries_below (length (functions_held b)) n (table_held b).entries) (mapped module_of b.modules.items) in
-    entry_below (length (functions_held b)) (length (modules_held b)) (table_held b).entries number
+    let counts = ap (λ n. are_entries_below n (length b.modules.items) (block_table_in b).entries) (mapped function_of b.functions.items)
+    ∙ ap (λ n. are_entries_below (length (source_functions_in b)) n (block_table_in b).entries) (mapped module_of b.modules.items) in
+    entry_below (length (source_functions_in b)) (length (source_modules_in b)) (block_table_in b).entries number
     (subst (λ t. IsTrue t) counts b.numbered)
   where
     mapped : {A B : Type 0} (f : A → B) (xs : List A) → length xs ≡ length (map f xs)

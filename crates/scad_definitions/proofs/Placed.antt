@@ -7,7 +7,7 @@ use Rattle.std.specs.Cmp.Lexicographic.{bytes_decides}
 use Rattle.scad_definitions.specs.Newest.{one_further}
 use Rattle.scad_definitions.specs.Blocks.{SourceAssignment, same_assigned_name, place_of_assignment}
 use Rattle.scad_definitions.specs.Newest.{Pairs, find_in}
-use Rattle.scad_definitions.specs.TextView.{assigned_of}
+use Rattle.scad_definitions.specs.TextView.{source_assignment_of}
 use Rattle.scad_definitions.specs.declared.text.Assignment.{Assignment}
 
 false_true : false ≡ true → ⊥
@@ -81,22 +81,22 @@ placed_more old new bs a name place put n p all none q =
 
 -- another expression moves no place
 pub placed_alike : (bs : List Assignment) (i : ℕ) (x y : Assignment) (q : SourceAssignment) → i < length bs → x ≡ get_or bs i x
-    → same_assigned_name (assigned_of y) q ≡ same_assigned_name (assigned_of x) q
-    → place_of_assignment (map assigned_of (set bs i y)) q ≡ place_of_assignment (map assigned_of bs) q
+    → same_assigned_name (source_assignment_of y) q ≡ same_assigned_name (source_assignment_of x) q
+    → place_of_assignment (map source_assignment_of (set bs i y)) q ≡ place_of_assignment (map source_assignment_of bs) q
 placed_alike [] i x y q h e s = absurd (omega arith)
 placed_alike (b ∷ bs) zero x y q h e s =
-    ap (λ t. cond t (Some zero) (one_further (place_of_assignment (map assigned_of bs) q))) (s ∙ ap (λ (u : Assignment). same_assigned_name (assigned_of u) q) e)
+    ap (λ t. cond t (Some zero) (one_further (place_of_assignment (map source_assignment_of bs) q))) (s ∙ ap (λ (u : Assignment). same_assigned_name (source_assignment_of u) q) e)
 placed_alike (b ∷ bs) (suc i) x y q h e s =
-    ap (λ o. cond (same_assigned_name (assigned_of b) q) (Some zero) (one_further o)) (placed_alike bs i x y q (omega arith) e s)
+    ap (λ o. cond (same_assigned_name (source_assignment_of b) q) (Some zero) (one_further o)) (placed_alike bs i x y q (omega arith) e s)
 
 -- a place is one of the assignments
-pub place_there : (bs : List Assignment) (a : SourceAssignment) (o : Option ℕ) → o ≡ place_of_assignment (map assigned_of bs) a → IfSome o (λ k. k < length bs)
+pub place_there : (bs : List Assignment) (a : SourceAssignment) (o : Option ℕ) → o ≡ place_of_assignment (map source_assignment_of bs) a → IfSome o (λ k. k < length bs)
 place_there bs a None e = tt
 place_there bs a (Some k) e = within bs k (sym e)
   where
-    within : (bs : List Assignment) (k : ℕ) → place_of_assignment (map assigned_of bs) a ≡ Some k → k < length bs
+    within : (bs : List Assignment) (k : ℕ) → place_of_assignment (map source_assignment_of bs) a ≡ Some k → k < length bs
     within [] k e = absurd (some_none k (sym e))
-    within (b ∷ bs) k e = by_test (same_assigned_name (assigned_of b) a) (place_of_assignment (map assigned_of bs) a) k (λ j. within bs j) e
+    within (b ∷ bs) k e = by_test (same_assigned_name (source_assignment_of b) a) (place_of_assignment (map source_assignment_of bs) a) k (λ j. within bs j) e
       where
         by_test : (t : Bool) (o : Option ℕ) (k : ℕ) → ((j : ℕ) → o ≡ Some j → j < length bs)
             → cond t (Some zero) (one_further o) ≡ Some k → k < suc (length bs)

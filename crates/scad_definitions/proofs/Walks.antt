@@ -5,8 +5,8 @@ use Rattle.std.proofs.lemmas.List.{get_or-set_same}
 use Rattle.scad_ast.specs.declared.statement.Statement.{Statement}
 use Rattle.scad_ast.specs.Terms.{StatementTerm, InstanceStatement, InstanceTerm, StatementTerms, no_statements, and_statement, statements_from}
 use Rattle.scad_ast.specs.StatementView.{statement_of}
-use Rattle.scad_definitions.specs.Blocks.{SourceFunction, SourceModule, Entity, a_block, a_function, a_module, SourceAssignment, entities_of, entities_in, entities_of_instance, count_functions, count_modules, count_blocks, local_functions, local_function, local_modules, local_module, assigned_in, assigned_by, with_assigned, all_assigned, functions_among, modules_among, bodies_from, LocalTerms, no_locals, locals_of_block, SourceBlock, nothing_there, entry_at, entries_from, BlockTable}
-use Rattle.scad_definitions.specs.Walk.{locals_with, locals_by, with_entity, with_entities, with_block_begun, with_block_ended, entry_ended, nothing_walked}
+use Rattle.scad_definitions.specs.Blocks.{SourceFunction, SourceModule, Entity, a_block, a_function, a_module, SourceAssignment, entities_of, entities_in, entities_of_instance, count_functions, count_modules, count_blocks, local_functions, local_function, local_modules, local_module, assignments_in, assignments_by, with_assigned, assignments_with_all, functions_among, modules_among, bodies_from, LocalTerms, no_locals, locals_of_block, SourceBlock, nothing_there, entry_at, entries_from, BlockTable}
+use Rattle.scad_definitions.specs.Walk.{locals_with, locals_by, with_entity, with_entities, with_block_begun, with_block_ended, block_with_end, empty_block_table}
 use Rattle.std.specs.Prelude.{OnOk}
 use Rattle.std.proofs.Common.{Result, Ok, Err}
 use Rattle.scad_definitions.proofs.Scans.{statements_here}
@@ -47,7 +47,7 @@ walked_more w v whole ss i s h e f told =
     ∙ sym (after_joined w (entities_of (statement_of s)) (entities_in rest))
     ∙ ap (λ l. with_entities w (entities_in l)) (sym (statements_here ss i s h e)) ∙ told
 
-assigned_joined : (before xs ys : List SourceAssignment) → all_assigned before (xs ++ ys) ≡ all_assigned (all_assigned before xs) ys
+assigned_joined : (before xs ys : List SourceAssignment) → assignments_with_all before (xs ++ ys) ≡ assignments_with_all (assignments_with_all before xs) ys
 assigned_joined before [] ys = refl
 assigned_joined before (x ∷ xs) ys = assigned_joined (with_assigned before x) xs ys
 
@@ -62,7 +62,7 @@ own_step : (local : LocalTerms) (f m : ℕ) (s : StatementTerm) (rest : Statemen
 own_step local f m s rest = own_is _ _
     (append_assoc local.functions (local_function f s) (local_functions (f + count_functions (entities_of s)) rest))
     (append_assoc local.modules (local_module m s) (local_modules (m + count_modules (entities_of s)) rest))
-    (sym (assigned_joined local.assignments (assigned_by s) (assigned_in rest)))
+    (sym (assigned_joined local.assignments (assignments_by s) (assignments_in rest)))
 
 pub own_more : (local next whole : LocalTerms) (w v : BlockTable) (ss : List Statement) (i : ℕ) (s : Statement) → i < length ss → s ≡ get_or ss i s
     → v ≡ with_entities w (entities_of (statement_of s))
@@ -140,7 +140,7 @@ module _ (w : BlockTable) (s : StatementTerms) (xs : List Entity) where
   unfolding begun text_only
   block_walked local o n =
       let e = entry_at (length w.entries) (length w.functions) (length w.modules) s in
-      let entry : entry_ended (get_or begun.entries (length w.entries) nothing_there) local (length begun.entries) ≡ e =
+      let entry : block_with_end (get_or begun.entries (length w.entries) nothing_there) local (length begun.entries) ≡ e =
       entry_is _ e (ap (λ (x : SourceBlock). x.statements) there) o (omega (arith, far, n)) in
       ap (λ x. put (length w.entries) x begun) entry
       ∙ sym (swapped w.entries e text_only [] w.functions w.modules w.bodies xs)
@@ -188,18 +188,18 @@ bodies_after w (a_function f ∷ xs) = bodies_after (with_entity w (a_function f
 bodies_after w (a_module d ∷ xs) = bodies_after (with_entity w (a_module d)) xs
     ∙ append_assoc w.bodies (length w.entries ∷ []) (bodies_from (length w.entries) xs)
 
-pub whole_text : (xs : List Entity) → with_entities nothing_walked xs ≡ record {
+pub whole_text : (xs : List Entity) → with_entities empty_block_table xs ≡ record {
   entries = entries_from 0 0 0 xs;
   functions = functions_among xs;
   modules = modules_among xs;
   bodies = bodies_from 0 xs;
 }
 whole_text xs =
-    let a = with_entities nothing_walked xs in
-    ap (λ x. record { entries = x; functions = a.functions; modules = a.modules; bodies = a.bodies }) (entries_after nothing_walked xs)
-    ∙ ap (λ x. record { entries = entries_from 0 0 0 xs; functions = x; modules = a.modules; bodies = a.bodies }) (functions_after nothing_walked xs)
-    ∙ ap (λ x. record { entries = entries_from 0 0 0 xs; functions = functions_among xs; modules = x; bodies = a.bodies }) (modules_after nothing_walked xs)
-    ∙ ap (λ x. record { entries = entries_from 0 0 0 xs; functions = functions_among xs; modules = modules_among xs; bodies = x }) (bodies_after nothing_walked xs)
+    let a = with_entities empty_block_table xs in
+    ap (λ x. record { entries = x; functions = a.functions; modules = a.modules; bodies = a.bodies }) (entries_after empty_block_table xs)
+    ∙ ap (λ x. record { entries = entries_from 0 0 0 xs; functions = x; modules = a.modules; bodies = a.bodies }) (functions_after empty_block_table xs)
+    ∙ ap (λ x. record { entries = entries_from 0 0 0 xs; functions = functions_among xs; modules = x; bodies = a.bodies }) (modules_after empty_block_table xs)
+    ∙ ap (λ x. record { entries = entries_from 0 0 0 xs; functions = functions_among xs; modules = modules_among xs; bodies = x }) (bodies_after empty_block_table xs)
 
 -- a block that ends
 pub ending : (w v u : BlockTable) (n : ℕ) (local : LocalTerms) (s : StatementTerms) (xs : List Entity)

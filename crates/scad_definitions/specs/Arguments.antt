@@ -113,6 +113,6 @@ MeetsMatching (Err (Fault fault)) out = (fault.kind ≡ BadArgument) × (out ≡
 MeetsMatching (Err NoMemory) out = Unit {0}
 
 -- a number after so many others
-abbrev pub number_behind : ℕ → Option ℕ → Option ℕ
-number_behind count (Some number) = Some (count + number)
-number_behind count None = None
+abbrev pub number_after : ℕ → Option ℕ → Option ℕ
+number_after count (Some number) = Some (count + number)
+number_after count None = None

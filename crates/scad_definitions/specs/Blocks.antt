@@ -116,8 +116,7 @@ bodies_from number (a_block inner ∷ entities) = bodies_from (number + 1) entit
 bodies_from number (a_function function ∷ entities) = bodies_from number entities
 bodies_from number (a_module defined ∷ entities) = number ∷ bodies_from number entities
 
--- the functions that stand in a block, with their numbers, behind so many others; a bare block's count as the
--- those of the block
+-- the functions that stand in a block, with their numbers, after so many others; those of a bare block in it count as its own
 abbrev mutual
   pub local_functions : ℕ → StatementTerms → Pairs ℕ
   local_functions before no_statements = []
@@ -179,31 +178,31 @@ place_of_assignment (known ∷ others) assigned =
     if same_assigned_name known assigned then Some zero else one_further (place_of_assignment others assigned)
 
 -- assignments one after another, behind those that are there
-abbrev pub all_assigned : List SourceAssignment → List SourceAssignment → List SourceAssignment
-all_assigned before [] = before
-all_assigned before (assigned ∷ rest) = all_assigned (with_assigned before assigned) rest
+abbrev pub assignments_with_all : List SourceAssignment → List SourceAssignment → List SourceAssignment
+assignments_with_all before [] = before
+assignments_with_all before (assigned ∷ rest) = assignments_with_all (with_assigned before assigned) rest
 
 -- the assignments that stand in a block, in the order of the text; a bare block's count as those of the block
 abbrev mutual
-  pub assigned_in : StatementTerms → List SourceAssignment
-  assigned_in no_statements = []
-  assigned_in (and_statement statement rest) = assigned_by statement ++ assigned_in rest
+  pub assignments_in : StatementTerms → List SourceAssignment
+  assignments_in no_statements = []
+  assignments_in (and_statement statement rest) = assignments_by statement ++ assignments_in rest
 
   -- the assignment that a statement is, or those of a bare block
-  pub assigned_by : StatementTerm → List SourceAssignment
-  assigned_by (EmptyStatement at) = []
-  assigned_by (BlockStatement at statements) = assigned_in statements
-  assigned_by (AssignmentTerm at name value) =
+  pub assignments_by : StatementTerm → List SourceAssignment
+  assignments_by (EmptyStatement at) = []
+  assignments_by (BlockStatement at statements) = assignments_in statements
+  assignments_by (AssignmentTerm at name value) =
       record { at = at; special = false; name = name; value = value } ∷ []
-  assigned_by (SpecialAssignmentTerm at name value) =
+  assignments_by (SpecialAssignmentTerm at name value) =
       record { at = at; special = true; name = name; value = value } ∷ []
-  assigned_by (ModuleTerm at name name_at params body) = []
-  assigned_by (FunctionTerm at name name_at params value) = []
-  assigned_by (InstanceStatement instance) = []
+  assignments_by (ModuleTerm at name name_at params body) = []
+  assignments_by (FunctionTerm at name name_at params value) = []
+  assignments_by (InstanceStatement instance) = []
 
 -- a block's assignments, each name once
 abbrev pub assignments_of : StatementTerms → List SourceAssignment
-assignments_of statements = all_assigned [] (assigned_in statements)
+assignments_of statements = assignments_with_all [] (assignments_in statements)
 
 -- a block's local definitions with their numbers, in the order of the text, and its assignments
 pub record LocalTerms : Type 0 where

@@ -5,16 +5,16 @@ use Rattle.scad_ast.specs.Terms.{StatementTerm}
 use Rattle.scad_definitions.specs.Blocks.{SourceBlock, functions_of_program, modules_of_program}
 
 -- each number is below this one
-abbrev pub numbers_below : ℕ → Pairs ℕ → Bool
-numbers_below n [] = true
-numbers_below n (pair ∷ pairs) = nat_lt pair.1 n && numbers_below n pairs
+abbrev pub are_numbers_below : ℕ → Pairs ℕ → Bool
+are_numbers_below n [] = true
+are_numbers_below n (pair ∷ pairs) = nat_lt pair.1 n && are_numbers_below n pairs
 
 -- the numbers of each block's local functions and modules are below these
-abbrev pub entries_below : ℕ → ℕ → List SourceBlock → Bool
-entries_below functions modules [] = true
-entries_below functions modules (entry ∷ entries) =
-    (numbers_below functions entry.local.functions && numbers_below modules entry.local.modules)
-    && entries_below functions modules entries
+abbrev pub are_entries_below : ℕ → ℕ → List SourceBlock → Bool
+are_entries_below functions modules [] = true
+are_entries_below functions modules (entry ∷ entries) =
+    (are_numbers_below functions entry.local.functions && are_numbers_below modules entry.local.modules)
+    && are_entries_below functions modules entries
 
 -- how many functions a program has
 abbrev pub count_of_functions : List StatementTerm → ℕ

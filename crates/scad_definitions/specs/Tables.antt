@@ -5,13 +5,13 @@ use Rattle.scad_definitions.specs.Blocks.{SourceFunction, SourceModule, BlockTab
 use Rattle.scad_definitions.specs.TextView.{block_table_of}
 
 -- the program by numbers, as it is held
-abbrev pub table_held : Blocks → BlockTable
-table_held blocks = block_table_of blocks.entries.items blocks.functions.items blocks.modules.items
+abbrev pub block_table_in : Blocks → BlockTable
+block_table_in blocks = block_table_of blocks.entries.items blocks.functions.items blocks.modules.items
 
 -- the functions by number
-abbrev pub functions_held : Blocks → List SourceFunction
-functions_held blocks = (table_held blocks).functions
+abbrev pub source_functions_in : Blocks → List SourceFunction
+source_functions_in blocks = (block_table_in blocks).functions
 
 -- the modules by number
-abbrev pub modules_held : Blocks → List SourceModule
-modules_held blocks = (table_held blocks).modules
+abbrev pub source_modules_in : Blocks → List SourceModule
+source_modules_in blocks = (block_table_in blocks).modules

@@ -17,10 +17,10 @@ use Rattle.scad_definitions.specs.declared.text.Entry.{Entry}
 use Rattle.scad_definitions.specs.Blocks.{SourceFunction, SourceModule, SourceAssignment, LocalTerms, SourceBlock, BlockTable}
 
 -- the statements of a block: none, those in braces, or a single instance
-abbrev pub statements_held : BlockText → StatementTerms
-statements_held Nothing = no_statements
-statements_held (Statements statements) = statements_from (statements_of statements.now)
-statements_held (Single instance) =
+abbrev pub statements_of_text : BlockText → StatementTerms
+statements_of_text Nothing = no_statements
+statements_of_text (Statements statements) = statements_from (statements_of statements.now)
+statements_of_text (Single instance) =
     and_statement (InstanceStatement (instance_of instance.now)) no_statements
 
 -- a function as its plain parameters and value
@@ -38,8 +38,8 @@ abbrev pub block_of_module : Module → ℕ
 block_of_module defined = defined.block
 
 -- an assignment as its plain name and expression
-abbrev pub assigned_of : Assignment → SourceAssignment
-assigned_of assignment = record {
+abbrev pub source_assignment_of : Assignment → SourceAssignment
+source_assignment_of assignment = record {
   at = assignment.place;
   special = assignment.special;
   name = assignment.name.now;
@@ -61,7 +61,7 @@ abbrev pub locals_under_way : LocalsUnderWay → LocalTerms
 locals_under_way local = record {
   functions = oldest_first local.definitions.functions;
   modules = oldest_first local.definitions.modules;
-  assignments = map assigned_of local.assignments.items;
+  assignments = map source_assignment_of local.assignments.items;
 }
 
 -- a block's local definitions and assignments
@@ -69,14 +69,14 @@ abbrev pub locals_of : LocalDefinitions → LocalTerms
 locals_of local = record {
   functions = functions_in (option_map (λ shared. shared.value) local.definitions);
   modules = modules_in (option_map (λ shared. shared.value) local.definitions);
-  assignments = map assigned_of local.assignments.items;
+  assignments = map source_assignment_of local.assignments.items;
 }
 
 -- a block with its statements and its local definitions
-abbrev pub entry_of : Entry → SourceBlock
-entry_of entry =
+abbrev pub block_of_entry : Entry → SourceBlock
+block_of_entry entry =
     record {
-      statements = statements_held entry.text;
+      statements = statements_of_text entry.text;
       local = locals_of entry.local;
       block_end = entry.block_end;
     }
@@ -84,7 +84,7 @@ entry_of entry =
 -- a program by numbers, of its blocks, functions and modules
 abbrev pub block_table_of : List Entry → List Function → List Module → BlockTable
 block_table_of entries functions modules = record {
-  entries = map entry_of entries;
+  entries = map block_of_entry entries;
   functions = map function_of functions;
   modules = map module_of modules;
   bodies = map block_of_module modules;

@@ -2,7 +2,7 @@
 use Rattle.std.specs.Prelude.{ℕ, ◌+◌, List, [], ◌∷◌, ◌++◌, length, slice_set, slice_index_or}
 use Rattle.scad_ast.specs.Terms.{StatementTerm, StatementTerms}
 use Rattle.scad_definitions.specs.declared.walk.Walk.{Walk}
-use Rattle.scad_definitions.specs.Blocks.{Entity, a_block, a_function, a_module, SourceAssignment, with_assigned, all_assigned, assigned_in, assigned_by, local_functions, local_function, local_modules, local_module, LocalTerms, no_locals, SourceBlock, nothing_there, entry_at, BlockTable}
+use Rattle.scad_definitions.specs.Blocks.{Entity, a_block, a_function, a_module, SourceAssignment, with_assigned, assignments_with_all, assignments_in, assignments_by, local_functions, local_function, local_modules, local_module, LocalTerms, no_locals, SourceBlock, nothing_there, entry_at, BlockTable}
 use Rattle.scad_definitions.specs.TextView.{block_table_of}
 
 -- the part of the program that was walked through, by numbers
@@ -14,8 +14,8 @@ abbrev pub count_numbered : BlockTable → ℕ
 count_numbered text = length text.entries + length text.functions + length text.modules
 
 -- a walk that has begun with nothing
-abbrev pub nothing_walked : BlockTable
-nothing_walked = record { entries = []; functions = []; modules = []; bodies = [] }
+abbrev pub empty_block_table : BlockTable
+empty_block_table = record { entries = []; functions = []; modules = []; bodies = [] }
 
 -- with one entity more
 abbrev pub with_entity : BlockTable → Entity → BlockTable
@@ -40,7 +40,7 @@ abbrev pub locals_with : LocalTerms → ℕ → ℕ → StatementTerms → Local
 locals_with local functions modules statements = record {
   functions = local.functions ++ local_functions functions statements;
   modules = local.modules ++ local_modules modules statements;
-  assignments = all_assigned local.assignments (assigned_in statements);
+  assignments = assignments_with_all local.assignments (assignments_in statements);
 }
 
 -- what one statement adds to a block's local definitions
@@ -48,12 +48,12 @@ abbrev pub locals_by : LocalTerms → ℕ → ℕ → StatementTerm → LocalTer
 locals_by local functions modules statement = record {
   functions = local.functions ++ local_function functions statement;
   modules = local.modules ++ local_module modules statement;
-  assignments = all_assigned local.assignments (assigned_by statement);
+  assignments = assignments_with_all local.assignments (assignments_by statement);
 }
 
 -- with one assignment more
-abbrev pub locals_assigned : LocalTerms → SourceAssignment → LocalTerms
-locals_assigned local assigned =
+abbrev pub locals_with_assignment : LocalTerms → SourceAssignment → LocalTerms
+locals_with_assignment local assigned =
     record local { assignments = with_assigned local.assignments assigned }
 
 -- with one block more, whose local definitions are not known yet
@@ -67,13 +67,13 @@ with_block_begun text statements = record text {
 }
 
 -- a block with its local definitions, and the number of the first block behind it
-abbrev pub entry_ended : SourceBlock → LocalTerms → ℕ → SourceBlock
-entry_ended entry local block_end =
+abbrev pub block_with_end : SourceBlock → LocalTerms → ℕ → SourceBlock
+block_with_end entry local block_end =
     record { statements = entry.statements; local = local; block_end = block_end }
 
 -- a block ends: it gets its local definitions, and all blocks so far stand in it or before it
 abbrev pub with_block_ended : BlockTable → ℕ → LocalTerms → BlockTable
 with_block_ended text number local = record text {
   entries = slice_set text.entries number
-      (entry_ended (slice_index_or text.entries number nothing_there) local (length text.entries));
+      (block_with_end (slice_index_or text.entries number nothing_there) local (length text.entries));
 }

@@ -3,7 +3,7 @@ ghost use Rattle.scad_definitions.specs.Names.{newest_first};
 ghost use Rattle.scad_definitions.specs.Newest.{find_in};
 ghost use Rattle.scad_definitions.specs.Blocks.{SourceAssignment, place_of_assignment};
 ghost use Rattle.scad_definitions.specs.Places.{of_kind};
-ghost use Rattle.scad_definitions.specs.TextView.{assigned_of};
+ghost use Rattle.scad_definitions.specs.TextView.{source_assignment_of};
 
 use crate::NameList;
 use crate::text::{Assignment, LocalsUnderWay};
@@ -25,7 +25,7 @@ pub(crate) struct LocalsSoFar<'a> {
     ghost placed: { (a : SourceAssignment)
         → find_in (of_kind (newest_first places.ordinary)
         (newest_first places.special) a.special) a.name
-        ≡ place_of_assignment (map assigned_of local.assignments.items) a },
+        ≡ place_of_assignment (map source_assignment_of local.assignments.items) a },
 }
 
 impl Places {
@@ -91,9 +91,9 @@ impl<'a> LocalsSoFar<'a> {
         assignment: Assignment<'a>,
     ) -> Result<(), NoMemory>
         ensures definitions { self.new.local.definitions ≡ self.old.local.definitions }
-        ensures assignments { OnOk result (map assigned_of self.new.local.assignments.items
-            ≡ with_assigned (map assigned_of self.old.local.assignments.items)
-            (assigned_of assignment.entry)) }
+        ensures assignments { OnOk result (map source_assignment_of self.new.local.assignments.items
+            ≡ with_assigned (map source_assignment_of self.old.local.assignments.items)
+            (source_assignment_of assignment.entry)) }
     {
         match self.place(&assignment) {
             Some(i) => {
@@ -106,8 +106,9 @@ impl<'a> LocalsSoFar<'a> {
 
     // The number of the assignment that has the same name.
     fn place(&self, sought: &Assignment<'_>) -> Option<usize>
-        ensures value { result ≡ place_of_assignment (map assigned_of self.now.local.assignments.items)
-            (assigned_of sought.now) }
+        ensures value { result ≡ place_of_assignment
+            (map source_assignment_of self.now.local.assignments.items)
+            (source_assignment_of sought.now) }
         ensures within { IfSome result (λ k. k < length self.now.local.assignments.items) }
     {
         self.places.find(sought.special, sought.name)
@@ -115,12 +116,12 @@ impl<'a> LocalsSoFar<'a> {
 
     // An assignment of a name that isn't there.
     fn add(&mut self, alloc: Global, assignment: Assignment<'a>) -> Result<(), NoMemory>
-        requires { place_of_assignment (map assigned_of self.old.local.assignments.items)
-            (assigned_of assignment) ≡ None }
+        requires { place_of_assignment (map source_assignment_of self.old.local.assignments.items)
+            (source_assignment_of assignment) ≡ None }
         ensures definitions { self.new.local.definitions ≡ self.old.local.definitions }
-        ensures assignments { OnOk result (map assigned_of self.new.local.assignments.items
-            ≡ with_assigned (map assigned_of self.old.local.assignments.items)
-            (assigned_of assignment.entry)) }
+        ensures assignments { OnOk result (map source_assignment_of self.new.local.assignments.items
+            ≡ with_assigned (map source_assignment_of self.old.local.assignments.items)
+            (source_assignment_of assignment.entry)) }
     {
         let place = self.local.assignments.len();
         let name = Bytes::copy_of(alloc, assignment.name)?;

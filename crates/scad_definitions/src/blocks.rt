@@ -1,6 +1,6 @@
 ghost use Rattle.std.specs.Prelude.{IsTrue, length, map};
-ghost use Rattle.scad_definitions.specs.Numbered.{entries_below};
-ghost use Rattle.scad_definitions.specs.TextView.{entry_of};
+ghost use Rattle.scad_definitions.specs.Numbered.{are_entries_below};
+ghost use Rattle.scad_definitions.specs.TextView.{block_of_entry};
 
 use crate::text::{Assignment, BlockText, Entry, Function, LocalDefinitions, Module};
 use crate::walk::walk_program;
@@ -17,8 +17,8 @@ pub struct Blocks<'a> {
     pub(crate) entries: Vec<Entry<'a>>,
     pub(crate) functions: Vec<Function<'a>>,
     pub(crate) modules: Vec<Module<'a>>,
-    ghost numbered: { IsTrue (entries_below (length functions.items) (length modules.items)
-        (map entry_of entries.items)) },
+    ghost numbered: { IsTrue (are_entries_below (length functions.items) (length modules.items)
+        (map block_of_entry entries.items)) },
 }
 
 impl<'a> Blocks<'a> {
@@ -26,17 +26,17 @@ impl<'a> Blocks<'a> {
     ghost use Rattle.scad_ast.specs.ProgramView.{program_of};
     ghost use Rattle.scad_definitions.specs.Blocks.{block_table, nothing_there, StandsInOrder};
     ghost use Rattle.scad_definitions.specs.Numbered.{count_of_functions, count_of_modules};
-    ghost use Rattle.scad_definitions.specs.Tables.{table_held, functions_held, modules_held};
-    ghost use Rattle.scad_definitions.specs.TextView.{function_of, module_of, assigned_of, locals_of, statements_held};
+    ghost use Rattle.scad_definitions.specs.Tables.{block_table_in, source_functions_in, source_modules_in};
+    ghost use Rattle.scad_definitions.specs.TextView.{function_of, module_of, source_assignment_of, locals_of, statements_of_text};
 
     /// The blocks, functions and modules of a program, by one walk through its text.
     pub fn of(alloc: Global, program: &'a Program) -> Result<Blocks<'a>, NoMemory>
-        ensures text { IfOk result (λ blocks. table_held blocks
+        ensures text { IfOk result (λ blocks. block_table_in blocks
             ≡ block_table (program_of program.now)) }
-        ensures order { IfOk result (λ blocks. StandsInOrder (table_held blocks)) }
-        ensures functions { IfOk result (λ blocks. length (functions_held blocks)
+        ensures order { IfOk result (λ blocks. StandsInOrder (block_table_in blocks)) }
+        ensures functions { IfOk result (λ blocks. length (source_functions_in blocks)
             ≡ count_of_functions (program_of program.now)) }
-        ensures modules { IfOk result (λ blocks. length (modules_held blocks)
+        ensures modules { IfOk result (λ blocks. length (source_modules_in blocks)
             ≡ count_of_modules (program_of program.now)) }
     {
         let walk = walk_program(alloc, program)?;
@@ -49,15 +49,15 @@ impl<'a> Blocks<'a> {
 
     /// How many blocks there are.
     pub fn count(&self) -> usize
-        ensures { result ≡ length (table_held self.now).entries }
+        ensures { result ≡ length (block_table_in self.now).entries }
     {
         self.entries.len()
     }
 
     /// The function of a number.
     pub fn function(&self, number: u32) -> Function<'a>
-        requires { number < length (functions_held self.now) }
-        ensures same { function_of result ≡ slice_index_or (functions_held self.now) number
+        requires { number < length (source_functions_in self.now) }
+        ensures same { function_of result ≡ slice_index_or (source_functions_in self.now) number
             (function_of result) }
         ensures item { result ≡ slice_index_or self.now.functions.items number result }
     {
@@ -66,39 +66,39 @@ impl<'a> Blocks<'a> {
 
     /// The module of a number, with the number of its body's block.
     pub fn module(&self, number: u32) -> Module<'a>
-        requires { number < length (modules_held self.now) }
-        ensures same { module_of result ≡ slice_index_or (modules_held self.now) number
+        requires { number < length (source_modules_in self.now) }
+        ensures same { module_of result ≡ slice_index_or (source_modules_in self.now) number
             (module_of result) }
         ensures item { result ≡ slice_index_or self.now.modules.items number result }
         ensures block { result.block
-            ≡ slice_index_or (table_held self.now).bodies number result.block }
+            ≡ slice_index_or (block_table_in self.now).bodies number result.block }
     {
         self.modules[number as usize]
     }
 
     /// What stands in a block.
     pub fn text(&self, number: u32) -> BlockText<'a>
-        requires { number < length (table_held self.now).entries }
-        ensures { statements_held result
-            ≡ (slice_index_or (table_held self.now).entries number nothing_there).statements }
+        requires { number < length (block_table_in self.now).entries }
+        ensures { statements_of_text result
+            ≡ (slice_index_or (block_table_in self.now).entries number nothing_there).statements }
     {
         self.entries[number as usize].text
     }
 
     /// What stands in a block and in no block inside it.
     pub fn local(&self, number: u32) -> &LocalDefinitions<'a>
-        requires { number < length (table_held self.now).entries }
+        requires { number < length (block_table_in self.now).entries }
         ensures { locals_of result.now
-            ≡ (slice_index_or (table_held self.now).entries number nothing_there).local }
+            ≡ (slice_index_or (block_table_in self.now).entries number nothing_there).local }
     {
         &self.entries[number as usize].local
     }
 
     /// The number of the first block behind a block and all that stands in it.
     pub fn block_end(&self, number: u32) -> u32
-        requires { number < length (table_held self.now).entries }
+        requires { number < length (block_table_in self.now).entries }
         ensures { result
-            ≡ (slice_index_or (table_held self.now).entries number nothing_there).block_end }
+            ≡ (slice_index_or (block_table_in self.now).entries number nothing_there).block_end }
     {
         self.entries[number as usize].block_end
     }
@@ -106,9 +106,9 @@ impl<'a> Blocks<'a> {
     /// A block's assignments, each name once, in the order of the text: a name that is assigned more than
     /// once has the place of its first assignment and the expression of its last.
     pub fn assignments(&self, number: u32) -> &[Assignment<'a>]
-        requires { number < length (table_held self.now).entries }
-        ensures { map assigned_of result.now
-            ≡ (slice_index_or (table_held self.now).entries number
+        requires { number < length (block_table_in self.now).entries }
+        ensures { map source_assignment_of result.now
+            ≡ (slice_index_or (block_table_in self.now).entries number
             nothing_there).local.assignments }
     {
         &self.entries[number as usize].local.assignments

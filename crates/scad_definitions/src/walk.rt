@@ -3,8 +3,8 @@ ghost use Rattle.scad_ast.specs.Terms.{statements_from, no_statements, and_state
 ghost use Rattle.scad_ast.specs.ExprView.{term_of};
 ghost use Rattle.scad_ast.specs.StatementView.{params_of, statement_of, statements_of, instance_of, core_of, body_of};
 ghost use Rattle.scad_definitions.specs.Blocks.{entities_of, entities_in, entities_of_core, entities_of_body, entities_of_instance, a_block, a_function, a_module, entities_of_program};
-ghost use Rattle.scad_definitions.specs.Walk.{table_so_far, count_numbered, with_entities, with_entity, nothing_walked, locals_with, locals_by, locals_assigned, with_block_begun, with_block_ended};
-ghost use Rattle.scad_definitions.specs.TextView.{locals_of, locals_under_way, statements_held};
+ghost use Rattle.scad_definitions.specs.Walk.{table_so_far, count_numbered, with_entities, with_entity, empty_block_table, locals_with, locals_by, locals_with_assignment, with_block_begun, with_block_ended};
+ghost use Rattle.scad_definitions.specs.TextView.{locals_of, locals_under_way, statements_of_text};
 
 use crate::NameTable;
 use crate::assigned::LocalsSoFar;
@@ -26,7 +26,7 @@ pub(crate) struct Walk<'a> {
 /// The blocks, functions and modules of a program.
 pub(crate) fn walk_program<'a>(alloc: Global, program: &'a Program) -> Result<Walk<'a>, NoMemory>
     ensures { IfOk result (λ w.
-        table_so_far w ≡ with_entities nothing_walked
+        table_so_far w ≡ with_entities empty_block_table
         (entities_of_program (statements_of program.now.statements))) }
 {
     let mut walk = Walk::new(alloc);
@@ -37,7 +37,7 @@ pub(crate) fn walk_program<'a>(alloc: Global, program: &'a Program) -> Result<Wa
 impl<'a> Walk<'a> {
     // A walk that has begun with nothing.
     fn new(alloc: Global) -> Walk<'a>
-        ensures { table_so_far result ≡ nothing_walked }
+        ensures { table_so_far result ≡ empty_block_table }
     {
         Walk {
             alloc,
@@ -60,8 +60,10 @@ impl<'a> Walk<'a> {
             ≡ with_entities (table_so_far self.old)
             (entities_in (statements_from (statements_of statements.now)))) }
         ensures local { OnOk result (locals_under_way so_far.new.local
-            ≡ locals_with (locals_under_way so_far.old.local) (length (table_so_far self.old).functions)
-            (length (table_so_far self.old).modules) (statements_from (statements_of statements.now))) }
+            ≡ locals_with (locals_under_way so_far.old.local)
+            (length (table_so_far self.old).functions)
+            (length (table_so_far self.old).modules)
+            (statements_from (statements_of statements.now))) }
     {
         'each: for statement in &statements.items {
             self.statement(statement, so_far)?;
@@ -82,7 +84,8 @@ impl<'a> Walk<'a> {
         ensures walked { OnOk result (table_so_far self.new
             ≡ with_entities (table_so_far self.old) (entities_of (statement_of statement.now))) }
         ensures local { OnOk result (locals_under_way so_far.new.local
-            ≡ locals_by (locals_under_way so_far.old.local) (length (table_so_far self.old).functions)
+            ≡ locals_by (locals_under_way so_far.old.local)
+            (length (table_so_far self.old).functions)
             (length (table_so_far self.old).modules) (statement_of statement.now)) }
     {
         match statement {
@@ -243,7 +246,7 @@ impl<'a> Walk<'a> {
     fn begin(&mut self, text: BlockText<'a>) -> Result<u32, NoMemory>
         requires { count_numbered (table_so_far self.old) < 2 ^ 32 }
         ensures walked { OnOk result (table_so_far self.new
-            ≡ with_block_begun (table_so_far self.old) (statements_held text.entry)) }
+            ≡ with_block_begun (table_so_far self.old) (statements_of_text text.entry)) }
         ensures number { IfOk result (λ n. n ≡ length (table_so_far self.old).entries) }
     {
         let number = self.entries.len() as u32;
@@ -261,7 +264,8 @@ impl<'a> Walk<'a> {
     fn end(&mut self, number: u32, local: LocalDefinitions<'a>)
         requires begun { number < length (table_so_far self.old).entries }
         requires few { count_numbered (table_so_far self.old) < 2 ^ 32 }
-        ensures { table_so_far self.new ≡ with_block_ended (table_so_far self.old) number (locals_of local.entry) }
+        ensures { table_so_far self.new ≡ with_block_ended (table_so_far self.old) number
+            (locals_of local.entry) }
     {
         let block_end = self.entries.len() as u32;
         let entry = &mut self.entries[number as usize];
@@ -311,7 +315,7 @@ fn assign<'a>(
     value: &'a Expr,
 ) -> Result<(), NoMemory>
     ensures { OnOk result (locals_under_way so_far.new.local
-        ≡ locals_assigned (locals_under_way so_far.old.local)
+        ≡ locals_with_assignment (locals_under_way so_far.old.local)
         (record { at = place; special = special; name = name.now; value = term_of value.now })) }
 {
     let name = name.items();

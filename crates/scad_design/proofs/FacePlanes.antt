@@ -5,15 +5,15 @@ use Rattle.std.specs.Int.{IsGcd}
 use Rattle.std.proofs.lemmas.Int.{by_lt_z}
 use Rattle.std.proofs.lemmas.List.{get_or-map, length-map}
 use Rattle.std.proofs.lemmas.List.Elements.{All-cons, All-head, All-nil, All-tail}
-use Rattle.plane_predicate.specs.Space.{Coefficients, Coordinates, point_at, minor, opposite_of, through, AreCollinear, AreQuotients, IsCommonFactor, IsInReach, IsPlane, IsPlaneTimes}
+use Rattle.plane_predicate.specs.Space.{Coefficients, Coordinates, point_at, minor, opposite_of, plane_of_points, AreCollinear, AreQuotients, IsCommonFactor, IsInReach, IsPlane, IsPlaneTimes}
 use Rattle.plane_predicate.proofs.Coprime.{euclid}
 use Rattle.plane_predicate.proofs.Divisions.{common_of, quotient, quotient_negative, quotients_of}
 use Rattle.plane_predicate.proofs.Opposites.{opposite_is_plane}
 use Rattle.plane_predicate.proofs.Sizes.{size_difference, size_dot, size_minor}
 use Rattle.plane_predicate.proofs.ThroughPoints.{reduced_is_plane, reduced_is_times}
 use Rattle.int_transform.specs.declared.affine.Affine.{Affine}
-use Rattle.int_transform.specs.Maps.{coordinates, image}
-use Rattle.primitives.specs.Shapes.{Mesh, corner, value_at, IsFaceOfShape, IsPlaneOfFace}
+use Rattle.int_transform.specs.Maps.{coordinate_list, image}
+use Rattle.primitives.specs.Shapes.{Mesh, mesh_point, value_at_point, IsFaceOfShape, IsPlaneOfFace}
 use Rattle.primitives.specs.Spanning.{SpansFace}
 use Rattle.primitives.proofs.FacePlanes.{found, spanned_as_it_is, spanned_opposite}
 use Rattle.primitives.proofs.OnePlane.{some_direction}
@@ -64,9 +64,9 @@ part_size : (p q s t u v : ℤ) → unsigned_abs p ≤ 4095 → unsigned_abs q �
 part_size p q s t u v hp hq hs ht hu hv =
     size_minor (s -ℤ p) (t -ℤ q) (u -ℤ p) (v -ℤ q) 8190 8190 (apart s p hs hp) (apart t q ht hq) (apart u p hu hp) (apart v q hv hq)
 
-plane_through : (p q r : Coordinates) → IsNear p → IsNear q → IsNear r → (AreCollinear p q r → ⊥) → (n : Coefficients) × IsPlane n × IsPlaneTimes (through p q r) n
+plane_through : (p q r : Coordinates) → IsNear p → IsNear q → IsNear r → (AreCollinear p q r → ⊥) → (n : Coefficients) × IsPlane n × IsPlaneTimes (plane_of_points p q r) n
 plane_through p q r hp hq hr not_on_line =
-    let m = through p q r in
+    let m = plane_of_points p q r in
     let a = part_size p.y p.z q.y q.z r.y r.z hp.y_size hp.z_size hq.y_size hq.z_size hr.y_size hr.z_size in
     let b = part_size p.z p.x q.z q.x r.z r.x hp.z_size hp.x_size hq.z_size hq.x_size hr.z_size hr.x_size in
     let c = part_size p.x p.y q.x q.y r.x r.y hp.x_size hp.y_size hq.x_size hq.y_size hr.x_size hr.y_size in
@@ -81,7 +81,7 @@ some_face_plane : (mesh : Mesh) → AreInReach mesh.points → (face : List ℕ)
 some_face_plane mesh reach face is =
     let t = is.triangle in
     let near_corner = λ (i : ℕ) (lt : i < length face). near (get_or mesh.points (get_or face i 0) []) (reach (get_or face i 0) [] (is.there i 0 lt)) in
-    let n = plane_through (corner mesh.points (get_or face t.first 0)) (corner mesh.points (get_or face t.second 0)) (corner mesh.points (get_or face t.third 0))
+    let n = plane_through (mesh_point mesh.points (get_or face t.first 0)) (mesh_point mesh.points (get_or face t.second 0)) (mesh_point mesh.points (get_or face t.third 0))
     (near_corner t.first t.first_in) (near_corner t.second t.second_in) (near_corner t.third t.third_in) t.apart in
     let spans : SpansFace mesh.points face n.0 = record {
       first = t.first;
@@ -95,11 +95,11 @@ some_face_plane mesh reach face is =
     } in
     ⊎_elim (λ none. (n.0, n.1, spanned_as_it_is mesh face is n.0 spans none))
     (λ some.
-    let f = found (λ c. pos 0 <ℤ value_at mesh.points n.0 c) mesh.faces some in
+    let f = found (λ c. pos 0 <ℤ value_at_point mesh.points n.0 c) mesh.faces some in
     (opposite_of n.0, opposite_is_plane n.0 n.1, spanned_opposite mesh face is n.0 spans f.face f.at f.face_in f.at_in f.holds))
-    (all_or_any (All (λ c. value_at mesh.points n.0 c ≤ℤ pos 0)) (λ f. Any (λ c. pos 0 <ℤ value_at mesh.points n.0 c) f)
-    (all_or_any (λ c. value_at mesh.points n.0 c ≤ℤ pos 0) (λ c. pos 0 <ℤ value_at mesh.points n.0 c)
-    (λ c. by_lt_z (pos 0) (value_at mesh.points n.0 c) (λ above. inr above) (λ most. inl most))) mesh.faces)
+    (all_or_any (All (λ c. value_at_point mesh.points n.0 c ≤ℤ pos 0)) (λ f. Any (λ c. pos 0 <ℤ value_at_point mesh.points n.0 c) f)
+    (all_or_any (λ c. value_at_point mesh.points n.0 c ≤ℤ pos 0) (λ c. pos 0 <ℤ value_at_point mesh.points n.0 c)
+    (λ c. by_lt_z (pos 0) (value_at_point mesh.points n.0 c) (λ above. inr above) (λ most. inl most))) mesh.faces)
 
 pub some_face_planes : (mesh : Mesh) → AreInReach mesh.points → (faces : List (List ℕ)) → All (IsFaceOfShape mesh) faces → (all : List Coefficients) × All IsPlane all × AllZip (IsPlaneOfFace mesh) faces all
 some_face_planes mesh reach [] are = ([], All-nil IsPlane, tt)
@@ -109,8 +109,8 @@ some_face_planes mesh reach (face ∷ faces) are =
     (m.0 ∷ all.0, All-cons IsPlane m.0 all.0 m.1 all.1, (m.2, all.2))
 
 -- moved points are in reach where the images are
-pub images_are_in_reach : (f : Affine) (points : List (List ℤ)) → All (λ p. IsInReach (image f (point_at p))) points → AreInReach (map (λ p. coordinates (image f (point_at p))) points)
+pub images_are_in_reach : (f : Affine) (points : List (List ℤ)) → All (λ p. IsInReach (image f (point_at p))) points → AreInReach (map (λ p. coordinate_list (image f (point_at p))) points)
 images_are_in_reach f points h k d lt =
-    let move : List ℤ → List ℤ = λ p. coordinates (image f (point_at p)) in
+    let move : List ℤ → List ℤ = λ p. coordinate_list (image f (point_at p)) in
     let there : k < length points = omega (arith, length-map points move, lt) in
     subst (λ (p : List ℤ). IsInReach (point_at p)) (sym (get_or-map move points k [] d there)) (h k [] there)

@@ -2,7 +2,7 @@
 use Rattle.std.proofs.Common.{◌≡◌, ℕ, zero, suc, ◌+◌, ◌-◌, ◌/◌, ◌≤◌, List, [], ◌∷◌, length, take, drop, map, refl, ap, ap₂, subst, ◌∙◌, arith}
 use Rattle.std.proofs.lemmas.List.{length-map, length-take, length-drop, take-map, drop-map, length-take-le, take-take, drop-take, drop-drop}
 use Rattle.csg_tree.specs.declared.op.Op.{Op}
-use Rattle.scad_design.specs.Designs.{DesignTree, join, designs_within, balanced_join}
+use Rattle.scad_design.specs.Designs.{DesignTree, join, balanced_join_within, balanced_join}
 
 -- the first half of more than one is not all of them, and neither is the rest
 first_shorter : (designs : List DesignTree) → 2 ≤ length designs → (n : ℕ) → length designs ≤ suc n →
@@ -18,7 +18,7 @@ two_long design next designs = omega arith
 
 -- halving more often than there are designs changes nothing
 pub often_enough : (n m : ℕ) (op : Op) (designs : List DesignTree) → length designs ≤ n → length designs ≤ m →
-    designs_within n op designs ≡ designs_within m op designs
+    balanced_join_within n op designs ≡ balanced_join_within m op designs
 often_enough zero zero op designs hn hm = refl
 often_enough zero (suc m) op [] hn hm = refl
 often_enough zero (suc m) op (design ∷ designs) hn hm = absurd (omega arith)

@@ -4,7 +4,7 @@ use Rattle.std.specs.List.{list_any}
 use Rattle.std.specs.Ordering.{int_eq}
 use Rattle.std.proofs.lemmas.Int.{ints}
 use Rattle.plane_predicate.specs.Space.{Coefficients, is_same, opposite_of}
-use Rattle.scad_design.specs.Placing.{and_new, unless_known, same_points}
+use Rattle.scad_design.specs.Placing.{with_new_planes, with_plane_unless_known, is_same_or_opposite}
 
 turned_int : (x y : ℤ) → int_eq x (neg_ℤ y) ≡ int_eq (neg_ℤ x) y
 turned_int x y = grind (arith, ints)
@@ -20,7 +20,7 @@ either_step false true false d = refl
 either_step false false c d = refl
 
 -- among planes there is one with the same points where there is the plane or its opposite
-pub either : (m : Coefficients) (known : List Coefficients) → list_any (same_points m) known ≡ (list_any (is_same m) known || list_any (is_same (opposite_of m)) known)
+pub either : (m : Coefficients) (known : List Coefficients) → list_any (is_same_or_opposite m) known ≡ (list_any (is_same m) known || list_any (is_same (opposite_of m)) known)
 either m [] = refl
 either m (n ∷ known) =
     ap₂ (λ (a b : Bool). (is_same m n || a) || b) (quarter_turns_about m n) (either m known)
@@ -31,16 +31,16 @@ left_none false b h = refl
 left_none true b h = absurd (true≢false h)
 
 -- a plane that is new is added as a key that is new
-pub added_new : (m : Coefficients) (known : List Coefficients) → list_any (same_points m) known ≡ false →
-    (if list_any (is_same m) known then known else known ++ m ∷ []) ≡ unless_known (list_any (same_points m) known) known m
+pub added_new : (m : Coefficients) (known : List Coefficients) → list_any (is_same_or_opposite m) known ≡ false →
+    (if list_any (is_same m) known then known else known ++ m ∷ []) ≡ with_plane_unless_known (list_any (is_same_or_opposite m) known) known m
 added_new m known none =
     let apart : list_any (is_same m) known ≡ false = left_none (list_any (is_same m) known) (list_any (is_same (opposite_of m)) known) (sym (either m known) ∙ none) in
     rw (none, apart) refl
 
-module _ (known new planes : List Coefficients) (i : ℕ) (m : Coefficients) (h : i < length planes) (is : m ≡ get_or planes i m) (grows : new ≡ unless_known (list_any (same_points m) known) known m) where
+module _ (known new planes : List Coefficients) (i : ℕ) (m : Coefficients) (h : i < length planes) (is : m ≡ get_or planes i m) (grows : new ≡ with_plane_unless_known (list_any (is_same_or_opposite m) known) known m) where
   next_left : drop i planes ≡ m ∷ drop (i + 1) planes
   next_left = drop-cons planes i m h ∙ ap₂ (λ (n : Coefficients) (l : List Coefficients). n ∷ l) (sym is) (ap (λ (n : ℕ). drop n planes) (sym (add-one i)))
 
   -- a plane more is added
-  pub plane_added : (whole : List Coefficients) → and_new known (drop i planes) ≡ whole → and_new new (drop (i + 1) planes) ≡ whole
-  plane_added whole e = ap (λ (ks : List Coefficients). and_new ks (drop (i + 1) planes)) grows ∙ ap (and_new known) (sym next_left) ∙ e
+  pub plane_added : (whole : List Coefficients) → with_new_planes known (drop i planes) ≡ whole → with_new_planes new (drop (i + 1) planes) ≡ whole
+  plane_added whole e = ap (λ (ks : List Coefficients). with_new_planes ks (drop (i + 1) planes)) grows ∙ ap (with_new_planes known) (sym next_left) ∙ e

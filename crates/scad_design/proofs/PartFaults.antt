@@ -3,23 +3,23 @@ use Rattle.std.proofs.Common.{◌≡◌, ◌<◌, ℤ, List, length, refl, subst
 use Rattle.text_place.specs.declared.fault.FaultKind.{FaultKind}
 use Rattle.text_place.specs.declared.fault.FaultKind.TheVariants.{BadCharacter, OpenComment, OpenText, NotWhole, TooLarge, TypeMismatch, ZeroDivisor, BadSize, NotOnGrid, OutOfRange, FewPoints, BadPoint, NotFlat, NotConvex, NotClosed, Expected, Nested, UnknownName, UnknownFunction, UnknownModule, BadArgument, TooDeep, TooManyTurns, RangeOrder, AssertFailed, NotInProfile, WrongDimension, NotQuarter, Singular, TooManyParts, TooManyPlanes, LongList}
 use Rattle.plane_predicate.specs.Space.{Coefficients, point_at, IsInReach}
-use Rattle.int_transform.specs.Maps.{image, map_of, LeavesRange, StaysInRange}
+use Rattle.int_transform.specs.Maps.{image, map_of, LeavesSafeCoordinates, KeepsSafeCoordinates}
 use Rattle.primitives.specs.declared.stop.ShapeStop.TheVariants.{Kind}
 use Rattle.primitives.specs.Placing.{IsPlacingStop}
 use Rattle.scad_design.specs.Designs.{MovedShape}
 use Rattle.text_place.specs.declared.fault.Stop.{Stop}
 use Rattle.text_place.specs.declared.fault.Stop.TheVariants.{Fault, NoMemory}
 use Rattle.scad_design.specs.Designs.{a_leaf}
-use Rattle.scad_design.specs.Placing.{and_new, AreItsPlanes, EndsInReach, IsPlacingFault, StaysSafe, most_planes}
+use Rattle.scad_design.specs.Placing.{with_new_planes, AreWorldPlanes, EndsInReach, IsPlacingFault, StaysSafe, most_planes}
 use Rattle.scad_design.specs.Trees.{IsRangeStop, IsStopOf}
 
 -- one that isn't so, where all are
 some_not : {A : Type 0} (P : A → Type 0) (xs : List A) → Any (λ (x : A). P x → ⊥) xs → All P xs → ⊥
 some_not P xs h all = h.4 (subst P h.3 (all h.0 h.1 h.2))
 
-pub past : (part : MovedShape) → Any (λ (p : List ℤ). LeavesRange part.steps (point_at p)) part.mesh.points → StaysSafe part → ⊥
+pub past : (part : MovedShape) → Any (λ (p : List ℤ). LeavesSafeCoordinates part.steps (point_at p)) part.mesh.points → StaysSafe part → ⊥
 past part h safe =
-    let stays : StaysInRange part.steps (point_at h.1) = subst (λ (p : List ℤ). StaysInRange part.steps (point_at p)) h.3 (safe h.0 h.1 h.2) in
+    let stays : KeepsSafeCoordinates part.steps (point_at h.1) = subst (λ (p : List ℤ). KeepsSafeCoordinates part.steps (point_at p)) h.3 (safe h.0 h.1 h.2) in
     h.4.past (stays h.4.after h.4.within)
 
 -- why a shape has no planes where its steps move it is the part's fault, whatever planes are known
@@ -68,8 +68,8 @@ range_stop part known NoMemory h = tt
 pub data Cause (part : MovedShape) (known : List Coefficients) (kind : FaultKind) : Type 0 where
   large : (kind ≡ TooLarge) → (StaysSafe part → ⊥) → Cause part known kind
   far_off : (kind ≡ OutOfRange) → StaysSafe part → (EndsInReach part → ⊥) → Cause part known kind
-  many : (kind ≡ TooManyPlanes) → StaysSafe part → EndsInReach part → (planes : List Coefficients) → AreItsPlanes part planes
-      → (most_planes < length (and_new known planes)) → Cause part known kind
+  many : (kind ≡ TooManyPlanes) → StaysSafe part → EndsInReach part → (planes : List Coefficients) → AreWorldPlanes part planes
+      → (most_planes < length (with_new_planes known planes)) → Cause part known kind
 
 pub cause_of : (part : MovedShape) (known : List Coefficients) (kind : FaultKind) → IsPlacingFault part known kind → Cause part known kind
 cause_of part known BadCharacter h = absurd h

@@ -7,8 +7,8 @@ use Rattle.std.proofs.lemmas.List.Elements.{All-cons, All-head, All-nil, All-tai
 use Rattle.int_transform.specs.declared.affine.Affine.{Affine}
 use Rattle.csg_tree.specs.declared.op.Op.{Op}
 use Rattle.csg_tree.specs.declared.op.Op.TheVariants.{Union, Intersection, Difference}
-use Rattle.scad_design.specs.Designs.{DesignTree, empty, a_leaf, joined_designs, join, designs_within, balanced_join, join_children, moved_by}
-use Rattle.scad_design.specs.Trees.{leaf_count, pieces_in, IsPresent, IsTrim}
+use Rattle.scad_design.specs.Designs.{DesignTree, empty, a_leaf, joined_designs, join, balanced_join_within, balanced_join, join_children, moved_design_tree}
+use Rattle.scad_design.specs.Trees.{leaf_count, tree_size, IsNotEmpty, IsTrim}
 
 trim_join : (op : Op) (left right : DesignTree) → IsTrim left → IsTrim right → IsTrim (join op left right)
 trim_join Union empty right hl hr = hr
@@ -69,17 +69,17 @@ all_drop (suc n) (d ∷ designs) h = all_drop n designs (All-tail IsTrim d desig
 parts_split : (n : ℕ) (designs : List DesignTree) → sum_by leaf_count (take n designs) + sum_by leaf_count (drop n designs) ≡ sum_by leaf_count designs
 parts_split n designs = sym (sum_by-append leaf_count (take n designs) (drop n designs)) ∙ ap (sum_by leaf_count) (take-append-drop n designs)
 
-trim_within : (n : ℕ) (op : Op) (designs : List DesignTree) → All IsTrim designs → IsTrim (designs_within n op designs)
+trim_within : (n : ℕ) (op : Op) (designs : List DesignTree) → All IsTrim designs → IsTrim (balanced_join_within n op designs)
 trim_within zero op designs h = tt
 trim_within (suc n) op [] h = tt
 trim_within (suc n) op (d ∷ []) h = All-head IsTrim d [] h
 trim_within (suc n) op (d ∷ e ∷ designs) h =
     let all = d ∷ e ∷ designs in
     let half = length all / 2 in
-    trim_join op (designs_within n op (take half all)) (designs_within n op (drop half all))
+    trim_join op (balanced_join_within n op (take half all)) (balanced_join_within n op (drop half all))
     (trim_within n op (take half all) (all_take half all h)) (trim_within n op (drop half all) (all_drop half all h))
 
-parts_within : (n : ℕ) (op : Op) (designs : List DesignTree) → leaf_count (designs_within n op designs) ≤ sum_by leaf_count designs
+parts_within : (n : ℕ) (op : Op) (designs : List DesignTree) → leaf_count (balanced_join_within n op designs) ≤ sum_by leaf_count designs
 parts_within zero op designs = omega arith
 parts_within (suc n) op [] = omega arith
 parts_within (suc n) op (d ∷ []) = omega (arith, sum_by-cons leaf_count d [])
@@ -88,7 +88,7 @@ parts_within (suc n) op (d ∷ e ∷ designs) =
     let half = length all / 2 in
     let first = parts_within n op (take half all) in
     let rest = parts_within n op (drop half all) in
-    omega (arith, parts_join op (designs_within n op (take half all)) (designs_within n op (drop half all)), first, rest, parts_split half all)
+    omega (arith, parts_join op (balanced_join_within n op (take half all)) (balanced_join_within n op (drop half all)), first, rest, parts_split half all)
 
 pub trim_grouped : (op : Op) (designs : List DesignTree) → All IsTrim designs → IsTrim (join_children op designs)
 trim_grouped Union designs h = trim_within (length designs) Union designs h
@@ -106,27 +106,27 @@ parts_grouped Difference (d ∷ designs) =
     omega (arith, parts_join Difference d (balanced_join Union designs), parts_within (length designs) Union designs, sum_by-cons leaf_count d designs) in
     both
 
-present_moved : (steps : List Affine) (design : DesignTree) → IsPresent design → IsPresent (moved_by steps design)
+present_moved : (steps : List Affine) (design : DesignTree) → IsNotEmpty design → IsNotEmpty (moved_design_tree steps design)
 present_moved steps empty h = h
 present_moved steps (a_leaf part) h = tt
 present_moved steps (joined_designs op left right) h = tt
 
-pub trim_moved : (steps : List Affine) (design : DesignTree) → IsTrim design → IsTrim (moved_by steps design)
+pub trim_moved : (steps : List Affine) (design : DesignTree) → IsTrim design → IsTrim (moved_design_tree steps design)
 trim_moved steps empty h = tt
 trim_moved steps (a_leaf part) h = tt
 trim_moved steps (joined_designs op left right) h = (present_moved steps left h.0, present_moved steps right h.1, trim_moved steps left h.2, trim_moved steps right h.3)
 
-pub parts_moved : (steps : List Affine) (design : DesignTree) → leaf_count (moved_by steps design) ≡ leaf_count design
+pub parts_moved : (steps : List Affine) (design : DesignTree) → leaf_count (moved_design_tree steps design) ≡ leaf_count design
 parts_moved steps empty = refl
 parts_moved steps (a_leaf part) = refl
 parts_moved steps (joined_designs op left right) = ap₂ ◌+◌ (parts_moved steps left) (parts_moved steps right)
 
-pieces_present : (design : DesignTree) → IsTrim design → IsPresent design → 1 + pieces_in design ≤ 2 * leaf_count design
+pieces_present : (design : DesignTree) → IsTrim design → IsNotEmpty design → 1 + tree_size design ≤ 2 * leaf_count design
 pieces_present empty h is = absurd is
 pieces_present (a_leaf part) h is = omega arith
 pieces_present (joined_designs op left right) h is = omega (arith, pieces_present left h.2 h.0, pieces_present right h.3 h.1)
 
-pub few_pieces : (design : DesignTree) → IsTrim design → pieces_in design ≤ 1 + 2 * leaf_count design
+pub few_pieces : (design : DesignTree) → IsTrim design → tree_size design ≤ 1 + 2 * leaf_count design
 few_pieces empty h = omega arith
 few_pieces (a_leaf part) h = omega arith
 few_pieces (joined_designs op left right) h = omega (arith, pieces_present (joined_designs op left right) h tt)

@@ -15,7 +15,7 @@ pub record MovedShape : Type 0 where
 -- a design before it is placed: nothing, a shape with the steps that move it, or an operation on two designs
 pub data DesignTree : Type 0 where
   empty : DesignTree
-  a_leaf : (part : MovedShape) → DesignTree
+  a_leaf : (shape : MovedShape) → DesignTree
   joined_designs : (op : Op) → (left right : DesignTree) → DesignTree
 
 -- a join without empty designs, as trees are joined: in a union the other side, in an intersection nothing, nothing minus
@@ -30,19 +30,19 @@ join Difference left empty = left
 join op left right = joined_designs op left right
 
 -- designs joined by halves, where the halves are halved at most this often
-abbrev pub designs_within : ℕ → Op → List DesignTree → DesignTree
-designs_within zero op designs = empty
-designs_within (suc depth) op [] = empty
-designs_within (suc depth) op (design ∷ []) = design
-designs_within (suc depth) op (design ∷ next ∷ designs) =
+abbrev pub balanced_join_within : ℕ → Op → List DesignTree → DesignTree
+balanced_join_within zero op designs = empty
+balanced_join_within (suc depth) op [] = empty
+balanced_join_within (suc depth) op (design ∷ []) = design
+balanced_join_within (suc depth) op (design ∷ next ∷ designs) =
     let all = design ∷ next ∷ designs in
-    join op (designs_within depth op (take (length all / 2) all))
-    (designs_within depth op (drop (length all / 2) all))
+    join op (balanced_join_within depth op (take (length all / 2) all))
+    (balanced_join_within depth op (drop (length all / 2) all))
 
 -- designs joined by halves: none is empty, one itself, and more the join of the first half of them, rounded down, and the
 -- rest
 abbrev pub balanced_join : Op → List DesignTree → DesignTree
-balanced_join op designs = designs_within (length designs) op designs
+balanced_join op designs = balanced_join_within (length designs) op designs
 
 -- children joined by an operation; a difference is the first without the others
 abbrev pub join_children : Op → List DesignTree → DesignTree
@@ -51,7 +51,7 @@ join_children Difference (first ∷ others) = join Difference first (balanced_jo
 join_children op designs = balanced_join op designs
 
 -- steps at the end of those of each leaf
-abbrev pub moved_by : List Affine → DesignTree → DesignTree
-moved_by steps empty = empty
-moved_by steps (a_leaf part) = a_leaf (record { mesh = part.mesh; steps = part.steps ++ steps; at = part.at })
-moved_by steps (joined_designs op left right) = joined_designs op (moved_by steps left) (moved_by steps right)
+abbrev pub moved_design_tree : List Affine → DesignTree → DesignTree
+moved_design_tree steps empty = empty
+moved_design_tree steps (a_leaf shape) = a_leaf (record { mesh = shape.mesh; steps = shape.steps ++ steps; at = shape.at })
+moved_design_tree steps (joined_designs op left right) = joined_designs op (moved_design_tree steps left) (moved_design_tree steps right)

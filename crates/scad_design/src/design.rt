@@ -1,5 +1,5 @@
 ghost use Rattle.std.specs.Prelude.{◌≡◌, IfOk};
-ghost use Rattle.scad_design.specs.Designs.{moved_by};
+ghost use Rattle.scad_design.specs.Designs.{moved_design_tree};
 ghost use Rattle.scad_design.specs.View.{plain_of};
 
 use crate::leaf_shape::LeafShape;
@@ -34,7 +34,7 @@ impl Design {
 
     /// The design with more steps behind those of each leaf. At `NoMemory` it is dropped.
     pub fn moved_by(self, alloc: Global, steps: &[Step]) -> Result<Design, NoMemory>
-        ensures { IfOk result (λ design. plain_of design ≡ moved_by steps.now (plain_of self)) }
+        ensures { IfOk result (λ design. plain_of design ≡ moved_design_tree steps.now (plain_of self)) }
     {
         match self {
             Design::Empty => Ok(Design::Empty),

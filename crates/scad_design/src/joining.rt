@@ -98,7 +98,8 @@ fn next_or_empty(designs: &mut IntoIter<Design>, count: usize) -> Design
     requires within { count ≤ length (into_iter_items designs.old) }
     ensures rest { into_iter_items designs.new ≡ drop count (into_iter_items designs.old) }
     ensures next { (by : Op) →
-        plain_of result ≡ balanced_join by (map plain_of (take count (into_iter_items designs.old))) }
+        plain_of result ≡ balanced_join by (map plain_of
+        (take count (into_iter_items designs.old))) }
 {
     if count == 0 {
         return Design::Empty;

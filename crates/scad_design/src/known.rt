@@ -3,7 +3,7 @@
 ghost use Rattle.std.specs.Prelude.{◌≡◌, All, OnOk};
 ghost use Rattle.std.specs.List.{list_any};
 ghost use Rattle.plane_predicate.specs.Space.{IsPlane};
-ghost use Rattle.scad_design.specs.Placing.{and_new, unless_known, same_points};
+ghost use Rattle.scad_design.specs.Placing.{with_new_planes, with_plane_unless_known, is_same_or_opposite};
 
 use indexmap::IndexSet;
 use plane_predicate::{Plane, opposite};
@@ -47,15 +47,15 @@ impl PlaneKey {
 // Whether a plane is a plane of the table, seen from either side.
 #[tactic(auto, using(crate::proofs::KnownPlanes::either))]
 fn is_known(known: &IndexSet<PlaneKey>, plane: &Plane) -> bool
-    ensures { result ≡ list_any (same_points plane.now) known.now.keys }
+    ensures { result ≡ list_any (is_same_or_opposite plane.now) known.now.keys }
 {
     known.contains(&PlaneKey::of(plane)) || known.contains(&PlaneKey::of(&opposite(plane)))
 }
 
 // Adds a plane that is no plane of the others, up to orientation. At `NoMemory` the table stays.
 fn add_plane(known: &mut IndexSet<PlaneKey>, plane: &Plane) -> Result<(), NoMemory>
-    ensures added { OnOk result (known.new.keys ≡ unless_known (list_any
-        (same_points plane.now) known.old.keys) known.old.keys plane.now) }
+    ensures added { OnOk result (known.new.keys ≡ with_plane_unless_known (list_any
+        (is_same_or_opposite plane.now) known.old.keys) known.old.keys plane.now) }
     ensures plane { IsPlane plane.now }
 {
     let key = PlaneKey::of(plane);
@@ -67,7 +67,7 @@ fn add_plane(known: &mut IndexSet<PlaneKey>, plane: &Plane) -> Result<(), NoMemo
 
 /// Adds those planes that are new, in their order.
 pub fn add_planes(known: &mut IndexSet<PlaneKey>, planes: &[Plane]) -> Result<(), NoMemory>
-    ensures added { OnOk result (known.new.keys ≡ and_new known.old.keys planes.now) }
+    ensures added { OnOk result (known.new.keys ≡ with_new_planes known.old.keys planes.now) }
     ensures planes { OnOk result (All IsPlane planes.now) }
 {
     for plane in planes {

@@ -2,14 +2,15 @@
 
 ghost use Rattle.std.specs.Prelude.{◌<◌, ◌≤◌, ◌^◌, All, IfOk, IfErr, OnOk, length, []};
 ghost use Rattle.primitives.specs.Shapes.{IsFaceOfShape};
-ghost use Rattle.primitives.specs.Placing.{moved_mesh, ArePlanesOf, MeetsReach};
+ghost use Rattle.primitives.specs.Placing.{moved_mesh, ArePlanesOf};
 ghost use Rattle.int_transform.specs.Maps.{map_of};
-ghost use Rattle.csg_tree.specs.ProperTrees.{IsProper, subtrees};
-ghost use Rattle.csg_tree.specs.Trees.{formula_of};
+ghost use Rattle.csg_tree.specs.ProperTrees.{IsProper, subtree_count};
+ghost use Rattle.csg_tree.specs.Trees.{plain_tree_of};
 ghost use Rattle.scad_design.specs.Designs.{a_leaf};
-ghost use Rattle.scad_design.specs.Placing.{placed, EndsInReach, Places, StaysSafe};
-ghost use Rattle.scad_design.specs.Trees.{pieces_in, IsFullTree, IsPlacedAs, IsRangeStop, IsStopOf};
+ghost use Rattle.scad_design.specs.Placing.{placing_tree, EndsInReach, PlacesDesign, StaysSafe};
+ghost use Rattle.scad_design.specs.Trees.{tree_size, IsFullTree, IsPlacedAs, IsRangeStop, IsStopOf};
 ghost use Rattle.scad_design.specs.View.{plain_of};
+ghost use Rattle.plane_predicate.specs.Space.{ComesInReach};
 
 use crate::design::Design;
 use crate::known::{PlaneKey, add_planes};
@@ -31,10 +32,10 @@ const PLANES: usize = 1024;
 /// 2^53 - 1 in size, `OutOfRange` where else one at the end is past 4095, and `TooManyPlanes` where
 /// else the leaf brings the 1,025th distinct plane, up to orientation.
 pub fn place(alloc: Global, design: &Design) -> Result<CsgTree, Stop>
-    ensures tree { IfOk result (λ tree. IsPlacedAs (plain_of design.now) (formula_of tree)) }
+    ensures tree { IfOk result (λ tree. IsPlacedAs (plain_of design.now) (plain_tree_of tree)) }
     ensures stop { IfErr result (IsStopOf (plain_of design.now) []) }
-    ensures proper { IfOk result (λ tree. pieces_in (plain_of design.now) < 2 ^ 32 →
-        IsProper (formula_of tree)) }
+    ensures proper { IfOk result (λ tree. tree_size (plain_of design.now) < 2 ^ 32 →
+        IsProper (plain_tree_of tree)) }
 {
     let mut known = IndexSet::new(alloc);
     place_after(alloc, &mut known, design)
@@ -46,12 +47,12 @@ fn place_after(
     known: &mut IndexSet<PlaneKey>,
     design: &Design,
 ) -> Result<CsgTree, Stop>
-    ensures tree { IfOk result (λ tree. Places (plain_of design.now) known.old.keys
-        (placed (formula_of tree) known.new.keys)) }
+    ensures tree { IfOk result (λ tree. PlacesDesign (plain_of design.now) known.old.keys
+        (placing_tree (plain_tree_of tree) known.new.keys)) }
     ensures stop { IfErr result (IsStopOf (plain_of design.now) known.old.keys) }
-    ensures full { IfOk result (λ tree. IsFullTree (formula_of tree)) }
-    ensures few { IfOk result (λ tree. subtrees (formula_of tree)
-        ≤ pieces_in (plain_of design.now)) }
+    ensures full { IfOk result (λ tree. IsFullTree (plain_tree_of tree)) }
+    ensures few { IfOk result (λ tree. subtree_count (plain_tree_of tree)
+        ≤ tree_size (plain_of design.now)) }
 {
     match design {
         Design::Empty => Ok(CsgTree::Nothing),
@@ -70,11 +71,11 @@ fn place_leaf(
     known: &mut IndexSet<PlaneKey>,
     part: &LeafShape,
 ) -> Result<CsgTree, Stop>
-    ensures tree { IfOk result (λ tree. Places (a_leaf part.now) known.old.keys
-        (placed (formula_of tree) known.new.keys)) }
+    ensures tree { IfOk result (λ tree. PlacesDesign (a_leaf part.now) known.old.keys
+        (placing_tree (plain_tree_of tree) known.new.keys)) }
     ensures stop { IfErr result (IsStopOf (a_leaf part.now) known.old.keys) }
-    ensures full { IfOk result (λ tree. IsFullTree (formula_of tree)) }
-    ensures few { IfOk result (λ tree. subtrees (formula_of tree) ≤ 1) }
+    ensures full { IfOk result (λ tree. IsFullTree (plain_tree_of tree)) }
+    ensures few { IfOk result (λ tree. subtree_count (plain_tree_of tree) ≤ 1) }
 {
     let planes = planes_of(alloc, part)?;
     add_planes(known, &planes)?;
@@ -88,10 +89,11 @@ fn place_leaf(
 fn planes_of(alloc: Global, part: &LeafShape) -> Result<Vec<Plane>, Stop>
     ensures faces { IfOk result (λ v. ArePlanesOf (moved_mesh (map_of part.now.steps) part.now.mesh)
         part.now.mesh.faces v.items) }
-    ensures solid { OnOk result (All (IsFaceOfShape (moved_mesh (map_of part.now.steps) part.now.mesh))
+    ensures solid { OnOk result (All (IsFaceOfShape
+        (moved_mesh (map_of part.now.steps) part.now.mesh))
         part.now.mesh.faces) }
     ensures some { IfOk result (λ v. 0 < length v.items) }
-    ensures meet { IfOk result (λ v. All MeetsReach v.items) }
+    ensures meet { IfOk result (λ v. All ComesInReach v.items) }
     ensures safe { OnOk result (StaysSafe part.now) }
     ensures reach { OnOk result (EndsInReach part.now) }
     ensures stop { IfErr result (IsRangeStop part.now) }

@@ -3,27 +3,27 @@ use Rattle.std.proofs.Common.{◌≡◌, ℕ, ◌-◌, List, [], ◌++◌, take,
 use Rattle.std.specs.Prelude.{OnOk}
 use Rattle.plane_predicate.specs.declared.unit.Unit.{Unit as LengthUnit}
 use Rattle.scad_value.specs.Values.{Val}
-use Rattle.scad_scope.specs.Names.{Pairs, Row}
+use Rattle.scad_scope.specs.Names.{Pairs, ScopeRow}
 use Rattle.scad_scope.specs.Table.{rows_of, bindings_of}
 use Rattle.scad_func.specs.Limits.{most_calls, most_evaluations}
-use Rattle.scad_func.specs.Meaning.{Env, Setting}
+use Rattle.scad_func.specs.Meaning.{Env, ExpressionContext}
 use Rattle.scad_func.specs.View.{env_seen}
-use Rattle.scad_func.specs.Evaluations.{KeepsEvaluation, SameSetting, env_here}
+use Rattle.scad_func.specs.Evaluations.{KeepsEvaluation, KeepsAllButScopes, env_here}
 use Rattle.scad_func.specs.declared.source.Source.{Source}
 use Rattle.scad_meaning.specs.declared.extrusion.Extrusion.{Extrusion}
 use Rattle.scad_instances.specs.declared.position.Position.{Position}
 use Rattle.scad_eval.specs.declared.evaluator.InstanceEvaluator.{InstanceEvaluator}
 use Rattle.scad_meaning.specs.Verdicts.{Judge}
 use Rattle.scad_meaning.specs.Meaning.{Context, evaluator_with, inside_scope}
-use Rattle.scad_eval.specs.Keeping.{evaluations_left, evaluator_at, context_at, IsCheckedInside, Stays, Enters, KeepsOlder, Assigns, Equation, meant_at}
+use Rattle.scad_eval.specs.Keeping.{evaluations_left, evaluator_at, context_at, IsCheckedInside, Stays, Enters, KeepsOlder, Assigns, Equation, outcome_at}
 use Rattle.scad_func.proofs.Kept.{keeps_same, keeps_trans, scope_setting}
 
 -- where an instance stands, by where an expression there stands
-abbrev context_by : Setting → Position → Context
+abbrev context_by : ExpressionContext → Position → Context
 context_by here position = record { calls_left = here.calls_left; env = here.env; bindings = here.bindings; inside = position.inside; under_root = position.under_root }
 
 -- where an instance stands, by what it depends on
-abbrev context_of : ℕ → Source → List Row → ℕ → Pairs Val → Position → Context
+abbrev context_of : ℕ → Source → List ScopeRow → ℕ → Pairs Val → Position → Context
 context_of calls source rows scope bindings position = record {
   calls_left = calls;
   env = env_seen source rows scope;
@@ -45,7 +45,7 @@ context_from old new position calls bindings source rows stands left is =
     ∙ ap (λ c. context_of calls old.evaluation.source.now (rows_of old.evaluation.scopes.now) old.evaluation.scope c position) is
 
 pub same_context : (old new : InstanceEvaluator) (position : Position) → Stays old new → context_at new position ≡ context_at old position
-same_context old new position k = ap (λ (here : Setting). context_by here position) k.evaluation.here
+same_context old new position k = ap (λ (here : ExpressionContext). context_by here position) k.evaluation.here
 
 pub same_evaluations : (old new : InstanceEvaluator) → Stays old new → evaluations_left new ≡ evaluations_left old
 same_evaluations old new k = ap (λ n. most_evaluations - n) k.evaluation.depth
@@ -79,7 +79,7 @@ checked_still a b through e h = subst (λ (u : LengthUnit). IsCheckedInside u th
 -- what is meant by the same evaluator in the same context
 pub meant_by : {B : Type 0} (meaning : Equation B) (judge : Judge) (mid : InstanceEvaluator) (position : Position) (unit : LengthUnit) (evaluations : ℕ)
     (here : Context) → mid.unit ≡ unit → evaluations_left mid ≡ evaluations → context_at mid position ≡ here
-    → meaning (evaluator_with unit judge evaluations) here mid.evaluation.turns mid.leaves ≡ meant_at mid position judge meaning
+    → meaning (evaluator_with unit judge evaluations) here mid.evaluation.turns mid.leaves ≡ outcome_at mid position judge meaning
 meant_by meaning judge mid position unit evaluations here a b c =
     ap (λ (x : LengthUnit). meaning (evaluator_with x judge evaluations) here mid.evaluation.turns mid.leaves) (sym a)
     ∙ ap (λ n. meaning (evaluator_with mid.unit judge n) here mid.evaluation.turns mid.leaves) (sym b)
@@ -87,17 +87,17 @@ meant_by meaning judge mid position unit evaluations here a b c =
 
 -- what is meant behind steps that keep all but turns and leaves
 pub meant_after : {B : Type 0} (meaning : Equation B) (judge : Judge) {old mid : InstanceEvaluator} (position : Position) → Stays old mid
-    → meaning (evaluator_at old judge) (context_at old position) mid.evaluation.turns mid.leaves ≡ meant_at mid position judge meaning
+    → meaning (evaluator_at old judge) (context_at old position) mid.evaluation.turns mid.leaves ≡ outcome_at mid position judge meaning
 meant_after meaning judge {old = old} {mid = mid} position k =
     meant_by meaning judge mid position old.unit (evaluations_left old) (context_at old position) k.unit (same_evaluations old mid k) (same_context old mid position k)
 
 -- a stand in a scope that was entered
 pub entered_context : (old new : InstanceEvaluator) (position : Position) (before : ℕ) (env : Env) → Enters old new before
     → env_here new.evaluation ≡ env → context_at new position ≡ inside_scope (context_at old position) env
-entered_context old new position before env e is = ap (λ (here : Setting). context_by here position) (scope_setting old.evaluation new.evaluation before env e.evaluation is)
+entered_context old new position before env e is = ap (λ (here : ExpressionContext). context_by here position) (scope_setting old.evaluation new.evaluation before env e.evaluation is)
 
 -- assignments, one behind another
-same_then : (a b c : InstanceEvaluator) → SameSetting a.evaluation b.evaluation → SameSetting b.evaluation c.evaluation → SameSetting a.evaluation c.evaluation
+same_then : (a b c : InstanceEvaluator) → KeepsAllButScopes a.evaluation b.evaluation → KeepsAllButScopes b.evaluation c.evaluation → KeepsAllButScopes a.evaluation c.evaluation
 same_then a b c f g = record {
   source = g.source ∙ f.source;
   lent = g.lent ∙ f.lent;

@@ -9,7 +9,7 @@ use Rattle.text_place.specs.declared.fault.Place.{Place}
 use Rattle.csg_tree.specs.declared.op.Op.{Op}
 use Rattle.scad_ast.specs.Terms.{StatementTerms, InstanceTerm, BodyTerm}
 use Rattle.scad_value.specs.Values.{Val}
-use Rattle.scad_scope.specs.Names.{Pairs, Row, find_in}
+use Rattle.scad_scope.specs.Names.{Pairs, ScopeRow, find_in}
 use Rattle.scad_scope.specs.Table.{rows_of, bindings_of}
 use Rattle.scad_definitions.specs.Blocks.{BlockTable, statements_of_body}
 use Rattle.scad_func.specs.Limits.{most_calls, most_evaluations}
@@ -17,7 +17,7 @@ use Rattle.scad_func.specs.Meaning.{Outcome, Gives, Faults, Arguments, BoundArgu
 use Rattle.scad_definitions.specs.ArgumentsView.{IsFaultAt}
 use Rattle.scad_func.specs.View.{MeetsOutcome, env_seen, table_in}
 use Rattle.scad_func.specs.Definitions.{IsWholeTable, statements_at, block_scope}
-use Rattle.scad_func.specs.Evaluations.{OneCallDeeper, OneEvaluationDeeper, MoreBindings, env_here, setting_in}
+use Rattle.scad_func.specs.Evaluations.{OneCallDeeper, OneEvaluationDeeper, MoreBindings, env_here, expression_context_in}
 use Rattle.scad_func.specs.declared.source.Source.{Source}
 use Rattle.scad_value.specs.Operators.{AnswerOrFault}
 use Rattle.scad_modules.specs.Effects.{ChosenCall, EffectCall}
@@ -30,11 +30,11 @@ use Rattle.scad_instances.specs.declared.position.MemberResults.{MemberResults}
 use Rattle.scad_eval.specs.declared.evaluator.InstanceEvaluator.{InstanceEvaluator}
 use Rattle.scad_meaning.specs.Verdicts.{Judge}
 use Rattle.scad_meaning.specs.Bodies.{has_root_modifier}
-use Rattle.scad_meaning.specs.Meaning.{Context, InstanceDesign, MemberDesigns, Evaluator, inside_scope, with_bindings, with_calls_left, inside_root, setting, evaluator_with, instance_design, core_design, core_of_instance, joined_members, body_design, each_member, children_design, effect_design, answered_with, no_members, and_members, as_root, block_members, built_in_given, chosen_children, instances_chosen}
+use Rattle.scad_meaning.specs.Meaning.{Context, InstanceDesign, MemberDesigns, Evaluator, inside_scope, with_bindings, with_calls_left, inside_root, expression_context, evaluator_with, instance_design, core_design, core_of_instance, joined_members, body_design, each_member, children_design, effect_design, answered_with, no_members, and_members, as_root, block_members, built_in_with_arguments, chosen_children, instances_chosen}
 use Rattle.scad_instances.specs.Seen.{HasOutcome, instance_design_of, member_designs_of, one_member_of, IsLengthened, members_in_front}
 use Rattle.scad_instances.specs.Calls.{MeetsEffectAt}
 use Rattle.scad_eval.specs.Within.{body_seen, IsBodyAt}
-use Rattle.scad_eval.specs.Keeping.{evaluations_left, evaluator_at, context_at, Stays, Enters, Assigns, Equation, meant_at, EvaluatesKeeping}
+use Rattle.scad_eval.specs.Keeping.{evaluations_left, evaluator_at, context_at, Stays, Enters, Assigns, Equation, outcome_at, EvaluatesKeeping}
 use Rattle.scad_eval.proofs.Outcomes.{along, front_of_none, no_memory}
 use Rattle.scad_eval.proofs.Contexts.{meant_by, same_context, entered_context}
 use Rattle.scad_eval.proofs.Beginning.{deeper_context, call_context, specials_context}
@@ -51,7 +51,7 @@ refused_outcome NoMemory m l kind at h = absurd h
 pub entered_meant : {B : Type 0} (meaning : Source → Equation B) (judge : Judge) (old mid : InstanceEvaluator) (position : Position) (before : ℕ) (env : Env)
     → Enters old mid before → env_here mid.evaluation ≡ env → mid.evaluation.turns ≡ old.evaluation.turns
     → meaning old.evaluation.source.now (evaluator_at old judge) (inside_scope (context_at old position) env) old.evaluation.turns old.leaves
-    ≡ meant_at mid position judge (meaning mid.evaluation.source.now)
+    ≡ outcome_at mid position judge (meaning mid.evaluation.source.now)
 entered_meant meaning judge old mid position before env e is turns =
     let evaluator = evaluator_at old judge in
     let here = inside_scope (context_at old position) env in
@@ -66,7 +66,7 @@ pub block_meant : (judge : Judge) (old mid : InstanceEvaluator) (position : Posi
     (env : Env) → statements_at (table_in old.evaluation.source.now) block ≡ statements → Enters old mid before → env_here mid.evaluation ≡ env
     → mid.evaluation.turns ≡ old.evaluation.turns
     → block_members (evaluator_at old judge) chosen statements (inside_scope (context_at old position) env) old.evaluation.turns old.leaves
-    ≡ meant_at mid position judge (λ evaluator. block_members evaluator chosen (statements_at (table_in mid.evaluation.source.now) block))
+    ≡ outcome_at mid position judge (λ evaluator. block_members evaluator chosen (statements_at (table_in mid.evaluation.source.now) block))
 block_meant judge old mid position before block chosen _ env is e inside turns =
     ap (λ (st : StatementTerms). block_members (evaluator_at old judge) chosen st (inside_scope (context_at old position) env) old.evaluation.turns old.leaves) (sym is)
     ∙ entered_meant (λ (x : Source) evaluator. block_members evaluator chosen (statements_at (table_in x) block)) judge old mid position before env e inside turns
@@ -82,8 +82,8 @@ pub body_meant : (op : Op) (judge : Judge) (old mid : InstanceEvaluator) (positi
     → Enters old mid before
     → env_here mid.evaluation ≡ block_scope (table_in old.evaluation.source.now) body.block no_activation (env_here old.evaluation)
     → mid.evaluation.turns ≡ old.evaluation.turns
-    → meant_at old position judge (λ evaluator here. body_design evaluator op here (body_seen body))
-    ≡ then_with (meant_at mid position judge (λ evaluator. block_members evaluator None (statements_at (table_in mid.evaluation.source.now) body.block)))
+    → outcome_at old position judge (λ evaluator here. body_design evaluator op here (body_seen body))
+    ≡ then_with (outcome_at mid position judge (λ evaluator. block_members evaluator None (statements_at (table_in mid.evaluation.source.now) body.block)))
     (λ turns members. Gives turns (joined_members op members))
 body_meant op judge old mid position before body stands e inside turns =
     let statements = statements_of_body (body_seen body) in
@@ -95,7 +95,7 @@ body_meant op judge old mid position before body stands e inside turns =
 -- one evaluation deeper
 pub deeper_meant : (judge : Judge) (old mid : InstanceEvaluator) (position : Position) (i : InstanceTerm) → mid.unit ≡ old.unit → mid.leaves ≡ old.leaves
     → mid.evaluation.turns ≡ old.evaluation.turns → OneEvaluationDeeper old.evaluation mid.evaluation
-    → meant_at old position judge (λ evaluator here. evaluator.at_next_depth here i) ≡ meant_at mid position judge (λ evaluator here. instance_design evaluator here i)
+    → outcome_at old position judge (λ evaluator here. evaluator.at_next_depth here i) ≡ outcome_at mid position judge (λ evaluator here. instance_design evaluator here i)
 deeper_meant judge old mid position i unit leaves turns b =
     let d = old.evaluation.depth in
     let l = most_evaluations - (d + 1) in
@@ -107,35 +107,35 @@ deeper_meant judge old mid position i unit leaves turns b =
     (ap (λ n. most_evaluations - n) b.depth) (deeper_context old mid position b)
 
 -- one call deeper; the turns are those that a call counts
-pub call_meant : {B : Type 0} (meaning : Source → List Row → Equation B) (judge : Judge) (old mid : InstanceEvaluator) (position : Position)
+pub call_meant : {B : Type 0} (meaning : Source → List ScopeRow → Equation B) (judge : Judge) (old mid : InstanceEvaluator) (position : Position)
     → mid.unit ≡ old.unit → mid.leaves ≡ old.leaves → OneCallDeeper old.evaluation mid.evaluation
     → meaning old.evaluation.source.now (rows_of old.evaluation.scopes.now) (evaluator_at old judge)
     (with_calls_left (context_at old position) (most_calls - (old.evaluation.calls + 1))) mid.evaluation.turns old.leaves
-    ≡ meant_at mid position judge (meaning mid.evaluation.source.now (rows_of mid.evaluation.scopes.now))
+    ≡ outcome_at mid position judge (meaning mid.evaluation.source.now (rows_of mid.evaluation.scopes.now))
 call_meant meaning judge old mid position unit leaves b =
     let evaluator = evaluator_at old judge in
     let here = with_calls_left (context_at old position) (most_calls - (old.evaluation.calls + 1)) in
     ap (λ (x : Source). meaning x (rows_of old.evaluation.scopes.now) evaluator here mid.evaluation.turns old.leaves) (sym b.source)
-    ∙ ap (λ (rows : List Row). meaning mid.evaluation.source.now rows evaluator here mid.evaluation.turns old.leaves) (sym b.rows)
+    ∙ ap (λ (rows : List ScopeRow). meaning mid.evaluation.source.now rows evaluator here mid.evaluation.turns old.leaves) (sym b.rows)
     ∙ ap (λ n. meaning mid.evaluation.source.now (rows_of mid.evaluation.scopes.now) evaluator here mid.evaluation.turns n) (sym leaves)
     ∙ meant_by (meaning mid.evaluation.source.now (rows_of mid.evaluation.scopes.now)) judge mid position old.unit (evaluations_left old) here unit
     (ap (λ n. most_evaluations - n) b.depth) (call_context old mid position b)
 
 -- with special arguments among the dynamic bindings, and behind steps that keep all
-pub specials_meant : {B : Type 0} (meaning : Source → List Row → Equation B) (judge : Judge) (old begun mid : InstanceEvaluator) (position : Position)
+pub specials_meant : {B : Type 0} (meaning : Source → List ScopeRow → Equation B) (judge : Judge) (old begun mid : InstanceEvaluator) (position : Position)
     (count : ℕ) (dynamic : Pairs Val)
     → begun.unit ≡ old.unit → begun.leaves ≡ old.leaves → MoreBindings old.evaluation begun.evaluation count
     → bindings_of begun.evaluation.scopes.now ≡ dynamic ++ bindings_of old.evaluation.scopes.now
     → Stays begun mid → mid.leaves ≡ begun.leaves
     → meaning old.evaluation.source.now (rows_of old.evaluation.scopes.now) (evaluator_at old judge)
     (with_bindings (context_at old position) (dynamic ++ bindings_of old.evaluation.scopes.now)) mid.evaluation.turns old.leaves
-    ≡ meant_at mid position judge (meaning mid.evaluation.source.now (rows_of mid.evaluation.scopes.now))
+    ≡ outcome_at mid position judge (meaning mid.evaluation.source.now (rows_of mid.evaluation.scopes.now))
 specials_meant meaning judge old begun mid position count dynamic unit leaves b bindings k same =
     let evaluator = evaluator_at old judge in
     let here = with_bindings (context_at old position) (dynamic ++ bindings_of old.evaluation.scopes.now) in
     let kept = k.evaluation in
     ap (λ (x : Source). meaning x (rows_of old.evaluation.scopes.now) evaluator here mid.evaluation.turns old.leaves) (sym (kept.source ∙ b.source))
-    ∙ ap (λ (rows : List Row). meaning mid.evaluation.source.now rows evaluator here mid.evaluation.turns old.leaves) (sym (kept.rows ∙ b.rows))
+    ∙ ap (λ (rows : List ScopeRow). meaning mid.evaluation.source.now rows evaluator here mid.evaluation.turns old.leaves) (sym (kept.rows ∙ b.rows))
     ∙ ap (λ n. meaning mid.evaluation.source.now (rows_of mid.evaluation.scopes.now) evaluator here mid.evaluation.turns n) (sym (same ∙ leaves))
     ∙ meant_by (meaning mid.evaluation.source.now (rows_of mid.evaluation.scopes.now)) judge mid position old.unit (evaluations_left old) here (k.unit ∙ unit)
     (ap (λ n. most_evaluations - n) (kept.depth ∙ b.depth))
@@ -144,14 +144,14 @@ specials_meant meaning judge old begun mid position count dynamic unit leaves b 
 -- the chosen children of the enclosing call, one call deeper
 pub children_meant : (judge : Judge) (old mid : InstanceEvaluator) (position : Position) (at : Place) (chosen : ChosenCall)
     → mid.unit ≡ old.unit → mid.leaves ≡ old.leaves → mid.evaluation.turns ≡ old.evaluation.turns → OneCallDeeper old.evaluation mid.evaluation
-    → meant_at old position judge (λ evaluator. chosen_children evaluator at chosen)
-    ≡ meant_at mid position judge (λ evaluator here. children_design evaluator here (activation_in here.env) chosen)
+    → outcome_at old position judge (λ evaluator. chosen_children evaluator at chosen)
+    ≡ outcome_at mid position judge (λ evaluator here. children_design evaluator here (activation_in here.env) chosen)
 children_meant judge old mid position at chosen unit leaves turns b =
     let here = context_at old position in
     let go : ℕ → ℕ → Outcome InstanceDesign = λ calls turns. children_design (evaluator_at old judge) (with_calls_left here calls) (activation_in here.env) chosen turns old.leaves in
     call_counted old.evaluation.calls at (λ calls. go calls old.evaluation.turns) b.within
     ∙ ap (go (most_calls - (old.evaluation.calls + 1))) (sym turns)
-    ∙ call_meant (λ (x : Source) (rows : List Row) evaluator here. children_design evaluator here (activation_in here.env) chosen) judge old mid position unit leaves b
+    ∙ call_meant (λ (x : Source) (rows : List ScopeRow) evaluator here. children_design evaluator here (activation_in here.env) chosen) judge old mid position unit leaves b
 
 -- a built-in module, by what its call does
 effect_refused : {B : Type 0} (stop : Stop) (at : Place) (answer : AnswerOrFault EffectCall) (go : EffectCall → Outcome B) (m l : ℕ) {A : Type 0} {see : ℕ → A → B}
@@ -169,14 +169,14 @@ module _ (old begun : InstanceEvaluator) (position : Position) (at : Place) (bui
   with_effect judge turns effect =
       effect_design (evaluator_at old judge) (with_bindings (context_at old position) (given.dynamic ++ bindings_of old.evaluation.scopes.now)) at effect body turns old.leaves
 
-  answer_at : (judge : Judge) → meant_at old position judge (λ evaluator. built_in_given evaluator at builtin given body)
+  answer_at : (judge : Judge) → outcome_at old position judge (λ evaluator. built_in_with_arguments evaluator at builtin given body)
       ≡ answered_with (answer_of (bindings_of begun.evaluation.scopes.now) bound) at (with_effect judge old.evaluation.turns)
   answer_at judge =
       ap (λ (c : Pairs Val). answered_with (answer_of c given.bound) at (with_effect judge old.evaluation.turns)) (sym bindings)
       ∙ ap (λ (filled : BoundArguments). answered_with (answer_of (bindings_of begun.evaluation.scopes.now) filled) at (with_effect judge old.evaluation.turns)) same
 
   pub built_in_refused : {Now : Type 0} (stop : Stop) (end : InstanceEvaluator) → MeetsEffectAt (Err stop) at (answer_of (bindings_of begun.evaluation.scopes.now) bound) → Now
-      → EvaluatesKeeping instance_design_of old end position (Err stop) Now (λ evaluator. built_in_given evaluator at builtin given body)
+      → EvaluatesKeeping instance_design_of old end position (Err stop) Now (λ evaluator. built_in_with_arguments evaluator at builtin given body)
   built_in_refused stop end h kept = record {
     equation = λ judge right.
         along (answer_at judge) (effect_refused stop at (answer_of (bindings_of begun.evaluation.scopes.now) bound) (with_effect judge old.evaluation.turns) end.evaluation.turns end.leaves h);
@@ -186,12 +186,12 @@ module _ (old begun : InstanceEvaluator) (position : Position) (at : Place) (bui
   pub built_in_meant : (judge : Judge) (mid : InstanceEvaluator) (count : ℕ) (effect : EffectCall)
       → begun.unit ≡ old.unit → begun.leaves ≡ old.leaves → mid.evaluation.turns ≡ old.evaluation.turns → MoreBindings old.evaluation begun.evaluation count
       → Stays begun mid → mid.leaves ≡ begun.leaves → answer_of (bindings_of begun.evaluation.scopes.now) bound ≡ Ok effect
-      → meant_at old position judge (λ evaluator. built_in_given evaluator at builtin given body)
-      ≡ meant_at mid position judge (λ evaluator here. effect_design evaluator here at effect body)
+      → outcome_at old position judge (λ evaluator. built_in_with_arguments evaluator at builtin given body)
+      ≡ outcome_at mid position judge (λ evaluator here. effect_design evaluator here at effect body)
   built_in_meant judge mid count effect unit leaves turns b k same_leaves is =
       answer_at judge ∙ ap (λ (a : AnswerOrFault EffectCall). answered_with a at (with_effect judge old.evaluation.turns)) is
       ∙ ap (λ n. with_effect judge n effect) (sym turns)
-      ∙ specials_meant (λ (x : Source) (rows : List Row) evaluator here. effect_design evaluator here at effect body)
+      ∙ specials_meant (λ (x : Source) (rows : List ScopeRow) evaluator here. effect_design evaluator here at effect body)
       judge old begun mid position count given.dynamic unit leaves b bindings k same_leaves
 
 -- a block's instances, behind its assignments
@@ -199,7 +199,7 @@ pub instances_meant : (old mid : InstanceEvaluator) (position : Position) (block
     (judge : Judge) → Assigns old mid → with_assignment ≡ Gives mid.evaluation.turns (context_at mid position)
     → is ≡ instances_chosen (env_here mid.evaluation) chosen (statements_at (table_in mid.evaluation.source.now) block)
     → then_with with_assignment (λ turns there. each_member (evaluator_at old judge) there (instances_chosen there.env chosen (statements_at (table_in old.evaluation.source.now) block)) turns old.leaves)
-    ≡ meant_at mid position judge (λ evaluator here. each_member evaluator here is)
+    ≡ outcome_at mid position judge (λ evaluator here. each_member evaluator here is)
 instances_meant old mid position block chosen is judge a told same =
     let evaluator = evaluator_at old judge in
     let there = context_at mid position in
@@ -213,14 +213,14 @@ instances_meant old mid position block chosen is judge a told same =
 -- where an expression stands with special arguments among the dynamic bindings
 pub specials_setting : (old begun : InstanceEvaluator) (s : Position) (scope count : ℕ) (dynamic : Pairs Val) → MoreBindings old.evaluation begun.evaluation count
     → bindings_of begun.evaluation.scopes.now ≡ dynamic ++ bindings_of old.evaluation.scopes.now
-    → setting_in begun.evaluation scope
-    ≡ setting (evaluations_left old) (inside_scope (with_bindings (context_at old s) (dynamic ++ bindings_of old.evaluation.scopes.now))
+    → expression_context_in begun.evaluation scope
+    ≡ expression_context (evaluations_left old) (inside_scope (with_bindings (context_at old s) (dynamic ++ bindings_of old.evaluation.scopes.now))
     (env_seen old.evaluation.source.now (rows_of old.evaluation.scopes.now) scope))
 specials_setting old begun s scope count dynamic b bindings =
     ap (λ n. record { at_next_depth = value_within (most_evaluations - n); calls_left = most_calls - begun.evaluation.calls; env = env_seen begun.evaluation.source.now (rows_of begun.evaluation.scopes.now) scope; bindings = bindings_of begun.evaluation.scopes.now }) b.depth
     ∙ ap (λ n. record { at_next_depth = value_within (most_evaluations - old.evaluation.depth); calls_left = most_calls - n; env = env_seen begun.evaluation.source.now (rows_of begun.evaluation.scopes.now) scope; bindings = bindings_of begun.evaluation.scopes.now }) b.calls
     ∙ ap (λ (x : Source). record { at_next_depth = value_within (most_evaluations - old.evaluation.depth); calls_left = most_calls - old.evaluation.calls; env = env_seen x (rows_of begun.evaluation.scopes.now) scope; bindings = bindings_of begun.evaluation.scopes.now }) b.source
-    ∙ ap (λ (rows : List Row). record { at_next_depth = value_within (most_evaluations - old.evaluation.depth); calls_left = most_calls - old.evaluation.calls; env = env_seen old.evaluation.source.now rows scope; bindings = bindings_of begun.evaluation.scopes.now }) b.rows
+    ∙ ap (λ (rows : List ScopeRow). record { at_next_depth = value_within (most_evaluations - old.evaluation.depth); calls_left = most_calls - old.evaluation.calls; env = env_seen old.evaluation.source.now rows scope; bindings = bindings_of begun.evaluation.scopes.now }) b.rows
     ∙ ap (λ (c : Pairs Val). record { at_next_depth = value_within (most_evaluations - old.evaluation.depth); calls_left = most_calls - old.evaluation.calls; env = env_seen old.evaluation.source.now (rows_of old.evaluation.scopes.now) scope; bindings = c }) bindings
 
 -- an instance whose mark counts

@@ -6,7 +6,7 @@ use Rattle.scad_scope.specs.Table.{rows_of, bindings_of}
 use Rattle.scad_definitions.specs.declared.text.Module.{Module}
 use Rattle.scad_func.specs.View.{table_in}
 use Rattle.scad_func.specs.Definitions.{IsBlockOf, IsWholeTable}
-use Rattle.scad_func.specs.Evaluations.{SameSetting, OneScopeMore}
+use Rattle.scad_func.specs.Evaluations.{KeepsAllButScopes, OneScopeMore}
 use Rattle.scad_func.specs.declared.source.Source.{Source}
 use Rattle.scad_instances.specs.declared.numbered.NumberedInstance.{NumberedInstance}
 use Rattle.scad_instances.specs.declared.position.NumberedBody.{NumberedBody}
@@ -75,7 +75,7 @@ scope_bound old {mid = mid} {new = new} b e =
 
 -- a block in which names were assigned, once its special names are taken from the dynamic bindings
 pub block_bound : (old mid after new : InstanceEvaluator) → Assigns old mid → Stays mid after → new.unit ≡ after.unit
-    → SameSetting after.evaluation new.evaluation → rows_of new.evaluation.scopes.now ≡ rows_of after.evaluation.scopes.now
+    → KeepsAllButScopes after.evaluation new.evaluation → rows_of new.evaluation.scopes.now ≡ rows_of after.evaluation.scopes.now
     → bindings_of new.evaluation.scopes.now ≡ oldest_pairs (length (bindings_of old.evaluation.scopes.now)) (bindings_of after.evaluation.scopes.now)
     → Binds old new
 block_bound old mid after new a k unit same rows bindings =

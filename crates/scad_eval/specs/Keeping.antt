@@ -10,7 +10,7 @@ use Rattle.scad_func.specs.Limits.{most_calls, most_evaluations}
 use Rattle.scad_func.specs.Meaning.{Outcome, Env}
 use Rattle.scad_func.specs.View.{env_seen, table_in}
 use Rattle.scad_func.specs.Definitions.{IsWholeTable}
-use Rattle.scad_func.specs.Evaluations.{KeepsEvaluation, SameSetting, scopes_there, env_here, OneScopeMore}
+use Rattle.scad_func.specs.Evaluations.{KeepsEvaluation, KeepsAllButScopes, scopes_there, env_here, OneScopeMore}
 use Rattle.scad_meaning.specs.declared.extrusion.Extrusion.{Extrusion}
 use Rattle.scad_instances.specs.declared.position.Position.{Position}
 use Rattle.scad_eval.specs.declared.evaluator.InstanceEvaluator.{InstanceEvaluator}
@@ -78,7 +78,7 @@ pub record EntersModule {E : Type 0} (old new : InstanceEvaluator) (result : Res
 -- before
 pub record KeepsOlder (old new : InstanceEvaluator) : Type 0 where
   pub unit : new.unit ≡ old.unit
-  pub same : SameSetting old.evaluation new.evaluation
+  pub same : KeepsAllButScopes old.evaluation new.evaluation
   pub front : take old.evaluation.scope (rows_of new.evaluation.scopes.now) ≡ take old.evaluation.scope (rows_of old.evaluation.scopes.now)
   pub there : scopes_there new.evaluation ≡ scopes_there old.evaluation
 
@@ -99,15 +99,15 @@ abbrev pub Equation : Type 0 → Type 0
 Equation B = Evaluator → Context → ℕ → ℕ → Outcome B
 
 -- what a meaning gives where an instance stands, behind the turns and the leaves so far, by a judge of shapes
-abbrev pub meant_at : {B : Type 0} → InstanceEvaluator → Position → Judge → Equation B → Outcome B
-meant_at evaluator position judge meaning =
+abbrev pub outcome_at : {B : Type 0} → InstanceEvaluator → Position → Judge → Equation B → Outcome B
+outcome_at evaluator position judge meaning =
     meaning (evaluator_at evaluator judge) (context_at evaluator position) evaluator.evaluation.turns evaluator.leaves
 
 -- What a function of the evaluator does: it answers the value of its meaning at a position, by any judge that is right, or its
 -- fault, unless memory ran out; and so much is kept.
 pub record EvaluatesKeeping {A B : Type 0} (see : ℕ → A → B) (old new : InstanceEvaluator) (position : Position)
     (result : Result A Stop) (Kept : Type 0) (meaning : Equation B) : Type 0 where
-  pub equation : (judge : Judge) → IsRightJudge judge → HasOutcome see result new.evaluation.turns new.leaves (meant_at old position judge meaning)
+  pub equation : (judge : Judge) → IsRightJudge judge → HasOutcome see result new.evaluation.turns new.leaves (outcome_at old position judge meaning)
   pub kept : Kept
 
 -- the same, where all but the turns and the leaves is as before, unless there was a stop

@@ -7,10 +7,10 @@ ghost use Rattle.scad_func.specs.Meaning.{Gives, then_with};
 ghost use Rattle.scad_func.specs.View.{arguments_of};
 ghost use Rattle.scad_modules.specs.Bounds.{IsSafeCall};
 ghost use Rattle.scad_modules.specs.Effects.{an_extrusion};
-ghost use Rattle.scad_modules.specs.Table.{module_named};
-ghost use Rattle.scad_modules.specs.View.{call_of};
-ghost use Rattle.scad_design.specs.Designs.{moved_by};
-ghost use Rattle.scad_meaning.specs.Meaning.{built_in_design, effect_design, body_design, moved_design, built_in_given};
+ghost use Rattle.scad_modules.specs.Table.{builtin_module_of};
+ghost use Rattle.scad_modules.specs.View.{effect_call_of};
+ghost use Rattle.scad_design.specs.Designs.{moved_design_tree};
+ghost use Rattle.scad_meaning.specs.Meaning.{built_in_design, effect_design, body_design, moved_design, built_in_with_arguments};
 ghost use Rattle.scad_instances.specs.Seen.{instance_design_of};
 ghost use Rattle.scad_eval.specs.Keeping.{EvaluatesAt};
 ghost use Rattle.scad_eval.specs.Within.{body_seen, IsBodyAt};
@@ -46,7 +46,7 @@ impl InstanceEvaluator<'_, '_> {
         ensures { EvaluatesAt instance_design_of self.old self.new position result
             (λ evaluator here.
             built_in_design evaluator here place name.now (args_of args.now) (body_seen body.entry)
-            (module_named name.now)) }
+            (builtin_module_of name.now)) }
     {
         match builtin_module(name) {
             None => Err(unknown_module(name).at(place)),
@@ -69,7 +69,7 @@ impl InstanceEvaluator<'_, '_> {
     ) -> Result<InstanceResult, Stop>
         requires { IsBodyAt self.old position body }
         ensures { EvaluatesAt instance_design_of self.old self.new position result (λ evaluator.
-            built_in_given evaluator place built_in (arguments_of given.entry)
+            built_in_with_arguments evaluator place built_in (arguments_of given.entry)
             (body_seen body.entry)) }
     {
         let CallArguments { bound, dynamic } = given;
@@ -98,10 +98,10 @@ impl InstanceEvaluator<'_, '_> {
         body: NumberedBody<'_>,
     ) -> Result<InstanceResult, Stop>
         requires stands { IsBodyAt self.old position body }
-        requires safe { IsSafeCall (call_of effect) }
+        requires safe { IsSafeCall (effect_call_of effect) }
         ensures { EvaluatesAt instance_design_of self.old self.new position result
             (λ evaluator here.
-            effect_design evaluator here place (call_of effect) (body_seen body.entry)) }
+            effect_design evaluator here place (effect_call_of effect) (body_seen body.entry)) }
     {
         match effect {
             Effect::Solid(shape) => self.solid(place, &shape),
@@ -132,7 +132,7 @@ impl InstanceEvaluator<'_, '_> {
         ensures { EvaluatesAt instance_design_of self.old self.new position result
             (λ evaluator here turns leaves.
             then_with (body_design evaluator Union here (body_seen body.entry) turns leaves)
-            (λ turns made. Gives turns (moved_design (moved_by steps.now) made))) }
+            (λ turns made. Gives turns (moved_design (moved_design_tree steps.now) made))) }
     {
         let InstanceResult { design, root } = self.body(Op::Union, position, body)?;
         match design.moved_by(self.evaluation.alloc, steps) {

@@ -6,7 +6,7 @@ ghost use Rattle.scad_ast.specs.StatementView.{params_of};
 ghost use Rattle.scad_definitions.specs.TextView.{module_of};
 ghost use Rattle.scad_func.specs.Meaning.{visible_module};
 ghost use Rattle.scad_func.specs.View.{arguments_of, values_seen};
-ghost use Rattle.scad_meaning.specs.Meaning.{call_design, module_design, module_filled, module_given};
+ghost use Rattle.scad_meaning.specs.Meaning.{call_design, module_design, module_with_values, module_with_arguments};
 ghost use Rattle.scad_instances.specs.Seen.{instance_design_of};
 ghost use Rattle.scad_eval.specs.Keeping.{env_at, EvaluatesAt};
 ghost use Rattle.scad_eval.specs.Within.{body_seen, IsBodyAt, IsCallAt};
@@ -86,7 +86,11 @@ impl InstanceEvaluator<'_, '_> {
         requires called { IsCallAt self.old position defined defining_scope body }
         requires given { length given.bound.items ≡ length (params_of defined.params.now) }
         ensures { EvaluatesAt instance_design_of self.old self.new position result (λ evaluator.
-            module_given evaluator (module_of defined.entry, env_at self.old defining_scope)
+            module_with_arguments evaluator (
+              module_of defined.entry,
+              env_at self.old
+                  defining_scope,
+            )
             (arguments_of given.entry)
             (body_seen body.entry)) }
     {
@@ -113,7 +117,7 @@ impl InstanceEvaluator<'_, '_> {
         requires called { IsCallAt self.old position defined defining_scope body }
         requires values { length values.items.items ≡ length defined.params.now.items.items }
         ensures { EvaluatesAt instance_design_of self.old self.new position result
-            (λ evaluator. module_filled evaluator
+            (λ evaluator. module_with_values evaluator
             (module_of defined.entry, env_at self.old defining_scope)
             (values_seen values) (body_seen body.entry)) }
     {

@@ -4,9 +4,9 @@ ghost use Rattle.std.specs.Prelude.{All, true, map, if◌then◌else◌};
 ghost use Rattle.csg_tree.specs.declared.op.Op.TheVariants.{Union};
 ghost use Rattle.scad_ast.specs.ExprView.{term_of};
 ghost use Rattle.scad_value.specs.Values.{truth_of};
-ghost use Rattle.scad_func.specs.Meaning.{Gives, then_with, deeper_value};
+ghost use Rattle.scad_func.specs.Meaning.{Gives, then_with, value_at_next_depth};
 ghost use Rattle.scad_func.specs.View.{table_in};
-ghost use Rattle.scad_meaning.specs.Meaning.{setting, body_design, no_design, each_member, core_of_instance, core_design, instance_design};
+ghost use Rattle.scad_meaning.specs.Meaning.{expression_context, body_design, no_design, each_member, core_of_instance, core_design, instance_design};
 ghost use Rattle.scad_instances.specs.Positions.{term_of_numbered};
 ghost use Rattle.scad_instances.specs.Seen.{instance_design_of, member_designs_of};
 ghost use Rattle.scad_eval.specs.Keeping.{EvaluatesAt};
@@ -124,7 +124,7 @@ impl InstanceEvaluator<'_, '_> {
         requires { IsBodyAt self.old position body }
         ensures { EvaluatesAt instance_design_of self.old self.new position result
             (λ evaluator here turns leaves. then_with
-            (deeper_value (setting evaluator.evaluations here) true
+            (value_at_next_depth (expression_context evaluator.evaluations here) true
             (term_of test.now) turns) (λ turns value.
             if truth_of value then body_design evaluator Union here
             (body_seen body.entry) turns leaves
@@ -150,7 +150,7 @@ impl InstanceEvaluator<'_, '_> {
         requires other { IsInBlock (table_in self.old.evaluation.source.now) other }
         ensures { EvaluatesAt instance_design_of self.old self.new position result
             (λ evaluator here turns leaves. then_with
-            (deeper_value (setting evaluator.evaluations here) true
+            (value_at_next_depth (expression_context evaluator.evaluations here) true
             (term_of test.now) turns) (λ turns value.
             body_design evaluator Union here (if truth_of value then body_seen body.entry
             else body_seen other.entry) turns leaves)) }

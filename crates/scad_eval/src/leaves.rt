@@ -26,7 +26,8 @@ impl InstanceEvaluator<'_, '_> {
         ensures { EvaluatesAnywhere instance_design_of self.old self.new result
             (λ evaluator here turns leaves.
             unless_refused (evaluator.judge.solid evaluator.unit (solid_call_of shape.now)) place
-            (leaf_design place (solid_mesh evaluator.unit (solid_call_of shape.now)) turns leaves)) }
+            (leaf_design place (solid_mesh evaluator.unit
+            (solid_call_of shape.now)) turns leaves)) }
     {
         match solid_shape(self.evaluation.alloc, self.unit, shape) {
             Ok(shape) => self.leaf(place, shape),

@@ -2,13 +2,13 @@
 
 ghost use Rattle.std.specs.Prelude.{◌≡◌, List, IfOk, IfErr, map, option_map};
 ghost use Rattle.csg_tree.specs.ProperTrees.{IsProper};
-ghost use Rattle.csg_tree.specs.Trees.{formula_of};
+ghost use Rattle.csg_tree.specs.Trees.{plain_tree_of};
 ghost use Rattle.scad_ast.specs.Terms.{StatementTerm};
 ghost use Rattle.scad_ast.specs.ProgramView.{program_of};
 ghost use Rattle.scad_func.specs.View.{IsTableOf, table_in};
 ghost use Rattle.scad_func.specs.Definitions.{IsWholeTable};
 ghost use Rattle.scad_design.specs.View.{plain_of};
-ghost use Rattle.scad_meaning.specs.Meaning.{or_all};
+ghost use Rattle.scad_meaning.specs.Meaning.{root_or_union};
 ghost use Rattle.scad_meaning.specs.Sources.{IsMeaning, a_tree, IsMeaningStop, HoldsFault};
 ghost use Rattle.scad_eval.specs.Programs.{MeetsDesign, IsFirstTable};
 
@@ -27,10 +27,10 @@ use text_place::{NoMemory, Stop};
 /// The tree of a program in world position, in a unit, or its first fault, which stands at one of the program's places.
 pub fn evaluate(alloc: Global, program: &Program, unit: Unit) -> Result<CsgTree, Stop>
     ensures tree { IfOk result (λ tree. IsMeaning unit (program_of program.now)
-        (a_tree (formula_of tree))) }
+        (a_tree (plain_tree_of tree))) }
     ensures stop { IfErr result (IsMeaningStop unit (program_of program.now)) }
     ensures place { IfErr result (HoldsFault (program_of program.now)) }
-    ensures proper { IfOk result (λ tree. IsProper (formula_of tree)) }
+    ensures proper { IfOk result (λ tree. IsProper (plain_tree_of tree)) }
 {
     // Brings a law alone: the tree that a program means is proper.
     programs_mean_proper_trees();
@@ -76,7 +76,7 @@ fn design_of(
 
 // The first design that is marked `!`, or else all.
 fn first_or_all(alloc: Global, members: MemberResults) -> Result<Design, NoMemory>
-    ensures { IfOk result (λ design. plain_of design ≡ or_all (option_map plain_of members.root)
+    ensures { IfOk result (λ design. plain_of design ≡ root_or_union (option_map plain_of members.root)
         (map plain_of members.designs.items)) }
 {
     let MemberResults { designs, root } = members;

@@ -4,10 +4,10 @@ use Rattle.std.proofs.lemmas.Bool.{eqb-true}
 use Rattle.scad_lexer.specs.declared.token.Token.{Token}
 use Rattle.scad_ast.specs.Terms.{Term, NameTerm, ArgTerm}
 use Rattle.scad_grammar.specs.declared.SyntaxFault.{SyntaxFault}
-use Rattle.scad_grammar.specs.Classes.{numeral_class, text_class, true_word, false_word, undef_word, child_count_class, special_class, name_class, question_sign, open_parenthesis_sign, token_class, is_listed, has_class_in, has_class, has_class_outside, bytes_of}
-use Rattle.scad_grammar.specs.Faults.{TokenReader, one, fault_of, left_out_classes}
+use Rattle.scad_grammar.specs.Classes.{numeral_class, text_class, true_word, false_word, undef_word, child_count_class, special_class, name_class, question_sign, open_parenthesis_sign, token_class, is_class_among, has_class_in, has_class, has_class_outside, bytes_of}
+use Rattle.scad_grammar.specs.Faults.{TokenReader, token_read, fault_of, left_out_classes}
 use Rattle.scad_grammar.specs.Grammar.{levels}
-use Rattle.scad_grammar.specs.Reading.{Read, then_read, next_is, choice}
+use Rattle.scad_grammar.specs.Reading.{Read, then_read, next_is, alternative_read}
 use Rattle.scad_grammar.specs.Reads.{suffix_read, unary_read, chain_read, paren_read, bracket_read, name_read, primary_read, choice_read}
 use Rattle.scad_expressions.specs.declared.class.Level.{Level}
 use Rattle.scad_expressions.specs.Climbing.{climb_read}
@@ -36,15 +36,15 @@ module _ (us : List Token) (e : next_is (has_class_in continuations) us ≡ fals
   no_operator = (starts_apart suffix_signs binary_signs us not_called).1
 
 -- a class that is not the first of a list
-not_first : (c : ℕ) (cs : List ℕ) (k : ℕ) → is_listed (c ∷ []) k ≡ false → is_listed (c ∷ cs) k ≡ is_listed cs k
+not_first : (c : ℕ) (cs : List ℕ) (k : ℕ) → is_class_among (c ∷ []) k ≡ false → is_class_among (c ∷ cs) k ≡ is_class_among cs k
 not_first c cs k e = go (nat_eq k c) e
   where
-    go : (b : Bool) → cond b true false ≡ false → cond b true (is_listed cs k) ≡ is_listed cs k
+    go : (b : Bool) → cond b true false ≡ false → cond b true (is_class_among cs k) ≡ is_class_among cs k
     go true e = absurd (cc)
     go false e = refl
 
-not_literal : (k : ℕ) → is_listed (numeral_class ∷ []) k ≡ false → is_listed (text_class ∷ []) k ≡ false → is_listed (true_word ∷ []) k ≡ false → is_listed (false_word ∷ []) k ≡ false
-    → is_listed (undef_word ∷ []) k ≡ false → is_listed (child_count_class ∷ []) k ≡ false → is_listed (special_class ∷ []) k ≡ false → is_listed literals k ≡ false
+not_literal : (k : ℕ) → is_class_among (numeral_class ∷ []) k ≡ false → is_class_among (text_class ∷ []) k ≡ false → is_class_among (true_word ∷ []) k ≡ false → is_class_among (false_word ∷ []) k ≡ false
+    → is_class_among (undef_word ∷ []) k ≡ false → is_class_among (child_count_class ∷ []) k ≡ false → is_class_among (special_class ∷ []) k ≡ false → is_class_among literals k ≡ false
 not_literal k n x y z v w s =
     not_first numeral_class (text_class ∷ true_word ∷ false_word ∷ undef_word ∷ child_count_class ∷ special_class ∷ []) k n
     ∙ not_first text_class (true_word ∷ false_word ∷ undef_word ∷ child_count_class ∷ special_class ∷ []) k x
@@ -54,20 +54,20 @@ not_literal k n x y z v w s =
     ∙ not_first child_count_class (special_class ∷ []) k w
     ∙ not_first special_class [] k s
 
-not_atom : (k : ℕ) → is_listed (numeral_class ∷ []) k ≡ false → is_listed (text_class ∷ []) k ≡ false → is_listed (true_word ∷ []) k ≡ false → is_listed (false_word ∷ []) k ≡ false
-    → is_listed (undef_word ∷ []) k ≡ false → is_listed (child_count_class ∷ []) k ≡ false → is_listed (special_class ∷ []) k ≡ false → is_listed (name_class ∷ []) k ≡ false → is_listed atoms k ≡ false
+not_atom : (k : ℕ) → is_class_among (numeral_class ∷ []) k ≡ false → is_class_among (text_class ∷ []) k ≡ false → is_class_among (true_word ∷ []) k ≡ false → is_class_among (false_word ∷ []) k ≡ false
+    → is_class_among (undef_word ∷ []) k ≡ false → is_class_among (child_count_class ∷ []) k ≡ false → is_class_among (special_class ∷ []) k ≡ false → is_class_among (name_class ∷ []) k ≡ false → is_class_among atoms k ≡ false
 not_atom k n x y z v w s g = not_first name_class literals k g ∙ not_literal k n x y z v w s
 
 -- a literal is an atom
 pub literal_is_atom : (t : Token) → has_class_in literals t ≡ true → has_class_in atoms t ≡ true
 literal_is_atom t e = go (nat_eq (token_class t.kind) name_class)
   where
-    go : (b : Bool) → cond b true (is_listed literals (token_class t.kind)) ≡ true
+    go : (b : Bool) → cond b true (is_class_among literals (token_class t.kind)) ≡ true
     go true = refl
     go false = e
 
 -- a literal that is taken from where one stands
-pub literal_taken : (ts : List Token) (t : Token) (us : List Token) → next_is (has_class_in literals) ts ≡ true → one (has_class_in literals) ts ≡ Ok (t, us) → (ts ≡ t ∷ us) × (has_class_in literals t ≡ true)
+pub literal_taken : (ts : List Token) (t : Token) (us : List Token) → next_is (has_class_in literals) ts ≡ true → token_read (has_class_in literals) ts ≡ Ok (t, us) → (ts ≡ t ∷ us) × (has_class_in literals t ≡ true)
 literal_taken [] t us s e = absurd (cc)
 literal_taken (y ∷ l) t us s e =
     let f : ◌≡◌ {A = Read Token SyntaxFault Token} (Ok (y, l)) (Ok (t, us)) = ap (λ b. cond b (Ok (y, l)) (Err (fault_of left_out_classes (Some y), y ∷ l))) (sym s) ∙ e in
@@ -79,11 +79,11 @@ abbrev Spares : (ℕ → Bool) → List ℕ → Type 0
 Spares f [] = Unit {0}
 Spares f (c ∷ cs) = (f c ≡ false) × Spares f cs
 
-spared : (f : ℕ → Bool) (cs : List ℕ) (k : ℕ) → Spares f cs → is_listed cs k ≡ true → f k ≡ false
+spared : (f : ℕ → Bool) (cs : List ℕ) (k : ℕ) → Spares f cs → is_class_among cs k ≡ true → f k ≡ false
 spared f [] k h e = absurd (cc)
 spared f (c ∷ cs) k h e = go (nat_eq k c) refl e (spared f cs k h.1)
   where
-    go : (b : Bool) → nat_eq k c ≡ b → cond b true (is_listed cs k) ≡ true → (is_listed cs k ≡ true → f k ≡ false) → f k ≡ false
+    go : (b : Bool) → nat_eq k c ≡ b → cond b true (is_class_among cs k) ≡ true → (is_class_among cs k ≡ true → f k ≡ false) → f k ≡ false
     go true g e more = ap f (eqb-true k c g) ∙ h.0
     go false g e more = more e
 
@@ -105,7 +105,7 @@ module _ (e : TokenReader Term) (a : TokenReader ArgTerm) (t : Token) (us : List
       literal_or _ (has_class special_class t) _ _ _ (λ s. last n x y z v w s (has_class name_class t) refl)))))))
     where
       last : has_class numeral_class t ≡ false → has_class text_class t ≡ false → has_class true_word t ≡ false → has_class false_word t ≡ false → has_class undef_word t ≡ false → has_class child_count_class t ≡ false → has_class special_class t ≡ false
-          → (b : Bool) → has_class name_class t ≡ b → cond b (name_read a (t ∷ us)) (choice (has_class open_parenthesis_sign) (paren_read e) (bracket_read e) (t ∷ us)) ≡ Ok (NameTerm t.place (bytes_of t.kind), us)
+          → (b : Bool) → has_class name_class t ≡ b → cond b (name_read a (t ∷ us)) (alternative_read (has_class open_parenthesis_sign) (paren_read e) (bracket_read e) (t ∷ us)) ≡ Ok (NameTerm t.place (bytes_of t.kind), us)
       last n x y z v w s true g = name_alone g alone
       last n x y z v w s false g =
           let none : true ≡ false = sym atom ∙ not_atom (token_class t.kind) n x y z v w s g in
@@ -119,13 +119,13 @@ module _ (e : TokenReader Term) (a : TokenReader ArgTerm) (t : Token) (us : List
       literal_or _ (has_class special_class t) _ _ _ (λ s. none n x y z v w s)))))))
     where
       none : has_class numeral_class t ≡ false → has_class text_class t ≡ false → has_class true_word t ≡ false → has_class false_word t ≡ false → has_class undef_word t ≡ false → has_class child_count_class t ≡ false → has_class special_class t ≡ false
-          → choice (has_class name_class) (name_read a) (choice (has_class open_parenthesis_sign) (paren_read e) (bracket_read e)) (t ∷ us) ≡ Ok (NameTerm t.place (bytes_of t.kind), us)
+          → alternative_read (has_class name_class) (name_read a) (alternative_read (has_class open_parenthesis_sign) (paren_read e) (bracket_read e)) (t ∷ us) ≡ Ok (NameTerm t.place (bytes_of t.kind), us)
       none n x y z v w s =
           let other : true ≡ false = sym literal ∙ not_literal (token_class t.kind) n x y z v w s in
           absurd (cc)
 
 unsigned : (t : Token) → has_class_in atoms t ≡ true → has_class_in unary_signs t ≡ false
-unsigned t = spared (is_listed unary_signs) atoms (token_class t.kind) (refl, (refl, (refl, (refl, (refl, (refl, (refl, (refl, tt))))))))
+unsigned t = spared (is_class_among unary_signs) atoms (token_class t.kind) (refl, (refl, (refl, (refl, (refl, (refl, (refl, (refl, tt))))))))
 
 -- what stands behind an atom alone does not go on with it
 apart : (us : List Token) → next_is (has_class_outside continuations) us ≡ true → next_is (has_class_in continuations) us ≡ false

@@ -5,7 +5,7 @@ use Rattle.scad_ast.specs.Terms.{PositionalTerm}
 use Rattle.scad_grammar.specs.declared.SyntaxFault.{SyntaxFault}
 use Rattle.scad_grammar.specs.Classes.{argument_names, assign_sign, has_class_in, has_class}
 use Rattle.scad_grammar.specs.Faults.{TokenReader}
-use Rattle.scad_grammar.specs.Grammar.{given_term}
+use Rattle.scad_grammar.specs.Grammar.{named_argument_term}
 use Rattle.scad_grammar.specs.Reading.{Read, then_read, image_read, two_ahead}
 use Rattle.scad_grammar.specs.Reads.{arg_in, expr_read}
 use Rattle.scad_expressions.specs.Views.{value_assigned}
@@ -40,10 +40,10 @@ module _ {X Y : Type 0} (make : Token → X → Y) (classes : List ℕ) (r : Tok
   none_ahead (y ∷ z ∷ l) e = none_here y l (then_read (r l) (λ x vs. Ok (make y x, vs))) (q (y ∷ z ∷ l)) (has_class_in classes y && has_class assign_sign z) e
 
 pub arg_given : (d : ℕ) (ts : List Token) (t : Token) (us : List Token) → d ≢ 0 → value_assigned argument_names ts ≡ Some (t, us)
-    → arg_in d (expr_read d) ts ≡ image_read (given_term t) (expr_read d) us
+    → arg_in d (expr_read d) ts ≡ image_read (named_argument_term t) (expr_read d) us
 arg_given zero ts t us n e = absurd (n refl)
-arg_given (suc d) ts t us n e = assigned_ahead given_term argument_names (expr_read (suc d)) (image_read PositionalTerm (expr_read (suc d))) ts t us e
+arg_given (suc d) ts t us n e = assigned_ahead named_argument_term argument_names (expr_read (suc d)) (image_read PositionalTerm (expr_read (suc d))) ts t us e
 
 pub arg_positional : (d : ℕ) (ts : List Token) → d ≢ 0 → value_assigned argument_names ts ≡ None → arg_in d (expr_read d) ts ≡ image_read PositionalTerm (expr_read d) ts
 arg_positional zero ts n e = absurd (n refl)
-arg_positional (suc d) ts n e = none_ahead given_term argument_names (expr_read (suc d)) (image_read PositionalTerm (expr_read (suc d))) ts e
+arg_positional (suc d) ts n e = none_ahead named_argument_term argument_names (expr_read (suc d)) (image_read PositionalTerm (expr_read (suc d))) ts e

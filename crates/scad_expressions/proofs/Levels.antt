@@ -2,7 +2,7 @@
 use Rattle.std.proofs.Common.{◌≡◌, ℕ, zero, suc, ◌<◌, ◌≤◌, refl, sym, ap, ◌∙◌, arith}
 use Rattle.scad_expressions.specs.declared.class.Level.{Level}
 use Rattle.scad_expressions.specs.declared.class.Level.TheVariants.{Or, And, Equal, Order, Sum, Product}
-use Rattle.scad_expressions.specs.TokenClasses.{looser_than, levels_below, levels_at, tighter_levels}
+use Rattle.scad_expressions.specs.TokenClasses.{next_looser_level, levels_below, levels_at, tighter_levels}
 
 abbrev level_of : ℕ → Level
 level_of zero = Product
@@ -33,7 +33,7 @@ few_levels Product = omega arith
 
 -- the levels below the next looser one are those from this one on
 pub looser_step : (at level : Level) → tighter_levels at < tighter_levels level
-    → (levels_below (looser_than at) ≡ levels_at at) × (tighter_levels (looser_than at) ≡ suc (tighter_levels at))
+    → (levels_below (next_looser_level at) ≡ levels_at at) × (tighter_levels (next_looser_level at) ≡ suc (tighter_levels at))
 looser_step Or level less = absurd (omega (arith, less, few_levels level))
 looser_step And level less = (refl, refl)
 looser_step Equal level less = (refl, refl)

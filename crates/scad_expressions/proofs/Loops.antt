@@ -4,7 +4,7 @@ use Rattle.scad_lexer.specs.declared.token.Token.{Token}
 use Rattle.scad_grammar.specs.declared.SyntaxFault.{SyntaxFault}
 use Rattle.scad_grammar.specs.Classes.{comma_sign, has_class}
 use Rattle.scad_grammar.specs.Faults.{TokenReader}
-use Rattle.scad_grammar.specs.Reading.{Read, then_read, next_is, with_front, many_times, many, trailing_times, trailing_items}
+use Rattle.scad_grammar.specs.Reading.{Read, then_read, next_is, with_front, repeated_times, repeated_read, trailing_times, trailing_items}
 use Rattle.scad_expressions.specs.Views.{item_stands, past_comma}
 
 -- no more tokens are left than there were, and fewer
@@ -15,15 +15,15 @@ abbrev pub Strictly : {A : Type 0} → TokenReader A → Type 0
 Strictly {A} r = (ts : List Token) (x : A) (us : List Token) → r ts ≡ Ok (x, us) → length us < length ts
 
 module _ {A : Type 0} (test : Token → Bool) (r : TokenReader A) (strict : Strictly r) where
-  enough_after : (n m : ℕ) → ((k : ℕ) (us : List Token) → length us ≤ n → length us ≤ k → many_times n test r us ≡ many_times k test r us)
-      → (ts : List Token) → length ts ≤ suc n → length ts ≤ suc m → (q : Read Token SyntaxFault A) → r ts ≡ q → then_read q (λ x us. with_front x (many_times n test r us)) ≡ then_read q (λ x us. with_front x (many_times m test r us))
+  enough_after : (n m : ℕ) → ((k : ℕ) (us : List Token) → length us ≤ n → length us ≤ k → repeated_times n test r us ≡ repeated_times k test r us)
+      → (ts : List Token) → length ts ≤ suc n → length ts ≤ suc m → (q : Read Token SyntaxFault A) → r ts ≡ q → then_read q (λ x us. with_front x (repeated_times n test r us)) ≡ then_read q (λ x us. with_front x (repeated_times m test r us))
   enough_after n m same ts a b (Ok p) e =
       let less : length p.1 < length ts = strict ts p.0 p.1 e in
       ap (with_front p.0) (same m p.1 (omega arith) (omega arith))
   enough_after n m same ts a b (Err x) e = refl
 
-  enough : (n m : ℕ) (ts : List Token) → length ts ≤ n → length ts ≤ m → many_times n test r ts ≡ many_times m test r ts
-  unfolding many_times
+  enough : (n m : ℕ) (ts : List Token) → length ts ≤ n → length ts ≤ m → repeated_times n test r ts ≡ repeated_times m test r ts
+  unfolding repeated_times
   enough zero zero ts a b = refl
   enough zero (suc m) [] a b = refl
   enough zero (suc m) (t ∷ ts) a b = absurd (omega arith)
@@ -31,26 +31,26 @@ module _ {A : Type 0} (test : Token → Bool) (r : TokenReader A) (strict : Stri
   enough (suc n) zero (t ∷ ts) a b = absurd (omega arith)
   enough (suc n) (suc m) ts a b = ap (λ q. cond (next_is test ts) q (Ok ([], ts))) (enough_after n m (enough n) ts a b (r ts) refl)
 
-  step_after : (n : ℕ) (ts : List Token) → length ts ≤ suc n → (q : Read Token SyntaxFault A) → r ts ≡ q → then_read q (λ x us. with_front x (many_times n test r us)) ≡ then_read q (λ x us. with_front x (many test r us))
-  unfolding many
+  step_after : (n : ℕ) (ts : List Token) → length ts ≤ suc n → (q : Read Token SyntaxFault A) → r ts ≡ q → then_read q (λ x us. with_front x (repeated_times n test r us)) ≡ then_read q (λ x us. with_front x (repeated_read test r us))
+  unfolding repeated_read
   step_after n ts a (Ok p) e =
       let less : length p.1 < length ts = strict ts p.0 p.1 e in
       ap (with_front p.0) (enough n (length p.1) p.1 (omega arith) (omega arith))
   step_after n ts a (Err x) e = refl
 
-  pub many_step : (ts : List Token) → many test r ts ≡ cond (next_is test ts) (then_read (r ts) (λ x us. with_front x (many test r us))) (Ok ([], ts))
-  unfolding many many_times
+  pub many_step : (ts : List Token) → repeated_read test r ts ≡ cond (next_is test ts) (then_read (r ts) (λ x us. with_front x (repeated_read test r us))) (Ok ([], ts))
+  unfolding repeated_read repeated_times
   many_step [] = refl
   many_step (t ∷ ts) = ap (λ q. cond (test t) q (Ok ([], t ∷ ts))) (step_after (length ts) (t ∷ ts) (omega arith) (r (t ∷ ts)) refl)
 
-  pub many_more : (ts : List Token) (x : A) (us : List Token) → next_is test ts ≡ true → r ts ≡ Ok (x, us) → many test r ts ≡ with_front x (many test r us)
-  many_more ts x us a b = many_step ts ∙ ap (λ c. cond c (then_read (r ts) (λ x us. with_front x (many test r us))) (Ok ([], ts))) a ∙ ap (λ q. then_read q (λ x us. with_front x (many test r us))) b
+  pub many_more : (ts : List Token) (x : A) (us : List Token) → next_is test ts ≡ true → r ts ≡ Ok (x, us) → repeated_read test r ts ≡ with_front x (repeated_read test r us)
+  many_more ts x us a b = many_step ts ∙ ap (λ c. cond c (then_read (r ts) (λ x us. with_front x (repeated_read test r us))) (Ok ([], ts))) a ∙ ap (λ q. then_read q (λ x us. with_front x (repeated_read test r us))) b
 
-  pub many_end : (ts : List Token) → next_is test ts ≡ false → many test r ts ≡ Ok ([], ts)
-  many_end ts a = many_step ts ∙ ap (λ c. cond c (then_read (r ts) (λ x us. with_front x (many test r us))) (Ok ([], ts))) a
+  pub many_end : (ts : List Token) → next_is test ts ≡ false → repeated_read test r ts ≡ Ok ([], ts)
+  many_end ts a = many_step ts ∙ ap (λ c. cond c (then_read (r ts) (λ x us. with_front x (repeated_read test r us))) (Ok ([], ts))) a
 
-  pub many_stop : (ts : List Token) (e : SyntaxFault × List Token) → next_is test ts ≡ true → r ts ≡ Err e → many test r ts ≡ Err e
-  many_stop ts e a b = many_step ts ∙ ap (λ c. cond c (then_read (r ts) (λ x us. with_front x (many test r us))) (Ok ([], ts))) a ∙ ap (λ q. then_read q (λ x us. with_front x (many test r us))) b
+  pub many_stop : (ts : List Token) (e : SyntaxFault × List Token) → next_is test ts ≡ true → r ts ≡ Err e → repeated_read test r ts ≡ Err e
+  many_stop ts e a b = many_step ts ∙ ap (λ c. cond c (then_read (r ts) (λ x us. with_front x (repeated_read test r us))) (Ok ([], ts))) a ∙ ap (λ q. then_read q (λ x us. with_front x (repeated_read test r us))) b
 
 -- items behind commas, and maybe a comma behind the last
 module _ {A : Type 0} (go : Token → Bool) (r : TokenReader A) (shorter : Shorter r) where

@@ -11,12 +11,12 @@ use Rattle.scad_ast.specs.ExprView.{term_of, terms_of, link_of, suffix_of, arg_o
 use Rattle.scad_ast.specs.StatementView.{param_of, params_of, binder_of, binders_of, statement_of, statements_of}
 use Rattle.scad_grammar.specs.declared.SyntaxFault.{SyntaxFault}
 use Rattle.scad_grammar.specs.Classes.{open_parenthesis_sign, close_parenthesis_sign, has_class}
-use Rattle.scad_grammar.specs.Faults.{TokenReader, one}
+use Rattle.scad_grammar.specs.Faults.{TokenReader, token_read}
 use Rattle.scad_grammar.specs.Reading.{Read, then_read}
 use Rattle.scad_grammar.specs.Reads.{in_parentheses}
 use Rattle.scad_expressions.specs.declared.next.Stopped.{Stopped}
 use Rattle.scad_expressions.specs.declared.next.Stopped.TheVariants.{Fault, NoMemory}
-use Rattle.scad_expressions.specs.Views.{GivesRead, plain_read, closed_by, IsClosedRead, IsBoxed}
+use Rattle.scad_expressions.specs.Views.{GivesRead, plain_read, closed_read, IsClosedRead, IsBoxed}
 
 -- a fault of a part is one of the whole
 abbrev GoesOn : {A X : Type 0} → (A → X) → {B Y : Type 0} → (B → Y) → Type 0
@@ -79,15 +79,15 @@ kept item x q (Err NoMemory) g = tt
 
 pub closed_gives : {A X : Type 0} (item : A → X) (test : Token → Bool) (read given : Result (A × Bor (List Token)) Stopped) (q : Read Token SyntaxFault X)
     → GivesRead (λ (p : A × Bor (List Token)). (item p.0, p.1.now)) read q → IsClosedRead test read given
-    → GivesRead (λ (p : A × Bor (List Token)). (item p.0, p.1.now)) given (closed_by test q)
-closed_gives item test (Ok p) given q g h = rw g (kept item p.0 (one test p.1.now) given h)
+    → GivesRead (λ (p : A × Bor (List Token)). (item p.0, p.1.now)) given (closed_read test q)
+closed_gives item test (Ok p) given q g h = rw g (kept item p.0 (token_read test p.1.now) given h)
 closed_gives item test (Err (Fault fault at)) given q g h = rw (h, g) refl
 closed_gives item test (Err NoMemory) given q g h = rw h tt
 
 -- the sign stands behind a part and behind what is made of it alike
 pub closed_made : {X Y : Type 0} (test : Token → Bool) (make : X → Y) (q : Read Token SyntaxFault X)
-    → closed_by test (then_read q (λ x us. Ok (make x, us))) ≡ then_read (closed_by test q) (λ x us. Ok (make x, us))
-closed_made {X} {Y} test make (Ok p) = go (one test p.1)
+    → closed_read test (then_read q (λ x us. Ok (make x, us))) ≡ then_read (closed_read test q) (λ x us. Ok (make x, us))
+closed_made {X} {Y} test make (Ok p) = go (token_read test p.1)
   where
     go : (q : Read Token SyntaxFault Token) → then_read {B = Y} q (λ close us. Ok (make p.0, us)) ≡ then_read (then_read {B = X} q (λ close us. Ok (p.0, us))) (λ x us. Ok (make x, us))
     go (Ok c) = refl
@@ -99,11 +99,11 @@ as_it_is (Ok p) = refl
 as_it_is (Err e) = refl
 
 -- what stands behind an opening parenthesis
-pub parenthesized : {X : Type 0} (r : TokenReader X) (ts : List Token) (t : Token) (us : List Token) → one (has_class open_parenthesis_sign) ts ≡ Ok (t, us)
-    → in_parentheses r ts ≡ closed_by (has_class close_parenthesis_sign) (r us)
+pub parenthesized : {X : Type 0} (r : TokenReader X) (ts : List Token) (t : Token) (us : List Token) → token_read (has_class open_parenthesis_sign) ts ≡ Ok (t, us)
+    → in_parentheses r ts ≡ closed_read (has_class close_parenthesis_sign) (r us)
 parenthesized {X} r ts t us e =
-    ap (λ (q : Read Token SyntaxFault Token). then_read {B = X} q (λ mark vs. then_read (closed_by (has_class close_parenthesis_sign) (r vs)) (λ x ws. Ok (x, ws)))) e
-    ∙ as_it_is (closed_by (has_class close_parenthesis_sign) (r us))
+    ap (λ (q : Read Token SyntaxFault Token). then_read {B = X} q (λ mark vs. then_read (closed_read (has_class close_parenthesis_sign) (r vs)) (λ x ws. Ok (x, ws)))) e
+    ∙ as_it_is (closed_read (has_class close_parenthesis_sign) (r us))
 
 -- where memory ran out, nothing is said of what was to be read
 pub memory_ran_out : {A X : Type 0} (item : A → X) (given : Result (A × Bor (List Token)) Stopped) (q : Read Token SyntaxFault X) → IsErrAnd given (λ s. s ≡ NoMemory)

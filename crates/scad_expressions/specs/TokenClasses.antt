@@ -49,13 +49,13 @@ operators_at Sum = plus_sign ∷ minus_sign ∷ []
 operators_at Product = times_sign ∷ divide_sign ∷ remainder_sign ∷ []
 
 -- the next level, which binds less tightly; the loosest is followed by itself
-abbrev pub looser_than : Level → Level
-looser_than Or = Or
-looser_than And = Or
-looser_than Equal = And
-looser_than Order = Equal
-looser_than Sum = Order
-looser_than Product = Sum
+abbrev pub next_looser_level : Level → Level
+next_looser_level Or = Or
+next_looser_level And = Or
+next_looser_level Equal = And
+next_looser_level Order = Equal
+next_looser_level Sum = Order
+next_looser_level Product = Sum
 
 -- the operators of the levels that bind more tightly, the loosest first
 abbrev pub levels_below : Level → List (List ℕ)

@@ -7,7 +7,7 @@ use Rattle.scad_ast.specs.Terms.{Term, NumberTerm, TextTerm, TruthTerm, UndefTer
 use Rattle.scad_grammar.specs.declared.SyntaxFault.{SyntaxFault}
 use Rattle.scad_grammar.specs.declared.SyntaxFault.TheVariants.{Nested}
 use Rattle.scad_grammar.specs.Classes.{numeral_class, text_class, true_word, false_word, undef_word, child_count_class, special_class, comma_sign, assign_sign, has_class_in, has_class, has_class_outside, numeral_value, bytes_of}
-use Rattle.scad_grammar.specs.Faults.{fault_of, one}
+use Rattle.scad_grammar.specs.Faults.{fault_of, token_read}
 use Rattle.scad_grammar.specs.Reading.{Read, then_read, next_is}
 use Rattle.scad_grammar.specs.Reads.{head_of}
 use Rattle.scad_expressions.specs.TokenClasses.{atoms, continuations}
@@ -30,12 +30,12 @@ abbrev pub plain_read : {A : Type 0} → A × Bor (List Token) → A × List Tok
 plain_read read = (read.0, read.1.now)
 
 -- what was read, where such a token stands behind it
-abbrev pub closed_by : {A : Type 0} → (Token → Bool) → Read Token SyntaxFault A → Read Token SyntaxFault A
-closed_by test read = then_read read (λ value tokens. then_read (one test tokens) (λ close rest. Ok (value, rest)))
+abbrev pub closed_read : {A : Type 0} → (Token → Bool) → Read Token SyntaxFault A → Read Token SyntaxFault A
+closed_read test read = then_read read (λ value tokens. then_read (token_read test tokens) (λ close rest. Ok (value, rest)))
 
 -- the same of what a function of the parser gave
 abbrev pub IsClosedRead : {A : Type 0} → (Token → Bool) → Result (A × Bor (List Token)) Stopped → Result (A × Bor (List Token)) Stopped → Type 0
-IsClosedRead test (Ok read) given = GivesRead plain_read given (closed_by test (Ok (plain_read read)))
+IsClosedRead test (Ok read) given = GivesRead plain_read given (closed_read test (Ok (plain_read read)))
 IsClosedRead test (Err stopped) given = given ≡ Err stopped
 
 -- what was read, in a box, unless memory ran out

@@ -1,8 +1,8 @@
 ghost use Rattle.std.specs.Prelude.{◌≡◌, cond};
-ghost use Rattle.scad_grammar.specs.Classes.{token_class, is_listed, symbol_class, reserved_class, numeral_class, name_class, text_class, child_count_class, special_class};
+ghost use Rattle.scad_grammar.specs.Classes.{token_class, is_class_among, symbol_class, reserved_class, numeral_class, name_class, text_class, child_count_class, special_class};
 ghost use Rattle.scad_grammar.specs.Faults.{left_out_classes};
 ghost use Rattle.scad_grammar.specs.StatementReads.{modifier_signs, firsts_of_core};
-ghost use Rattle.scad_expressions.specs.TokenClasses.{classes_of, operators_at, tighter_levels, looser_than, binary_signs, unary_signs, continuations};
+ghost use Rattle.scad_expressions.specs.TokenClasses.{classes_of, operators_at, tighter_levels, next_looser_level, binary_signs, unary_signs, continuations};
 
 use scad_lexer::{Reserved, Symbol, TokenKind};
 
@@ -34,7 +34,7 @@ impl Level {
 
     /// The next level, whose operators bind less tightly; the loosest level is followed by itself.
     pub fn looser(self) -> Level
-        ensures { result ≡ looser_than self }
+        ensures { result ≡ next_looser_level self }
     {
         match self {
             Level::Or | Level::And => Level::Or,
@@ -47,7 +47,7 @@ impl Level {
 
     // Whether the symbol is an operator of this level.
     fn has(self, symbol: Symbol) -> bool
-        ensures { result ≡ is_listed (operators_at self) (symbol_class symbol) }
+        ensures { result ≡ is_class_among (operators_at self) (symbol_class symbol) }
     {
         match self {
             Level::Or => matches!(symbol, Symbol::Or),
@@ -106,7 +106,7 @@ impl TokenClass {
     /// Whether a token is of this class.
     #[inline(always)]
     pub fn has(self, kind: &TokenKind) -> bool
-        ensures { result ≡ is_listed (classes_of self) (token_class kind.now) }
+        ensures { result ≡ is_class_among (classes_of self) (token_class kind.now) }
     {
         match kind {
             TokenKind::Symbol(symbol) => self.has_symbol(*symbol),
@@ -120,7 +120,7 @@ impl TokenClass {
     }
 
     fn has_name(self) -> bool
-        ensures { result ≡ is_listed (classes_of self) name_class }
+        ensures { result ≡ is_class_among (classes_of self) name_class }
     {
         matches!(
             self,
@@ -134,7 +134,7 @@ impl TokenClass {
     }
 
     fn has_numeral(self) -> bool
-        ensures { result ≡ is_listed (classes_of self) numeral_class }
+        ensures { result ≡ is_class_among (classes_of self) numeral_class }
     {
         matches!(
             self,
@@ -143,7 +143,7 @@ impl TokenClass {
     }
 
     fn has_text(self) -> bool
-        ensures { result ≡ is_listed (classes_of self) text_class }
+        ensures { result ≡ is_class_among (classes_of self) text_class }
     {
         matches!(
             self,
@@ -152,7 +152,7 @@ impl TokenClass {
     }
 
     fn has_symbol(self, symbol: Symbol) -> bool
-        ensures { result ≡ is_listed (classes_of self) (symbol_class symbol) }
+        ensures { result ≡ is_class_among (classes_of self) (symbol_class symbol) }
     {
         match self {
             TokenClass::Sign(wanted) => symbol == wanted,
@@ -177,7 +177,7 @@ impl TokenClass {
     }
 
     fn has_word(self, word: Reserved) -> bool
-        ensures { result ≡ is_listed (classes_of self) (reserved_class word) }
+        ensures { result ≡ is_class_among (classes_of self) (reserved_class word) }
     {
         match self {
             TokenClass::Word(wanted) => word == wanted,
@@ -199,7 +199,8 @@ impl TokenClass {
     }
 
     fn has_special(self, is_child_count: bool) -> bool
-        ensures { result ≡ is_listed (classes_of self) (cond is_child_count child_count_class special_class) }
+        ensures { result ≡ is_class_among (classes_of self)
+            (cond is_child_count child_count_class special_class) }
     {
         match self {
             TokenClass::Literal | TokenClass::Atom | TokenClass::Expression => true,
@@ -214,7 +215,7 @@ impl TokenClass {
 }
 
 fn is_continuation(symbol: Symbol) -> bool
-    ensures { result ≡ is_listed continuations (symbol_class symbol) }
+    ensures { result ≡ is_class_among continuations (symbol_class symbol) }
 {
     is_binary(symbol)
         || matches!(
@@ -224,7 +225,7 @@ fn is_continuation(symbol: Symbol) -> bool
 }
 
 fn is_binary(symbol: Symbol) -> bool
-    ensures { result ≡ is_listed binary_signs (symbol_class symbol) }
+    ensures { result ≡ is_class_among binary_signs (symbol_class symbol) }
 {
     matches!(
         symbol,
@@ -245,13 +246,13 @@ fn is_binary(symbol: Symbol) -> bool
 }
 
 fn is_unary(symbol: Symbol) -> bool
-    ensures { result ≡ is_listed unary_signs (symbol_class symbol) }
+    ensures { result ≡ is_class_among unary_signs (symbol_class symbol) }
 {
     matches!(symbol, Symbol::Minus | Symbol::Plus | Symbol::Not)
 }
 
 fn is_mark(symbol: Symbol) -> bool
-    ensures { result ≡ is_listed modifier_signs (symbol_class symbol) }
+    ensures { result ≡ is_class_among modifier_signs (symbol_class symbol) }
 {
     matches!(
         symbol,
@@ -260,7 +261,7 @@ fn is_mark(symbol: Symbol) -> bool
 }
 
 fn begins_core(word: Reserved) -> bool
-    ensures { result ≡ is_listed firsts_of_core (reserved_class word) }
+    ensures { result ≡ is_class_among firsts_of_core (reserved_class word) }
 {
     matches!(
         word,
@@ -269,7 +270,7 @@ fn begins_core(word: Reserved) -> bool
 }
 
 fn is_left_out(word: Reserved) -> bool
-    ensures { result ≡ is_listed left_out_classes (reserved_class word) }
+    ensures { result ≡ is_class_among left_out_classes (reserved_class word) }
 {
     matches!(
         word,

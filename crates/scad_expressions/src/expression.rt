@@ -3,10 +3,10 @@ ghost use Rattle.scad_ast.specs.Terms.{ListTerm, terms_from};
 ghost use Rattle.scad_ast.specs.ExprView.{term_of, terms_of, link_of, suffix_of, arg_of, args_of};
 ghost use Rattle.scad_grammar.specs.Classes.{has_class_in, has_class, has_class_outside, symbol_class, bytes_of};
 ghost use Rattle.scad_grammar.specs.Classes.{comma_sign, close_bracket_sign, close_parenthesis_sign, colon_sign, question_sign};
-ghost use Rattle.scad_grammar.specs.Faults.{one};
-ghost use Rattle.scad_grammar.specs.Grammar.{levels, given_term, chain_term, choice_term, postfix_term, unary_term, name_term, bracket_term, filled_term};
+ghost use Rattle.scad_grammar.specs.Faults.{token_read};
+ghost use Rattle.scad_grammar.specs.Grammar.{levels, named_argument_term, chain_term, choice_term, postfix_term, unary_term, name_term, bracket_term, list_or_range_term};
 ghost use Rattle.scad_grammar.specs.Languages.{pair_of, second_of};
-ghost use Rattle.scad_grammar.specs.Reading.{next_is, both, image_read, maybe, many, trailing_items, in_front};
+ghost use Rattle.scad_grammar.specs.Reading.{next_is, sequence_read, image_read, optional_read, repeated_read, trailing_items, in_front};
 ghost use Rattle.scad_grammar.specs.Reads.{expr_read, operand_read, arg_in, args_read, postfix_read, suffix_read, chain_read, choice_read, name_read, paren_read, bracket_read, range_read, rest_read, in_parentheses};
 ghost use Rattle.scad_expressions.specs.Climbing.{primary_in, unary_in, link_in, climb_read};
 ghost use Rattle.scad_expressions.specs.TokenClasses.{operators_at, levels_below, atoms, suffix_signs};
@@ -71,8 +71,9 @@ fn choice<'a>(alloc: Global, tokens: &'a [Token], depth: u32) -> Parsed<'a, Expr
 fn chosen<'a>(alloc: Global, test: Expr, tokens: &'a [Token], depth: u32) -> Parsed<'a, Expr>
     ensures value { GivesRead (λ p. (term_of p.0, p.1.now)) result
         (image_read (choice_term (term_of test))
-        (image_read Some (both pair_of (one (has_class question_sign))
-        (both pair_of (expr_read depth) (both second_of (one (has_class colon_sign)) (expr_read depth)))))
+        (image_read Some (sequence_read pair_of (token_read (has_class question_sign))
+        (sequence_read pair_of (expr_read depth)
+        (sequence_read second_of (token_read (has_class colon_sign)) (expr_read depth)))))
         tokens.now) }
 {
     let ((test, ((mark, yes), no)), rest) = with(test, sides(alloc, tokens, depth))?;
@@ -96,8 +97,9 @@ fn sides<'a>(
 ) -> Parsed<'a, ((&'a Token, Expr), Expr)>
     ensures value { GivesRead
         (λ p. ((p.0.0.0.now, (term_of p.0.0.1, term_of p.0.1)), p.1.now)) result
-        (both pair_of (one (has_class question_sign))
-        (both pair_of (expr_read depth) (both second_of (one (has_class colon_sign)) (expr_read depth)))
+        (sequence_read pair_of (token_read (has_class question_sign))
+        (sequence_read pair_of (expr_read depth)
+        (sequence_read second_of (token_read (has_class colon_sign)) (expr_read depth)))
         tokens.now) }
 {
     let (mark, rest) = take(TokenClass::Sign(Symbol::Question), tokens)?;
@@ -110,7 +112,8 @@ fn sides<'a>(
 #[inline(always)]
 pub fn behind<'a>(alloc: Global, sign: Symbol, tokens: &'a [Token], depth: u32) -> Parsed<'a, Expr>
     ensures value { GivesRead (λ p. (term_of p.0, p.1.now)) result
-        (both second_of (one (has_class (symbol_class sign))) (expr_read depth) tokens.now) }
+        (sequence_read second_of (token_read (has_class (symbol_class sign)))
+        (expr_read depth) tokens.now) }
     ensures rest { IfOk result (λ p. length p.1.now ≤ length tokens.now) }
 {
     let (_, rest) = take(TokenClass::Sign(sign), tokens)?;
@@ -199,7 +202,7 @@ fn linked<'a>(
 ) -> Parsed<'a, Expr>
     requires { next_is (has_class_in (operators_at level)) tokens.now ≡ true }
     ensures value { GivesRead (λ p. (term_of p.0, p.1.now)) result
-        (image_read (chain_term (term_of first)) (many (has_class_in (operators_at level))
+        (image_read (chain_term (term_of first)) (repeated_read (has_class_in (operators_at level))
         (link_in level depth)) tokens.now) }
 {
     let ((first, (next, more)), rest) = with(first, some_links(alloc, tokens, depth, level))?;
@@ -220,7 +223,7 @@ fn some_links<'a>(
 ) -> Parsed<'a, (Link, Vec<Link>)>
     requires { next_is (has_class_in (operators_at level)) tokens.now ≡ true }
     ensures value { GivesRead (λ p. (link_of p.0.0 ∷ map link_of p.0.1.items, p.1.now)) result
-        (many (has_class_in (operators_at level)) (link_in level depth) tokens.now) }
+        (repeated_read (has_class_in (operators_at level)) (link_in level depth) tokens.now) }
 {
     let (next, rest) = link(alloc, tokens, depth, level)?;
     with(next, links(alloc, rest, depth, level))
@@ -230,7 +233,7 @@ fn some_links<'a>(
 #[cycle(expression)]
 fn links<'a>(alloc: Global, tokens: &'a [Token], depth: u32, level: Level) -> Parsed<'a, Vec<Link>>
     ensures value { GivesRead (λ p. (map link_of p.0.items, p.1.now)) result
-        (many (has_class_in (operators_at level)) (link_in level depth) tokens.now) }
+        (repeated_read (has_class_in (operators_at level)) (link_in level depth) tokens.now) }
 {
     let mut items = Vec::new(alloc);
     let mut rest = tokens;
@@ -315,7 +318,7 @@ fn suffixed<'a>(alloc: Global, of: Expr, tokens: &'a [Token], depth: u32) -> Par
     requires { next_is (has_class_in suffix_signs) tokens.now ≡ true }
     ensures value { GivesRead (λ p. (term_of p.0, p.1.now)) result
         (image_read (postfix_term (term_of of))
-        (many (has_class_in suffix_signs) (suffix_read (expr_read depth))) tokens.now) }
+        (repeated_read (has_class_in suffix_signs) (suffix_read (expr_read depth))) tokens.now) }
 {
     let ((of, (next, more)), rest) = with(of, some_suffixes(alloc, tokens, depth))?;
     let place = of.place();
@@ -334,7 +337,7 @@ fn some_suffixes<'a>(
 ) -> Parsed<'a, (Suffix, Vec<Suffix>)>
     requires { next_is (has_class_in suffix_signs) tokens.now ≡ true }
     ensures value { GivesRead (λ p. (suffix_of p.0.0 ∷ map suffix_of p.0.1.items, p.1.now)) result
-        (many (has_class_in suffix_signs) (suffix_read (expr_read depth)) tokens.now) }
+        (repeated_read (has_class_in suffix_signs) (suffix_read (expr_read depth)) tokens.now) }
 {
     let (next, rest) = suffix(alloc, tokens, depth)?;
     with(next, suffixes(alloc, rest, depth))
@@ -344,7 +347,7 @@ fn some_suffixes<'a>(
 #[cycle(expression)]
 fn suffixes<'a>(alloc: Global, tokens: &'a [Token], depth: u32) -> Parsed<'a, Vec<Suffix>>
     ensures value { GivesRead (λ p. (map suffix_of p.0.items, p.1.now)) result
-        (many (has_class_in suffix_signs) (suffix_read (expr_read depth)) tokens.now) }
+        (repeated_read (has_class_in suffix_signs) (suffix_read (expr_read depth)) tokens.now) }
 {
     let mut items = Vec::new(alloc);
     let mut rest = tokens;
@@ -442,7 +445,8 @@ fn named<'a>(alloc: Global, tokens: &'a [Token], depth: u32) -> Parsed<'a, Expr>
 fn called<'a>(alloc: Global, name: &Token, tokens: &'a [Token], depth: u32) -> Parsed<'a, Expr>
     ensures value { GivesRead (λ p. (term_of p.0, p.1.now)) result
         (image_read (name_term name.now)
-        (image_read Some (in_parentheses (args_read (arg_in depth (expr_read depth))))) tokens.now) }
+        (image_read Some (in_parentheses (args_read (arg_in depth (expr_read depth)))))
+        tokens.now) }
 {
     let bytes = bytes(alloc, &name.kind)?;
     let ((bytes, args), rest) = with(bytes, arguments(alloc, tokens, depth))?;
@@ -465,8 +469,9 @@ fn bracket<'a>(alloc: Global, tokens: &'a [Token], depth: u32) -> Parsed<'a, Exp
 #[cycle(expression)]
 fn inside<'a>(alloc: Global, bracket: &Token, tokens: &'a [Token], depth: u32) -> Parsed<'a, Expr>
     ensures value { GivesRead (λ p. (term_of p.0, p.1.now)) result
-        (image_read (bracket_term bracket.now) (maybe (has_class_outside (close_bracket_sign ∷ []))
-        (both pair_of (expr_read depth) (rest_read (expr_read depth)))) tokens.now) }
+        (image_read (bracket_term bracket.now)
+        (optional_read (has_class_outside (close_bracket_sign ∷ []))
+        (sequence_read pair_of (expr_read depth) (rest_read (expr_read depth)))) tokens.now) }
 {
     if !is_before(Symbol::CloseBracket, tokens) {
         return list(alloc, bracket, no_items(alloc), tokens);
@@ -485,7 +490,7 @@ fn filled<'a>(
     depth: u32,
 ) -> Parsed<'a, Expr>
     ensures value { GivesRead (λ p. (term_of p.0, p.1.now)) result
-        (image_read (filled_term bracket.now (term_of first)) (rest_read (expr_read depth))
+        (image_read (list_or_range_term bracket.now (term_of first)) (rest_read (expr_read depth))
         tokens.now) }
 {
     if !TokenClass::Sign(Symbol::Colon).begins(tokens) {
@@ -517,7 +522,7 @@ fn range<'a>(
     depth: u32,
 ) -> Parsed<'a, Expr>
     ensures value { GivesRead (λ p. (term_of p.0, p.1.now)) result
-        (image_read (filled_term bracket.now (term_of from)) (range_read (expr_read depth))
+        (image_read (list_or_range_term bracket.now (term_of from)) (range_read (expr_read depth))
         tokens.now) }
 {
     let place = bracket.place;
@@ -546,7 +551,8 @@ fn more_items<'a>(
 ) -> Parsed<'a, Exprs>
     ensures value { GivesRead (λ p. (terms_of p.0, p.1.now)) result
         (in_front (map term_of items.items)
-        (trailing_items (has_class comma_sign) (has_class_outside (close_bracket_sign ∷ [])) (expr_read depth)
+        (trailing_items (has_class comma_sign) (has_class_outside (close_bracket_sign ∷ []))
+        (expr_read depth)
         tokens.now)) }
 {
     let mut rest = tokens;
@@ -634,7 +640,7 @@ fn arg<'a>(alloc: Global, tokens: &'a [Token], depth: u32) -> Parsed<'a, Arg>
 #[inline(always)]
 fn given(name: &Token, bytes: CompactBytes, value: Expr) -> Arg
     requires { bytes ≡ bytes_of name.now.kind }
-    ensures { arg_of result ≡ given_term name.now (term_of value) }
+    ensures { arg_of result ≡ named_argument_term name.now (term_of value) }
 {
     if TokenClass::Special.has(&name.kind) {
         Arg::Special(name.place, bytes, value)

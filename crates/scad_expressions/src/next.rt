@@ -2,7 +2,7 @@ ghost use Rattle.std.specs.Prelude.{◌≡◌, ◌<◌, ◌≤◌, ◌∷◌, []
 ghost use Rattle.scad_grammar.specs.Classes.{token_class, bytes_of, symbol_class, has_class_in, has_class, has_class_outside};
 ghost use Rattle.scad_grammar.specs.Classes.{name_class};
 ghost use Rattle.scad_grammar.specs.Grammar.{binary_at, unary_at, modifier_at};
-ghost use Rattle.scad_grammar.specs.Faults.{one, first};
+ghost use Rattle.scad_grammar.specs.Faults.{token_read, first_token_read};
 ghost use Rattle.scad_grammar.specs.Reading.{next_is};
 ghost use Rattle.scad_expressions.specs.TokenClasses.{classes_of, continuations};
 ghost use Rattle.scad_expressions.specs.declared.class.TokenClass.TheVariants.{LeftOut};
@@ -108,8 +108,9 @@ impl TokenClass {
     /// The next token and those behind it, where it is of this class.
     #[inline(always)]
     pub fn split_first<'a>(self, tokens: &'a [Token]) -> Option<(&'a Token, &'a [Token])>
-        ensures some { IfSome result (λ p. (next_is (has_class_in (classes_of self)) tokens.now ≡ true) ×
-            (one (has_class_in (classes_of self)) tokens.now ≡ Ok (p.0.now, p.1.now))) }
+        ensures some { IfSome result (λ p. (next_is (has_class_in (classes_of self)) tokens.now
+            ≡ true) ×
+            (token_read (has_class_in (classes_of self)) tokens.now ≡ Ok (p.0.now, p.1.now))) }
         ensures none { IfNone result (next_is (has_class_in (classes_of self)) tokens.now ≡ false) }
     {
         match tokens {
@@ -210,7 +211,7 @@ pub fn assigned<'a>(class: TokenClass, tokens: &'a [Token]) -> Option<(&'a Token
 #[inline(always)]
 pub fn take<'a>(class: TokenClass, tokens: &'a [Token]) -> Parsed<'a, &'a Token>
     ensures value { GivesRead (λ p. (p.0.now, p.1.now)) result
-        (one (has_class_in (classes_of class)) tokens.now) }
+        (token_read (has_class_in (classes_of class)) tokens.now) }
     ensures shorter { IfOk result (λ p. length p.1.now < length tokens.now) }
 {
     match tokens {
@@ -223,7 +224,7 @@ pub fn take<'a>(class: TokenClass, tokens: &'a [Token]) -> Parsed<'a, &'a Token>
 #[inline(always)]
 pub(crate) fn take_first<'a>(class: TokenClass, tokens: &'a [Token]) -> Parsed<'a, &'a Token>
     ensures value { GivesRead (λ p. (p.0.now, p.1.now)) result
-        (first (has_class_in (classes_of class)) tokens.now) }
+        (first_token_read (has_class_in (classes_of class)) tokens.now) }
     ensures shorter { IfOk result (λ p. length p.1.now < length tokens.now) }
 {
     match tokens {

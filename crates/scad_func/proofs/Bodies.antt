@@ -6,7 +6,7 @@ use Rattle.scad_ast.specs.Terms.{BodyTerm, EmptyBody, BlockBody, InstanceBody}
 use Rattle.scad_ast.specs.StatementView.{body_of}
 use Rattle.scad_definitions.specs.Blocks.{BlockTable, StandAt, entities_of_body}
 use Rattle.scad_definitions.specs.TextView.{module_of, block_of_module}
-use Rattle.scad_definitions.specs.Tables.{table_held}
+use Rattle.scad_definitions.specs.Tables.{block_table_in}
 use Rattle.scad_definitions.specs.declared.blocks.Blocks.{Blocks}
 use Rattle.scad_definitions.specs.declared.text.Module.{Module}
 use Rattle.scad_func.specs.Definitions.{IsBlockOf, IsWholeTable}
@@ -22,10 +22,10 @@ mapped f (y ∷ ys) zero x d h = refl
 mapped f (y ∷ ys) (suc k) x d h = mapped f ys k x d (omega (arith, h))
 
 -- a module's body begins at its number
-pub module_block : (blocks : Blocks) (m : Module) → IsWholeTable (table_held blocks) → Contains blocks.modules.items m
-    → IsBlockOf (table_held blocks) m.block (body_of m.body.now)
+pub module_block : (blocks : Blocks) (m : Module) → IsWholeTable (block_table_in blocks) → Contains blocks.modules.items m
+    → IsBlockOf (block_table_in blocks) m.block (body_of m.body.now)
 module_block blocks m whole h =
-    let t = table_held blocks in
+    let t = block_table_in blocks in
     let ms = blocks.modules.items in
     let there : h.0 < length (map module_of ms) = omega (arith, h.1, length-map ms module_of) in
     let same = sym (mapped module_of ms h.0 m (module_of m) h.1 ∙ ap module_of h.2) in

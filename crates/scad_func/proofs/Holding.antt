@@ -11,16 +11,16 @@ use Rattle.scad_value.specs.declared.bounded_value.BoundedValue.{BoundedValue}
 use Rattle.scad_value.specs.BoundedView.{bounded_val}
 use Rattle.scad_ast.specs.Terms.{ArgTerms, ArgTerm}
 use Rattle.scad_definitions.specs.Arguments.{positional_after, DestinationTerm, to_parameter, to_special, destination_of, with_argument}
-use Rattle.scad_func.specs.Meaning.{Outcome, Gives, Setting, deeper_value, then_with, Arguments, each_argument}
+use Rattle.scad_func.specs.Meaning.{Outcome, Gives, ExpressionContext, value_at_next_depth, then_with, Arguments, each_argument}
 use Rattle.scad_func.specs.Steps.{argument_of}
 use Rattle.scad_func.specs.declared.values.BoundedValues.{BoundedValues}
 use Rattle.scad_func.specs.View.{MeetsOutcome, IsNoMemory, IsOneMore, values_seen, arguments_of}
-use Rattle.scad_value.specs.AnswerView.{IsAlone}
+use Rattle.scad_value.specs.AnswerView.{IsUnboundedAnswer}
 use Rattle.scad_func.proofs.GivenSeen.{IsHeld}
 use Rattle.scad_definitions.specs.declared.parameters.CallArguments.{CallArguments}
 use Rattle.scad_func.proofs.Calls.{in_front}
 use Rattle.scad_func.specs.declared.evaluation.Evaluation.{Evaluation}
-use Rattle.scad_func.specs.Evaluations.{KeepsEvaluation, EvaluatesTo, setting_here}
+use Rattle.scad_func.specs.Evaluations.{KeepsEvaluation, EvaluatesTo, expression_context_here}
 use Rattle.scad_func.proofs.Kept.{moved}
 use Rattle.scad_func.proofs.Outcomes.{meets_along, front_more, and_arg}
 use Rattle.scad_func.proofs.Steps.{argument_more, argument_fault}
@@ -52,25 +52,25 @@ module _ (start : Outcome Vals) (before : BoundedValues) (now : Outcome Vals) (s
 
 -- one item more behind values so far, or its stop: the item gives what `step` says, and those behind it go on by `go`
 module _ (first now : Evaluation) (kept : KeepsEvaluation first now) (before : BoundedValues) (start out : Outcome Vals)
-    (step : Setting → ℕ → Outcome Val) (go : ℕ → Outcome Vals) (s : start ≡ in_front (vals_in before.items.items) out)
-    (h : out ≡ and_then (step (setting_here first) now.turns) go) where
+    (step : ExpressionContext → ℕ → Outcome Val) (go : ℕ → Outcome Vals) (s : start ≡ in_front (vals_in before.items.items) out)
+    (h : out ≡ and_then (step (expression_context_here first) now.turns) go) where
   told_here : (new : Evaluation) (r : Result BoundedValue Stop) → EvaluatesTo bounded_val now new r step
-      → MeetsOutcome bounded_val r new.turns (step (setting_here first) now.turns)
+      → MeetsOutcome bounded_val r new.turns (step (expression_context_here first) now.turns)
   told_here new r e = meets_along r new.turns _ _ (moved (λ here. step here now.turns) kept) e.value
 
   pub item_told : (new : Evaluation) (r : Result BoundedValue Stop) (longer : BoundedValues) → IsOneMore before r (Ok longer)
       → EvaluatesTo bounded_val now new r step → start ≡ in_front (vals_in longer.items.items) (go new.turns)
   item_told new r longer l e =
-      longer_told start before out (step (setting_here first) now.turns) go s h r longer new.turns l (told_here new r e)
+      longer_told start before out (step (expression_context_here first) now.turns) go s h r longer new.turns l (told_here new r e)
 
   pub item_stops : (new : Evaluation) (r : Result BoundedValue Stop) (stop : Stop) (n : ℕ) → IsOneMore before r (Err stop)
       → EvaluatesTo bounded_val now new r step → MeetsOutcome values_seen (Err stop) n start
   item_stops new r stop n l e =
-      longer_fault start before out (step (setting_here first) now.turns) go s h r stop new.turns n l (told_here new r e)
+      longer_fault start before out (step (expression_context_here first) now.turns) go s h r stop new.turns n l (told_here new r e)
 
 -- a value alone is told as its type tells it, and it is bounded
 pub alone_meets : (r : Result BoundedValue Stop) (alone : Result Value Stop) (turns : ℕ) (out : Outcome Val)
-    → IsAlone r alone → MeetsOutcome bounded_val r turns out → MeetsOutcome val_of alone turns out
+    → IsUnboundedAnswer r alone → MeetsOutcome bounded_val r turns out → MeetsOutcome val_of alone turns out
 alone_meets (Ok bounded) (Ok v) turns out e h = h ∙ ap (λ (x : Value). Gives turns (val_of x)) (sym e)
 alone_meets (Ok bounded) (Err stop) turns out e h = absurd e
 alone_meets (Err fault) (Ok v) turns out e h = absurd e
@@ -80,7 +80,7 @@ alone_meets (Err fault) (Err stop) turns out e h = stopped fault stop e h
     stopped (Fault fault) stop e h = subst (λ (x : Stop). MeetsOutcome val_of (Err x) turns out) (sym e) h
     stopped NoMemory stop e h = subst (λ (x : Stop). MeetsOutcome val_of (Err x) turns out) (sym e) tt
 
-pub alone_bounded : (r : Result BoundedValue Stop) (alone : Result Value Stop) → IsAlone r alone
+pub alone_bounded : (r : Result BoundedValue Stop) (alone : Result Value Stop) → IsUnboundedAnswer r alone
     → IfOk alone (λ v. IsTrue (is_bounded (val_of v)))
 alone_bounded (Ok bounded) (Ok v) e = subst (λ (x : Value). IsTrue (is_bounded (val_of x))) (sym e) bounded.bounded
 alone_bounded (Ok bounded) (Err stop) e = absurd e
@@ -111,24 +111,24 @@ longer_length before (Ok v) longer l = ap length l ∙ length-append before.item
 longer_length before (Err stop) longer l = absurd l
 
 -- one argument more has a value
-pub argument_held : (here : Setting) (names : List (List ℕ)) (positional : ℕ) (start : Outcome Arguments) (args : ArgTerms)
+pub argument_held : (here : ExpressionContext) (names : List (List ℕ)) (positional : ℕ) (start : Outcome Arguments) (args : ArgTerms)
     (before : Arguments) (turns : ℕ)
     → start ≡ each_argument here names positional args before turns
     → (a : ArgTerm) (rest : ArgTerms) (target : DestinationTerm) (then p : ℕ) (r : Result BoundedValue Stop) (after : CallArguments BoundedValue)
     → args ≡ and_arg a rest → destination_of names positional before a ≡ Some target
-    → MeetsOutcome bounded_val r then (deeper_value here true (argument_of a) turns) → IsHeld before target r (Ok after)
+    → MeetsOutcome bounded_val r then (value_at_next_depth here true (argument_of a) turns) → IsHeld before target r (Ok after)
     → p ≡ positional_after positional a → start ≡ each_argument here names p rest (arguments_of after) then
 argument_held here names positional start args before turns b a rest target then p (Ok v) after e f t g q =
     argument_more here names positional start args before turns b a rest target then (bounded_val v) p
     (arguments_of after) e f t q g
 argument_held here names positional start args before turns b a rest target then p (Err stop) after e f t g q = absurd g
 
-pub argument_stops : (here : Setting) (names : List (List ℕ)) (positional : ℕ) (start : Outcome Arguments) (args : ArgTerms)
+pub argument_stops : (here : ExpressionContext) (names : List (List ℕ)) (positional : ℕ) (start : Outcome Arguments) (args : ArgTerms)
     (before : Arguments) (turns : ℕ)
     → start ≡ each_argument here names positional args before turns
     → (a : ArgTerm) (rest : ArgTerms) (target : DestinationTerm) (m n : ℕ) (r : Result BoundedValue Stop) (stop : Stop)
     → args ≡ and_arg a rest → destination_of names positional before a ≡ Some target
-    → MeetsOutcome bounded_val r m (deeper_value here true (argument_of a) turns) → IsHeld before target r (Err stop)
+    → MeetsOutcome bounded_val r m (value_at_next_depth here true (argument_of a) turns) → IsHeld before target r (Err stop)
     → MeetsOutcome arguments_of (Err stop) n start
 argument_stops here names positional start args before turns b a rest target m n (Ok v) stop e f t g =
     subst (λ (x : Stop). MeetsOutcome arguments_of (Err x) n start) (sym g) tt

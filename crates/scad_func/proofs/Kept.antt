@@ -7,21 +7,21 @@ use Rattle.scad_value.specs.Values.{Val}
 use Rattle.scad_value.specs.declared.bounded_value.BoundedValue.{BoundedValue}
 use Rattle.scad_value.specs.BoundedView.{bounded_val}
 use Rattle.scad_value.specs.Operators.{AnswerOrFault}
-use Rattle.scad_scope.specs.Names.{Pairs, Row, oldest_pairs}
+use Rattle.scad_scope.specs.Names.{Pairs, ScopeRow, oldest_pairs}
 use Rattle.scad_scope.specs.Table.{rows_of, bindings_of}
 use Rattle.scad_definitions.specs.Arguments.{parameter_names, no_arguments_of}
 use Rattle.scad_definitions.specs.Blocks.{SourceFunction}
 use Rattle.scad_func.specs.Limits.{most_calls, most_evaluations}
-use Rattle.scad_func.specs.Meaning.{Outcome, Env, Setting, in_scope, setting_with_calls, with_more_bindings, answer_at, value_within, each_argument, function_called, call_value, visible_function, then_with}
+use Rattle.scad_func.specs.Meaning.{Outcome, Env, ExpressionContext, in_scope, expression_with_calls_left, with_more_bindings, outcome_of_answer, value_within, each_argument, function_call_value, call_value, visible_function, then_with}
 use Rattle.scad_func.specs.declared.source.Source.{Source}
 use Rattle.scad_func.specs.declared.evaluation.Evaluation.{Evaluation}
 use Rattle.scad_func.specs.View.{MeetsOutcome, greatest_depth, env_seen}
 use Rattle.scad_value.specs.AnswerView.{MeetsAnswerAt}
-use Rattle.scad_func.specs.Evaluations.{KeepsEvaluation, EvaluatesTo, OneCallDeeper, MoreBindings, OneScopeMore, setting_in, setting_here, env_here, work_left}
+use Rattle.scad_func.specs.Evaluations.{KeepsEvaluation, EvaluatesTo, OneCallDeeper, MoreBindings, OneScopeMore, expression_context_in, expression_context_here, env_here, work_left}
 use Rattle.scad_func.proofs.Outcomes.{fault_goes, value_goes, meets_answer}
 
 -- where an expression stands, by what it depends on
-setting_by : Source → List Row → ℕ → ℕ → ℕ → Pairs Val → Setting
+setting_by : Source → List ScopeRow → ℕ → ℕ → ℕ → Pairs Val → ExpressionContext
 setting_by source rows scope depth calls bindings = record {
   at_next_depth = value_within (most_evaluations - depth);
   calls_left = most_calls - calls;
@@ -32,7 +32,7 @@ setting_by source rows scope depth calls bindings = record {
 -- where an expression of a scope stands, by what is as before, and by the calls and special names that there are
 setting_from : (old new : Evaluation) (scope calls : ℕ) (bindings : Pairs Val) → new.source.now ≡ old.source.now
     → rows_of new.scopes.now ≡ rows_of old.scopes.now → new.depth ≡ old.depth → new.calls ≡ calls → bindings_of new.scopes.now ≡ bindings
-    → setting_in new scope ≡ setting_by old.source.now (rows_of old.scopes.now) scope old.depth calls bindings
+    → expression_context_in new scope ≡ setting_by old.source.now (rows_of old.scopes.now) scope old.depth calls bindings
 unfolding setting_by
 setting_from old new scope calls bindings s r d k c =
     ap (λ (x : Source). setting_by x (rows_of new.scopes.now) scope new.depth new.calls (bindings_of new.scopes.now)) s
@@ -49,7 +49,7 @@ pub keeps_from : (old new : Evaluation) → new.source.now ≡ old.source.now
     → KeepsEvaluation old new
 unfolding setting_by
 keeps_from old new s l w r c k d =
-    let same : (scope : ℕ) → setting_in new scope ≡ setting_in old scope =
+    let same : (scope : ℕ) → expression_context_in new scope ≡ expression_context_in old scope =
     λ scope. setting_from old new scope old.calls (bindings_of old.scopes.now) s r d k c in
     record {
       source = s;
@@ -62,7 +62,7 @@ keeps_from old new s l w r c k d =
       work = ap (λ (x : Source). work_left x new.calls) s ∙ ap (work_left old.source.now) k;
       count = ap length r;
       same = same;
-      here = ap (λ (n : ℕ). setting_in new n) w ∙ same old.scope;
+      here = ap (λ (n : ℕ). expression_context_in new n) w ∙ same old.scope;
     }
 
 pub keeps_same : (e : Evaluation) → KeepsEvaluation e e
@@ -73,7 +73,7 @@ keeps_trans f g = keeps_from _ _ (g.source ∙ f.source) (g.lent ∙ f.lent) (g.
     (g.calls ∙ f.calls) (g.depth ∙ f.depth)
 
 -- what is said of a setting stays
-pub moved : {A : Type 0} (F : Setting → A) {old new : Evaluation} → KeepsEvaluation old new → F (setting_here old) ≡ F (setting_here new)
+pub moved : {A : Type 0} (F : ExpressionContext → A) {old new : Evaluation} → KeepsEvaluation old new → F (expression_context_here old) ≡ F (expression_context_here new)
 moved F k = ap F (sym k.here)
 
 -- where a call was begun, special names were put among the dynamic bindings, or a scope was entered, behind evaluations that keep all
@@ -116,24 +116,24 @@ scope_kept old before {mid = mid} {new = new} e k = record {
 
 -- where an expression stands with more special names, one call deeper, or in a scope that was entered
 pub specials_setting : (old new : Evaluation) (count : ℕ) (dynamic : Pairs Val) → MoreBindings old new count
-    → bindings_of new.scopes.now ≡ dynamic ++ bindings_of old.scopes.now → setting_here new ≡ with_more_bindings (setting_here old) dynamic
+    → bindings_of new.scopes.now ≡ dynamic ++ bindings_of old.scopes.now → expression_context_here new ≡ with_more_bindings (expression_context_here old) dynamic
 unfolding setting_by
 specials_setting old new count dynamic b e =
-    ap (λ (n : ℕ). setting_in new n) b.stands
+    ap (λ (n : ℕ). expression_context_in new n) b.stands
     ∙ setting_from old new old.scope old.calls (dynamic ++ bindings_of old.scopes.now) b.source b.rows b.depth b.calls e
 
 pub call_setting : (old new : Evaluation) → OneCallDeeper old new
-    → setting_here new ≡ setting_with_calls (setting_here old) (most_calls - (old.calls + 1))
+    → expression_context_here new ≡ expression_with_calls_left (expression_context_here old) (most_calls - (old.calls + 1))
 unfolding setting_by
 call_setting old new b =
-    ap (λ (n : ℕ). setting_in new n) b.stands
+    ap (λ (n : ℕ). expression_context_in new n) b.stands
     ∙ setting_from old new old.scope (old.calls + 1) (bindings_of old.scopes.now) b.source b.rows b.depth b.calls b.bindings
 
-setting_with : ℕ → ℕ → Env → Pairs Val → Setting
+setting_with : ℕ → ℕ → Env → Pairs Val → ExpressionContext
 setting_with depth calls env bindings = record { at_next_depth = value_within (most_evaluations - depth); calls_left = most_calls - calls; env = env; bindings = bindings }
 
 pub scope_setting : (old new : Evaluation) (before : ℕ) (env : Env) → OneScopeMore old new before → env_here new ≡ env
-    → setting_here new ≡ in_scope (setting_here old) env
+    → expression_context_here new ≡ in_scope (expression_context_here old) env
 unfolding setting_with
 scope_setting old new before env e h =
     ap (λ n. setting_with n new.calls (env_here new) (bindings_of new.scopes.now)) e.depth
@@ -151,20 +151,20 @@ work_falls source calls h =
 
 -- a call of the function that a name stands for
 pub call_found : (e : Evaluation) (defining_scope : ℕ) (f : SourceFunction) (at : Place) (name : List ℕ) (args : ArgTerms) (turns : ℕ)
-    → visible_function (setting_here e).env name ≡ Some (f, env_seen e.source.now (rows_of e.scopes.now) defining_scope)
-    → call_value (setting_here e) at name args turns (visible_function (setting_here e).env name)
-    ≡ then_with (each_argument (setting_here e) (parameter_names f.params) 0 args (no_arguments_of (length (parameter_names f.params))) turns)
-    (λ turns given. function_called (setting_in e defining_scope) at f given turns)
+    → visible_function (expression_context_here e).env name ≡ Some (f, env_seen e.source.now (rows_of e.scopes.now) defining_scope)
+    → call_value (expression_context_here e) at name args turns (visible_function (expression_context_here e).env name)
+    ≡ then_with (each_argument (expression_context_here e) (parameter_names f.params) 0 args (no_arguments_of (length (parameter_names f.params))) turns)
+    (λ turns given. function_call_value (expression_context_in e defining_scope) at f given turns)
 call_found e defining_scope f at name args turns h =
-    ap (λ o. call_value (setting_here e) at name args turns o) h
+    ap (λ o. call_value (expression_context_here e) at name args turns o) h
 
 -- one step of an evaluation behind another
-module _ {A B C D : Type 0} (see : A → B) (all : C → D) (first : Setting → ℕ → Outcome B)
-    (go : Setting → ℕ → B → Outcome D) where
+module _ {A B C D : Type 0} (see : A → B) (all : C → D) (first : ExpressionContext → ℕ → Outcome B)
+    (go : ExpressionContext → ℕ → B → Outcome D) where
   pub stops : (old new : Evaluation) (s : Stop) → EvaluatesTo see old new (Err s) first
       → EvaluatesTo all old new (Err s) (λ here turns. then_with (first here turns) (go here))
   stops old new s e = record {
-    value = fault_goes see all (first (setting_here old) old.turns) (go (setting_here old)) s
+    value = fault_goes see all (first (expression_context_here old) old.turns) (go (expression_context_here old)) s
         new.turns new.turns e.value;
     kept = e.kept;
   }
@@ -173,7 +173,7 @@ module _ {A B C D : Type 0} (see : A → B) (all : C → D) (first : Setting →
       → EvaluatesTo all mid new r (λ here turns. go here turns (see x))
       → EvaluatesTo all old new r (λ here turns. then_with (first here turns) (go here))
   goes old mid new x r e f = record {
-    value = value_goes see all (first (setting_here old) old.turns) (go (setting_here old)) r
+    value = value_goes see all (first (expression_context_here old) old.turns) (go (expression_context_here old)) r
         new.turns mid.turns (see x) e.value
         (subst (λ here. MeetsOutcome all r new.turns (go here mid.turns (see x))) e.kept.here f.value);
     kept = keeps_trans e.kept f.kept;
@@ -181,5 +181,5 @@ module _ {A B C D : Type 0} (see : A → B) (all : C → D) (first : Setting →
 
 -- an operator's answer behind a step
 pub answers : (e : Evaluation) (r : Result BoundedValue Stop) (answer : AnswerOrFault Val) (at : Place) → MeetsAnswerAt r answer at
-    → EvaluatesTo bounded_val e e r (λ here turns. answer_at answer at turns)
+    → EvaluatesTo bounded_val e e r (λ here turns. outcome_of_answer answer at turns)
 answers e r answer at h = record { value = meets_answer r e.turns answer at h; kept = keeps_same e }

@@ -4,7 +4,7 @@ use Rattle.std.proofs.lemmas.List.{reverse-append}
 use Rattle.scad_ast.specs.Terms.{StatementTerm, EmptyStatement, BlockStatement, AssignmentTerm, SpecialAssignmentTerm, ModuleTerm, FunctionTerm, InstanceStatement, StatementTerms, no_statements, and_statement, InstanceTerm, AnInstance, CoreTerm, IfTerm, IfElseTerm, ForTerm, IntersectionForTerm, ModuleCallTerm, BodyTerm, EmptyBody, BlockBody, InstanceBody, statements_from}
 use Rattle.scad_scope.specs.Names.{Pairs}
 use Rattle.scad_definitions.specs.Blocks.{SourceFunction, SourceModule, Entity, a_block, a_function, a_module, entities_of, entities_in, entities_of_instance, entities_of_core, entities_of_body, entities_of_program, functions_among, modules_among, count_functions, count_modules, local_functions, local_function, local_modules, local_module, SourceBlock, nothing_there, entries_from, block_table, BlockTable, assignments_of, count_blocks, StandsInOrder}
-use Rattle.scad_func.specs.Meaning.{Env, Within, Activation, functions_standing_in, function_standing, modules_standing_in, module_standing, entered_scope}
+use Rattle.scad_func.specs.Meaning.{Env, InnerScope, Activation, functions_standing_in, function_in_statement, modules_standing_in, module_in_statement, entered_scope}
 use Rattle.scad_func.specs.Definitions.{definition_numbered, with_definition, definitions_of_numbers, statements_at, block_scope, IsWholeTable}
 
 -- lists
@@ -79,12 +79,12 @@ mutual
   functions_in all n no_statements s = refl
   functions_in all n (and_statement x rest) s =
       let t = stands_by all n _ _ (functions_joined (entities_of x) (entities_in rest)) s in
-      turned_joined all (local_function n x) (local_functions (n + count_functions (entities_of x)) rest) (function_standing x) (functions_standing_in rest)
+      turned_joined all (local_function n x) (local_functions (n + count_functions (entities_of x)) rest) (function_in_statement x) (functions_standing_in rest)
       (functions_of all n x (stands_first all n _ _ t))
       (functions_in all (n + count_functions (entities_of x)) rest (stands_next all n _ _ t))
 
   functions_of : (all : List SourceFunction) (n : ℕ) (x : StatementTerm) → Stands all n (functions_among (entities_of x))
-      → definitions_of_numbers all (reverse (local_function n x)) ≡ function_standing x
+      → definitions_of_numbers all (reverse (local_function n x)) ≡ function_in_statement x
   functions_of all n (EmptyStatement at) s = refl
   functions_of all n (BlockStatement at statements) s = functions_in all n statements s
   functions_of all n (AssignmentTerm at name value) s = refl
@@ -102,12 +102,12 @@ mutual
   modules_in all n no_statements s = refl
   modules_in all n (and_statement x rest) s =
       let t = stands_by all n _ _ (modules_joined (entities_of x) (entities_in rest)) s in
-      turned_joined all (local_module n x) (local_modules (n + count_modules (entities_of x)) rest) (module_standing x) (modules_standing_in rest)
+      turned_joined all (local_module n x) (local_modules (n + count_modules (entities_of x)) rest) (module_in_statement x) (modules_standing_in rest)
       (modules_of all n x (stands_first all n _ _ t))
       (modules_in all (n + count_modules (entities_of x)) rest (stands_next all n _ _ t))
 
   modules_of : (all : List SourceModule) (n : ℕ) (x : StatementTerm) → Stands all n (modules_among (entities_of x))
-      → definitions_of_numbers all (reverse (local_module n x)) ≡ module_standing x
+      → definitions_of_numbers all (reverse (local_module n x)) ≡ module_in_statement x
   modules_of all n (EmptyStatement at) s = refl
   modules_of all n (BlockStatement at statements) s = modules_in all n statements s
   modules_of all n (AssignmentTerm at name value) s = refl
@@ -238,8 +238,8 @@ standing program number call outer =
     let good = good_at fs ms (entries_from 0 0 0 (entities_of_program program)) number
     (record { functions = functions_in fs 0 ss (all_stands fs); modules = modules_in ms 0 ss (all_stands ms) }, whole) in
     let e : SourceBlock = get_or (entries_from 0 0 0 (entities_of_program program)) number nothing_there in
-    ap (λ l. Within [] l (definitions_of_numbers ms (reverse e.local.modules)) call outer) good.functions
-    ∙ ap (λ l. Within [] (functions_standing_in e.statements) l call outer) good.modules
+    ap (λ l. InnerScope [] l (definitions_of_numbers ms (reverse e.local.modules)) call outer) good.functions
+    ∙ ap (λ l. InnerScope [] (functions_standing_in e.statements) l call outer) good.modules
 
 -- the assignments of each block, and where it ends
 assigned_there : (n f m : ℕ) (xs : List Entity) (k : ℕ)

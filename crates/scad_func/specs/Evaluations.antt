@@ -4,7 +4,7 @@ use Rattle.scad_scope.specs.Names.{NumberedEnv, env_of, oldest_pairs}
 use Rattle.scad_scope.specs.Table.{rows_of, bindings_of}
 use Rattle.text_place.specs.declared.fault.Stop.{Stop}
 use Rattle.scad_func.specs.Limits.{most_calls, most_evaluations}
-use Rattle.scad_func.specs.Meaning.{Outcome, Env, Setting, value_within}
+use Rattle.scad_func.specs.Meaning.{Outcome, Env, ExpressionContext, value_within}
 use Rattle.scad_func.specs.View.{MeetsOutcome, env_seen, greatest_depth}
 use Rattle.scad_func.specs.declared.source.Source.{Source}
 use Rattle.scad_func.specs.declared.evaluation.Evaluation.{Evaluation}
@@ -14,8 +14,8 @@ abbrev pub scopes_there : Evaluation → ℕ
 scopes_there evaluation = length (rows_of evaluation.scopes.now)
 
 -- where an expression of a scope stands
-abbrev pub setting_in : Evaluation → ℕ → Setting
-setting_in evaluation scope = record {
+abbrev pub expression_context_in : Evaluation → ℕ → ExpressionContext
+expression_context_in evaluation scope = record {
   at_next_depth = value_within (most_evaluations - evaluation.depth);
   calls_left = most_calls - evaluation.calls;
   env = env_seen evaluation.source.now (rows_of evaluation.scopes.now) scope;
@@ -32,8 +32,8 @@ env_here evaluation =
     env_seen evaluation.source.now (rows_of evaluation.scopes.now) evaluation.scope
 
 -- where an expression of the scope in which is evaluated stands
-abbrev pub setting_here : Evaluation → Setting
-setting_here evaluation = setting_in evaluation evaluation.scope
+abbrev pub expression_context_here : Evaluation → ExpressionContext
+expression_context_here evaluation = expression_context_in evaluation evaluation.scope
 
 -- the calls that are left, times more than any function is deep
 unfoldable pub work_left : Source → ℕ → ℕ
@@ -50,18 +50,19 @@ pub record KeepsEvaluation (old new : Evaluation) : Type 0 where
   pub depth : new.depth ≡ old.depth
   pub work : work_left new.source.now new.calls ≡ work_left old.source.now old.calls
   pub count : scopes_there new ≡ scopes_there old
-  pub same : (scope : ℕ) → setting_in new scope ≡ setting_in old scope
-  pub here : setting_here new ≡ setting_here old
+  pub same : (scope : ℕ) → expression_context_in new scope ≡ expression_context_in old scope
+  pub here : expression_context_here new ≡ expression_context_here old
 
 -- What a function of the evaluator does: it answers the value of its meaning, or its fault, unless memory ran out; and
 -- all but the turns is as before, after a stop too.
 pub record EvaluatesTo {A B : Type 0} (see : A → B) (old new : Evaluation) (result : Result A Stop)
-    (meaning : Setting → ℕ → Outcome B) : Type 0 where
-  pub value : MeetsOutcome see result new.turns (meaning (setting_here old) old.turns)
+    (meaning : ExpressionContext → ℕ → Outcome B) : Type 0 where
+  pub value : MeetsOutcome see result new.turns (meaning (expression_context_here old) old.turns)
   pub kept : KeepsEvaluation old new
 
--- all but the scopes, the dynamic bindings and the turns is as before
-pub record SameSetting (old new : Evaluation) : Type 0 where
+-- the source, the scope in which is evaluated, the calls and the depth are as before; the scopes, the
+-- dynamic bindings and the turns may change
+pub record KeepsAllButScopes (old new : Evaluation) : Type 0 where
   pub source : new.source.now ≡ old.source.now
   pub lent : new.scopes.ghost_name ≡ old.scopes.ghost_name
   pub stands : new.scope ≡ old.scope

@@ -5,7 +5,7 @@ use Rattle.scad_ast.specs.Terms.{Term}
 use Rattle.scad_value.specs.declared.value.Value.{Value}
 use Rattle.scad_value.specs.Values.{is_bounded}
 use Rattle.scad_value.specs.View.{val_of}
-use Rattle.scad_scope.specs.Names.{Row}
+use Rattle.scad_scope.specs.Names.{ScopeRow}
 use Rattle.scad_scope.specs.Numbered.{functions_below, modules_below}
 use Rattle.scad_scope.specs.Table.{rows_of, bindings_of}
 use Rattle.scad_scope.specs.declared.scopes.Scopes.{Scopes}
@@ -16,7 +16,7 @@ use Rattle.scad_func.specs.View.{MeetsOutcome}
 use Rattle.scad_func.specs.declared.meter.Meter.{Meter}
 
 -- a scope of a table in which each number of a function or of a module is that of one of a text
-pub record IsScopeOf (table : BlockTable) (rows : List Row) (scope : ℕ) : Type 0 where
+pub record IsScopeOf (table : BlockTable) (rows : List ScopeRow) (scope : ℕ) : Type 0 where
   pub there : scope < length rows
   pub numbered : IsTrue (functions_below (length table.functions) rows)
   pub modules : IsTrue (modules_below (length table.modules) rows)

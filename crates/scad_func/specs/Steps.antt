@@ -7,7 +7,7 @@ use Rattle.scad_value.specs.Operators.{binary_of, index_of}
 use Rattle.scad_value.specs.Answers.{member_of, wants_right}
 use Rattle.scad_definitions.specs.Arguments.{parameter_names}
 use Rattle.scad_definitions.specs.Blocks.{SourceFunction}
-use Rattle.scad_func.specs.Meaning.{Outcome, Gives, then_with, or_fault, answer_at, Setting, deeper_value, in_scope, Within, no_activation, with_pairs, value_here}
+use Rattle.scad_func.specs.Meaning.{Outcome, Gives, then_with, or_fault, outcome_of_answer, ExpressionContext, value_at_next_depth, in_scope, InnerScope, no_activation, with_pairs, value_here}
 
 -- the values of all arguments
 abbrev pub all_values : ArgTerms → Terms
@@ -36,25 +36,25 @@ have_no_names (and_special at name value rest) = false
 have_no_names (and_positional value rest) = have_no_names rest
 
 -- an index or a member of a value
-abbrev pub suffix_value : Setting → Val → SuffixTerm → ℕ → Outcome Val
+abbrev pub suffix_value : ExpressionContext → Val → SuffixTerm → ℕ → Outcome Val
 suffix_value here value (IndexTerm at index) turns =
-    then_with (deeper_value here true index turns) (λ turns number.
-    answer_at (index_of value number) at turns)
+    then_with (value_at_next_depth here true index turns) (λ turns number.
+    outcome_of_answer (index_of value number) at turns)
 suffix_value here value (MemberTerm at name name_at) turns =
     or_fault (member_of name) NotInProfile name_at (λ number.
-    answer_at (index_of value (NumberVal number)) at turns)
+    outcome_of_answer (index_of value (NumberVal number)) at turns)
 
 -- an operator and its right side
-abbrev pub link_value : Setting → Val → LinkTerm → ℕ → Outcome Val
+abbrev pub link_value : ExpressionContext → Val → LinkTerm → ℕ → Outcome Val
 link_value here value link turns =
     if wants_right link.op value
     then then_with (value_here here link.right turns)
-    (λ turns other. answer_at (binary_of link.op value other) link.at turns)
+    (λ turns other. outcome_of_answer (binary_of link.op value other) link.at turns)
     else Gives turns (TruthVal (truth_of value))
 
 -- the value of a function whose parameters have values, in a scope of its own
-abbrev pub with_parameters : Setting → SourceFunction → Vals → ℕ → Outcome Val
+abbrev pub with_parameters : ExpressionContext → SourceFunction → Vals → ℕ → Outcome Val
 with_parameters defining_scope function values turns =
-    deeper_value (in_scope defining_scope
-    (Within (with_pairs (parameter_names function.params) values []) [] [] no_activation
+    value_at_next_depth (in_scope defining_scope
+    (InnerScope (with_pairs (parameter_names function.params) values []) [] [] no_activation
     defining_scope.env)) true function.value turns

@@ -14,10 +14,10 @@ use Rattle.scad_scope.specs.declared.scopes.Scopes.{Scopes}
 use Rattle.scad_definitions.specs.ArgumentsView.{IsFaultAt}
 use Rattle.scad_definitions.specs.Blocks.{BlockTable}
 use Rattle.scad_func.specs.Limits.{most_calls, most_evaluations, most_turns}
-use Rattle.scad_func.specs.Meaning.{Env, Setting, each_parameter}
+use Rattle.scad_func.specs.Meaning.{Env, ExpressionContext, each_parameter}
 use Rattle.scad_func.specs.Definitions.{env_in}
 use Rattle.scad_func.specs.View.{MeetsOutcome, values_seen, bound_arguments_in}
-use Rattle.scad_func.specs.Evaluations.{KeepsEvaluation, SameSetting, OneCallDeeper, OneEvaluationDeeper, OneScopeMore, MoreBindings, scopes_there, env_here}
+use Rattle.scad_func.specs.Evaluations.{KeepsEvaluation, KeepsAllButScopes, OneCallDeeper, OneEvaluationDeeper, OneScopeMore, MoreBindings, scopes_there, env_here}
 use Rattle.scad_func.specs.declared.values.BoundedValues.{BoundedValues}
 use Rattle.scad_func.specs.declared.evaluation.Evaluation.{Evaluation}
 
@@ -85,7 +85,7 @@ pub record LeavesScope (old new : Evaluation) (before : ℕ) : Type 0 where
 -- it was before they were put there.
 pub record PopsBindings (old new : Evaluation) (to : ℕ) : Type 0 where
   pub back : (first : Evaluation) → MoreBindings first old to → KeepsEvaluation first new
-  pub same : SameSetting old new
+  pub same : KeepsAllButScopes old new
   pub rows : rows_of new.scopes.now ≡ rows_of old.scopes.now
   pub bindings : bindings_of new.scopes.now ≡ oldest_pairs to (bindings_of old.scopes.now)
   pub turns : new.turns ≡ old.turns
@@ -95,7 +95,7 @@ pub record PopsBindings (old new : Evaluation) (to : ℕ) : Type 0 where
 pub record BindsVariables {A E : Type 0} (old new : Evaluation) (result : Result A E)
     (env : Env) : Type 0 where
   pub bound : OnOk result (env_here new ≡ env)
-  pub same : SameSetting old new
+  pub same : KeepsAllButScopes old new
   pub front : take old.scope (rows_of new.scopes.now) ≡ take old.scope (rows_of old.scopes.now)
   pub there : scopes_there new ≡ scopes_there old
   pub bindings : bindings_of new.scopes.now ≡ bindings_of old.scopes.now
@@ -103,10 +103,10 @@ pub record BindsVariables {A E : Type 0} (old new : Evaluation) (result : Result
   pub entered : (first : Evaluation) (before : ℕ) → OneScopeMore first old before
       → OneScopeMore first new before
 
--- What evaluates parameters in a setting: the values that their meaning gives, one for each, or its fault, unless memory ran
--- out; and all but the turns is as before, after a stop too.
+-- What evaluates parameters in an expression context: the values that their meaning gives, one for each, or its fault,
+-- unless memory ran out; and all but the turns is as before, after a stop too.
 pub record EvaluatesParameters (old new : Evaluation) (result : Result BoundedValues Stop)
-    (here : Setting) (params : Params)
+    (here : ExpressionContext) (params : Params)
     (bound : List (Option BoundedValue)) : Type 0 where
   pub value : MeetsOutcome values_seen result new.turns
       (each_parameter here (params_of params) (bound_arguments_in bound) old.turns)

@@ -5,7 +5,7 @@ ghost use Rattle.scad_ast.specs.declared.expression.Expr.{size-Expr};
 ghost use Rattle.scad_ast.specs.declared.expression.Arg.{size-Arg};
 ghost use Rattle.scad_ast.specs.Terms.{args_from};
 ghost use Rattle.scad_builtin.specs.Builtins.{builtin_value, builtin_of, is_left_out_function};
-ghost use Rattle.scad_func.specs.Meaning.{Setting, then_with, answer_at, each_value, built_in_value};
+ghost use Rattle.scad_func.specs.Meaning.{ExpressionContext, then_with, outcome_of_answer, each_value, built_in_call_value};
 ghost use Rattle.scad_func.specs.Steps.{have_no_names, is_named, all_values, argument_of};
 ghost use Rattle.scad_value.specs.BoundedView.{bounded_val};
 ghost use Rattle.scad_func.specs.View.{MeetsOutcome};
@@ -48,13 +48,15 @@ pub(crate) fn argument_value(arg: &Arg) -> &Expr
 
 /// The built-in function of a call, whose faults stand at its name.
 pub(crate) fn built_in_for(name: &[u8], place: Place, args: &Args) -> Result<Builtin, Stop>
-    ensures called { IfOk result (λ f. (here : Setting) (turns : ℕ)
-        → built_in_value here place name.now (args_from (args_of args.now)) turns (builtin_of name.now)
+    ensures called { IfOk result (λ f. (here : ExpressionContext) (turns : ℕ)
+        → built_in_call_value here place name.now (args_from (args_of args.now)) turns
+        (builtin_of name.now)
         ≡ then_with (each_value here (all_values (args_from (args_of args.now))) turns) (λ turns vs.
-        answer_at (builtin_value f vs) place turns)) }
-    ensures refused { IfErr result (λ stop. (here : Setting) (turns n : ℕ) →
+        outcome_of_answer (builtin_value f vs) place turns)) }
+    ensures refused { IfErr result (λ stop. (here : ExpressionContext) (turns n : ℕ) →
         MeetsOutcome bounded_val (Err stop) n
-        (built_in_value here place name.now (args_from (args_of args.now)) turns (builtin_of name.now))) }
+        (built_in_call_value here place name.now (args_from (args_of args.now)) turns
+        (builtin_of name.now))) }
 {
     let Some(function) = builtin(name) else {
         return Err(unknown_function(name).at(place));

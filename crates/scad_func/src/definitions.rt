@@ -5,7 +5,7 @@ ghost use Rattle.scad_scope.specs.Table.{rows_of};
 ghost use Rattle.scad_func.specs.Meaning.{visible_function, visible_module};
 ghost use Rattle.scad_func.specs.View.{IsFunctionFound, IsModuleFound, table_in};
 ghost use Rattle.scad_func.specs.Definitions.{IsBlockOf, IsWholeTable};
-ghost use Rattle.scad_func.specs.Evaluations.{env_here, scopes_there, setting_here};
+ghost use Rattle.scad_func.specs.Evaluations.{env_here, scopes_there, expression_context_here};
 
 use crate::evaluation::Evaluation;
 use scad_scope::{Function, Module};
@@ -16,7 +16,7 @@ impl<'a> Evaluation<'a, '_> {
     /// number of the scope in which it stands. None where no scope outward has one.
     pub fn function(&self, name: &[u8]) -> Option<(Function<'a>, u32)>
         ensures found { IsFunctionFound self.now.source.now (rows_of self.now.scopes.now)
-            (visible_function (setting_here self.now).env name.now) result }
+            (visible_function (expression_context_here self.now).env name.now) result }
         ensures there { IfSome result (λ found. found.1 < scopes_there self.now) }
         ensures among { IfSome result (λ found.
             Contains self.now.source.now.blocks.functions.items found.0) }

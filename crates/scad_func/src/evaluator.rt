@@ -7,12 +7,12 @@ ghost use Rattle.scad_value.specs.Operators.{value_or_long_list, unary_of};
 ghost use Rattle.scad_value.specs.BoundedView.{bounded_val};
 ghost use Rattle.scad_definitions.specs.Arguments.{no_arguments_of};
 ghost use Rattle.scad_definitions.specs.ArgumentsView.{names_in};
-ghost use Rattle.scad_func.specs.Meaning.{Gives, then_with, answer_at, deeper_value, value_here, each_value, each_argument, each_parameter, parameter_value, function_value, function_called, each_suffix, each_link, call_value, visible_function, count_elements};
+ghost use Rattle.scad_func.specs.Meaning.{Gives, then_with, outcome_of_answer, value_at_next_depth, value_here, each_value, each_argument, each_parameter, parameter_value, function_value, function_call_value, each_suffix, each_link, call_value, visible_function, count_elements};
 ghost use Rattle.scad_value.specs.Answers.{range_of, stepped_range_of};
 ghost use Rattle.scad_func.specs.Steps.{all_values, suffix_value, link_value, with_parameters};
 ghost use Rattle.scad_definitions.specs.TextView.{function_of};
 ghost use Rattle.scad_func.specs.View.{MeetsOutcome, values_seen, indexed_val, HasIndexedValue, bound_argument_of, bound_arguments_in, arguments_of, function_size, greatest_depth};
-ghost use Rattle.scad_func.specs.Evaluations.{KeepsEvaluation, EvaluatesTo, numbered_env_here, setting_here};
+ghost use Rattle.scad_func.specs.Evaluations.{KeepsEvaluation, EvaluatesTo, numbered_env_here, expression_context_here};
 ghost use Rattle.scad_func.specs.Transitions.{EvaluatesParameters};
 
 use crate::{
@@ -28,7 +28,7 @@ use scad_value::{
 use std::mem;
 use text_place::{FaultKind, Place, Stop};
 
-/// The value of an expression in the scope in which is evaluated, whose parts are counted where it is a list.
+/// The value of an expression in the scope in which is evaluated, whose elements are counted where it is a list.
 ///
 /// At 512 evaluations in one another, each through many forms, it takes less than 4 MiB of the stack: 2.0 MiB were
 /// measured. No contract speaks of the stack.
@@ -36,7 +36,7 @@ use text_place::{FaultKind, Place, Stop};
 #[tactic(auto, using(crate::proofs::Kept::keeps_trans))]
 pub fn evaluate(evaluation: &mut Evaluation<'_, '_>, expr: &Expr) -> Result<BoundedValue, Stop>
     ensures { EvaluatesTo bounded_val evaluation.old evaluation.new result (λ here.
-        deeper_value here true (term_of expr.now)) }
+        value_at_next_depth here true (term_of expr.now)) }
 {
     let value = at_next_depth(evaluation, expr)?;
     count_elements(evaluation, value, expr.place())
@@ -46,7 +46,7 @@ pub fn evaluate(evaluation: &mut Evaluation<'_, '_>, expr: &Expr) -> Result<Boun
 #[cycle(value)]
 fn at_next_depth(evaluation: &mut Evaluation<'_, '_>, expr: &Expr) -> Result<BoundedValue, Stop>
     ensures { EvaluatesTo bounded_val evaluation.old evaluation.new result (λ here.
-        deeper_value here false (term_of expr.now)) }
+        value_at_next_depth here false (term_of expr.now)) }
 {
     if evaluation.depth == EVALUATIONS {
         return Err(FaultKind::TooDeep.at(expr.place()));
@@ -103,7 +103,7 @@ fn list(
 ) -> Result<BoundedValue, Stop>
     ensures { EvaluatesTo bounded_val evaluation.old evaluation.new result (λ here turns.
         then_with (each_value here (terms_from (terms_of items.now)) turns) (λ turns vs.
-        answer_at (value_or_long_list (Ok (ListVal vs))) place turns)) }
+        outcome_of_answer (value_or_long_list (Ok (ListVal vs))) place turns)) }
 {
     let values = each_value(evaluation, items)?;
     list_value(values, place)
@@ -120,8 +120,8 @@ fn unary(
     place: Place,
 ) -> Result<BoundedValue, Stop>
     ensures { EvaluatesTo bounded_val evaluation.old evaluation.new result (λ here turns.
-        then_with (deeper_value here false (term_of of.now) turns) (λ turns v.
-        answer_at (unary_of op v) place turns)) }
+        then_with (value_at_next_depth here false (term_of of.now) turns) (λ turns v.
+        outcome_of_answer (unary_of op v) place turns)) }
 {
     let value = at_next_depth(evaluation, of)?;
     unary_value(evaluation.alloc, op, value, place)
@@ -154,9 +154,9 @@ fn range(
     place: Place,
 ) -> Result<BoundedValue, Stop>
     ensures { EvaluatesTo bounded_val evaluation.old evaluation.new result (λ here turns.
-        then_with (deeper_value here true (term_of from.now) turns) (λ turns a.
-        then_with (deeper_value here true (term_of upto.now) turns) (λ turns b.
-        answer_at (range_of a b) place turns))) }
+        then_with (value_at_next_depth here true (term_of from.now) turns) (λ turns a.
+        then_with (value_at_next_depth here true (term_of upto.now) turns) (λ turns b.
+        outcome_of_answer (range_of a b) place turns))) }
 {
     let first = evaluate(evaluation, from)?;
     let next = evaluate(evaluation, upto);
@@ -176,10 +176,10 @@ fn stepped_range(
     place: Place,
 ) -> Result<BoundedValue, Stop>
     ensures { EvaluatesTo bounded_val evaluation.old evaluation.new result (λ here turns.
-        then_with (deeper_value here true (term_of from.now) turns) (λ turns a.
-        then_with (deeper_value here true (term_of by.now) turns) (λ turns s.
-        then_with (deeper_value here true (term_of upto.now) turns) (λ turns b.
-        answer_at (stepped_range_of a s b) place turns)))) }
+        then_with (value_at_next_depth here true (term_of from.now) turns) (λ turns a.
+        then_with (value_at_next_depth here true (term_of by.now) turns) (λ turns s.
+        then_with (value_at_next_depth here true (term_of upto.now) turns) (λ turns b.
+        outcome_of_answer (stepped_range_of a s b) place turns)))) }
 {
     let a = evaluate(evaluation, from)?;
     let second = evaluate(evaluation, by);
@@ -324,7 +324,8 @@ fn choice(
 ) -> Result<BoundedValue, Stop>
     ensures { EvaluatesTo bounded_val evaluation.old evaluation.new result (λ here turns.
         then_with (value_here here (term_of test.now) turns) (λ turns v.
-        deeper_value here true (if truth_of v then term_of yes.now else term_of no.now) turns)) }
+        value_at_next_depth here true (if truth_of v then term_of yes.now else term_of no.now)
+        turns)) }
 {
     let value = operand(evaluation, test)?;
     if is_true(value) {
@@ -407,7 +408,7 @@ fn function_call(
         evaluation.old.source.now.blocks.functions.items }
     requires count { length given.bound.items ≡ length function.params.now.items.items }
     ensures { EvaluatesTo bounded_val evaluation.old evaluation.new result (λ here.
-        function_called here place (function_of function.entry) (arguments_of given.entry)) }
+        function_call_value here place (function_of function.entry) (arguments_of given.entry)) }
 {
     let begun = evaluation.begin_counted_call(place);
     let (given, ()) = with(given, begun)?;
@@ -487,7 +488,7 @@ pub(crate) fn parameters(
 ) -> Result<BoundedValues, Stop>
     requires { length bound.items ≡ length params.now.items.items }
     ensures { EvaluatesParameters evaluation.old evaluation.new result
-        (setting_here evaluation.old) params.now bound.items }
+        (expression_context_here evaluation.old) params.now bound.items }
 {
     let mut open = bound;
     let mut values = BoundedValues::new(evaluation.alloc);
@@ -539,7 +540,7 @@ fn each_positional(evaluation: &mut Evaluation<'_, '_>, args: &Args) -> Result<B
     Ok(values)
 }
 
-// A value whose parts are counted as turns, where it is a list. TooManyTurns where they are
+// A value whose elements are counted as turns, where it is a list. TooManyTurns where they are
 // too many.
 fn count_elements(
     evaluation: &mut Evaluation<'_, '_>,

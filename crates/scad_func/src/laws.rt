@@ -3,10 +3,10 @@ ghost use Rattle.scad_ast.specs.Terms.{StatementTerm, ArgTerm, args_from};
 ghost use Rattle.scad_value.specs.Values.{Vals};
 ghost use Rattle.scad_definitions.specs.Arguments.{match_arguments, no_arguments_of};
 ghost use Rattle.scad_definitions.specs.Blocks.{block_table};
-ghost use Rattle.scad_func.specs.Meaning.{Env, Activation, Setting, Gives, Arguments, entered_scope, each_value, each_argument};
+ghost use Rattle.scad_func.specs.Meaning.{Env, Activation, ExpressionContext, Gives, Arguments, entered_scope, each_value, each_argument};
 ghost use Rattle.scad_func.specs.Definitions.{statements_at, block_scope};
 ghost use Rattle.scad_func.specs.Steps.{all_values};
-ghost use Rattle.scad_func.specs.View.{matched_with};
+ghost use Rattle.scad_func.specs.View.{outcome_of_matching};
 
 /// The law that the scope of a block of a program, by the numbers of its definitions, is that of the
 /// statements that stand in the block.
@@ -19,16 +19,16 @@ pub fn enter_what_stands()
 /// The law that arguments are evaluated as `arguments` of `scad_scope` matches them: where those of a call give values, each of
 /// them gave one; and where each gives one, what takes an argument has its value, or the first that nothing takes is the fault.
 pub fn arguments_are_evaluated_as_matched()
-    ensures values { (here : Setting) (names : List (List ℕ)) (args : List ArgTerm)
+    ensures values { (here : ExpressionContext) (names : List (List ℕ)) (args : List ArgTerm)
         (turns after : ℕ) (given : Arguments) →
         each_argument here names 0 (args_from args) (no_arguments_of (length names)) turns
         ≡ Gives after given →
         (values : Vals) × (each_value here (all_values (args_from args)) turns
         ≡ Gives after values) }
-    ensures matched { (here : Setting) (names : List (List ℕ)) (args : List ArgTerm)
+    ensures matched { (here : ExpressionContext) (names : List (List ℕ)) (args : List ArgTerm)
         (turns after : ℕ) (values : Vals) →
         each_value here (all_values (args_from args)) turns ≡ Gives after values →
         each_argument here names 0 (args_from args) (no_arguments_of (length names)) turns
-        ≡ matched_with values after
+        ≡ outcome_of_matching values after
         (match_arguments names 0 0 args (no_arguments_of (length names))) }
 {}

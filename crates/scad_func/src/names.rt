@@ -8,11 +8,11 @@ ghost use Rattle.scad_value.specs.Answers.{member_of};
 ghost use Rattle.scad_value.specs.AnswerView.{MeetsAnswerAt};
 ghost use Rattle.text_place.specs.declared.fault.FaultKind.TheVariants.{UnknownName, NotInProfile};
 ghost use Rattle.scad_definitions.specs.ArgumentsView.{IsFaultAt};
-ghost use Rattle.scad_func.specs.Meaning.{or_zero, or_fault, answer_at, Gives};
+ghost use Rattle.scad_func.specs.Meaning.{or_zero, or_fault, outcome_of_answer, Gives};
 ghost use Rattle.scad_func.specs.View.{MeetsOutcome, indexed_val, HasIndexedValue};
 ghost use Rattle.scad_func.specs.Evaluations.{numbered_env_here};
 
-// A value is lent where something can still fail, as in the operators of `scad_answer`.
+// A value is lent where something can still fail, as in the operators of `scad_value`.
 
 use crate::evaluation::Evaluation;
 use scad_ast::Link;
@@ -42,7 +42,8 @@ impl Evaluation<'_, '_> {
         ensures { (turns : ℕ)
             → MeetsOutcome bounded_val result turns
             (or_fault (variable_in (numbered_env_here self.now) name.now) UnknownName at
-            (λ w. answer_at (binary_of part.now.op (bounded_val left) w) part.now.place turns)) }
+            (λ w. outcome_of_answer (binary_of part.now.op
+            (bounded_val left) w) part.now.place turns)) }
     {
         self.binary_with_lent(&left, part, name, at)
     }
@@ -57,7 +58,7 @@ impl Evaluation<'_, '_> {
         ensures { (turns : ℕ)
             → MeetsOutcome bounded_val result turns
             (or_fault (variable_in (numbered_env_here self.now) name.now) UnknownName at
-            (λ w. answer_at (binary_of part.now.op (bounded_val left.now) w) part.now.place
+            (λ w. outcome_of_answer (binary_of part.now.op (bounded_val left.now) w) part.now.place
             turns)) }
     {
         match self.variable(name.items(), at) {
@@ -183,7 +184,7 @@ impl Evaluation<'_, '_> {
         ensures { (turns : ℕ)
             → MeetsOutcome bounded_val result turns
             (or_fault (member_of name.now) NotInProfile name_place
-            (λ n. answer_at (index_of (indexed_val (numbered_env_here self.now) of.entry)
+            (λ n. outcome_of_answer (index_of (indexed_val (numbered_env_here self.now) of.entry)
             (NumberVal n)) place turns)) }
     {
         match member_of(name.items()) {

@@ -1,7 +1,7 @@
 //! What a caller evaluates in another scope.
 
 ghost use Rattle.std.specs.Prelude.{◌≡◌, ◌<◌, length};
-ghost use Rattle.scad_func.specs.Evaluations.{scopes_there, setting_in};
+ghost use Rattle.scad_func.specs.Evaluations.{scopes_there, expression_context_in};
 ghost use Rattle.scad_func.specs.Transitions.{EvaluatesParameters};
 
 use crate::evaluator::parameters;
@@ -20,7 +20,7 @@ pub fn parameters_in(
     requires scope { scope < scopes_there evaluation.old }
     requires count { length bound.items ≡ length params.now.items.items }
     ensures { EvaluatesParameters evaluation.old evaluation.new result
-        (setting_in evaluation.old scope) params.now bound.items }
+        (expression_context_in evaluation.old scope) params.now bound.items }
 {
     let before = evaluation.scope;
     evaluation.scope = scope;

@@ -4,8 +4,8 @@ ghost use Rattle.scad_value.specs.BoundedView.{bounded_val};
 ghost use Rattle.scad_definitions.specs.Arguments.{parameter_names};
 ghost use Rattle.scad_scope.specs.Table.{rows_of, bindings_of};
 ghost use Rattle.scad_definitions.specs.Blocks.{assignments_of};
-ghost use Rattle.scad_definitions.specs.TextView.{assigned_of};
-ghost use Rattle.scad_func.specs.Meaning.{Within, activation_in, no_activation, activation, with_value, with_values};
+ghost use Rattle.scad_definitions.specs.TextView.{source_assignment_of};
+ghost use Rattle.scad_func.specs.Meaning.{InnerScope, activation_in, no_activation, activation, with_value, with_values};
 ghost use Rattle.scad_func.specs.View.{IsActivationFound, IsNoMemory, bindings_in, values_seen, env_seen, table_in};
 ghost use Rattle.scad_func.specs.Definitions.{statements_at, block_scope, IsWholeTable};
 ghost use Rattle.scad_func.specs.Evaluations.{KeepsEvaluation, scopes_there, env_here};
@@ -26,7 +26,7 @@ impl<'a> Evaluation<'a, '_> {
     /// none.
     pub fn assignments(&self, block: u32) -> &'a [Assignment<'a>]
         ensures { IsWholeTable (table_in self.now.source.now) →
-            map assigned_of result.now
+            map source_assignment_of result.now
             ≡ assignments_of (statements_at (table_in self.now.source.now) block) }
     {
         let blocks = &self.source.blocks;
@@ -54,7 +54,7 @@ impl<'a> Evaluation<'a, '_> {
     /// which a loop binds a variable. `NoMemory` leaves all as it was.
     pub fn enter_empty(&mut self) -> Result<u32, NoMemory>
         ensures { EntersScope self.old self.new result
-            (Within [] [] [] no_activation (env_here self.old)) }
+            (InnerScope [] [] [] no_activation (env_here self.old)) }
     {
         let before = self.scope;
         self.scope = self.scopes.enter_empty(self.alloc, before)?;

@@ -17,7 +17,7 @@ use text_place::Stop;
 
 /// The value of an expression in a scope, with the special names of the dynamic bindings, or its first fault.
 /// After Ok the meter's turns have grown by those that were counted, and after a fault too they are
-/// within their limit; the meter's calls and depth, scopes and chain are always as before. TooDeep
+/// within their limit; the meter's calls and depth, the scopes and the bindings are always as before. TooDeep
 /// comes at the 65th call and at the 513th evaluation in one another, TooManyTurns at turn 100,001.
 ///
 /// `evaluate` says how much of the stack it takes.

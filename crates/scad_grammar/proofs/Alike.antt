@@ -6,11 +6,11 @@ use Rattle.scad_grammar.specs.declared.SyntaxFault.{SyntaxFault}
 use Rattle.scad_grammar.specs.declared.SyntaxFault.TheVariants.{Nested}
 use Rattle.scad_grammar.specs.Classes.{or_sign, and_sign, equal_sign, not_equal_sign, less_sign, less_equal_sign, greater_sign, greater_equal_sign, times_sign, divide_sign, remainder_sign, numeral_class, text_class, true_word, false_word, undef_word, child_count_class, special_class, argument_names, name_class, end_class, if_word, else_word, for_word, module_word, function_word, open_parenthesis_sign, close_parenthesis_sign, open_bracket_sign, close_bracket_sign, open_brace_sign, close_brace_sign, comma_sign, semicolon_sign, assign_sign, colon_sign, question_sign, dot_sign, minus_sign, plus_sign, not_sign, has_class_in, has_class, has_class_outside, token_class, numeral_value, bytes_of}
 use Rattle.scad_grammar.specs.Languages.{first_of, second_of, pair_of, cons}
-use Rattle.scad_grammar.specs.Grammar.{Rest, items, link, chain_term, unary_term, postfix_term, index_term, member_term, levels, choice_term, name_term, paren_term, bracket_term, range_rest, binder_term, param_term, modifier_term, if_term, loop_term, call_term, instance_term, block_term, bare_block_term, special_assignment_term, module_term, function_term}
-use Rattle.scad_grammar.specs.Reading.{Read, image_read, nothing, both, choice, maybe, two_ahead, many, trailing_items}
-use Rattle.scad_grammar.specs.Faults.{TokenReader, one, first}
-use Rattle.scad_grammar.specs.Reads.{suffix_read, postfix_read, unary_read, chain_read, argument_given, arg_read, args_read, in_parentheses, range_read, rest_read, bracket_read, name_read, paren_read, primary_read, choice_read}
-use Rattle.scad_grammar.specs.StatementReads.{modifier_signs, loop_words, firsts_of_statement, param_read, binder_read, params_read, binders_read, if_read, call_read, modifiers_read, braces_read, body_over, ended_read, function_read, definition_read, assignment_behind, special_read, statement_over}
+use Rattle.scad_grammar.specs.Grammar.{Rest, items, link_term, chain_term, unary_term, postfix_term, index_term, member_term, levels, choice_term, name_term, paren_term, bracket_term, range_rest, binder_term, param_term, modifier_term, if_term, loop_term, call_term, instance_term, block_term, bare_block_term, special_assignment_term, module_term, function_term}
+use Rattle.scad_grammar.specs.Reading.{Read, image_read, empty_read, sequence_read, alternative_read, optional_read, two_ahead, repeated_read, trailing_items}
+use Rattle.scad_grammar.specs.Faults.{TokenReader, token_read, first_token_read}
+use Rattle.scad_grammar.specs.Reads.{suffix_read, postfix_read, unary_read, chain_read, argument_of_tokens, arg_read, args_read, in_parentheses, range_read, rest_read, bracket_read, name_read, paren_read, primary_read, choice_read}
+use Rattle.scad_grammar.specs.StatementReads.{modifier_signs, loop_words, firsts_of_statement, param_read, binder_read, params_read, binders_read, if_read, call_read, modifiers_read, braces_read, body_over, ended_read, function_read, definition_read, assignment_of_tokens, special_read, statement_over}
 use Rattle.scad_grammar.proofs.Ahead.{rest_of}
 use Rattle.scad_grammar.proofs.Tests.{apart, classes_apart, classes_within}
 use Rattle.scad_grammar.proofs.Cores.{loop_over, core_over, instance_over}
@@ -40,15 +40,15 @@ Takes test r = (t : Token) (more : List Token) → has_class_in words t ≡ true
 
 -- Each way of building a reader keeps the law R. T is what is asked for where a choice goes by a word of a statement.
 pub record Keeps (R : (A : Type 0) → TokenReader A → TokenReader A → Type 0) (T : (A : Type 0) → List ℕ → TokenReader A → Type 0) : Type 1 where
-  pub nothing_keeps : {A : Type 0} (a : A) → R A (nothing a) (nothing a)
-  pub one_keeps : (cs : List ℕ) → apart (numeral_class ∷ end_class ∷ []) cs ≡ true → R Token (one (has_class_in cs)) (one (has_class_in cs))
+  pub nothing_keeps : {A : Type 0} (a : A) → R A (empty_read a) (empty_read a)
+  pub one_keeps : (cs : List ℕ) → apart (numeral_class ∷ end_class ∷ []) cs ≡ true → R Token (token_read (has_class_in cs)) (token_read (has_class_in cs))
   pub mapped_keeps : {A B : Type 0} (f : A → B) (r q : TokenReader A) → R A r q → R B (image_read f r) (image_read f q)
-  pub both_keeps : {A B C : Type 0} (f : A → B → C) (r q : TokenReader A) (s p : TokenReader B) → R A r q → R B s p → R C (both f r s) (both f q p)
-  pub choice_keeps : {A : Type 0} (test : Token → Bool) (r q s p : TokenReader A) → Steady test → R A r q → R A s p → R A (choice test r s) (choice test q p)
-  pub taken_keeps : {A : Type 0} (cs : List ℕ) (r q s p : TokenReader A) → apart (numeral_class ∷ []) cs ≡ true → T A cs r → R A r q → R A s p → R A (choice (has_class_in cs) r s) (choice (has_class_in cs) q p)
+  pub both_keeps : {A B C : Type 0} (f : A → B → C) (r q : TokenReader A) (s p : TokenReader B) → R A r q → R B s p → R C (sequence_read f r s) (sequence_read f q p)
+  pub choice_keeps : {A : Type 0} (test : Token → Bool) (r q s p : TokenReader A) → Steady test → R A r q → R A s p → R A (alternative_read test r s) (alternative_read test q p)
+  pub taken_keeps : {A : Type 0} (cs : List ℕ) (r q s p : TokenReader A) → apart (numeral_class ∷ []) cs ≡ true → T A cs r → R A r q → R A s p → R A (alternative_read (has_class_in cs) r s) (alternative_read (has_class_in cs) q p)
   pub ahead_keeps : {A C : Type 0} (f : Token → Token → A → C) (cs : List ℕ) (r q : TokenReader A) (s p : TokenReader C) → apart (numeral_class ∷ end_class ∷ []) cs ≡ true → apart (numeral_class ∷ words) cs ≡ true → R A r q → R C s p → R C (two_ahead f (has_class_in cs) (has_class assign_sign) r s) (two_ahead f (has_class_in cs) (has_class assign_sign) q p)
-  pub many_keeps : {A : Type 0} (test : Token → Bool) (r q : TokenReader A) → Steady test → R A r q → R (List A) (many test r) (many test q)
-  pub many_taken_keeps : {A : Type 0} (cs : List ℕ) (r q : TokenReader A) → apart (numeral_class ∷ []) cs ≡ true → T A cs r → R A r q → R (List A) (many (has_class_in cs) r) (many (has_class_in cs) q)
+  pub many_keeps : {A : Type 0} (test : Token → Bool) (r q : TokenReader A) → Steady test → R A r q → R (List A) (repeated_read test r) (repeated_read test q)
+  pub many_taken_keeps : {A : Type 0} (cs : List ℕ) (r q : TokenReader A) → apart (numeral_class ∷ []) cs ≡ true → T A cs r → R A r q → R (List A) (repeated_read (has_class_in cs) r) (repeated_read (has_class_in cs) q)
   pub trailing_keeps : {A : Type 0} (go : Token → Bool) (r q : TokenReader A) → Steady go → R A r q → R (List A) (trailing_items (has_class comma_sign) go r) (trailing_items (has_class comma_sign) go q)
 
 -- nothing is asked for
@@ -56,26 +56,26 @@ abbrev pub Free : (A : Type 0) → List ℕ → TokenReader A → Type 0
 Free A cs r = Unit {0}
 
 module _ (R : (A : Type 0) → TokenReader A → TokenReader A → Type 0) (T : (A : Type 0) → List ℕ → TokenReader A → Type 0) (k : Keeps R T) where
-  maybe_keeps : {A : Type 0} (test : Token → Bool) (r q : TokenReader A) → Steady test → R A r q → R (Option A) (maybe test r) (maybe test q)
-  maybe_keeps test r q e h = k.choice_keeps test (image_read Some r) (image_read Some q) (nothing None) (nothing None) e (k.mapped_keeps Some r q h) (k.nothing_keeps None)
+  maybe_keeps : {A : Type 0} (test : Token → Bool) (r q : TokenReader A) → Steady test → R A r q → R (Option A) (optional_read test r) (optional_read test q)
+  maybe_keeps test r q e h = k.choice_keeps test (image_read Some r) (image_read Some q) (empty_read None) (empty_read None) e (k.mapped_keeps Some r q h) (k.nothing_keeps None)
 
   -- a token of some classes before something, and behind it
-  behind_keeps : {A B : Type 0} (f : Token → A → B) (cs : List ℕ) (r q : TokenReader A) → apart (numeral_class ∷ end_class ∷ []) cs ≡ true → R A r q → R B (both f (one (has_class_in cs)) r) (both f (one (has_class_in cs)) q)
-  behind_keeps f cs r q e h = k.both_keeps f (one (has_class_in cs)) (one (has_class_in cs)) r q (k.one_keeps cs e) h
+  behind_keeps : {A B : Type 0} (f : Token → A → B) (cs : List ℕ) (r q : TokenReader A) → apart (numeral_class ∷ end_class ∷ []) cs ≡ true → R A r q → R B (sequence_read f (token_read (has_class_in cs)) r) (sequence_read f (token_read (has_class_in cs)) q)
+  behind_keeps f cs r q e h = k.both_keeps f (token_read (has_class_in cs)) (token_read (has_class_in cs)) r q (k.one_keeps cs e) h
 
-  before_keeps : {A : Type 0} (c : ℕ) (r q : TokenReader A) → apart (numeral_class ∷ end_class ∷ []) (c ∷ []) ≡ true → R A r q → R A (both first_of r (one (has_class c))) (both first_of q (one (has_class c)))
-  before_keeps c r q e h = k.both_keeps first_of r q (one (has_class c)) (one (has_class c)) h (k.one_keeps (c ∷ []) e)
+  before_keeps : {A : Type 0} (c : ℕ) (r q : TokenReader A) → apart (numeral_class ∷ end_class ∷ []) (c ∷ []) ≡ true → R A r q → R A (sequence_read first_of r (token_read (has_class c))) (sequence_read first_of q (token_read (has_class c)))
+  before_keeps c r q e h = k.both_keeps first_of r q (token_read (has_class c)) (token_read (has_class c)) h (k.one_keeps (c ∷ []) e)
 
   parentheses_keep : {A : Type 0} (r q : TokenReader A) → R A r q → R A (in_parentheses r) (in_parentheses q)
-  parentheses_keep r q h = behind_keeps second_of (open_parenthesis_sign ∷ []) (both first_of r (one (has_class close_parenthesis_sign))) (both first_of q (one (has_class close_parenthesis_sign))) refl (before_keeps close_parenthesis_sign r q refl h)
+  parentheses_keep r q h = behind_keeps second_of (open_parenthesis_sign ∷ []) (sequence_read first_of r (token_read (has_class close_parenthesis_sign))) (sequence_read first_of q (token_read (has_class close_parenthesis_sign))) refl (before_keeps close_parenthesis_sign r q refl h)
 
   pub args_keep : (a b : TokenReader ArgTerm) → R ArgTerm a b → R (List ArgTerm) (args_read a) (args_read b)
   args_keep a b ha =
-      k.choice_keeps (has_class_outside (close_parenthesis_sign ∷ [])) _ _ (nothing []) (nothing []) (steady_other (close_parenthesis_sign ∷ []) refl)
+      k.choice_keeps (has_class_outside (close_parenthesis_sign ∷ [])) _ _ (empty_read []) (empty_read []) (steady_other (close_parenthesis_sign ∷ []) refl)
       (k.both_keeps cons a b _ _ ha (k.trailing_keeps (has_class_outside (close_parenthesis_sign ∷ [])) a b (steady_other (close_parenthesis_sign ∷ []) refl) ha)) (k.nothing_keeps [])
 
   pub arg_keeps : (e f : TokenReader Term) → R Term e f → R ArgTerm (arg_read e) (arg_read f)
-  arg_keeps e f he = k.ahead_keeps argument_given argument_names e f (image_read PositionalTerm e) (image_read PositionalTerm f) refl refl he (k.mapped_keeps PositionalTerm e f he)
+  arg_keeps e f he = k.ahead_keeps argument_of_tokens argument_names e f (image_read PositionalTerm e) (image_read PositionalTerm f) refl refl he (k.mapped_keeps PositionalTerm e f he)
 
   pub param_keeps : (e f : TokenReader Term) → R Term e f → R ParamTerm (param_read e) (param_read f)
   param_keeps e f h = behind_keeps param_term (name_class ∷ []) _ _ refl (maybe_keeps (has_class assign_sign) _ _ (steady_among (assign_sign ∷ []) refl) (behind_keeps second_of (assign_sign ∷ []) e f refl h))
@@ -87,10 +87,10 @@ module _ (R : (A : Type 0) → TokenReader A → TokenReader A → Type 0) (T : 
   binders_keep n m h = k.both_keeps cons n m _ _ h (k.trailing_keeps (has_class name_class) n m (steady_among (name_class ∷ []) refl) h)
 
   pub params_keep : (n m : TokenReader ParamTerm) → R ParamTerm n m → R (List ParamTerm) (params_read n) (params_read m)
-  params_keep n m h = k.choice_keeps (has_class name_class) _ _ (nothing []) (nothing []) (steady_among (name_class ∷ []) refl) (k.both_keeps cons n m _ _ h (k.trailing_keeps (has_class name_class) n m (steady_among (name_class ∷ []) refl) h)) (k.nothing_keeps [])
+  params_keep n m h = k.choice_keeps (has_class name_class) _ _ (empty_read []) (empty_read []) (steady_among (name_class ∷ []) refl) (k.both_keeps cons n m _ _ h (k.trailing_keeps (has_class name_class) n m (steady_among (name_class ∷ []) refl) h)) (k.nothing_keeps [])
 
   module _ (e f : TokenReader Term) (he : R Term e f) where
-    behind_colon : R Term (both second_of (one (has_class colon_sign)) e) (both second_of (one (has_class colon_sign)) f)
+    behind_colon : R Term (sequence_read second_of (token_read (has_class colon_sign)) e) (sequence_read second_of (token_read (has_class colon_sign)) f)
     behind_colon = behind_keeps second_of (colon_sign ∷ []) e f refl he
 
     rest_keeps : R Rest (rest_read e) (rest_read f)
@@ -100,7 +100,7 @@ module _ (R : (A : Type 0) → TokenReader A → TokenReader A → Type 0) (T : 
         (k.mapped_keeps items _ _ (k.trailing_keeps (has_class_outside (close_bracket_sign ∷ [])) e f (steady_other (close_bracket_sign ∷ []) refl) he))
 
     -- what is behind the opening bracket
-    pub filled_keeps : R (Option (Term × Rest)) (both first_of (maybe (has_class_outside (close_bracket_sign ∷ [])) (both pair_of e (rest_read e))) (one (has_class close_bracket_sign))) (both first_of (maybe (has_class_outside (close_bracket_sign ∷ [])) (both pair_of f (rest_read f))) (one (has_class close_bracket_sign)))
+    pub filled_keeps : R (Option (Term × Rest)) (sequence_read first_of (optional_read (has_class_outside (close_bracket_sign ∷ [])) (sequence_read pair_of e (rest_read e))) (token_read (has_class close_bracket_sign))) (sequence_read first_of (optional_read (has_class_outside (close_bracket_sign ∷ [])) (sequence_read pair_of f (rest_read f))) (token_read (has_class close_bracket_sign)))
     filled_keeps =
         before_keeps close_bracket_sign _ _ refl
         (maybe_keeps (has_class_outside (close_bracket_sign ∷ [])) _ _ (steady_other (close_bracket_sign ∷ []) refl) (k.both_keeps pair_of e f (rest_read e) (rest_read f) he rest_keeps))
@@ -111,7 +111,7 @@ module _ (R : (A : Type 0) → TokenReader A → TokenReader A → Type 0) (T : 
     suffix_keeps : R SuffixTerm (suffix_read e) (suffix_read f)
     suffix_keeps =
         k.choice_keeps (has_class open_bracket_sign) _ _ _ _ (steady_among (open_bracket_sign ∷ []) refl) (behind_keeps index_term (open_bracket_sign ∷ []) _ _ refl (before_keeps close_bracket_sign e f refl he))
-        (behind_keeps member_term (dot_sign ∷ []) (one (has_class name_class)) (one (has_class name_class)) refl (k.one_keeps (name_class ∷ []) refl))
+        (behind_keeps member_term (dot_sign ∷ []) (token_read (has_class name_class)) (token_read (has_class name_class)) refl (k.one_keeps (name_class ∷ []) refl))
 
     -- u reads an operand, p a primary
     module _ (u v p q : TokenReader Term) (hu : R Term u v) (hp : R Term p q) where
@@ -120,8 +120,8 @@ module _ (R : (A : Type 0) → TokenReader A → TokenReader A → Type 0) (T : 
           k.choice_keeps (has_class_in (minus_sign ∷ plus_sign ∷ not_sign ∷ [])) _ _ (postfix_read e p) (postfix_read f q) (steady_among (minus_sign ∷ plus_sign ∷ not_sign ∷ []) refl) (behind_keeps unary_term (minus_sign ∷ plus_sign ∷ not_sign ∷ []) u v refl hu)
           (k.both_keeps postfix_term p q _ _ hp (k.many_keeps (has_class_in (open_bracket_sign ∷ dot_sign ∷ [])) (suffix_read e) (suffix_read f) (steady_among (open_bracket_sign ∷ dot_sign ∷ []) refl) suffix_keeps))
 
-      level_keeps : (ops : List ℕ) (r s : TokenReader Term) → apart (numeral_class ∷ end_class ∷ []) ops ≡ true → apart (numeral_class ∷ words) ops ≡ true → R Term r s → R Term (both chain_term r (many (has_class_in ops) (both link (one (has_class_in ops)) r))) (both chain_term s (many (has_class_in ops) (both link (one (has_class_in ops)) s)))
-      level_keeps ops r s a b h = k.both_keeps chain_term r s _ _ h (k.many_keeps (has_class_in ops) _ _ (steady_among ops b) (behind_keeps link ops r s a h))
+      level_keeps : (ops : List ℕ) (r s : TokenReader Term) → apart (numeral_class ∷ end_class ∷ []) ops ≡ true → apart (numeral_class ∷ words) ops ≡ true → R Term r s → R Term (sequence_read chain_term r (repeated_read (has_class_in ops) (sequence_read link_term (token_read (has_class_in ops)) r))) (sequence_read chain_term s (repeated_read (has_class_in ops) (sequence_read link_term (token_read (has_class_in ops)) s)))
+      level_keeps ops r s a b h = k.both_keeps chain_term r s _ _ h (k.many_keeps (has_class_in ops) _ _ (steady_among ops b) (behind_keeps link_term ops r s a h))
 
       pub chain_keeps : R Term (chain_read levels (unary_read e u p)) (chain_read levels (unary_read f v q))
       chain_keeps =
@@ -141,8 +141,8 @@ module _ (R : (A : Type 0) → TokenReader A → TokenReader A → Type 0) (T : 
   named_keeps a b h = behind_keeps name_term (name_class ∷ []) _ _ refl (maybe_keeps (has_class open_parenthesis_sign) _ _ (steady_among (open_parenthesis_sign ∷ []) refl) (parentheses_keep (args_read a) (args_read b) (args_keep a b h)))
 
   -- a primary, where the law holds of single tokens and of the bracket of a list
-  module _ (single : (c : ℕ) (f : Token → Term) → apart (end_class ∷ []) (c ∷ []) ≡ true → R Term (image_read f (one (has_class c))) (image_read f (one (has_class c)))) (bracket : R Token (first (has_class open_bracket_sign)) (first (has_class open_bracket_sign)))
-      (by_numeral : (r q s p : TokenReader Term) → R Term r q → R Term s p → R Term (choice (has_class numeral_class) r s) (choice (has_class numeral_class) q p)) where
+  module _ (single : (c : ℕ) (f : Token → Term) → apart (end_class ∷ []) (c ∷ []) ≡ true → R Term (image_read f (token_read (has_class c))) (image_read f (token_read (has_class c)))) (bracket : R Token (first_token_read (has_class open_bracket_sign)) (first_token_read (has_class open_bracket_sign)))
+      (by_numeral : (r q s p : TokenReader Term) → R Term r q → R Term s p → R Term (alternative_read (has_class numeral_class) r s) (alternative_read (has_class numeral_class) q p)) where
     pub primary_keeps : (e f : TokenReader Term) (a b : TokenReader ArgTerm) → R Term e f → R ArgTerm a b → R Term (primary_read e a) (primary_read f b)
     primary_keeps e f a b he ha =
         by_numeral _ _ _ _ (single numeral_class (λ t. NumberTerm t.place (numeral_value t.kind)) refl)
@@ -154,15 +154,15 @@ module _ (R : (A : Type 0) → TokenReader A → TokenReader A → Type 0) (T : 
         (k.choice_keeps (has_class special_class) _ _ _ _ (steady_among (special_class ∷ []) refl) (single special_class (λ t. SpecialTerm t.place (bytes_of t.kind)) refl)
         (k.choice_keeps (has_class name_class) (name_read a) (name_read b) _ _ (steady_among (name_class ∷ []) refl) (named_keeps a b ha)
         (k.choice_keeps (has_class open_parenthesis_sign) (paren_read e) (paren_read f) (bracket_read e) (bracket_read f) (steady_among (open_parenthesis_sign ∷ []) refl) (paren_keeps e f he)
-        (k.both_keeps bracket_term (first (has_class open_bracket_sign)) (first (has_class open_bracket_sign)) _ _ bracket (filled_keeps e f he))))))))))
+        (k.both_keeps bracket_term (first_token_read (has_class open_bracket_sign)) (first_token_read (has_class open_bracket_sign)) _ _ bracket (filled_keeps e f he))))))))))
 
   pub marks_keep : R (List ModifierTerm) modifiers_read modifiers_read
-  marks_keep = k.many_keeps (has_class_in modifier_signs) _ _ (steady_among modifier_signs refl) (k.mapped_keeps modifier_term (one (has_class_in modifier_signs)) (one (has_class_in modifier_signs)) (k.one_keeps modifier_signs refl))
+  marks_keep = k.many_keeps (has_class_in modifier_signs) _ _ (steady_among modifier_signs refl) (k.mapped_keeps modifier_term (token_read (has_class_in modifier_signs)) (token_read (has_class_in modifier_signs)) (k.one_keeps modifier_signs refl))
 
   -- over what reads the variables of a loop, and a body
   module _ (e f : TokenReader Term) (a c : TokenReader ArgTerm) (ns ms : TokenReader (List BinderTerm)) (b w : TokenReader BodyTerm) (he : R Term e f) (ha : R ArgTerm a c) (hn : R (List BinderTerm) ns ms) (hb : R BodyTerm b w)
       (if_taken : T CoreTerm (if_word ∷ []) (if_read e b)) (loop_taken : T CoreTerm loop_words (loop_over ns b)) where
-    headed_keeps : {A : Type 0} (r q : TokenReader A) → R A r q → R (A × BodyTerm) (both pair_of (in_parentheses r) b) (both pair_of (in_parentheses q) w)
+    headed_keeps : {A : Type 0} (r q : TokenReader A) → R A r q → R (A × BodyTerm) (sequence_read pair_of (in_parentheses r) b) (sequence_read pair_of (in_parentheses q) w)
     headed_keeps r q h = k.both_keeps pair_of (in_parentheses r) (in_parentheses q) b w (parentheses_keep r q h) hb
 
     if_keeps : R CoreTerm (if_read e b) (if_read f w)
@@ -180,7 +180,7 @@ module _ (R : (A : Type 0) → TokenReader A → TokenReader A → Type 0) (T : 
     instance_keeps = k.both_keeps instance_term modifiers_read modifiers_read _ _ marks_keep core_keeps
 
   -- over a list of statements, and an instance
-  module _ (s t : TokenReader StatementTerm) (i j : TokenReader InstanceTerm) (hs : R (List StatementTerm) (many (has_class_in firsts_of_statement) s) (many (has_class_in firsts_of_statement) t)) (hi : R InstanceTerm i j) where
+  module _ (s t : TokenReader StatementTerm) (i j : TokenReader InstanceTerm) (hs : R (List StatementTerm) (repeated_read (has_class_in firsts_of_statement) s) (repeated_read (has_class_in firsts_of_statement) t)) (hi : R InstanceTerm i j) where
     braces_keep : R (List StatementTerm) (braces_read s) (braces_read t)
     braces_keep = before_keeps close_brace_sign _ _ refl hs
 
@@ -208,4 +208,4 @@ module _ (R : (A : Type 0) → TokenReader A → TokenReader A → Type 0) (T : 
           (k.choice_keeps (has_class open_brace_sign) _ _ _ _ (steady_among (open_brace_sign ∷ []) refl) (behind_keeps bare_block_term (open_brace_sign ∷ []) (braces_read s) (braces_read t) refl braces_keep)
           (k.choice_keeps (has_class special_class) (special_read x) (special_read y) _ _ (steady_among (special_class ∷ []) refl)
           (behind_keeps special_assignment_term (special_class ∷ []) _ _ refl (behind_keeps second_of (assign_sign ∷ []) (ended_read x) (ended_read y) refl ended_keeps))
-          (k.ahead_keeps assignment_behind (name_class ∷ []) (ended_read x) (ended_read y) _ _ refl refl ended_keeps definition_keeps)))
+          (k.ahead_keeps assignment_of_tokens (name_class ∷ []) (ended_read x) (ended_read y) _ _ refl refl ended_keeps definition_keeps)))

@@ -6,10 +6,10 @@ use Rattle.scad_lexer.specs.declared.token.Reserved.TheVariants.{If, Else, For}
 use Rattle.scad_lexer.specs.declared.token.Symbol.TheVariants.{OpenParenthesis, CloseParenthesis, Assign, Times}
 use Rattle.scad_ast.specs.Terms.{Term, ArgTerm, ParamTerm, BinderTerm, ModifierTerm, InstanceStatement, InstanceTerm, CoreTerm, ForTerm, IntersectionForTerm, BodyTerm}
 use Rattle.scad_grammar.specs.Classes.{name_class, if_word, else_word, for_word, intersection_for_word, open_parenthesis_sign, close_parenthesis_sign, comma_sign, assign_sign, has_class_in, has_class, has_class_outside}
-use Rattle.scad_grammar.specs.Languages.{Language, One, ImageOf, Both, BothIf, EitherOf, Nothing, Many, Maybe, AfterToken, SeparatedList, first_of, second_of, pair_of, cons}
+use Rattle.scad_grammar.specs.Languages.{Language, SingleToken, ImageOf, Concatenation, ConcatenationIf, Alternation, EmptySequence, Repetition, OptionalSequence, AfterToken, SeparatedList, first_of, second_of, pair_of, cons}
 use Rattle.scad_grammar.specs.Grammar.{InParentheses, Param, Params, Binder, Binders, CoreOf, Instance, binder_term, param_term, modifier_term, if_term, loop_term, call_term, instance_term, IsNearest, ends_open, instance_open, core_open}
-use Rattle.scad_grammar.specs.Reading.{Read, then_read, next_is, image_read, nothing, both, choice, maybe, trailing_items}
-use Rattle.scad_grammar.specs.Faults.{TokenReader, one, fault_of, left_out_classes}
+use Rattle.scad_grammar.specs.Reading.{Read, then_read, next_is, image_read, empty_read, sequence_read, alternative_read, optional_read, trailing_items}
+use Rattle.scad_grammar.specs.Faults.{TokenReader, token_read, fault_of, left_out_classes}
 use Rattle.scad_grammar.specs.Reads.{in_parentheses, args_read}
 use Rattle.scad_grammar.specs.StatementReads.{modifier_signs, loop_words, firsts_of_core, firsts_of_instance, param_read, binder_read, params_read, binders_read, if_read, call_read, modifiers_read, instance_read}
 use Rattle.scad_grammar.proofs.Readers.{IsReader, Opens, both_reads, choice_reads, mapped_reads, many_reads, nothing_reads, both_opens, either_opens, mapped_opens, one_opens, never_starts}
@@ -62,32 +62,32 @@ pub not_else : (v : Bool) (cs : List ℕ) → apart cs (else_word ∷ []) ≡ tr
 not_else v cs a l e = open_less v l (next_apart cs (else_word ∷ []) a l e)
 
 -- something behind a token
-behind_reads : (e : TokenReader Term) (E F : Language Term) (more : List ℕ) (test : Token → Bool) → OneReads test → IsReader e E F (λ x. has_class_in more) → Some_of F → IsReader (both second_of (one test) e) (AfterToken test E) (AfterToken test F) (λ x. has_class_in more)
+behind_reads : (e : TokenReader Term) (E F : Language Term) (more : List ℕ) (test : Token → Bool) → OneReads test → IsReader e E F (λ x. has_class_in more) → Some_of F → IsReader (sequence_read second_of (token_read test) e) (AfterToken test E) (AfterToken test F) (λ x. has_class_in more)
 behind_reads e E F more test it ie some = then e E F test (λ x. has_class_in more) (λ x. has_class_in more) second_of it ie some (λ t y rest h. h)
 
 module _ (e : TokenReader Term) (E F : Language Term) (ie : IsReader e E F (λ x. has_class_in expression_more)) (some_e : Some_of F) where
   pub param_reads : IsReader (param_read e) (Param E) (Param F) (λ x. has_class_in arg_more)
   param_reads =
-      then (maybe (has_class assign_sign) (both second_of (one (has_class assign_sign)) e)) (Maybe (AfterToken (has_class assign_sign) E)) (Maybe (AfterToken (has_class assign_sign) F)) (has_class name_class) (or_first (has_class assign_sign) (λ x. has_class_in expression_more)) (λ x. has_class_in arg_more) param_term name_one
-      (maybe_reads (has_class assign_sign) (both second_of (one (has_class assign_sign)) e) (AfterToken (has_class assign_sign) E) (AfterToken (has_class assign_sign) F) (λ x. has_class_in expression_more) (behind_reads e E F expression_more (has_class assign_sign) assign_one ie some_e)
-      (both_opens second_of (One (has_class assign_sign)) E (has_class assign_sign) (one_opens (has_class assign_sign))))
+      then (optional_read (has_class assign_sign) (sequence_read second_of (token_read (has_class assign_sign)) e)) (OptionalSequence (AfterToken (has_class assign_sign) E)) (OptionalSequence (AfterToken (has_class assign_sign) F)) (has_class name_class) (or_first (has_class assign_sign) (λ x. has_class_in expression_more)) (λ x. has_class_in arg_more) param_term name_one
+      (maybe_reads (has_class assign_sign) (sequence_read second_of (token_read (has_class assign_sign)) e) (AfterToken (has_class assign_sign) E) (AfterToken (has_class assign_sign) F) (λ x. has_class_in expression_more) (behind_reads e E F expression_more (has_class assign_sign) assign_one ie some_e)
+      (both_opens second_of (SingleToken (has_class assign_sign)) E (has_class assign_sign) (one_opens (has_class assign_sign))))
       ([], None, refl)
       (λ t y rest h. maybe_ends (has_class assign_sign) (λ x. has_class_in expression_more) y rest (next_less (assign_sign ∷ []) arg_more refl rest h) (λ y. next_less expression_more arg_more refl rest h))
 
   pub binder_reads : IsReader (binder_read e) (Binder E) (Binder F) (λ x. has_class_in expression_more)
   binder_reads =
-      then (both second_of (one (has_class assign_sign)) e) (AfterToken (has_class assign_sign) E) (AfterToken (has_class assign_sign) F) (has_class name_class) (λ x. has_class_in expression_more) (λ x. has_class_in expression_more) binder_term name_one (behind_reads e E F expression_more (has_class assign_sign) assign_one ie some_e)
+      then (sequence_read second_of (token_read (has_class assign_sign)) e) (AfterToken (has_class assign_sign) E) (AfterToken (has_class assign_sign) F) (has_class name_class) (λ x. has_class_in expression_more) (λ x. has_class_in expression_more) binder_term name_one (behind_reads e E F expression_more (has_class assign_sign) assign_one ie some_e)
       (token (Symbol Assign) ∷ some_e.0, some_e.1, (token (Symbol Assign), some_e.1, token (Symbol Assign) ∷ [], some_e.0, (refl, refl), some_e.2, refl, refl)) (λ t y rest h. h)
 
 pub param_opens : (E : Language Term) → Opens (Param E) (has_class name_class)
-param_opens E = both_opens param_term (One (has_class name_class)) _ (has_class name_class) (one_opens (has_class name_class))
+param_opens E = both_opens param_term (SingleToken (has_class name_class)) _ (has_class name_class) (one_opens (has_class name_class))
 
 pub binder_opens : (E : Language Term) → Opens (Binder E) (has_class name_class)
-binder_opens E = both_opens binder_term (One (has_class name_class)) _ (has_class name_class) (one_opens (has_class name_class))
+binder_opens E = both_opens binder_term (SingleToken (has_class name_class)) _ (has_class name_class) (one_opens (has_class name_class))
 
 pub params_reads : (m : TokenReader ParamTerm) (P Q : Language ParamTerm) → IsReader m P Q (λ x. has_class_in arg_more) → Opens P (has_class name_class) → IsReader (params_read m) (Params P) (Params Q) (λ x. has_class_outside closes)
 params_reads m P Q im op =
-    choice_reads (has_class name_class) (both cons m (trailing_items (has_class comma_sign) (has_class name_class) m)) (nothing []) (SeparatedList (has_class comma_sign) P) (SeparatedList (has_class comma_sign) Q) (Nothing []) (Nothing []) (λ x. has_class_outside closes)
+    choice_reads (has_class name_class) (sequence_read cons m (trailing_items (has_class comma_sign) (has_class name_class) m)) (empty_read []) (SeparatedList (has_class comma_sign) P) (SeparatedList (has_class comma_sign) Q) (EmptySequence []) (EmptySequence []) (λ x. has_class_outside closes)
     (separated_reads (has_class comma_sign) (has_class name_class) m P Q (λ x. has_class_in arg_more) (has_class_outside closes) im op (λ x. next_apart (comma_sign ∷ []) arg_more refl) (λ x. no_close closes arg_more refl) (no_close closes (comma_sign ∷ []) refl) (no_close closes (name_class ∷ []) refl))
     (nothing_reads [] (λ x. has_class_outside closes))
     (both_opens first_of _ _ (has_class name_class) (both_opens cons P _ (has_class name_class) op))
@@ -101,36 +101,36 @@ some_binders F some =
     let t : Token = token (Name []) in
     let u : Token = token (Symbol Assign) in
     let l : List Token = t ∷ u ∷ some.0 in
-    let one : Binder F (binder_term t some.1) l = (t, some.1, t ∷ [], u ∷ some.0, (refl, refl), (u, some.1, u ∷ [], some.0, (refl, refl), some.2, refl, refl), refl, refl) in
-    (l, binder_term t some.1 ∷ [], (binder_term t some.1 ∷ [], None, l, [], (binder_term t some.1, [], l, [], one, refl, refl, sym (append-nil l)), refl, refl, sym (append-nil l)))
+    let token_read : Binder F (binder_term t some.1) l = (t, some.1, t ∷ [], u ∷ some.0, (refl, refl), (u, some.1, u ∷ [], some.0, (refl, refl), some.2, refl, refl), refl, refl) in
+    (l, binder_term t some.1 ∷ [], (binder_term t some.1 ∷ [], None, l, [], (binder_term t some.1, [], l, [], token_read, refl, refl, sym (append-nil l)), refl, refl, sym (append-nil l)))
 
 -- the alternatives of a core
 abbrev Other : Language BodyTerm → Language BodyTerm
 Other B = AfterToken (has_class else_word) B
 
 abbrev Test : Language Term → Language BodyTerm → Language (Token × (Term × BodyTerm))
-Test E B = Both pair_of (One (has_class if_word)) (Both pair_of (InParentheses E) B)
+Test E B = Concatenation pair_of (SingleToken (has_class if_word)) (Concatenation pair_of (InParentheses E) B)
 
 abbrev Loop : Language (List BinderTerm) → Language BodyTerm → Language CoreTerm
-Loop Ns B = Both loop_term (One (has_class_in loop_words)) (Both pair_of (InParentheses Ns) B)
+Loop Ns B = Concatenation loop_term (SingleToken (has_class_in loop_words)) (Concatenation pair_of (InParentheses Ns) B)
 
 abbrev Call : Language (List ArgTerm) → Language BodyTerm → Language CoreTerm
-Call As B = Both call_term (One (has_class name_class)) (Both pair_of (InParentheses As) B)
+Call As B = Concatenation call_term (SingleToken (has_class name_class)) (Concatenation pair_of (InParentheses As) B)
 
 other_opens : (B : Language BodyTerm) → Opens (Other B) (has_class else_word)
-other_opens B = both_opens second_of (One (has_class else_word)) B (has_class else_word) (one_opens (has_class else_word))
+other_opens B = both_opens second_of (SingleToken (has_class else_word)) B (has_class else_word) (one_opens (has_class else_word))
 
 module _ (E : Language Term) (As : Language (List ArgTerm)) (Ns : Language (List BinderTerm)) (B : Language BodyTerm) where
   loop_opens : Opens (Loop Ns B) (has_class_in loop_words)
-  loop_opens = both_opens loop_term (One (has_class_in loop_words)) _ (has_class_in loop_words) (one_opens (has_class_in loop_words))
+  loop_opens = both_opens loop_term (SingleToken (has_class_in loop_words)) _ (has_class_in loop_words) (one_opens (has_class_in loop_words))
 
   call_opens : Opens (Call As B) (has_class name_class)
-  call_opens = both_opens call_term (One (has_class name_class)) _ (has_class name_class) (one_opens (has_class name_class))
+  call_opens = both_opens call_term (SingleToken (has_class name_class)) _ (has_class name_class) (one_opens (has_class name_class))
 
-  if_opens : Opens (BothIf if_term IsNearest (Test E B) (Maybe (Other B))) (has_class if_word)
-  if_opens c s rest h = ap (λ l. next_is (has_class if_word) (l ++ rest)) h.8 ∙ ap (next_is (has_class if_word)) (append_assoc h.2 h.3 rest) ∙ both_opens pair_of (One (has_class if_word)) _ (has_class if_word) (one_opens (has_class if_word)) h.0 h.2 (h.3 ++ rest) h.4
+  if_opens : Opens (ConcatenationIf if_term IsNearest (Test E B) (OptionalSequence (Other B))) (has_class if_word)
+  if_opens c s rest h = ap (λ l. next_is (has_class if_word) (l ++ rest)) h.8 ∙ ap (next_is (has_class if_word)) (append_assoc h.2 h.3 rest) ∙ both_opens pair_of (SingleToken (has_class if_word)) _ (has_class if_word) (one_opens (has_class if_word)) h.0 h.2 (h.3 ++ rest) h.4
 
-  loop_or_call_opens : Opens (EitherOf (Loop Ns B) (Call As B)) (has_class_in (for_word ∷ intersection_for_word ∷ name_class ∷ []))
+  loop_or_call_opens : Opens (Alternation (Loop Ns B) (Call As B)) (has_class_in (for_word ∷ intersection_for_word ∷ name_class ∷ []))
   loop_or_call_opens =
       either_opens (Loop Ns B) (Call As B) (has_class_in (for_word ∷ intersection_for_word ∷ name_class ∷ []))
       (λ x s rest h. next_within loop_words (for_word ∷ intersection_for_word ∷ name_class ∷ []) refl (s ++ rest) (loop_opens x s rest h))
@@ -138,15 +138,15 @@ module _ (E : Language Term) (As : Language (List ArgTerm)) (Ns : Language (List
 
   pub core_opens : Opens (CoreOf E As Ns B) (has_class_in firsts_of_core)
   core_opens =
-      either_opens (BothIf if_term IsNearest (Test E B) (Maybe (Other B))) (EitherOf (Loop Ns B) (Call As B)) (has_class_in firsts_of_core)
+      either_opens (ConcatenationIf if_term IsNearest (Test E B) (OptionalSequence (Other B))) (Alternation (Loop Ns B) (Call As B)) (has_class_in firsts_of_core)
       (λ x s rest h. next_within (if_word ∷ []) firsts_of_core refl (s ++ rest) (if_opens x s rest h))
       (λ x s rest h. next_within (for_word ∷ intersection_for_word ∷ name_class ∷ []) firsts_of_core refl (s ++ rest) (loop_or_call_opens x s rest h))
 
 abbrev Marks : Language (List ModifierTerm)
-Marks = Many (ImageOf modifier_term (One (has_class_in modifier_signs)))
+Marks = Repetition (ImageOf modifier_term (SingleToken (has_class_in modifier_signs)))
 
-mark_opens : Opens (ImageOf modifier_term (One (has_class_in modifier_signs))) (has_class_in modifier_signs)
-mark_opens = mapped_opens modifier_term (One (has_class_in modifier_signs)) (has_class_in modifier_signs) (one_opens (has_class_in modifier_signs))
+mark_opens : Opens (ImageOf modifier_term (SingleToken (has_class_in modifier_signs))) (has_class_in modifier_signs)
+mark_opens = mapped_opens modifier_term (SingleToken (has_class_in modifier_signs)) (has_class_in modifier_signs) (one_opens (has_class_in modifier_signs))
 
 start_many : (ms : List ModifierTerm) (p q rest : List Token) → Marks ms p → next_is (has_class_in firsts_of_core) (q ++ rest) ≡ true → next_is (has_class_in firsts_of_instance) ((p ++ q) ++ rest) ≡ true
 start_many [] p q rest k e = ap (λ l. next_is (has_class_in firsts_of_instance) ((l ++ q) ++ rest)) k ∙ next_within firsts_of_core firsts_of_instance refl (q ++ rest) e
@@ -160,10 +160,10 @@ instance_opens E As Ns B i s rest h = ap (λ l. next_is (has_class_in firsts_of_
 
 pub marks_reads : IsReader modifiers_read Marks Marks (λ x. has_class_in modifier_signs)
 marks_reads =
-    many_reads (has_class_in modifier_signs) (image_read modifier_term (one (has_class_in modifier_signs))) (ImageOf modifier_term (One (has_class_in modifier_signs))) (ImageOf modifier_term (One (has_class_in modifier_signs))) (λ x t. false) (has_class_in modifier_signs)
-    (mapped_reads modifier_term (one (has_class_in modifier_signs)) (One (has_class_in modifier_signs)) (One (has_class_in modifier_signs)) (λ x t. false) (λ x t. false) mark_one (λ x rest h. h)) mark_opens (λ x rest h. never_starts rest) (λ x rest h. never_starts rest) (λ rest h. h)
+    many_reads (has_class_in modifier_signs) (image_read modifier_term (token_read (has_class_in modifier_signs))) (ImageOf modifier_term (SingleToken (has_class_in modifier_signs))) (ImageOf modifier_term (SingleToken (has_class_in modifier_signs))) (λ x t. false) (has_class_in modifier_signs)
+    (mapped_reads modifier_term (token_read (has_class_in modifier_signs)) (SingleToken (has_class_in modifier_signs)) (SingleToken (has_class_in modifier_signs)) (λ x t. false) (λ x t. false) mark_one (λ x rest h. h)) mark_opens (λ x rest h. never_starts rest) (λ x rest h. never_starts rest) (λ rest h. h)
 
-pub some_headed : {A : Type 0} (C : Language BodyTerm) (W : Language A) → Some_of C → Some_of W → Some_of (Both pair_of (InParentheses W) C)
+pub some_headed : {A : Type 0} (C : Language BodyTerm) (W : Language A) → Some_of C → Some_of W → Some_of (Concatenation pair_of (InParentheses W) C)
 some_headed C W some_b some =
     let opening : Token = token (Symbol OpenParenthesis) in
     let closing : Token = token (Symbol CloseParenthesis) in
@@ -177,10 +177,10 @@ some_core F Aw Nw C some_as some_b =
 
 -- a loop, a core and an instance over what reads the variables of a loop
 abbrev pub loop_over : TokenReader (List BinderTerm) → TokenReader BodyTerm → TokenReader CoreTerm
-loop_over ns b = both loop_term (one (has_class_in loop_words)) (both pair_of (in_parentheses ns) b)
+loop_over ns b = sequence_read loop_term (token_read (has_class_in loop_words)) (sequence_read pair_of (in_parentheses ns) b)
 
 abbrev pub core_over : TokenReader Term → TokenReader ArgTerm → TokenReader (List BinderTerm) → TokenReader BodyTerm → TokenReader CoreTerm
-core_over e a ns b = choice (has_class if_word) (if_read e b) (choice (has_class_in loop_words) (loop_over ns b) (call_read a b))
+core_over e a ns b = alternative_read (has_class if_word) (if_read e b) (alternative_read (has_class_in loop_words) (loop_over ns b) (call_read a b))
 
 abbrev pub instance_over : TokenReader Term → TokenReader ArgTerm → TokenReader (List BinderTerm) → TokenReader BodyTerm → TokenReader InstanceTerm
 instance_over e a ns b = instance_read (core_over e a ns b)
@@ -190,15 +190,15 @@ rest_mapped : {A B : Type 0} (f : A → B) (q : Read Token SyntaxFault A) → re
 rest_mapped f (Ok p) = refl
 rest_mapped f (Err x) = refl
 
-pub choice_second : {A : Type 0} (test : Token → Bool) (r q : TokenReader A) (ts : List Token) → next_is test ts ≡ false → choice test r q ts ≡ q ts
+pub choice_second : {A : Type 0} (test : Token → Bool) (r q : TokenReader A) (ts : List Token) → next_is test ts ≡ false → alternative_read test r q ts ≡ q ts
 choice_second test r q ts e = ap (λ v. cond v (r ts) (q ts)) e
 
 call_moves : (a : TokenReader ArgTerm) (b : TokenReader BodyTerm) (t : Token) → has_class name_class t ≡ true → rest_of (call_read a b (t ∷ [])) ≡ []
-call_moves a b t h = ap (λ v. rest_of (then_read (cond v (Ok (t, [])) (Err (fault_of left_out_classes (Some t), t ∷ []))) (λ t ts. then_read (both pair_of (in_parentheses (args_read a)) b ts) (λ p us. Ok (call_term t p, us))))) h
+call_moves a b t h = ap (λ v. rest_of (then_read (cond v (Ok (t, [])) (Err (fault_of left_out_classes (Some t), t ∷ []))) (λ t ts. then_read (sequence_read pair_of (in_parentheses (args_read a)) b ts) (λ p us. Ok (call_term t p, us))))) h
 
 core_moves : (e : TokenReader Term) (a : TokenReader ArgTerm) (ns : TokenReader (List BinderTerm)) (b : TokenReader BodyTerm) (t : Token) → has_class name_class t ≡ true → rest_of (core_over e a ns b (t ∷ [])) ≡ []
 core_moves e a ns b t h =
-    ap rest_of (choice_second (has_class if_word) (if_read e b) (choice (has_class_in loop_words) (loop_over ns b) (call_read a b)) (t ∷ []) (next_apart (name_class ∷ []) (if_word ∷ []) refl (t ∷ []) h))
+    ap rest_of (choice_second (has_class if_word) (if_read e b) (alternative_read (has_class_in loop_words) (loop_over ns b) (call_read a b)) (t ∷ []) (next_apart (name_class ∷ []) (if_word ∷ []) refl (t ∷ []) h))
     ∙ ap rest_of (choice_second (has_class_in loop_words) (loop_over ns b) (call_read a b) (t ∷ []) (next_apart (name_class ∷ []) loop_words refl (t ∷ []) h))
     ∙ call_moves a b t h
 
@@ -214,7 +214,7 @@ statement_moves e a ns b t h = rest_mapped InstanceStatement (instance_over e a 
 call_unlike : (As : Language (List ArgTerm)) (B : Language BodyTerm) (c : CoreTerm) (s rest : List Token) → Call As B c s → two (has_class name_class) (has_class assign_sign) (s ++ rest) ≡ false
 call_unlike As B c s rest h =
     ap (λ l. two (has_class name_class) (has_class assign_sign) (l ++ rest)) h.7 ∙ ap (λ l. two (has_class name_class) (has_class assign_sign) ((l ++ h.3) ++ rest)) h.4.1
-    ∙ two_name (name_class ∷ []) h.0 (h.3 ++ rest) (next_apart (open_parenthesis_sign ∷ []) (assign_sign ∷ []) refl (h.3 ++ rest) (both_opens pair_of (InParentheses As) B (has_class open_parenthesis_sign) (both_opens second_of (One (has_class open_parenthesis_sign)) _ (has_class open_parenthesis_sign) (one_opens (has_class open_parenthesis_sign))) h.1 h.3 rest h.5))
+    ∙ two_name (name_class ∷ []) h.0 (h.3 ++ rest) (next_apart (open_parenthesis_sign ∷ []) (assign_sign ∷ []) refl (h.3 ++ rest) (both_opens pair_of (InParentheses As) B (has_class open_parenthesis_sign) (both_opens second_of (SingleToken (has_class open_parenthesis_sign)) _ (has_class open_parenthesis_sign) (one_opens (has_class open_parenthesis_sign))) h.1 h.3 rest h.5))
 
 core_unlike : (E : Language Term) (As : Language (List ArgTerm)) (Ns : Language (List BinderTerm)) (B : Language BodyTerm) (c : CoreTerm) (s rest : List Token) → CoreOf E As Ns B c s → two (has_class name_class) (has_class assign_sign) (s ++ rest) ≡ false
 core_unlike E As Ns B c s rest (inl h) = two_not (name_class ∷ []) (s ++ rest) (next_apart (if_word ∷ []) (name_class ∷ []) refl (s ++ rest) (if_opens E As Ns B c s rest h))
@@ -234,39 +234,39 @@ instance_unlike E As Ns B i s rest h = ap (λ l. two (has_class name_class) (has
 module _ (b : TokenReader BodyTerm) (B C : Language BodyTerm) (ib : IsReader b B C body_more) (sb : Stops b body_more) (some_b : Some_of C) where
   -- something in parentheses, and a body
   pub headed_reads : {A : Type 0} (r : TokenReader A) (L W : Language A) (more : A → Token → Bool) → IsReader r L W more → Some_of W → ((x : A) (l : List Token) → next_is (has_class close_parenthesis_sign) l ≡ true → next_is (more x) l ≡ false)
-      → IsReader (both pair_of (in_parentheses r) b) (Both pair_of (InParentheses L) B) (Both pair_of (InParentheses W) C) (λ p. body_more p.1)
+      → IsReader (sequence_read pair_of (in_parentheses r) b) (Concatenation pair_of (InParentheses L) B) (Concatenation pair_of (InParentheses W) C) (λ p. body_more p.1)
   headed_reads r L W more ir some stops =
       both_reads pair_of (in_parentheses r) b (InParentheses L) (InParentheses W) B C (λ x t. false) body_more (λ p. body_more p.1) (in_parentheses_reads r L W more ir some stops) ib some_b (λ x y s rest h k. never_starts (s ++ rest)) (λ x y rest k. k)
 
-  pub headed_stops : {A : Type 0} (r : TokenReader A) → Stops (both pair_of (in_parentheses r) b) (λ p. body_more p.1)
+  pub headed_stops : {A : Type 0} (r : TokenReader A) → Stops (sequence_read pair_of (in_parentheses r) b) (λ p. body_more p.1)
   headed_stops r = both_stops pair_of (in_parentheses r) b body_more (λ p. body_more p.1) sb (λ x y rest h. h)
 
   abbrev other_read : TokenReader BodyTerm
-  other_read = both second_of (one (has_class else_word)) b
+  other_read = sequence_read second_of (token_read (has_class else_word)) b
 
-  other_reads : IsReader (maybe (has_class else_word) other_read) (Maybe (Other B)) (Maybe (Other C)) (or_first (has_class else_word) body_more)
+  other_reads : IsReader (optional_read (has_class else_word) other_read) (OptionalSequence (Other B)) (OptionalSequence (Other C)) (or_first (has_class else_word) body_more)
   other_reads =
       maybe_reads (has_class else_word) other_read (Other B) (Other C) body_more
       (then b B C (has_class else_word) body_more body_more second_of else_one ib some_b (λ t y rest h. h)) (other_opens B)
 
-  other_stops : Stops (maybe (has_class else_word) other_read) (or_first (has_class else_word) body_more)
-  other_stops = maybe_stops (has_class else_word) other_read body_more (both_stops second_of (one (has_class else_word)) b body_more body_more sb (λ x y rest h. h))
+  other_stops : Stops (optional_read (has_class else_word) other_read) (or_first (has_class else_word) body_more)
+  other_stops = maybe_stops (has_class else_word) other_read body_more (both_stops second_of (token_read (has_class else_word)) b body_more body_more sb (λ x y rest h. h))
 
   module _ (e : TokenReader Term) (a : TokenReader ArgTerm) (ns : TokenReader (List BinderTerm)) (E F : Language Term) (As Aw : Language (List ArgTerm)) (Ns Nw : Language (List BinderTerm))
       (ie : IsReader e E F (λ x. has_class_in expression_more)) (ias : IsReader (args_read a) As Aw (λ x. has_class_outside closes)) (ins : IsReader ns Ns Nw (λ x. has_class_outside closes)) (some_e : Some_of F) (some_as : Some_of Aw) (some_ns : Some_of Nw) where
     abbrev test_read : TokenReader (Token × (Term × BodyTerm))
-    test_read = both pair_of (one (has_class if_word)) (both pair_of (in_parentheses e) b)
+    test_read = sequence_read pair_of (token_read (has_class if_word)) (sequence_read pair_of (in_parentheses e) b)
 
     test_reads : IsReader test_read (Test E B) (Test F C) (λ p. body_more p.1.1)
     test_reads =
-        then (both pair_of (in_parentheses e) b) (Both pair_of (InParentheses E) B) (Both pair_of (InParentheses F) C) (has_class if_word) (λ p. body_more p.1) (λ p. body_more p.1.1) pair_of if_one
+        then (sequence_read pair_of (in_parentheses e) b) (Concatenation pair_of (InParentheses E) B) (Concatenation pair_of (InParentheses F) C) (has_class if_word) (λ p. body_more p.1) (λ p. body_more p.1.1) pair_of if_one
         (headed_reads e E F (λ x. has_class_in expression_more) ie some_e (λ x. next_apart closes expression_more refl)) (some_headed C F some_b some_e) (λ t y rest h. h)
 
     test_stops : Stops test_read (λ p. body_more p.1.1)
-    test_stops = both_stops pair_of (one (has_class if_word)) (both pair_of (in_parentheses e) b) (λ p. body_more p.1) (λ p. body_more p.1.1) (headed_stops e) (λ x y rest h. h)
+    test_stops = both_stops pair_of (token_read (has_class if_word)) (sequence_read pair_of (in_parentheses e) b) (λ p. body_more p.1) (λ p. body_more p.1.1) (headed_stops e) (λ x y rest h. h)
 
     -- an `else` behind a body that ends open would be that one's
-    follows : (p : Token × (Term × BodyTerm)) (o : Option BodyTerm) (q rest : List Token) → Maybe (Other B) o q → IsNearest p o → next_is (core_more (if_term p o)) rest ≡ false → next_is (body_more p.1.1) (q ++ rest) ≡ false
+    follows : (p : Token × (Term × BodyTerm)) (o : Option BodyTerm) (q rest : List Token) → OptionalSequence (Other B) o q → IsNearest p o → next_is (core_more (if_term p o)) rest ≡ false → next_is (body_more p.1.1) (q ++ rest) ≡ false
     follows p None q rest h n k = ap (λ l. next_is (body_more p.1.1) (l ++ rest)) h ∙ open_less (ends_open p.1.1) rest k
     follows p (Some y) q rest h n k = ap (λ v. next_is (else_open v) (q ++ rest)) n ∙ never_starts (q ++ rest)
 
@@ -282,17 +282,17 @@ module _ (b : TokenReader BodyTerm) (B C : Language BodyTerm) (ib : IsReader b B
     closed false l e k = refl
     closed true l e k = absurd (cc)
 
-    fits : (p : Token × (Term × BodyTerm)) (o : Option BodyTerm) (q rest : List Token) → Maybe (Other C) o q → next_is (body_more p.1.1) (q ++ rest) ≡ false → IsNearest p o
+    fits : (p : Token × (Term × BodyTerm)) (o : Option BodyTerm) (q rest : List Token) → OptionalSequence (Other C) o q → next_is (body_more p.1.1) (q ++ rest) ≡ false → IsNearest p o
     fits p None q rest h k = tt
     fits p (Some y) q rest h k = closed (ends_open p.1.1) (q ++ rest) (other_opens C y q rest h) k
 
-    if_reads : IsReader (if_read e b) (BothIf if_term IsNearest (Test E B) (Maybe (Other B))) (BothIf if_term IsNearest (Test F C) (Maybe (Other C))) core_more
+    if_reads : IsReader (if_read e b) (ConcatenationIf if_term IsNearest (Test E B) (OptionalSequence (Other B))) (ConcatenationIf if_term IsNearest (Test F C) (OptionalSequence (Other C))) core_more
     if_reads =
-        both_if_reads if_term IsNearest test_read (maybe (has_class else_word) other_read) (Test E B) (Test F C) (Maybe (Other B)) (Maybe (Other C)) (λ p. body_more p.1.1) (λ p. body_more p.1.1) (or_first (has_class else_word) body_more) core_more
+        both_if_reads if_term IsNearest test_read (optional_read (has_class else_word) other_read) (Test E B) (Test F C) (OptionalSequence (Other B)) (OptionalSequence (Other C)) (λ p. body_more p.1.1) (λ p. body_more p.1.1) (or_first (has_class else_word) body_more) core_more
         test_reads test_stops other_reads (λ p. ([], None, refl, tt)) follows down fits
 
     if_stops : Stops (if_read e b) core_more
-    if_stops = both_stops if_term test_read (maybe (has_class else_word) other_read) (or_first (has_class else_word) body_more) core_more other_stops up
+    if_stops = both_stops if_term test_read (optional_read (has_class else_word) other_read) (or_first (has_class else_word) body_more) core_more other_stops up
 
     loop_open : (t : Token) (p : List BinderTerm × BodyTerm) → core_open (loop_term t p) ≡ ends_open p.1
     loop_open t p = go (has_class for_word t)
@@ -303,31 +303,31 @@ module _ (b : TokenReader BodyTerm) (B C : Language BodyTerm) (ib : IsReader b B
 
     loop_reads : IsReader (loop_over ns b) (Loop Ns B) (Loop Nw C) core_more
     loop_reads =
-        then (both pair_of (in_parentheses ns) b) (Both pair_of (InParentheses Ns) B) (Both pair_of (InParentheses Nw) C) (has_class_in loop_words) (λ p. body_more p.1) core_more loop_term loop_one
+        then (sequence_read pair_of (in_parentheses ns) b) (Concatenation pair_of (InParentheses Ns) B) (Concatenation pair_of (InParentheses Nw) C) (has_class_in loop_words) (λ p. body_more p.1) core_more loop_term loop_one
         (headed_reads ns Ns Nw (λ x. has_class_outside closes) ins some_ns (λ x. close_ends closes)) (some_headed C Nw some_b some_ns)
         (λ t y rest h. ap (λ v. next_is (else_open v) rest) (sym (loop_open t y)) ∙ h)
 
     loop_stops : Stops (loop_over ns b) core_more
-    loop_stops = both_stops loop_term (one (has_class_in loop_words)) (both pair_of (in_parentheses ns) b) (λ p. body_more p.1) core_more (headed_stops ns) (λ t y rest h. ap (λ v. next_is (else_open v) rest) (loop_open t y) ∙ h)
+    loop_stops = both_stops loop_term (token_read (has_class_in loop_words)) (sequence_read pair_of (in_parentheses ns) b) (λ p. body_more p.1) core_more (headed_stops ns) (λ t y rest h. ap (λ v. next_is (else_open v) rest) (loop_open t y) ∙ h)
 
     call_reads : IsReader (call_read a b) (Call As B) (Call Aw C) core_more
     call_reads =
-        then (both pair_of (in_parentheses (args_read a)) b) (Both pair_of (InParentheses As) B) (Both pair_of (InParentheses Aw) C) (has_class name_class) (λ p. body_more p.1) core_more call_term name_one
+        then (sequence_read pair_of (in_parentheses (args_read a)) b) (Concatenation pair_of (InParentheses As) B) (Concatenation pair_of (InParentheses Aw) C) (has_class name_class) (λ p. body_more p.1) core_more call_term name_one
         (headed_reads (args_read a) As Aw (λ x. has_class_outside closes) ias some_as (λ x. close_ends closes)) (some_headed C Aw some_b some_as) (λ t y rest h. h)
 
     call_stops : Stops (call_read a b) core_more
-    call_stops = both_stops call_term (one (has_class name_class)) (both pair_of (in_parentheses (args_read a)) b) (λ p. body_more p.1) core_more (headed_stops (args_read a)) (λ t y rest h. h)
+    call_stops = both_stops call_term (token_read (has_class name_class)) (sequence_read pair_of (in_parentheses (args_read a)) b) (λ p. body_more p.1) core_more (headed_stops (args_read a)) (λ t y rest h. h)
 
     core_reads : IsReader (core_over e a ns b) (CoreOf E As Ns B) (CoreOf F Aw Nw C) core_more
     core_reads =
-        choice_reads (has_class if_word) (if_read e b) (choice (has_class_in loop_words) (loop_over ns b) (call_read a b)) (BothIf if_term IsNearest (Test E B) (Maybe (Other B))) (BothIf if_term IsNearest (Test F C) (Maybe (Other C))) (EitherOf (Loop Ns B) (Call As B)) (EitherOf (Loop Nw C) (Call Aw C)) core_more
+        choice_reads (has_class if_word) (if_read e b) (alternative_read (has_class_in loop_words) (loop_over ns b) (call_read a b)) (ConcatenationIf if_term IsNearest (Test E B) (OptionalSequence (Other B))) (ConcatenationIf if_term IsNearest (Test F C) (OptionalSequence (Other C))) (Alternation (Loop Ns B) (Call As B)) (Alternation (Loop Nw C) (Call Aw C)) core_more
         if_reads
         (choice_reads (has_class_in loop_words) (loop_over ns b) (call_read a b) (Loop Ns B) (Loop Nw C) (Call As B) (Call Aw C) core_more loop_reads call_reads (loop_opens E As Ns B) (λ x s rest h k. next_apart (name_class ∷ []) loop_words refl (s ++ rest) (call_opens E As Ns B x s rest h)))
         (if_opens E As Ns B)
         (λ x s rest h k. next_apart (for_word ∷ intersection_for_word ∷ name_class ∷ []) (if_word ∷ []) refl (s ++ rest) (loop_or_call_opens E As Ns B x s rest h))
 
     core_stops : Stops (core_over e a ns b) core_more
-    core_stops = choice_stops (has_class if_word) (if_read e b) (choice (has_class_in loop_words) (loop_over ns b) (call_read a b)) core_more if_stops (choice_stops (has_class_in loop_words) (loop_over ns b) (call_read a b) core_more loop_stops call_stops)
+    core_stops = choice_stops (has_class if_word) (if_read e b) (alternative_read (has_class_in loop_words) (loop_over ns b) (call_read a b)) core_more if_stops (choice_stops (has_class_in loop_words) (loop_over ns b) (call_read a b) core_more loop_stops call_stops)
 
     instance_core : (ms : List ModifierTerm) (c : CoreTerm) → instance_open (instance_term ms c) ≡ core_open c
     instance_core [] c = refl

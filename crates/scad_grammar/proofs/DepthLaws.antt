@@ -2,9 +2,9 @@
 use Rattle.std.proofs.Common.{◌≡◌, ℕ, suc, List, ◌++◌, take, length, refl, subst}
 use Rattle.scad_lexer.specs.declared.token.Token.{Token}
 use Rattle.scad_ast.specs.Terms.{StatementTerm}
-use Rattle.scad_grammar.specs.Grammar.{WholeProgram, ProgramOutline}
-use Rattle.scad_grammar.specs.Depths.{HasDepths, AllBelow, BeginsShallow, program_depths}
-use Rattle.scad_grammar.specs.FirstFault.{BeginsWithin}
+use Rattle.scad_grammar.specs.Grammar.{WholeProgram, ProgramWithGaps}
+use Rattle.scad_grammar.specs.Depths.{HasDepths, AllBelow, IsProgramPrefixBelow, program_depths}
+use Rattle.scad_grammar.specs.FirstFault.{IsShallowProgramPrefix}
 use Rattle.scad_grammar.proofs.Fronts.{no_gap_front, front_shown, filled_shown, filled_all}
 use Rattle.scad_grammar.proofs.Programs.{one_program}
 use Rattle.scad_grammar.proofs.Wider.{is_outline}
@@ -23,7 +23,7 @@ program_is_shallow d x s p =
     let same : f.0 ≡ x = one_program (suc (suc d)) (suc d) f.0 x s here.1 p in
     (depths, subst (λ x. HasDepths x s depths) same here, all.1)
 
-pub within_is_shallow : (d : ℕ) (s : List Token) → BeginsWithin (suc d) s → BeginsShallow (suc d) s
+pub within_is_shallow : (d : ℕ) (s : List Token) → IsShallowProgramPrefix (suc d) s → IsProgramPrefixBelow (suc d) s
 within_is_shallow d s b =
     let f = (program_fills d).at b.1 (s ++ b.2) b.3 in
     let depths = (program_depths (suc (suc d))).of f.0 f.1 f.2 in
@@ -31,9 +31,9 @@ within_is_shallow d s b =
     let v = filled_shown (suc d) s b.2 f.1 depths plain f.3 in
     (f.0, v.0, depths, subst (λ s. HasDepths f.0 s depths) v.1 (suc (suc d), f.2, refl), v.2)
 
-pub shallow_is_within : (d : ℕ) (s : List Token) → BeginsShallow (suc d) s → BeginsWithin (suc d) s
+pub shallow_is_within : (d : ℕ) (s : List Token) → IsProgramPrefixBelow (suc d) s → IsShallowProgramPrefix (suc d) s
 shallow_is_within d s b =
     let h = b.3 in
     let y = (program_shows h.0 d).shown b.0 (s ++ b.1) h.1 in
     let v = front_shown (suc d) s b.1 _ y.1 y.3 (subst (λ depths. AllBelow (suc d) (take (length s) depths)) h.2 b.4) in
-    ((h.0, b.0, b.1, h.1), y.0, v.0, subst (ProgramOutline (suc d) y.0) v.1 y.2)
+    ((h.0, b.0, b.1, h.1), y.0, v.0, subst (ProgramWithGaps (suc d) y.0) v.1 y.2)

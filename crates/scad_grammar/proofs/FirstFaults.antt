@@ -8,12 +8,12 @@ use Rattle.scad_grammar.specs.declared.SyntaxFault.{SyntaxFault}
 use Rattle.scad_grammar.specs.declared.SyntaxFault.TheVariants.{Expected, Nested, NotInProfile}
 use Rattle.scad_grammar.specs.Classes.{numeral_class, end_class, has_class_in, has_class, token_class}
 use Rattle.scad_grammar.specs.Languages.{Language, first_of}
-use Rattle.scad_grammar.specs.Reading.{Read, then_read, many}
-use Rattle.scad_grammar.specs.Faults.{TokenReader, one, fault_of, left_out_classes, left_out_of_expressions}
-use Rattle.scad_grammar.specs.Grammar.{WholeProgram, ProgramOutline}
+use Rattle.scad_grammar.specs.Reading.{Read, then_read, repeated_read}
+use Rattle.scad_grammar.specs.Faults.{TokenReader, token_read, fault_of, left_out_classes, left_out_of_expressions}
+use Rattle.scad_grammar.specs.Grammar.{WholeProgram, ProgramWithGaps}
 use Rattle.scad_grammar.specs.StatementReads.{firsts_of_statement, statement_read, program_read}
-use Rattle.scad_grammar.specs.FirstFault.{BeginsSome, BeginsWithin, IsFault, IsFirstFault}
-use Rattle.scad_grammar.proofs.Readers.{Begins, Told, IsReader, SameHead, seen}
+use Rattle.scad_grammar.specs.FirstFault.{IsProgramPrefix, IsShallowProgramPrefix, IsFault, IsFirstFault}
+use Rattle.scad_grammar.proofs.Readers.{IsPrefixIn, Told, IsReader, SameHead, seen}
 use Rattle.scad_grammar.proofs.Tests.{classes_apart, classes_within, either_listed}
 use Rattle.scad_grammar.proofs.Expressions.{zero_token}
 use Rattle.scad_grammar.proofs.Shrinks.{left}
@@ -55,10 +55,10 @@ front_of (t ∷ u) v (y ∷ s) r e l =
 
 -- what a reader has gone beyond begins something
 module _ (r : TokenReader (List StatementTerm)) (L W : Language (List StatementTerm)) (i : IsReader r L W (λ x t. false)) where
-  reaches : (ts u v : List Token) → ts ≡ u ++ v → left (r ts) ≤ length v → Begins W u
+  reaches : (ts u v : List Token) → ts ≡ u ++ v → left (r ts) ≤ length v → IsPrefixIn W u
   reaches ts u v e l = go (r ts) l (i.told ts)
     where
-      go : (q : ReadProgram) → left q ≤ length v → Told r L W ts q → Begins W u
+      go : (q : ReadProgram) → left q ≤ length v → Told r L W ts q → IsPrefixIn W u
       go (Ok p) l t = let k = front_of u v t.0 p.1 (sym e ∙ t.1) l in (k.0, p.0, subst (W p.0) k.1 (i.wide p.0 t.0 t.2))
       go (Err x) l t =
           let k = front_of u v t.0 x.1 (sym e ∙ t.1) l in
@@ -86,7 +86,7 @@ fault_deeper zero d ts fault at n e = let z : 0 + d ≡ d = omega arith in rw z 
 fault_deeper (suc k) d ts fault at n e = let z : suc k + d ≡ suc (k + d) = omega arith in rw z (one_deeper (k + d) ts fault at n (fault_deeper k d ts fault at n e))
 
 -- so no program at all goes on with its token
-dead_some : (d : ℕ) (ts : List Token) (fault : SyntaxFault) (t : Token) (more s : List Token) → fault ≢ Nested → program_read d ts ≡ Err (fault, t ∷ more) → ts ≡ s ++ t ∷ more → BeginsSome (s ++ t ∷ []) → ⊥
+dead_some : (d : ℕ) (ts : List Token) (fault : SyntaxFault) (t : Token) (more s : List Token) → fault ≢ Nested → program_read d ts ≡ Err (fault, t ∷ more) → ts ≡ s ++ t ∷ more → IsProgramPrefix (s ++ t ∷ []) → ⊥
 dead_some d ts fault t more s n e has_class b =
     let swap : d + b.0 ≡ b.0 + d = omega arith in
     dead (program_read (b.0 + d)) (WholeProgram (b.0 + d)) (WholeProgram (suc (suc (b.0 + d)))) (program_reads (b.0 + d)) ts fault t more s (fault_deeper b.0 d ts fault (t ∷ more) n e) has_class b.1 b.2
@@ -97,7 +97,7 @@ abbrev Ends : ReadProgram → Type 0
 Ends (Ok p) = p.1 ≡ []
 Ends (Err e) = OfKind e × EndsOnce e.1
 
-last_read : (xs : List StatementTerm) (us : List Token) → EndsOnce us → Ends (then_read (one (has_class end_class) us) (λ b vs. Ok (first_of xs b, vs)))
+last_read : (xs : List StatementTerm) (us : List Token) → EndsOnce us → Ends (then_read (token_read (has_class end_class) us) (λ b vs. Ok (first_of xs b, vs)))
 last_read xs [] n = elim n [ ]
 last_read xs (t ∷ us) n = go (has_class end_class t) refl us n
   where
@@ -107,16 +107,16 @@ last_read xs (t ∷ us) n = go (has_class end_class t) refl us n
     go false e us n = (inr (inl refl), n)
 
 reading_ends : (d : ℕ) (ts : List Token) → EndsOnce ts → Ends (program_read d ts)
-reading_ends d ts n = go (many (has_class_in firsts_of_statement) (statement_read d) ts) ((many_fair (has_class_in firsts_of_statement) (statement_read d) (regular_statements d).0).at ts)
+reading_ends d ts n = go (repeated_read (has_class_in firsts_of_statement) (statement_read d) ts) ((many_fair (has_class_in firsts_of_statement) (statement_read d) (regular_statements d).0).at ts)
   where
-    go : (q : ReadProgram) → Fair ts q → Ends (then_read q (λ xs us. then_read (one (has_class end_class) us) (λ b vs. Ok (first_of xs b, vs))))
+    go : (q : ReadProgram) → Fair ts q → Ends (then_read q (λ xs us. then_read (token_read (has_class end_class) us) (λ b vs. Ok (first_of xs b, vs))))
     go (Ok p) f = last_read p.0 p.1 (f n)
     go (Err e) f = (f.0, f.1 n)
 
 -- all before a fault begins a program that is not too deep
-outline_begins : (d : ℕ) (ts s at : List Token) (fault : SyntaxFault) → program_read d ts ≡ Err (fault, at) → ts ≡ s ++ at → (x : List StatementTerm) × (w : List Token) × ProgramOutline d x (s ++ w)
+outline_begins : (d : ℕ) (ts s at : List Token) (fault : SyntaxFault) → program_read d ts ≡ Err (fault, at) → ts ≡ s ++ at → (x : List StatementTerm) × (w : List Token) × ProgramWithGaps d x (s ++ w)
 outline_begins d ts s at fault e has_class =
-    let b = reaches (outline_read d) (ProgramOutline d) (ProgramOutline d) (outline_reads d) ts s at has_class (go (program_read d ts) (outline_read d ts) e ((program_cut d).at ts)) in
+    let b = reaches (outline_read d) (ProgramWithGaps d) (ProgramWithGaps d) (outline_reads d) ts s at has_class (go (program_read d ts) (outline_read d ts) e ((program_cut d).at ts)) in
     (b.1, b.0, b.2)
   where
     go : (q p : ReadProgram) → q ≡ Err (fault, at) → Cut q p → left p ≤ length at
@@ -125,11 +125,11 @@ outline_begins d ts s at fault e has_class =
     go q p f (gapped bt a b) = subst (λ l. left p ≤ length l) (sym (same_place fault NotInProfile at bt q f a)) b
 
 -- with a token that is too deep only deeper programs go on
-too_deep : (d : ℕ) (ts s : List Token) (t : Token) (more : List Token) → program_read d ts ≡ Err (Nested, t ∷ more) → ts ≡ s ++ t ∷ more → BeginsWithin d (s ++ t ∷ []) → ⊥
+too_deep : (d : ℕ) (ts s : List Token) (t : Token) (more : List Token) → program_read d ts ≡ Err (Nested, t ∷ more) → ts ≡ s ++ t ∷ more → IsShallowProgramPrefix d (s ++ t ∷ []) → ⊥
 too_deep d ts s t more e has_class b = go (program_read d ts) (outline_read d ts) refl e ((program_cut d).at ts)
   where
     open_dead : (l : SyntaxFault) (p : ReadProgram) → outline_read d ts ≡ p → p ≡ Err (l, t ∷ more) → ⊥
-    open_dead l p f g = dead (outline_read d) (ProgramOutline d) (ProgramOutline d) (outline_reads d) ts l t more s (f ∙ g) has_class b.1 b.2 b.3
+    open_dead l p f g = dead (outline_read d) (ProgramWithGaps d) (ProgramWithGaps d) (outline_reads d) ts l t more s (f ∙ g) has_class b.1 b.2 b.3
 
     go : (q p : ReadProgram) → outline_read d ts ≡ p → q ≡ Err (Nested, t ∷ more) → Cut q p → ⊥
     go q p h f (equal g) = open_dead Nested p h (sym g ∙ f)
@@ -137,25 +137,25 @@ too_deep d ts s t more e has_class b = go (program_read d ts) (outline_read d ts
     go q p h f (gapped bt a b) = absurd (let k = same_kind Nested NotInProfile (t ∷ more) bt q f a in cc)
 
 -- a numeral that a reader goes beyond, or that is too deep, begins some program
-numeral_goes_on : (d : ℕ) (s : List Token) (n : Token) (more : List Token) → Past n more (program_read d (s ++ n ∷ more)) → BeginsSome (s ++ n ∷ [])
+numeral_goes_on : (d : ℕ) (s : List Token) (n : Token) (more : List Token) → Past n more (program_read d (s ++ n ∷ more)) → IsProgramPrefix (s ++ n ∷ [])
 numeral_goes_on d s n more (inl l) =
     let b = reaches (program_read d) (WholeProgram d) (WholeProgram (suc (suc d))) (program_reads d) (s ++ n ∷ more) (s ++ n ∷ []) more (sym (append_assoc s (n ∷ []) more)) l in
     (suc (suc d), b.1, b.0, b.2)
 numeral_goes_on d s n more (inr e) = go (program_read d (s ++ n ∷ more)) e ((program_reads d).told (s ++ n ∷ more))
   where
-    go : (q : ReadProgram) → q ≡ Err (Nested, n ∷ more) → Told (program_read d) (WholeProgram d) (WholeProgram (suc (suc d))) (s ++ n ∷ more) q → BeginsSome (s ++ n ∷ [])
+    go : (q : ReadProgram) → q ≡ Err (Nested, n ∷ more) → Told (program_read d) (WholeProgram d) (WholeProgram (suc (suc d))) (s ++ n ∷ more) q → IsProgramPrefix (s ++ n ∷ [])
     go (Ok p) f t = elim (no_both p.0 p.1 Nested (n ∷ more) (Ok p) refl f) [ ]
     go (Err x) f t =
         let pair = same_error x.0 Nested x.1 (n ∷ more) (Err x) refl f in
         let tail : x.1 ≡ n ∷ more = ap (λ (p : SyntaxFault × List Token). p.1) pair in
         let same : t.0 ≡ s = append_cancel_right t.0 s (n ∷ more) (ap (λ l. t.0 ++ l) (sym tail) ∙ sym t.1) in
-        let begun : Begins (WholeProgram (suc (suc d))) (s ++ n ∷ []) = subst (λ u. Begins (WholeProgram (suc (suc d))) (u ++ n ∷ [])) same (subst (λ (p : SyntaxFault × List Token). Begins (WholeProgram (suc (suc d))) (t.0 ++ seen p.0 p.1)) pair t.2) in
+        let begun : IsPrefixIn (WholeProgram (suc (suc d))) (s ++ n ∷ []) = subst (λ u. IsPrefixIn (WholeProgram (suc (suc d))) (u ++ n ∷ [])) same (subst (λ (p : SyntaxFault × List Token). IsPrefixIn (WholeProgram (suc (suc d))) (t.0 ++ seen p.0 p.1)) pair t.2) in
         (suc (suc d), begun.1, begun.0, begun.2)
 
 -- a word of a statement that is refused
 module _ (d : ℕ) (s : List Token) (t : Token) (more : List Token) (fault : SyntaxFault) (e : program_read d (s ++ t ∷ more) ≡ Err (fault, t ∷ more)) (not_deep : fault ≢ Nested) (w : has_class_in words t ≡ true) where
   abbrev Either : Token → Type 0
-  Either n = ((fault ≡ Expected) × (BeginsSome (s ++ n ∷ []) → ⊥)) ⊎ ((fault ≡ NotInProfile) × BeginsSome (s ++ n ∷ []))
+  Either n = ((fault ≡ Expected) × (IsProgramPrefix (s ++ n ∷ []) → ⊥)) ⊎ ((fault ≡ NotInProfile) × IsProgramPrefix (s ++ n ∷ []))
 
   longer : (h : Token) (u : List Token) → h ∷ (u ++ t ∷ more) ≡ t ∷ more → ⊥
   longer h u e = absurd (omega (arith, ap length e, length-append u (t ∷ more)))
@@ -197,7 +197,7 @@ module _ (d : ℕ) (ts s : List Token) (t : Token) (more : List Token) (is_at : 
       go (inr x) = absurd (let f : true ≡ false = sym x ∙ a in cc)
       go (inl w) = kinds k h e n (by_numeral d s t more k (ap (program_read d) (sym is_at) ∙ e) n w)
         where
-          kinds : (k : SyntaxFault) → (k ≡ fault_of left_out_classes (Some t)) ⊎ (k ≡ fault_of left_out_of_expressions (Some t)) → program_read d ts ≡ Err (k, t ∷ more) → k ≢ Nested → ((m : Token) → has_class numeral_class m ≡ true → ((k ≡ Expected) × (BeginsSome (s ++ m ∷ []) → ⊥)) ⊎ ((k ≡ NotInProfile) × BeginsSome (s ++ m ∷ []))) → IsFault d k s t
+          kinds : (k : SyntaxFault) → (k ≡ fault_of left_out_classes (Some t)) ⊎ (k ≡ fault_of left_out_of_expressions (Some t)) → program_read d ts ≡ Err (k, t ∷ more) → k ≢ Nested → ((m : Token) → has_class numeral_class m ≡ true → ((k ≡ Expected) × (IsProgramPrefix (s ++ m ∷ []) → ⊥)) ⊎ ((k ≡ NotInProfile) × IsProgramPrefix (s ++ m ∷ []))) → IsFault d k s t
           kinds Nested h e n f = absurd (n refl)
           kinds Expected h e n f =
               (dead_some d ts Expected t more s n e is_at, λ l. elim l [ inl x ↦ absurd (let f : true ≡ false = sym x ∙ a in cc) | inr x ↦ elim (f x.1.0 x.1.1) [ inl y ↦ y.1 x.1.2 | inr y ↦ absurd (let z = y.0 in cc) ] ])
@@ -214,7 +214,7 @@ module _ (d : ℕ) (ts s : List Token) (t : Token) (more : List Token) (is_at : 
       out (inr h) = h ∙ ap (λ b. cond b NotInProfile Expected) (classes_within left_out_classes left_out_of_expressions refl (token_class t.kind) a)
 
   -- where the rest of the tokens begins something deeper, as readers tell
-  is_fault : (k : SyntaxFault) → program_read d ts ≡ Err (k, t ∷ more) → OfKind (k, t ∷ more) → Begins (WholeProgram (suc (suc d))) (s ++ seen k (t ∷ more)) → IsFault d k s t
+  is_fault : (k : SyntaxFault) → program_read d ts ≡ Err (k, t ∷ more) → OfKind (k, t ∷ more) → IsPrefixIn (WholeProgram (suc (suc d))) (s ++ seen k (t ∷ more)) → IsFault d k s t
   is_fault Nested e h b = ((suc (suc d), b.1, b.0, b.2), too_deep d ts s t more e is_at)
   is_fault Expected e (inl h) b = absurd (cc)
   is_fault Expected e (inr h) b = by_list (has_class_in left_out_classes t) refl
@@ -233,10 +233,10 @@ module _ (d : ℕ) (ts s : List Token) (t : Token) (more : List Token) (is_at : 
 pub first_fault : (d : ℕ) (ts : List Token) (fault : SyntaxFault) (at : List Token) → ends_once ts ≡ true → program_read d ts ≡ Err (fault, at) → IsFirstFault d ts fault at
 first_fault d ts fault at n e = go (program_read d ts) refl e (reading_ends d ts (ends_once_is ts n)) ((program_reads d).told ts)
   where
-    here : (at : List Token) → EndsOnce at → OfKind (fault, at) → program_read d ts ≡ Err (fault, at) → (s : List Token) → ts ≡ s ++ at → Begins (WholeProgram (suc (suc d))) (s ++ seen fault at) → IsFirstFault d ts fault at
+    here : (at : List Token) → EndsOnce at → OfKind (fault, at) → program_read d ts ≡ Err (fault, at) → (s : List Token) → ts ≡ s ++ at → IsPrefixIn (WholeProgram (suc (suc d))) (s ++ seen fault at) → IsFirstFault d ts fault at
     here [] x k e s i b = elim x [ ]
     here (t ∷ more) x k e s i b =
-        let some : BeginsSome s = (suc (suc d), b.1, seen fault (t ∷ more) ++ b.0, subst (WholeProgram (suc (suc d)) b.1) (append_assoc s (seen fault (t ∷ more)) b.0) b.2) in
+        let some : IsProgramPrefix s = (suc (suc d), b.1, seen fault (t ∷ more) ++ b.0, subst (WholeProgram (suc (suc d)) b.1) (append_assoc s (seen fault (t ∷ more)) b.0) b.2) in
         let o = outline_begins d ts s (t ∷ more) fault e i in
         (s, t, more, i, refl, (some, o.0, o.1, o.2), is_fault d ts s t more i fault e k b)
 
@@ -246,7 +246,7 @@ first_fault d ts fault at n e = go (program_read d ts) refl e (reading_ends d ts
         let pair = same_error y.0 fault y.1 at (Err y) refl e in
         let kind = subst (λ (p : SyntaxFault × List Token). OfKind p × EndsOnce p.1) pair x in
         let tail : y.1 ≡ at = ap (λ (p : SyntaxFault × List Token). p.1) pair in
-        here at kind.1 kind.0 (f ∙ e) t.0 (t.1 ∙ ap (λ l. t.0 ++ l) tail) (subst (λ (p : SyntaxFault × List Token). Begins (WholeProgram (suc (suc d))) (t.0 ++ seen p.0 p.1)) pair t.2)
+        here at kind.1 kind.0 (f ∙ e) t.0 (t.1 ∙ ap (λ l. t.0 ++ l) tail) (subst (λ (p : SyntaxFault × List Token). IsPrefixIn (WholeProgram (suc (suc d))) (t.0 ++ seen p.0 p.1)) pair t.2)
 
 -- or the program that they are
 pub is_found : (d : ℕ) (ts : List Token) (x : List StatementTerm) (rest : List Token) → ends_once ts ≡ true → program_read d ts ≡ Ok (x, rest) → (rest ≡ []) × WholeProgram d x ts
@@ -283,20 +283,20 @@ divided (x ∷ s) (y ∷ r) t u more rest e =
     ]
 
 -- with the token of a fault no program goes on in which it isn't too deep
-not_alive : (d : ℕ) (k : SyntaxFault) (s : List Token) (t : Token) → IsFault d k s t → BeginsWithin d (s ++ t ∷ []) → ⊥
+not_alive : (d : ℕ) (k : SyntaxFault) (s : List Token) (t : Token) → IsFault d k s t → IsShallowProgramPrefix d (s ++ t ∷ []) → ⊥
 not_alive d Expected s t f b = f.0 b.0
 not_alive d NotInProfile s t f b = f.0 b.0
 not_alive d Nested s t f b = f.1 b
 
 -- so no first fault stands behind it
-not_behind : (d : ℕ) (k : SyntaxFault) (s : List Token) (t : Token) (v r : List Token) → IsFault d k s t → r ≡ s ++ t ∷ v → BeginsWithin d r → ⊥
+not_behind : (d : ℕ) (k : SyntaxFault) (s : List Token) (t : Token) (v r : List Token) → IsFault d k s t → r ≡ s ++ t ∷ v → IsShallowProgramPrefix d r → ⊥
 not_behind d k s t v r f e b =
     let apart : s ++ t ∷ v ≡ (s ++ t ∷ []) ++ v = sym (append_assoc s (t ∷ []) v) in
     not_alive d k s t f (
       (b.0.0, b.0.1, v ++ b.0.2, subst (WholeProgram b.0.0 b.0.1) (ap (λ l. l ++ b.0.2) (e ∙ apart) ∙ append_assoc (s ++ t ∷ []) v b.0.2) b.0.3),
       b.1,
       v ++ b.2,
-      subst (ProgramOutline d b.1) (ap (λ l. l ++ b.2) (e ∙ apart) ∙ append_assoc (s ++ t ∷ []) v b.2) b.3,
+      subst (ProgramWithGaps d b.1) (ap (λ l. l ++ b.2) (e ∙ apart) ∙ append_assoc (s ++ t ∷ []) v b.2) b.3,
     )
 
 one_kind : (d : ℕ) (k l : SyntaxFault) (s : List Token) (t : Token) → IsFault d k s t → IsFault d l s t → k ≡ l

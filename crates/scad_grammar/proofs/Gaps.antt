@@ -4,10 +4,10 @@ use Rattle.scad_lexer.specs.declared.token.Token.{Token}
 use Rattle.scad_ast.specs.Terms.{Term, ArgTerm, BinderTerm, EmptyBody, UndefTerm}
 use Rattle.scad_grammar.specs.declared.SyntaxFault.{SyntaxFault}
 use Rattle.scad_grammar.specs.declared.SyntaxFault.TheVariants.{Expected, Nested, NotInProfile}
-use Rattle.scad_grammar.specs.Classes.{numeral_class, caret_sign, name_class, end_class, assign_sign, comma_sign, open_bracket_sign, is_listed, has_class_in, has_class, token_class}
+use Rattle.scad_grammar.specs.Classes.{numeral_class, caret_sign, name_class, end_class, assign_sign, comma_sign, open_bracket_sign, is_class_among, has_class_in, has_class, token_class}
 use Rattle.scad_grammar.specs.Languages.{first_of, cons}
-use Rattle.scad_grammar.specs.Reading.{Read, then_read, next_is, one_of, image_read, nothing, both, choice, two_ahead, with_front, many_times, many, trailing_times, trailing_items}
-use Rattle.scad_grammar.specs.Faults.{TokenReader, one, first, fault_of, left_out_classes, left_out_of_expressions}
+use Rattle.scad_grammar.specs.Reading.{Read, then_read, next_is, token_or_fault_read, image_read, empty_read, sequence_read, alternative_read, two_ahead, with_front, repeated_times, repeated_read, trailing_times, trailing_items}
+use Rattle.scad_grammar.specs.Faults.{TokenReader, token_read, first_token_read, fault_of, left_out_classes, left_out_of_expressions}
 use Rattle.scad_grammar.specs.Reads.{head_of, nested_read, firsts_of_expression, primary_read, arg_in, expr_read, operand_read}
 use Rattle.scad_grammar.specs.StatementReads.{firsts_of_body, firsts_of_statement, binder_read, param_in, binder_in, binders_read, statement_read, body_read, program_read}
 use Rattle.scad_grammar.proofs.Tests.{apart, classes_apart, classes_within}
@@ -49,14 +49,14 @@ mapped_cut f r q h = record {
   shrinks = mapped_shrinks f q h.shrinks;
 }
 
-both_cut : {A B C : Type 0} (f : A → B → C) (r q : TokenReader A) (s p : TokenReader B) → Cuts r q → Cuts s p → Cuts (both f r s) (both f q p)
+both_cut : {A B C : Type 0} (f : A → B → C) (r q : TokenReader A) (s p : TokenReader B) → Cuts r q → Cuts s p → Cuts (sequence_read f r s) (sequence_read f q p)
 both_cut f r q s p h k = record {
   at = λ ts. after_cut (r ts) (q ts) (λ a us. then_read (s us) (λ b vs. Ok (f a b, vs))) (λ a us. then_read (p us) (λ b vs. Ok (f a b, vs))) (h.at ts)
       (λ a us. after_cut (s us) (p us) (λ b vs. Ok (f a b, vs)) (λ b vs. Ok (f a b, vs)) (k.at us) (λ b vs. equal refl) (λ b vs. omega arith)) (λ a us. (mapped_shrinks (f a) p k.shrinks).at us);
   shrinks = both_shrinks f q p h.shrinks k.shrinks;
 }
 
-choice_cut : {A : Type 0} (test : Token → Bool) (r q s p : TokenReader A) → Cuts r q → Cuts s p → Cuts (choice test r s) (choice test q p)
+choice_cut : {A : Type 0} (test : Token → Bool) (r q s p : TokenReader A) → Cuts r q → Cuts s p → Cuts (alternative_read test r s) (alternative_read test q p)
 choice_cut test r q s p h k = record { at = λ ts. cond_cut (next_is test ts) (r ts) (q ts) (s ts) (p ts) (h.at ts) (k.at ts); shrinks = choice_shrinks test q p h.shrinks k.shrinks }
 
 ahead_at : {A C : Type 0} (f : Token → Token → A → C) (a b : Token → Bool) (r q : TokenReader A) (s p : TokenReader C) → Cuts r q → Cuts s p → (ts : List Token) → Cut (two_ahead f a b r s ts) (two_ahead f a b q p ts)
@@ -74,17 +74,17 @@ front_cut x q p (equal e) = equal (ap (with_front x) e)
 front_cut x q p (refused j k at a b) = refused j k at (ap (with_front x) a) (ap (with_front x) b)
 front_cut x q p (gapped at a b) = gapped at (ap (with_front x) a) (subst (λ l. length l ≤ length at) (sym (front_rest x p)) b)
 
-times_at : {A : Type 0} (n : ℕ) (test : Token → Bool) (r q : TokenReader A) → Cuts r q → (ts : List Token) → Cut (many_times n test r ts) (many_times n test q ts)
-unfolding many_times
+times_at : {A : Type 0} (n : ℕ) (test : Token → Bool) (r q : TokenReader A) → Cuts r q → (ts : List Token) → Cut (repeated_times n test r ts) (repeated_times n test q ts)
+unfolding repeated_times
 times_at zero test r q h ts = equal refl
 times_at (suc n) test r q h ts =
-    cond_cut (next_is test ts) (then_read (r ts) (λ x us. with_front x (many_times n test r us))) (then_read (q ts) (λ x us. with_front x (many_times n test q us))) (Ok ([], ts)) (Ok ([], ts))
-    (after_cut (r ts) (q ts) (λ x us. with_front x (many_times n test r us)) (λ x us. with_front x (many_times n test q us)) (h.at ts) (λ x us. front_cut x (many_times n test r us) (many_times n test q us) (times_at n test r q h us))
-    (λ x us. subst (λ l. length l ≤ length us) (sym (front_rest x (many_times n test q us))) (times_left n test q h.shrinks us)))
+    cond_cut (next_is test ts) (then_read (r ts) (λ x us. with_front x (repeated_times n test r us))) (then_read (q ts) (λ x us. with_front x (repeated_times n test q us))) (Ok ([], ts)) (Ok ([], ts))
+    (after_cut (r ts) (q ts) (λ x us. with_front x (repeated_times n test r us)) (λ x us. with_front x (repeated_times n test q us)) (h.at ts) (λ x us. front_cut x (repeated_times n test r us) (repeated_times n test q us) (times_at n test r q h us))
+    (λ x us. subst (λ l. length l ≤ length us) (sym (front_rest x (repeated_times n test q us))) (times_left n test q h.shrinks us)))
     (equal refl)
 
-many_cut : {A : Type 0} (test : Token → Bool) (r q : TokenReader A) → Cuts r q → Cuts (many test r) (many test q)
-unfolding many
+many_cut : {A : Type 0} (test : Token → Bool) (r q : TokenReader A) → Cuts r q → Cuts (repeated_read test r) (repeated_read test q)
+unfolding repeated_read
 many_cut test r q h = record { at = λ ts. times_at (length ts) test r q h ts; shrinks = many_shrinks test q h.shrinks }
 
 trailing_at : {A : Type 0} (n : ℕ) (mark go : Token → Bool) (r q : TokenReader A) → Cuts r q → (ts : List Token) → Cut (trailing_times n mark go r ts) (trailing_times n mark go q ts)
@@ -107,8 +107,8 @@ Law A r q = Cuts r q
 
 cutting : Keeps Law Free
 cutting = record {
-  nothing_keeps = λ a. self_cut (nothing a) (nothing_shrinks a);
-  one_keeps = λ cs e. self_cut (one (has_class_in cs)) (one_shrinks (has_class_in cs) (fault_of left_out_classes));
+  nothing_keeps = λ a. self_cut (empty_read a) (nothing_shrinks a);
+  one_keeps = λ cs e. self_cut (token_read (has_class_in cs)) (one_shrinks (has_class_in cs) (fault_of left_out_classes));
   mapped_keeps = mapped_cut;
   both_keeps = both_cut;
   choice_keeps = λ test r q s p e. choice_cut test r q s p;
@@ -135,9 +135,9 @@ nested_refused {A} begins classes = record { at = at; shrinks = refusal_shrinks 
 
 -- or a gap is read
 gap_shrinks : {A : Type 0} (f : Token → A) (classes : List ℕ) → Shrinks (gap f classes)
-gap_shrinks f classes = mapped_shrinks f (one_of (has_class caret_sign) (fault_of classes)) (one_shrinks (has_class caret_sign) (fault_of classes))
+gap_shrinks f classes = mapped_shrinks f (token_or_fault_read (has_class caret_sign) (fault_of classes)) (one_shrinks (has_class caret_sign) (fault_of classes))
 
-module _ {A : Type 0} (begins classes : List ℕ) (f : Token → A) (r : TokenReader A) (is_r : (ts : List Token) → r ts ≡ cond (next_is (has_class_in begins) ts) (Err (Nested, ts)) (refusal classes ts)) (not_begun : apart (caret_sign ∷ []) begins ≡ true) (out : is_listed classes caret_sign ≡ true) where
+module _ {A : Type 0} (begins classes : List ℕ) (f : Token → A) (r : TokenReader A) (is_r : (ts : List Token) → r ts ≡ cond (next_is (has_class_in begins) ts) (Err (Nested, ts)) (refusal classes ts)) (not_begun : apart (caret_sign ∷ []) begins ≡ true) (out : is_class_among classes caret_sign ≡ true) where
   gap_read : (t : Token) (ts : List Token) → has_class caret_sign t ≡ true → r (t ∷ ts) ≡ Err (NotInProfile, t ∷ ts)
   gap_read t ts e =
       is_r (t ∷ ts) ∙ ap (λ b. cond b (Err (Nested, t ∷ ts)) (Err (fault_of classes (Some t), t ∷ ts))) (classes_apart (caret_sign ∷ []) begins not_begun (token_class t.kind) e)
@@ -173,8 +173,8 @@ no_binder ts = go (next_is (has_class_in (name_class ∷ [])) ts)
 
 primary_cut : (e f : TokenReader Term) (a b : TokenReader ArgTerm) → Cuts e f → Cuts a b → Cuts (primary_read e a) (primary_read f b)
 primary_cut =
-    primary_keeps Law Free cutting (λ c f h. self_cut (image_read f (one (has_class c))) (mapped_shrinks f (one (has_class c)) (one_shrinks (has_class c) (fault_of left_out_classes))))
-    (self_cut (first (has_class open_bracket_sign)) (one_shrinks (has_class open_bracket_sign) (fault_of left_out_of_expressions))) (λ r q s p. choice_cut (has_class numeral_class) r q s p)
+    primary_keeps Law Free cutting (λ c f h. self_cut (image_read f (token_read (has_class c))) (mapped_shrinks f (token_read (has_class c)) (one_shrinks (has_class c) (fault_of left_out_classes))))
+    (self_cut (first_token_read (has_class open_bracket_sign)) (one_shrinks (has_class open_bracket_sign) (fault_of left_out_of_expressions))) (λ r q s p. choice_cut (has_class numeral_class) r q s p)
 
 expressions : (d : ℕ) → Cuts (expr_read d) (open_expr d) × Cuts (operand_read d) (open_operand d) × Cuts (arg_in d (expr_read d)) (open_arg d (open_expr d))
 unfolding expr_read operand_read open_expr open_operand
@@ -186,8 +186,8 @@ expressions zero = (
 expressions (suc d) =
     let k = expressions d in
     let p = primary_cut (expr_read d) (open_expr d) (arg_in d (expr_read d)) (open_arg d (open_expr d)) k.0 k.2 in
-    let one : Cuts (expr_read (suc d)) (open_expr (suc d)) = expression_keeps Law Free cutting (expr_read d) (open_expr d) k.0 (operand_read d) (open_operand d) _ _ k.1 p in
-    (one, unary_keeps Law Free cutting (expr_read d) (open_expr d) k.0 (operand_read d) (open_operand d) _ _ k.1 p, arg_keeps Law Free cutting (expr_read (suc d)) (open_expr (suc d)) one)
+    let token_read : Cuts (expr_read (suc d)) (open_expr (suc d)) = expression_keeps Law Free cutting (expr_read d) (open_expr d) k.0 (operand_read d) (open_operand d) _ _ k.1 p in
+    (token_read, unary_keeps Law Free cutting (expr_read d) (open_expr d) k.0 (operand_read d) (open_operand d) _ _ k.1 p, arg_keeps Law Free cutting (expr_read (suc d)) (open_expr (suc d)) token_read)
 
 params : (d : ℕ) → Cuts (param_in d (expr_read d)) (open_param d (open_expr d))
 params zero = nested_refused (name_class ∷ []) left_out_classes
@@ -210,4 +210,4 @@ statements (suc d) =
     )
 
 pub program_cut : (d : ℕ) → Cuts (program_read d) (outline_read d)
-program_cut d = both_cut first_of _ _ (one (has_class end_class)) (one (has_class end_class)) (many_cut (has_class_in firsts_of_statement) (statement_read d) (open_statement d) (statements d).0) (self_cut (one (has_class end_class)) (one_shrinks (has_class end_class) (fault_of left_out_classes)))
+program_cut d = both_cut first_of _ _ (token_read (has_class end_class)) (token_read (has_class end_class)) (many_cut (has_class_in firsts_of_statement) (statement_read d) (open_statement d) (statements d).0) (self_cut (token_read (has_class end_class)) (one_shrinks (has_class end_class) (fault_of left_out_classes)))

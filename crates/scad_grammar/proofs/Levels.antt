@@ -2,11 +2,11 @@
 use Rattle.std.proofs.Common.{◌≡◌, ℕ, List, [], ◌∷◌, ◌++◌, Bool, true, false, cond, refl, sym, nat_eq, append-nil}
 use Rattle.scad_lexer.specs.declared.token.Token.{Token}
 use Rattle.scad_ast.specs.Terms.{Term}
-use Rattle.scad_grammar.specs.Classes.{has_class_in, is_listed}
-use Rattle.scad_grammar.specs.Reading.{next_is, both, many}
-use Rattle.scad_grammar.specs.Languages.{Language, Both, Many, One}
-use Rattle.scad_grammar.specs.Grammar.{Chain, chain_term, link}
-use Rattle.scad_grammar.specs.Faults.{TokenReader, one}
+use Rattle.scad_grammar.specs.Classes.{has_class_in, is_class_among}
+use Rattle.scad_grammar.specs.Reading.{next_is, sequence_read, repeated_read}
+use Rattle.scad_grammar.specs.Languages.{Language, Concatenation, Repetition, SingleToken}
+use Rattle.scad_grammar.specs.Grammar.{Chain, chain_term, link_term}
+use Rattle.scad_grammar.specs.Faults.{TokenReader, token_read}
 use Rattle.scad_grammar.specs.Reads.{chain_read}
 use Rattle.scad_grammar.proofs.Readers.{IsReader, both_reads, many_reads, many_follows, both_opens, one_opens}
 use Rattle.scad_grammar.proofs.Tests.{OneReads, then, apart, next_apart}
@@ -25,11 +25,11 @@ good_here : (b c : Bool) → cond b c false ≡ true → (b ≡ true) × (c ≡ 
 good_here true c e = (refl, e)
 good_here false c e = absurd (cc)
 
-not_listed : (xs ys : List ℕ) (k : ℕ) → is_listed (xs ++ ys) k ≡ false → (is_listed xs k ≡ false) × (is_listed ys k ≡ false)
+not_listed : (xs ys : List ℕ) (k : ℕ) → is_class_among (xs ++ ys) k ≡ false → (is_class_among xs k ≡ false) × (is_class_among ys k ≡ false)
 not_listed [] ys k e = (refl, e)
-not_listed (x ∷ xs) ys k e = go (nat_eq k x) (is_listed (xs ++ ys) k) (is_listed xs k) e (not_listed xs ys k)
+not_listed (x ∷ xs) ys k e = go (nat_eq k x) (is_class_among (xs ++ ys) k) (is_class_among xs k) e (not_listed xs ys k)
   where
-    go : (b c d : Bool) → cond b true c ≡ false → (c ≡ false → (d ≡ false) × (is_listed ys k ≡ false)) → (cond b true d ≡ false) × (is_listed ys k ≡ false)
+    go : (b c d : Bool) → cond b true c ≡ false → (c ≡ false → (d ≡ false) × (is_class_among ys k ≡ false)) → (cond b true d ≡ false) × (is_class_among ys k ≡ false)
     go true c d e h = absurd (cc)
     go false c d e h = h e
 
@@ -56,14 +56,14 @@ chain_reads [] more u U V g o iu some = iu
 chain_reads (ops ∷ levels) more u U V g o iu some =
     let here = good_here (apart ops (goes_on levels more)) (good levels more) g in
     let below = chain_reads levels more u U V here.1 o.1 iu some in
-    let item = then (chain_read levels u) (Chain levels U) (Chain levels V) (has_class_in ops) (λ x. has_class_in (goes_on levels more)) (λ x. has_class_in (goes_on levels more)) link o.0 below (some_chain levels V some) (λ t y rest e. e) in
-    both_reads chain_term (chain_read levels u) (many (has_class_in ops) (both link (one (has_class_in ops)) (chain_read levels u))) (Chain levels U) (Chain levels V) (Many (Both link (One (has_class_in ops)) (Chain levels U))) (Many (Both link (One (has_class_in ops)) (Chain levels V)))
+    let item = then (chain_read levels u) (Chain levels U) (Chain levels V) (has_class_in ops) (λ x. has_class_in (goes_on levels more)) (λ x. has_class_in (goes_on levels more)) link_term o.0 below (some_chain levels V some) (λ t y rest e. e) in
+    both_reads chain_term (chain_read levels u) (repeated_read (has_class_in ops) (sequence_read link_term (token_read (has_class_in ops)) (chain_read levels u))) (Chain levels U) (Chain levels V) (Repetition (Concatenation link_term (SingleToken (has_class_in ops)) (Chain levels U))) (Repetition (Concatenation link_term (SingleToken (has_class_in ops)) (Chain levels V)))
     (λ x. has_class_in (goes_on levels more)) (λ x. has_class_in (ops ++ goes_on levels more)) (λ x. has_class_in (ops ++ goes_on levels more))
     below
-    (many_reads (has_class_in ops) (both link (one (has_class_in ops)) (chain_read levels u)) (Both link (One (has_class_in ops)) (Chain levels U)) (Both link (One (has_class_in ops)) (Chain levels V)) (λ x. has_class_in (goes_on levels more)) (has_class_in (ops ++ goes_on levels more))
-    item (both_opens link (One (has_class_in ops)) (Chain levels U) (has_class_in ops) (one_opens (has_class_in ops)))
+    (many_reads (has_class_in ops) (sequence_read link_term (token_read (has_class_in ops)) (chain_read levels u)) (Concatenation link_term (SingleToken (has_class_in ops)) (Chain levels U)) (Concatenation link_term (SingleToken (has_class_in ops)) (Chain levels V)) (λ x. has_class_in (goes_on levels more)) (has_class_in (ops ++ goes_on levels more))
+    item (both_opens link_term (SingleToken (has_class_in ops)) (Chain levels U) (has_class_in ops) (one_opens (has_class_in ops)))
     (λ x. next_apart ops (goes_on levels more) here.0) (λ x. less_right ops (goes_on levels more)) (less_left ops (goes_on levels more)))
     ([], [], refl)
-    (λ x. many_follows (Both link (One (has_class_in ops)) (Chain levels U)) (has_class_in ops) (has_class_in (goes_on levels more)) (has_class_in (ops ++ goes_on levels more)) (both_opens link (One (has_class_in ops)) (Chain levels U) (has_class_in ops) (one_opens (has_class_in ops)))
+    (λ x. many_follows (Concatenation link_term (SingleToken (has_class_in ops)) (Chain levels U)) (has_class_in ops) (has_class_in (goes_on levels more)) (has_class_in (ops ++ goes_on levels more)) (both_opens link_term (SingleToken (has_class_in ops)) (Chain levels U) (has_class_in ops) (one_opens (has_class_in ops)))
     (next_apart ops (goes_on levels more) here.0) (less_right ops (goes_on levels more)))
     (λ x y rest e. e)

@@ -5,13 +5,13 @@ use Rattle.scad_lexer.specs.declared.token.Token.{Token}
 use Rattle.scad_ast.specs.Terms.{Term, NumberTerm, TextTerm, TruthTerm, UndefTerm, ChildCountTerm, SpecialTerm, ArgTerm, ParamTerm, BinderTerm, CoreTerm, StatementTerm, EmptyStatement, InstanceStatement, BodyTerm}
 use Rattle.scad_grammar.specs.declared.SyntaxFault.{SyntaxFault}
 use Rattle.scad_grammar.specs.declared.SyntaxFault.TheVariants.{Expected, Nested, NotInProfile}
-use Rattle.scad_grammar.specs.Classes.{else_word, close_parenthesis_sign, numeral_class, text_class, true_word, false_word, undef_word, child_count_class, special_class, name_class, end_class, if_word, for_word, function_word, module_word, assign_sign, comma_sign, semicolon_sign, open_brace_sign, open_parenthesis_sign, open_bracket_sign, is_listed, has_class_in, has_class, token_class, numeral_value, bytes_of}
+use Rattle.scad_grammar.specs.Classes.{else_word, close_parenthesis_sign, numeral_class, text_class, true_word, false_word, undef_word, child_count_class, special_class, name_class, end_class, if_word, for_word, function_word, module_word, assign_sign, comma_sign, semicolon_sign, open_brace_sign, open_parenthesis_sign, open_bracket_sign, is_class_among, has_class_in, has_class, token_class, numeral_value, bytes_of}
 use Rattle.scad_grammar.specs.Languages.{first_of, second_of, pair_of}
 use Rattle.scad_grammar.specs.Grammar.{bare_block_term, bracket_term, loop_term, instance_term, function_term, if_term}
-use Rattle.scad_grammar.specs.Reading.{Read, then_read, next_is, one_of, image_read, nothing, both, choice, maybe, two_ahead, with_front, many_times, many, trailing_times, trailing_items}
-use Rattle.scad_grammar.specs.Faults.{TokenReader, one, first, fault_of, left_out_classes, left_out_of_expressions}
+use Rattle.scad_grammar.specs.Reading.{Read, then_read, next_is, token_or_fault_read, image_read, empty_read, sequence_read, alternative_read, optional_read, two_ahead, with_front, repeated_times, repeated_read, trailing_times, trailing_items}
+use Rattle.scad_grammar.specs.Faults.{TokenReader, token_read, first_token_read, fault_of, left_out_classes, left_out_of_expressions}
 use Rattle.scad_grammar.specs.Reads.{head_of, nested_read, firsts_of_expression, in_parentheses, name_read, paren_read, primary_read, arg_in, expr_read, operand_read}
-use Rattle.scad_grammar.specs.StatementReads.{modifier_signs, loop_words, firsts_of_body, firsts_of_statement, if_read, call_read, module_read, params_read, ended_read, definition_read, assignment_behind, special_read, statement_over, function_read, param_in, binder_in, binders_read, braces_read, instance_in, statement_read, body_read, program_read}
+use Rattle.scad_grammar.specs.StatementReads.{modifier_signs, loop_words, firsts_of_body, firsts_of_statement, if_read, call_read, module_read, params_read, ended_read, definition_read, assignment_of_tokens, special_read, statement_over, function_read, param_in, binder_in, binders_read, braces_read, instance_in, statement_read, body_read, program_read}
 use Rattle.scad_grammar.proofs.Tests.{apart, either_listed, classes_apart, classes_within}
 use Rattle.scad_grammar.proofs.Cores.{loop_over, core_over, instance_over, marks_reads, choice_second}
 use Rattle.scad_grammar.proofs.Deeper.{primary_refuses}
@@ -80,28 +80,28 @@ module _ (t n : Token) (more : List Token) (w : has_class_in words t ≡ true) (
   numeral_not : (cs : List ℕ) → apart (numeral_class ∷ []) cs ≡ true → has_class_in cs n ≡ false
   numeral_not cs e = classes_apart (numeral_class ∷ []) cs e (token_class n.kind) g
 
-  numeral_refused : (cs : List ℕ) → has_class_in cs n ≡ false → one (has_class_in cs) (n ∷ more) ≡ Err (Expected, n ∷ more)
+  numeral_refused : (cs : List ℕ) → has_class_in cs n ≡ false → token_read (has_class_in cs) (n ∷ more) ≡ Err (Expected, n ∷ more)
   numeral_refused cs e = ap (λ b. cond b (Ok (n, more)) (Err (fault_of left_out_classes (Some n), n ∷ more))) e ∙ ap (λ b. Err (cond b NotInProfile Expected, n ∷ more)) (numeral_not left_out_classes refl)
 
-  one_begun : (test : Token → Bool) (fault : Option Token → SyntaxFault) → Begun (one_of test fault)
+  one_begun : (test : Token → Bool) (fault : Option Token → SyntaxFault) → Begun (token_or_fault_read test fault)
   one_begun test fault = record { at = at; shrinks = one_shrinks test fault }
     where
-      at : (h : Token) (s : List Token) → Locked t n more (one_of test fault (h ∷ (s ++ t ∷ more))) (one_of test fault (h ∷ (s ++ n ∷ more)))
+      at : (h : Token) (s : List Token) → Locked t n more (token_or_fault_read test fault (h ∷ (s ++ t ∷ more))) (token_or_fault_read test fault (h ∷ (s ++ n ∷ more)))
       at h s = cond_locked (test h) (test h) (Ok (h, s ++ t ∷ more)) (Ok (h, s ++ n ∷ more)) (Err (fault (Some h), h ∷ (s ++ t ∷ more))) (Err (fault (Some h), h ∷ (s ++ n ∷ more))) refl (before s h refl refl) (earlier (fault (Some h)) h s refl refl)
 
   -- a token that is no numeral
-  one_lock : (cs : List ℕ) → apart (numeral_class ∷ []) cs ≡ true → Lock (one (has_class_in cs))
+  one_lock : (cs : List ℕ) → apart (numeral_class ∷ []) cs ≡ true → Lock (token_read (has_class_in cs))
   one_lock cs e = record { at = at; shrinks = one_shrinks (has_class_in cs) (fault_of left_out_classes) }
     where
-      first : (b : Bool) → Locked t n more (cond b (Ok (t, more)) (Err (fault_of left_out_classes (Some t), t ∷ more))) (one (has_class_in cs) (n ∷ more))
-      first true = beyond (inl (omega arith))
-      first false = everywhere refl (numeral_refused cs (numeral_not cs e))
+      first_token_read : (b : Bool) → Locked t n more (cond b (Ok (t, more)) (Err (fault_of left_out_classes (Some t), t ∷ more))) (token_read (has_class_in cs) (n ∷ more))
+      first_token_read true = beyond (inl (omega arith))
+      first_token_read false = everywhere refl (numeral_refused cs (numeral_not cs e))
 
-      at : (s : List Token) → Locked t n more (one (has_class_in cs) (s ++ t ∷ more)) (one (has_class_in cs) (s ++ n ∷ more))
-      at [] = first (has_class_in cs t)
+      at : (s : List Token) → Locked t n more (token_read (has_class_in cs) (s ++ t ∷ more)) (token_read (has_class_in cs) (s ++ n ∷ more))
+      at [] = first_token_read (has_class_in cs t)
       at (h ∷ s) = (one_begun (has_class_in cs) (fault_of left_out_classes)).at h s
 
-  nothing_lock : {A : Type 0} (a : A) → Lock (nothing a)
+  nothing_lock : {A : Type 0} (a : A) → Lock (empty_read a)
   nothing_lock a = record { at = λ s. before s a refl refl; shrinks = nothing_shrinks a }
 
   mapped_lock : {A B : Type 0} (f : A → B) (r : TokenReader A) → Lock r → Lock (image_read f r)
@@ -113,28 +113,28 @@ module _ (t n : Token) (more : List Token) (w : has_class_in words t ≡ true) (
   behind_left : {A B C : Type 0} (f : A → B → C) (s : TokenReader B) → Lock s → (a : A) (us : List Token) → left (then_read (s us) (λ b vs. Ok (f a b, vs))) ≤ length us
   behind_left f s k a us = (mapped_shrinks (f a) s k.shrinks).at us
 
-  both_lock : {A B C : Type 0} (f : A → B → C) (r : TokenReader A) (s : TokenReader B) → Lock r → Lock s → Lock (both f r s)
+  both_lock : {A B C : Type 0} (f : A → B → C) (r : TokenReader A) (s : TokenReader B) → Lock r → Lock s → Lock (sequence_read f r s)
   both_lock f r s h k = record {
     at = λ l. after_locked (r (l ++ t ∷ more)) (r (l ++ n ∷ more)) (λ a us. then_read (s us) (λ b vs. Ok (f a b, vs))) (h.at l) (behind_locked f s k) (behind_left f s k);
     shrinks = both_shrinks f r s h.shrinks k.shrinks;
   }
 
-  choice_lock : {A : Type 0} (test : Token → Bool) (r s : TokenReader A) → Steady test → Lock r → Lock s → Lock (choice test r s)
+  choice_lock : {A : Type 0} (test : Token → Bool) (r s : TokenReader A) → Steady test → Lock r → Lock s → Lock (alternative_read test r s)
   choice_lock test r s st h k = record {
     at = λ l. cond_locked (next_is test (l ++ t ∷ more)) (next_is test (l ++ n ∷ more)) (r (l ++ t ∷ more)) (r (l ++ n ∷ more)) (s (l ++ t ∷ more)) (s (l ++ n ∷ more)) (same_starts test st l) (h.at l) (k.at l);
     shrinks = choice_shrinks test r s h.shrinks k.shrinks;
   }
 
   -- a choice by words that are taken
-  taken_lock : {A : Type 0} (cs : List ℕ) (r s : TokenReader A) → apart (numeral_class ∷ []) cs ≡ true → Takes (has_class_in cs) r → Lock r → Lock s → Lock (choice (has_class_in cs) r s)
+  taken_lock : {A : Type 0} (cs : List ℕ) (r s : TokenReader A) → apart (numeral_class ∷ []) cs ≡ true → Takes (has_class_in cs) r → Lock r → Lock s → Lock (alternative_read (has_class_in cs) r s)
   taken_lock {A} cs r s e takes h k = record { at = at; shrinks = choice_shrinks (has_class_in cs) r s h.shrinks k.shrinks }
     where
-      first : (b : Bool) → has_class_in cs t ≡ b → Locked t n more (cond b (r (t ∷ more)) (s (t ∷ more))) (choice (has_class_in cs) r s (n ∷ more))
-      first true f = beyond (takes t more w f)
-      first false f = same_locked refl (ap (λ b. cond b (r (n ∷ more)) (s (n ∷ more))) (numeral_not cs e)) (k.at [])
+      first_token_read : (b : Bool) → has_class_in cs t ≡ b → Locked t n more (cond b (r (t ∷ more)) (s (t ∷ more))) (alternative_read (has_class_in cs) r s (n ∷ more))
+      first_token_read true f = beyond (takes t more w f)
+      first_token_read false f = same_locked refl (ap (λ b. cond b (r (n ∷ more)) (s (n ∷ more))) (numeral_not cs e)) (k.at [])
 
-      at : (l : List Token) → Locked t n more (choice (has_class_in cs) r s (l ++ t ∷ more)) (choice (has_class_in cs) r s (l ++ n ∷ more))
-      at [] = first (has_class_in cs t) refl
+      at : (l : List Token) → Locked t n more (alternative_read (has_class_in cs) r s (l ++ t ∷ more)) (alternative_read (has_class_in cs) r s (l ++ n ∷ more))
+      at [] = first_token_read (has_class_in cs t) refl
       at (x ∷ l) = cond_locked (has_class_in cs x) (has_class_in cs x) (r (x ∷ (l ++ t ∷ more))) (r (x ∷ (l ++ n ∷ more))) (s (x ∷ (l ++ t ∷ more))) (s (x ∷ (l ++ n ∷ more))) refl (h.at (x ∷ l)) (k.at (x ∷ l))
 
   -- a name and an `=`, neither of which these words and a numeral are
@@ -177,43 +177,43 @@ module _ (t n : Token) (more : List Token) (w : has_class_in words t ≡ true) (
   same_length (h ∷ s) = ap suc (same_length s)
 
   -- with a number of turns
-  times_at : {A : Type 0} (k : ℕ) (test : Token → Bool) (r : TokenReader A) → Steady test → Lock r → (s : List Token) → Locked t n more (many_times k test r (s ++ t ∷ more)) (many_times k test r (s ++ n ∷ more))
-  unfolding many_times
+  times_at : {A : Type 0} (k : ℕ) (test : Token → Bool) (r : TokenReader A) → Steady test → Lock r → (s : List Token) → Locked t n more (repeated_times k test r (s ++ t ∷ more)) (repeated_times k test r (s ++ n ∷ more))
+  unfolding repeated_times
   times_at zero test r st h s = before s [] refl refl
   times_at (suc k) test r st h s =
-      cond_locked (next_is test (s ++ t ∷ more)) (next_is test (s ++ n ∷ more)) (then_read (r (s ++ t ∷ more)) (λ x us. with_front x (many_times k test r us))) (then_read (r (s ++ n ∷ more)) (λ x us. with_front x (many_times k test r us))) (Ok ([], s ++ t ∷ more)) (Ok ([], s ++ n ∷ more))
+      cond_locked (next_is test (s ++ t ∷ more)) (next_is test (s ++ n ∷ more)) (then_read (r (s ++ t ∷ more)) (λ x us. with_front x (repeated_times k test r us))) (then_read (r (s ++ n ∷ more)) (λ x us. with_front x (repeated_times k test r us))) (Ok ([], s ++ t ∷ more)) (Ok ([], s ++ n ∷ more))
       (same_starts test st s)
-      (after_locked (r (s ++ t ∷ more)) (r (s ++ n ∷ more)) (λ x us. with_front x (many_times k test r us)) (h.at s) (λ x u. front_locked x (many_times k test r (u ++ t ∷ more)) (many_times k test r (u ++ n ∷ more)) (times_at k test r st h u))
-      (λ x us. subst (λ l. length l ≤ length us) (sym (front_rest x (many_times k test r us))) (times_left k test r h.shrinks us)))
+      (after_locked (r (s ++ t ∷ more)) (r (s ++ n ∷ more)) (λ x us. with_front x (repeated_times k test r us)) (h.at s) (λ x u. front_locked x (repeated_times k test r (u ++ t ∷ more)) (repeated_times k test r (u ++ n ∷ more)) (times_at k test r st h u))
+      (λ x us. subst (λ l. length l ≤ length us) (sym (front_rest x (repeated_times k test r us))) (times_left k test r h.shrinks us)))
       (before s [] refl refl)
 
-  many_lock : {A : Type 0} (test : Token → Bool) (r : TokenReader A) → Steady test → Lock r → Lock (many test r)
-  unfolding many
+  many_lock : {A : Type 0} (test : Token → Bool) (r : TokenReader A) → Steady test → Lock r → Lock (repeated_read test r)
+  unfolding repeated_read
   many_lock {A} test r st h = record {
-    at = λ s. subst (λ k. Locked t n more (many test r (s ++ t ∷ more)) (many_times k test r (s ++ n ∷ more))) (same_length s) (times_at (length (s ++ t ∷ more)) test r st h s);
+    at = λ s. subst (λ k. Locked t n more (repeated_read test r (s ++ t ∷ more)) (repeated_times k test r (s ++ n ∷ more))) (same_length s) (times_at (length (s ++ t ∷ more)) test r st h s);
     shrinks = many_shrinks test r h.shrinks;
   }
 
   -- as long as words stand that are taken
-  taken_times : {A : Type 0} (k : ℕ) (cs : List ℕ) (r : TokenReader A) → apart (numeral_class ∷ []) cs ≡ true → Takes (has_class_in cs) r → Lock r → (s : List Token) → Locked t n more (many_times k (has_class_in cs) r (s ++ t ∷ more)) (many_times k (has_class_in cs) r (s ++ n ∷ more))
-  unfolding many_times
+  taken_times : {A : Type 0} (k : ℕ) (cs : List ℕ) (r : TokenReader A) → apart (numeral_class ∷ []) cs ≡ true → Takes (has_class_in cs) r → Lock r → (s : List Token) → Locked t n more (repeated_times k (has_class_in cs) r (s ++ t ∷ more)) (repeated_times k (has_class_in cs) r (s ++ n ∷ more))
+  unfolding repeated_times
   taken_times zero cs r e takes h s = before s [] refl refl
-  taken_times {A} (suc k) cs r e takes h [] = first (has_class_in cs t) refl (λ us. times_left k (has_class_in cs) r h.shrinks us)
+  taken_times {A} (suc k) cs r e takes h [] = first_token_read (has_class_in cs t) refl (λ us. times_left k (has_class_in cs) r h.shrinks us)
     where
-      first : (b : Bool) → has_class_in cs t ≡ b → ((us : List Token) → left (many_times k (has_class_in cs) r us) ≤ length us) → Locked t n more (cond {A = Read Token SyntaxFault (List A)} b (then_read (r (t ∷ more)) (λ x us. with_front x (many_times k (has_class_in cs) r us))) (Ok ([], t ∷ more))) (cond (has_class_in cs n) (then_read (r (n ∷ more)) (λ x us. with_front x (many_times k (has_class_in cs) r us))) (Ok ([], n ∷ more)))
-      first true f l = beyond (past_after t (r (t ∷ more)) (λ x us. with_front x (many_times k (has_class_in cs) r us)) (takes t more w f) (λ x us. subst (λ r. length r ≤ length us) (sym (front_rest x (many_times k (has_class_in cs) r us))) (l us)))
-      first false f l = before [] [] refl (ap (λ b. cond b (then_read (r (n ∷ more)) (λ x us. with_front x (many_times k (has_class_in cs) r us))) (Ok ([], n ∷ more))) (numeral_not cs e))
+      first_token_read : (b : Bool) → has_class_in cs t ≡ b → ((us : List Token) → left (repeated_times k (has_class_in cs) r us) ≤ length us) → Locked t n more (cond {A = Read Token SyntaxFault (List A)} b (then_read (r (t ∷ more)) (λ x us. with_front x (repeated_times k (has_class_in cs) r us))) (Ok ([], t ∷ more))) (cond (has_class_in cs n) (then_read (r (n ∷ more)) (λ x us. with_front x (repeated_times k (has_class_in cs) r us))) (Ok ([], n ∷ more)))
+      first_token_read true f l = beyond (past_after t (r (t ∷ more)) (λ x us. with_front x (repeated_times k (has_class_in cs) r us)) (takes t more w f) (λ x us. subst (λ r. length r ≤ length us) (sym (front_rest x (repeated_times k (has_class_in cs) r us))) (l us)))
+      first_token_read false f l = before [] [] refl (ap (λ b. cond b (then_read (r (n ∷ more)) (λ x us. with_front x (repeated_times k (has_class_in cs) r us))) (Ok ([], n ∷ more))) (numeral_not cs e))
   taken_times (suc k) cs r e takes h (x ∷ s) =
-      cond_locked (has_class_in cs x) (has_class_in cs x) (then_read (r (x ∷ (s ++ t ∷ more))) (λ x us. with_front x (many_times k (has_class_in cs) r us))) (then_read (r (x ∷ (s ++ n ∷ more))) (λ x us. with_front x (many_times k (has_class_in cs) r us))) (Ok ([], x ∷ (s ++ t ∷ more))) (Ok ([], x ∷ (s ++ n ∷ more)))
+      cond_locked (has_class_in cs x) (has_class_in cs x) (then_read (r (x ∷ (s ++ t ∷ more))) (λ x us. with_front x (repeated_times k (has_class_in cs) r us))) (then_read (r (x ∷ (s ++ n ∷ more))) (λ x us. with_front x (repeated_times k (has_class_in cs) r us))) (Ok ([], x ∷ (s ++ t ∷ more))) (Ok ([], x ∷ (s ++ n ∷ more)))
       refl
-      (after_locked (r (x ∷ (s ++ t ∷ more))) (r (x ∷ (s ++ n ∷ more))) (λ x us. with_front x (many_times k (has_class_in cs) r us)) (h.at (x ∷ s)) (λ y u. front_locked y (many_times k (has_class_in cs) r (u ++ t ∷ more)) (many_times k (has_class_in cs) r (u ++ n ∷ more)) (taken_times k cs r e takes h u))
-      (λ y us. subst (λ l. length l ≤ length us) (sym (front_rest y (many_times k (has_class_in cs) r us))) (times_left k (has_class_in cs) r h.shrinks us)))
+      (after_locked (r (x ∷ (s ++ t ∷ more))) (r (x ∷ (s ++ n ∷ more))) (λ x us. with_front x (repeated_times k (has_class_in cs) r us)) (h.at (x ∷ s)) (λ y u. front_locked y (repeated_times k (has_class_in cs) r (u ++ t ∷ more)) (repeated_times k (has_class_in cs) r (u ++ n ∷ more)) (taken_times k cs r e takes h u))
+      (λ y us. subst (λ l. length l ≤ length us) (sym (front_rest y (repeated_times k (has_class_in cs) r us))) (times_left k (has_class_in cs) r h.shrinks us)))
       (before (x ∷ s) [] refl refl)
 
-  many_taken : {A : Type 0} (cs : List ℕ) (r : TokenReader A) → apart (numeral_class ∷ []) cs ≡ true → Takes (has_class_in cs) r → Lock r → Lock (many (has_class_in cs) r)
-  unfolding many
+  many_taken : {A : Type 0} (cs : List ℕ) (r : TokenReader A) → apart (numeral_class ∷ []) cs ≡ true → Takes (has_class_in cs) r → Lock r → Lock (repeated_read (has_class_in cs) r)
+  unfolding repeated_read
   many_taken {A} cs r e takes h = record {
-    at = λ s. subst (λ k. Locked t n more (many (has_class_in cs) r (s ++ t ∷ more)) (many_times k (has_class_in cs) r (s ++ n ∷ more))) (same_length s) (taken_times (length (s ++ t ∷ more)) cs r e takes h s);
+    at = λ s. subst (λ k. Locked t n more (repeated_read (has_class_in cs) r (s ++ t ∷ more)) (repeated_times k (has_class_in cs) r (s ++ n ∷ more))) (same_length s) (taken_times (length (s ++ t ∷ more)) cs r e takes h s);
     shrinks = many_shrinks (has_class_in cs) r h.shrinks;
   }
 
@@ -244,7 +244,7 @@ module _ (t n : Token) (more : List Token) (w : has_class_in words t ≡ true) (
   Law A r q = Lock r
 
   less_numeral : (cs : List ℕ) → apart (numeral_class ∷ end_class ∷ []) cs ≡ true → apart (numeral_class ∷ []) cs ≡ true
-  less_numeral cs e = go (is_listed cs numeral_class) (is_listed cs end_class) e
+  less_numeral cs e = go (is_class_among cs numeral_class) (is_class_among cs end_class) e
     where
       go : (a b : Bool) → cond a false (cond b false true) ≡ true → cond a false true ≡ true
       go true b e = absurd (cc)
@@ -268,18 +268,18 @@ module _ (t n : Token) (more : List Token) (w : has_class_in words t ≡ true) (
   begun_of : {A : Type 0} (r : TokenReader A) → Lock r → Begun r
   begun_of r h = record { at = λ y s. h.at (y ∷ s); shrinks = h.shrinks }
 
-  begun_single : (f : Token → Term) (c : ℕ) → Begun (image_read f (one (has_class c)))
+  begun_single : (f : Token → Term) (c : ℕ) → Begun (image_read f (token_read (has_class c)))
   begun_single f c =
       let k = one_begun (has_class c) (fault_of left_out_classes) in
-      record { at = λ y s. after_locked (one (has_class c) (y ∷ (s ++ t ∷ more))) (one (has_class c) (y ∷ (s ++ n ∷ more))) (λ a us. Ok (f a, us)) (k.at y s) (λ a u. before u (f a) refl refl) (λ a us. omega arith); shrinks = mapped_shrinks f (one (has_class c)) k.shrinks }
+      record { at = λ y s. after_locked (token_read (has_class c) (y ∷ (s ++ t ∷ more))) (token_read (has_class c) (y ∷ (s ++ n ∷ more))) (λ a us. Ok (f a, us)) (k.at y s) (λ a u. before u (f a) refl refl) (λ a us. omega arith); shrinks = mapped_shrinks f (token_read (has_class c)) k.shrinks }
 
-  begun_choice : {A : Type 0} (test : Token → Bool) (r s : TokenReader A) → Begun r → Begun s → Begun (choice test r s)
+  begun_choice : {A : Type 0} (test : Token → Bool) (r s : TokenReader A) → Begun r → Begun s → Begun (alternative_read test r s)
   begun_choice test r s h k = record {
     at = λ y l. cond_locked (test y) (test y) (r (y ∷ (l ++ t ∷ more))) (r (y ∷ (l ++ n ∷ more))) (s (y ∷ (l ++ t ∷ more))) (s (y ∷ (l ++ n ∷ more))) refl (h.at y l) (k.at y l);
     shrinks = choice_shrinks test r s h.shrinks k.shrinks;
   }
 
-  begun_both : {A B C : Type 0} (f : A → B → C) (r : TokenReader A) (s : TokenReader B) → Begun r → Lock s → Begun (both f r s)
+  begun_both : {A B C : Type 0} (f : A → B → C) (r : TokenReader A) (s : TokenReader B) → Begun r → Lock s → Begun (sequence_read f r s)
   begun_both f r s h k = record {
     at = λ y l. after_locked (r (y ∷ (l ++ t ∷ more))) (r (y ∷ (l ++ n ∷ more))) (λ a us. then_read (s us) (λ b vs. Ok (f a b, vs))) (h.at y l) (behind_locked f s k) (behind_left f s k);
     shrinks = both_shrinks f r s h.shrinks k.shrinks;
@@ -297,7 +297,7 @@ module _ (t n : Token) (more : List Token) (w : has_class_in words t ≡ true) (
         (begun_choice (has_class special_class) _ _ (begun_single (λ t. SpecialTerm t.place (bytes_of t.kind)) special_class)
         (begun_choice (has_class name_class) _ _ (begun_of (name_read a) (named_keeps Law Taken lockstep a a ha))
         (begun_choice (has_class open_parenthesis_sign) _ _ (begun_of (paren_read e) (paren_keeps Law Taken lockstep e e he))
-        (begun_both bracket_term (first (has_class open_bracket_sign)) _ (one_begun (has_class open_bracket_sign) (fault_of left_out_of_expressions)) (filled_keeps Law Taken lockstep e e he))))))))))
+        (begun_both bracket_term (first_token_read (has_class open_bracket_sign)) _ (one_begun (has_class open_bracket_sign) (fault_of left_out_of_expressions)) (filled_keeps Law Taken lockstep e e he))))))))))
 
     numeral_read : primary_read e a (n ∷ more) ≡ Ok (NumberTerm n.place (numeral_value n.kind), more)
     numeral_read = rw g refl
@@ -329,12 +329,12 @@ module _ (t n : Token) (more : List Token) (w : has_class_in words t ≡ true) (
       numeral_here : nested_read {A = A} begins left_out_classes (n ∷ more) ≡ Err (Expected, n ∷ more)
       numeral_here = ap (λ b. cond b (Err (Nested, n ∷ more)) (Err (fault_of left_out_classes (Some n), n ∷ more))) (numeral_not begins e) ∙ ap (λ b. Err (cond b NotInProfile Expected, n ∷ more)) (numeral_not left_out_classes refl)
 
-      first : (b : Bool) → Locked t n more (cond {A = Read Token SyntaxFault A} b (Err (Nested, t ∷ more)) (Err (fault_of left_out_classes (Some t), t ∷ more))) (nested_read begins left_out_classes (n ∷ more))
-      first true = beyond (inr refl)
-      first false = everywhere refl numeral_here
+      first_token_read : (b : Bool) → Locked t n more (cond {A = Read Token SyntaxFault A} b (Err (Nested, t ∷ more)) (Err (fault_of left_out_classes (Some t), t ∷ more))) (nested_read begins left_out_classes (n ∷ more))
+      first_token_read true = beyond (inr refl)
+      first_token_read false = everywhere refl numeral_here
 
       at : (s : List Token) → Locked t n more (nested_read {A = A} begins left_out_classes (s ++ t ∷ more)) (nested_read begins left_out_classes (s ++ n ∷ more))
-      at [] = first (has_class_in begins t)
+      at [] = first_token_read (has_class_in begins t)
       at (h ∷ s) = (nested_begun begins left_out_classes).at h s
 
   nested_expression : {A : Type 0} → Lock (nested_read {A = A} firsts_of_expression left_out_of_expressions)
@@ -354,8 +354,8 @@ module _ (t n : Token) (more : List Token) (w : has_class_in words t ≡ true) (
       let k = expressions d in
       let primary = primary_read (expr_read d) (arg_in d (expr_read d)) in
       let p = primary_lock (expr_read d) (arg_in d (expr_read d)) k.0 k.2 in
-      let one : Lock (expr_read (suc d)) = expression_keeps Law Taken lockstep (expr_read d) (expr_read d) k.0 (operand_read d) (operand_read d) primary primary k.1 p in
-      (one, unary_keeps Law Taken lockstep (expr_read d) (expr_read d) k.0 (operand_read d) (operand_read d) primary primary k.1 p, arg_keeps Law Taken lockstep (expr_read (suc d)) (expr_read (suc d)) one)
+      let token_read : Lock (expr_read (suc d)) = expression_keeps Law Taken lockstep (expr_read d) (expr_read d) k.0 (operand_read d) (operand_read d) primary primary k.1 p in
+      (token_read, unary_keeps Law Taken lockstep (expr_read d) (expr_read d) k.0 (operand_read d) (operand_read d) primary primary k.1 p, arg_keeps Law Taken lockstep (expr_read (suc d)) (expr_read (suc d)) token_read)
 
   params : (d : ℕ) → Lock (param_in d (expr_read d))
   params zero = nested_everywhere (name_class ∷ []) refl
@@ -366,22 +366,22 @@ module _ (t n : Token) (more : List Token) (w : has_class_in words t ≡ true) (
   binders (suc d) = binder_keeps Law Taken lockstep (expr_read (suc d)) (expr_read (suc d)) (expressions (suc d)).0
 
 -- each word of a statement is taken where one may begin
-one_takes : (cs : List ℕ) → Takes (has_class_in cs) (one (has_class_in cs))
+one_takes : (cs : List ℕ) → Takes (has_class_in cs) (token_read (has_class_in cs))
 one_takes cs t more w h = inl (subst (λ q. left q ≤ length more) (sym (ap (λ b. cond b (Ok (t, more)) (Err (fault_of left_out_classes (Some t), t ∷ more))) h)) (omega arith))
 
-both_takes : {A B C : Type 0} (f : A → B → C) (test : Token → Bool) (r : TokenReader A) (s : TokenReader B) → Takes test r → Shrinks s → Takes test (both f r s)
+both_takes : {A B C : Type 0} (f : A → B → C) (test : Token → Bool) (r : TokenReader A) (s : TokenReader B) → Takes test r → Shrinks s → Takes test (sequence_read f r s)
 both_takes f test r s h k t more w e = go (h t more w e)
   where
-    go : Past t more (r (t ∷ more)) → Past t more (both f r s (t ∷ more))
+    go : Past t more (r (t ∷ more)) → Past t more (sequence_read f r s (t ∷ more))
     go (inl l) = inl (after_left (length more) (r (t ∷ more)) (λ a us. then_read (s us) (λ b vs. Ok (f a b, vs))) l (λ a us. (mapped_shrinks (f a) s k).at us))
     go (inr x) = inr (ap (λ r. then_read r (λ a us. then_read (s us) (λ b vs. Ok (f a b, vs)))) x)
 
 parentheses_shrink : {A : Type 0} (r : TokenReader A) → Shrinks r → Shrinks (in_parentheses r)
 parentheses_shrink r h =
-    both_shrinks second_of (one (has_class open_parenthesis_sign)) (both first_of r (one (has_class close_parenthesis_sign))) (one_shrinks (has_class open_parenthesis_sign) (fault_of left_out_classes))
-    (both_shrinks first_of r (one (has_class close_parenthesis_sign)) h (one_shrinks (has_class close_parenthesis_sign) (fault_of left_out_classes)))
+    both_shrinks second_of (token_read (has_class open_parenthesis_sign)) (sequence_read first_of r (token_read (has_class close_parenthesis_sign))) (one_shrinks (has_class open_parenthesis_sign) (fault_of left_out_classes))
+    (both_shrinks first_of r (token_read (has_class close_parenthesis_sign)) h (one_shrinks (has_class close_parenthesis_sign) (fault_of left_out_classes)))
 
-headed_shrinks : {A : Type 0} (r : TokenReader A) (b : TokenReader BodyTerm) → Shrinks r → Shrinks b → Shrinks (both pair_of (in_parentheses r) b)
+headed_shrinks : {A : Type 0} (r : TokenReader A) (b : TokenReader BodyTerm) → Shrinks r → Shrinks b → Shrinks (sequence_read pair_of (in_parentheses r) b)
 headed_shrinks r b h k = both_shrinks pair_of (in_parentheses r) b (parentheses_shrink r h) k
 
 past_same : {A : Type 0} (t : Token) (more : List Token) (q p : Read Token SyntaxFault A) → q ≡ p → Past t more p → Past t more q
@@ -389,19 +389,19 @@ past_same t more q p e h = subst (λ q. Past t more q) (sym e) h
 
 if_takes : (e : TokenReader Term) (b : TokenReader BodyTerm) → Shrinks e → Shrinks b → Takes (has_class_in (if_word ∷ [])) (if_read e b)
 if_takes e b h k =
-    both_takes if_term (has_class_in (if_word ∷ [])) (both pair_of (one (has_class if_word)) (both pair_of (in_parentheses e) b)) (maybe (has_class else_word) (both second_of (one (has_class else_word)) b))
-    (both_takes pair_of (has_class_in (if_word ∷ [])) (one (has_class if_word)) (both pair_of (in_parentheses e) b) (one_takes (if_word ∷ [])) (headed_shrinks e b h k))
-    (choice_shrinks (has_class else_word) (image_read Some (both second_of (one (has_class else_word)) b)) (nothing None) (mapped_shrinks Some _ (both_shrinks second_of (one (has_class else_word)) b (one_shrinks (has_class else_word) (fault_of left_out_classes)) k)) (nothing_shrinks None))
+    both_takes if_term (has_class_in (if_word ∷ [])) (sequence_read pair_of (token_read (has_class if_word)) (sequence_read pair_of (in_parentheses e) b)) (optional_read (has_class else_word) (sequence_read second_of (token_read (has_class else_word)) b))
+    (both_takes pair_of (has_class_in (if_word ∷ [])) (token_read (has_class if_word)) (sequence_read pair_of (in_parentheses e) b) (one_takes (if_word ∷ [])) (headed_shrinks e b h k))
+    (choice_shrinks (has_class else_word) (image_read Some (sequence_read second_of (token_read (has_class else_word)) b)) (empty_read None) (mapped_shrinks Some _ (both_shrinks second_of (token_read (has_class else_word)) b (one_shrinks (has_class else_word) (fault_of left_out_classes)) k)) (nothing_shrinks None))
 
 loop_takes : (ns : TokenReader (List BinderTerm)) (b : TokenReader BodyTerm) → Shrinks ns → Shrinks b → Takes (has_class_in loop_words) (loop_over ns b)
-loop_takes ns b h k = both_takes loop_term (has_class_in loop_words) (one (has_class_in loop_words)) (both pair_of (in_parentheses ns) b) (one_takes loop_words) (headed_shrinks ns b h k)
+loop_takes ns b h k = both_takes loop_term (has_class_in loop_words) (token_read (has_class_in loop_words)) (sequence_read pair_of (in_parentheses ns) b) (one_takes loop_words) (headed_shrinks ns b h k)
 
 function_takes : (x : TokenReader Term) (m : TokenReader ParamTerm) → Shrinks x → Shrinks (params_read m) → Takes (has_class_in (function_word ∷ [])) (function_read x m)
 function_takes x m h k =
-    both_takes function_term (has_class_in (function_word ∷ [])) (one (has_class function_word)) _ (one_takes (function_word ∷ []))
-    (both_shrinks pair_of (one (has_class name_class)) _ (one_shrinks (has_class name_class) (fault_of left_out_classes))
+    both_takes function_term (has_class_in (function_word ∷ [])) (token_read (has_class function_word)) _ (one_takes (function_word ∷ []))
+    (both_shrinks pair_of (token_read (has_class name_class)) _ (one_shrinks (has_class name_class) (fault_of left_out_classes))
     (both_shrinks pair_of (in_parentheses (params_read m)) _ (parentheses_shrink (params_read m) k)
-    (both_shrinks second_of (one (has_class assign_sign)) (ended_read x) (one_shrinks (has_class assign_sign) (fault_of left_out_classes)) (both_shrinks first_of x (one (has_class semicolon_sign)) h (one_shrinks (has_class semicolon_sign) (fault_of left_out_classes))))))
+    (both_shrinks second_of (token_read (has_class assign_sign)) (ended_read x) (one_shrinks (has_class assign_sign) (fault_of left_out_classes)) (both_shrinks first_of x (token_read (has_class semicolon_sign)) h (one_shrinks (has_class semicolon_sign) (fault_of left_out_classes))))))
 
 nested_takes : {A : Type 0} (begins classes : List ℕ) → Takes (has_class_in begins) (nested_read {A = A} begins classes)
 nested_takes begins classes t more w h = inr (ap (λ b. cond b (Err (Nested, t ∷ more)) (Err (fault_of classes (Some t), t ∷ more))) h)
@@ -440,8 +440,8 @@ module _ (e : TokenReader Term) (a : TokenReader ArgTerm) (ns : TokenReader (Lis
 
   definition_past : (t : Token) (more : List Token) → has_class_in words t ≡ true → Past t more (definition_read x m b (instance_over e a ns b) (t ∷ more))
   definition_past t more w =
-      past_same t more (definition_read x m b (instance_over e a ns b) (t ∷ more)) (choice (has_class function_word) (function_read x m) (image_read InstanceStatement (instance_over e a ns b)) (t ∷ more))
-      (choice_second (has_class module_word) (module_read m b) (choice (has_class function_word) (function_read x m) (image_read InstanceStatement (instance_over e a ns b))) (t ∷ more) (classes_apart words (module_word ∷ []) refl (token_class t.kind) w)) (go (has_class function_word t) refl)
+      past_same t more (definition_read x m b (instance_over e a ns b) (t ∷ more)) (alternative_read (has_class function_word) (function_read x m) (image_read InstanceStatement (instance_over e a ns b)) (t ∷ more))
+      (choice_second (has_class module_word) (module_read m b) (alternative_read (has_class function_word) (function_read x m) (image_read InstanceStatement (instance_over e a ns b))) (t ∷ more) (classes_apart words (module_word ∷ []) refl (token_class t.kind) w)) (go (has_class function_word t) refl)
     where
       go : (c : Bool) → has_class function_word t ≡ c → Past t more (cond c (function_read x m (t ∷ more)) (image_read InstanceStatement (instance_over e a ns b) (t ∷ more)))
       go true f = by_function t more w f
@@ -450,10 +450,10 @@ module _ (e : TokenReader Term) (a : TokenReader ArgTerm) (ns : TokenReader (Lis
   statement_takes : Takes (has_class_in firsts_of_statement) (statement_over x m s b (instance_over e a ns b))
   statement_takes t more w h =
       past_same t more (statement_over x m s b (instance_over e a ns b) (t ∷ more)) (definition_read x m b (instance_over e a ns b) (t ∷ more))
-      (choice_second (has_class semicolon_sign) (image_read (λ t. EmptyStatement t.place) (one (has_class semicolon_sign))) (choice (has_class open_brace_sign) (both bare_block_term (one (has_class open_brace_sign)) (braces_read s)) (choice (has_class special_class) (special_read x) (two_ahead assignment_behind (has_class name_class) (has_class assign_sign) (ended_read x) (definition_read x m b (instance_over e a ns b))))) (t ∷ more) (classes_apart words (semicolon_sign ∷ []) refl (token_class t.kind) w)
-      ∙ choice_second (has_class open_brace_sign) (both bare_block_term (one (has_class open_brace_sign)) (braces_read s)) (choice (has_class special_class) (special_read x) (two_ahead assignment_behind (has_class name_class) (has_class assign_sign) (ended_read x) (definition_read x m b (instance_over e a ns b)))) (t ∷ more) (classes_apart words (open_brace_sign ∷ []) refl (token_class t.kind) w)
-      ∙ choice_second (has_class special_class) (special_read x) (two_ahead assignment_behind (has_class name_class) (has_class assign_sign) (ended_read x) (definition_read x m b (instance_over e a ns b))) (t ∷ more) (classes_apart words (special_class ∷ []) refl (token_class t.kind) w)
-      ∙ no_name assignment_behind (name_class ∷ []) (ended_read x) (definition_read x m b (instance_over e a ns b)) t more (classes_apart words (name_class ∷ []) refl (token_class t.kind) w))
+      (choice_second (has_class semicolon_sign) (image_read (λ t. EmptyStatement t.place) (token_read (has_class semicolon_sign))) (alternative_read (has_class open_brace_sign) (sequence_read bare_block_term (token_read (has_class open_brace_sign)) (braces_read s)) (alternative_read (has_class special_class) (special_read x) (two_ahead assignment_of_tokens (has_class name_class) (has_class assign_sign) (ended_read x) (definition_read x m b (instance_over e a ns b))))) (t ∷ more) (classes_apart words (semicolon_sign ∷ []) refl (token_class t.kind) w)
+      ∙ choice_second (has_class open_brace_sign) (sequence_read bare_block_term (token_read (has_class open_brace_sign)) (braces_read s)) (alternative_read (has_class special_class) (special_read x) (two_ahead assignment_of_tokens (has_class name_class) (has_class assign_sign) (ended_read x) (definition_read x m b (instance_over e a ns b)))) (t ∷ more) (classes_apart words (open_brace_sign ∷ []) refl (token_class t.kind) w)
+      ∙ choice_second (has_class special_class) (special_read x) (two_ahead assignment_of_tokens (has_class name_class) (has_class assign_sign) (ended_read x) (definition_read x m b (instance_over e a ns b))) (t ∷ more) (classes_apart words (special_class ∷ []) refl (token_class t.kind) w)
+      ∙ no_name assignment_of_tokens (name_class ∷ []) (ended_read x) (definition_read x m b (instance_over e a ns b)) t more (classes_apart words (name_class ∷ []) refl (token_class t.kind) w))
       (definition_past t more w)
 
 module _ (t n : Token) (more : List Token) (w : has_class_in words t ≡ true) (g : has_class numeral_class n ≡ true) where
@@ -488,4 +488,4 @@ module _ (t n : Token) (more : List Token) (w : has_class_in words t ≡ true) (
   pub lock_program : (d : ℕ) → Held (program_read d)
   lock_program d =
       let k = lock_statements d in
-      both_lock t n more w g first_of (many (has_class_in firsts_of_statement) (statement_read d)) (one (has_class end_class)) (many_taken t n more w g firsts_of_statement (statement_read d) refl k.2 k.0) (one_lock t n more w g (end_class ∷ []) refl)
+      both_lock t n more w g first_of (repeated_read (has_class_in firsts_of_statement) (statement_read d)) (token_read (has_class end_class)) (many_taken t n more w g firsts_of_statement (statement_read d) refl k.2 k.0) (one_lock t n more w g (end_class ∷ []) refl)

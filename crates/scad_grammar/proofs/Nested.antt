@@ -6,17 +6,17 @@ use Rattle.scad_grammar.specs.Classes.{has_class_in}
 use Rattle.scad_grammar.specs.Languages.{Language}
 use Rattle.scad_grammar.specs.Faults.{fault_of}
 use Rattle.scad_grammar.specs.Reads.{nested_read}
-use Rattle.scad_grammar.proofs.Readers.{SameHead, Begins, Told, IsReader, plain_seen}
+use Rattle.scad_grammar.proofs.Readers.{SameHead, IsPrefixIn, Told, IsReader, plain_seen}
 use Rattle.scad_grammar.proofs.Tests.{fault_plain}
 
-module _ {A : Type 0} (begins classes : List ℕ) (L W : Language A) (more : A → Token → Bool) (none : (x : A) (s : List Token) → L x s → ⊥) (begun : (t : Token) → has_class_in begins t ≡ true → Begins W (t ∷ [])) (some : Begins W []) where
+module _ {A : Type 0} (begins classes : List ℕ) (L W : Language A) (more : A → Token → Bool) (none : (x : A) (s : List Token) → L x s → ⊥) (begun : (t : Token) → has_class_in begins t ≡ true → IsPrefixIn W (t ∷ [])) (some : IsPrefixIn W []) where
   at_token : (t : Token) (ts : List Token) (b : Bool) → has_class_in begins t ≡ b → Told (nested_read begins classes) L W (t ∷ ts) (cond b (Err (Nested, t ∷ ts)) (Err (fault_of classes (Some t), t ∷ ts)))
   at_token t ts true e = ([], refl, begun t e, at)
     where
       at : (rest : List Token) → SameHead (t ∷ ts) rest → nested_read {A = A} begins classes rest ≡ Err (Nested, rest)
       at [] h = elim h [ ]
       at (u ∷ us) h = let n : has_class_in begins u ≡ true = ap (has_class_in begins) (sym h) ∙ e in ap (λ c. cond c (Err (Nested, u ∷ us)) (Err (fault_of classes (Some u), u ∷ us))) n
-  at_token t ts false e = ([], refl, subst (Begins W) (sym (plain_seen (fault_of classes (Some t)) (t ∷ ts) (fault_plain classes (Some t)))) some, at)
+  at_token t ts false e = ([], refl, subst (IsPrefixIn W) (sym (plain_seen (fault_of classes (Some t)) (t ∷ ts) (fault_plain classes (Some t)))) some, at)
     where
       at : (rest : List Token) → SameHead (t ∷ ts) rest → nested_read {A = A} begins classes rest ≡ Err (fault_of classes (Some t), rest)
       at [] h = elim h [ ]

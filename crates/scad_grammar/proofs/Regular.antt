@@ -10,9 +10,9 @@ use Rattle.std.specs.Str.{bytes_eq}
 use Rattle.scad_ast.specs.Terms.{Term, ArgTerm}
 use Rattle.scad_grammar.specs.declared.SyntaxFault.{SyntaxFault}
 use Rattle.scad_grammar.specs.declared.SyntaxFault.TheVariants.{Nested}
-use Rattle.scad_grammar.specs.Classes.{numeral_class, name_class, special_class, child_count_class, end_class, assign_sign, comma_sign, open_bracket_sign, is_listed, has_class_in, has_class, token_class}
-use Rattle.scad_grammar.specs.Reading.{Read, then_read, next_is, one_of, image_read, both, choice, two_ahead, with_front, many_times, many, trailing_times, trailing_items}
-use Rattle.scad_grammar.specs.Faults.{TokenReader, one, fault_of, left_out_classes, left_out_of_expressions}
+use Rattle.scad_grammar.specs.Classes.{numeral_class, name_class, special_class, child_count_class, end_class, assign_sign, comma_sign, open_bracket_sign, is_class_among, has_class_in, has_class, token_class}
+use Rattle.scad_grammar.specs.Reading.{Read, then_read, next_is, token_or_fault_read, image_read, sequence_read, alternative_read, two_ahead, with_front, repeated_times, repeated_read, trailing_times, trailing_items}
+use Rattle.scad_grammar.specs.Faults.{TokenReader, token_read, fault_of, left_out_classes, left_out_of_expressions}
 use Rattle.scad_grammar.specs.Reads.{head_of, nested_read, firsts_of_expression, primary_read, arg_in, expr_read, operand_read}
 use Rattle.scad_grammar.specs.StatementReads.{firsts_of_body, firsts_of_statement, param_in, binder_in, binders_read, instance_in, statement_read, body_read}
 use Rattle.scad_grammar.proofs.Tests.{apart, classes_apart}
@@ -26,12 +26,12 @@ EndsOnce (t ∷ []) = has_class end_class t ≡ true
 EndsOnce (t ∷ u ∷ us) = (has_class end_class t ≡ false) × EndsOnce (u ∷ us)
 
 -- the end's class is its own
-end_listed : (k : TokenKind) → is_listed (end_class ∷ []) (token_class k) ≡ is_end k
+end_listed : (k : TokenKind) → is_class_among (end_class ∷ []) (token_class k) ≡ is_end k
 end_listed (Numeral n) = refl
 end_listed (Name bytes) = refl
 end_listed (Special bytes) = go (bytes_eq bytes (codes "children"))
   where
-    go : (b : Bool) → is_listed (end_class ∷ []) (cond b child_count_class special_class) ≡ false
+    go : (b : Bool) → is_class_among (end_class ∷ []) (cond b child_count_class special_class) ≡ false
     go true = refl
     go false = refl
 end_listed (Text bytes) = refl
@@ -136,7 +136,7 @@ everywhere t = inl refl
 in_expressions : IsOfKind left_out_of_expressions
 in_expressions t = inr refl
 
-one_fair : (cs classes : List ℕ) → apart (end_class ∷ []) cs ≡ true → IsOfKind classes → (ts : List Token) → Fair ts (one_of (has_class_in cs) (fault_of classes) ts)
+one_fair : (cs classes : List ℕ) → apart (end_class ∷ []) cs ≡ true → IsOfKind classes → (ts : List Token) → Fair ts (token_or_fault_read (has_class_in cs) (fault_of classes) ts)
 one_fair cs classes a k [] = (kind_of classes k [], λ e. e)
 one_fair cs classes a k (t ∷ ts) = go (has_class_in cs t) refl
   where
@@ -147,10 +147,10 @@ one_fair cs classes a k (t ∷ ts) = go (has_class_in cs t) refl
 mapped_fair : {A B : Type 0} (f : A → B) (r q : TokenReader A) → Regular r → Regular (image_read f r)
 mapped_fair f r q h = record { at = λ ts. after_fair ts (r ts) (λ a us. Ok (f a, us)) (h.at ts) (λ a us e. e) }
 
-both_fair : {A B C : Type 0} (f : A → B → C) (r q : TokenReader A) (s p : TokenReader B) → Regular r → Regular s → Regular (both f r s)
+both_fair : {A B C : Type 0} (f : A → B → C) (r q : TokenReader A) (s p : TokenReader B) → Regular r → Regular s → Regular (sequence_read f r s)
 both_fair f r q s p h k = record { at = λ ts. after_fair ts (r ts) (λ a us. then_read (s us) (λ b vs. Ok (f a b, vs))) (h.at ts) (λ a us. after_fair us (s us) (λ b vs. Ok (f a b, vs)) (k.at us) (λ b vs e. e)) }
 
-choice_fair : {A : Type 0} (test : Token → Bool) (r q s p : TokenReader A) → Regular r → Regular s → Regular (choice test r s)
+choice_fair : {A : Type 0} (test : Token → Bool) (r q s p : TokenReader A) → Regular r → Regular s → Regular (alternative_read test r s)
 choice_fair test r q s p h k = record { at = λ ts. cond_fair ts (next_is test ts) (r ts) (s ts) (h.at ts) (k.at ts) }
 
 ahead_at : {A C : Type 0} (f : Token → Token → A → C) (cs : List ℕ) (r : TokenReader A) (s : TokenReader C) → apart (end_class ∷ []) cs ≡ true → Regular r → Regular s → (ts : List Token) → Fair ts (two_ahead f (has_class_in cs) (has_class assign_sign) r s ts)
@@ -168,15 +168,15 @@ front_fair : {A : Type 0} (x : A) (ts : List Token) (q : Read Token SyntaxFault 
 front_fair x ts (Ok p) h = h
 front_fair x ts (Err e) h = h
 
-times_fair : {A : Type 0} (n : ℕ) (test : Token → Bool) (r : TokenReader A) → Regular r → (ts : List Token) → Fair ts (many_times n test r ts)
-unfolding many_times
+times_fair : {A : Type 0} (n : ℕ) (test : Token → Bool) (r : TokenReader A) → Regular r → (ts : List Token) → Fair ts (repeated_times n test r ts)
+unfolding repeated_times
 times_fair zero test r h ts = λ e. e
 times_fair (suc n) test r h ts =
-    cond_fair ts (next_is test ts) (then_read (r ts) (λ x us. with_front x (many_times n test r us))) (Ok ([], ts))
-    (after_fair ts (r ts) (λ x us. with_front x (many_times n test r us)) (h.at ts) (λ x us. front_fair x us (many_times n test r us) (times_fair n test r h us))) (λ e. e)
+    cond_fair ts (next_is test ts) (then_read (r ts) (λ x us. with_front x (repeated_times n test r us))) (Ok ([], ts))
+    (after_fair ts (r ts) (λ x us. with_front x (repeated_times n test r us)) (h.at ts) (λ x us. front_fair x us (repeated_times n test r us) (times_fair n test r h us))) (λ e. e)
 
-pub many_fair : {A : Type 0} (test : Token → Bool) (r : TokenReader A) → Regular r → Regular (many test r)
-unfolding many
+pub many_fair : {A : Type 0} (test : Token → Bool) (r : TokenReader A) → Regular r → Regular (repeated_read test r)
+unfolding repeated_read
 many_fair test r h = record { at = λ ts. times_fair (length ts) test r h ts }
 
 trailing_at : {A : Type 0} (n : ℕ) (go : Token → Bool) (r : TokenReader A) → Regular r → (ts : List Token) → Fair ts (trailing_times n (has_class comma_sign) go r ts)
@@ -203,7 +203,7 @@ abbrev Law : (A : Type 0) → TokenReader A → TokenReader A → Type 0
 Law A r q = Regular r
 
 less_end : (cs : List ℕ) → apart (numeral_class ∷ end_class ∷ []) cs ≡ true → apart (end_class ∷ []) cs ≡ true
-less_end cs e = go (is_listed cs numeral_class) (is_listed cs end_class) e
+less_end cs e = go (is_class_among cs numeral_class) (is_class_among cs end_class) e
   where
     go : (a b : Bool) → cond a false (cond b false true) ≡ true → cond b false true ≡ true
     go true b e = absurd (cc)
@@ -225,7 +225,7 @@ fairness = record {
 
 primary_fair : (e : TokenReader Term) (a : TokenReader ArgTerm) → Regular e → Regular a → Regular (primary_read e a)
 primary_fair e a =
-    primary_keeps Law Free fairness (λ c f h. mapped_fair f (one (has_class c)) (one (has_class c)) (record { at = one_fair (c ∷ []) left_out_classes h everywhere }))
+    primary_keeps Law Free fairness (λ c f h. mapped_fair f (token_read (has_class c)) (token_read (has_class c)) (record { at = one_fair (c ∷ []) left_out_classes h everywhere }))
     (record { at = one_fair (open_bracket_sign ∷ []) left_out_of_expressions refl in_expressions }) (λ r q s p. choice_fair (has_class numeral_class) r q s p) e e a a
 
 expressions : (d : ℕ) → Regular (expr_read d) × Regular (operand_read d) × Regular (arg_in d (expr_read d))
@@ -234,8 +234,8 @@ expressions zero = (nested_fair firsts_of_expression left_out_of_expressions in_
 expressions (suc d) =
     let k = expressions d in
     let p = primary_fair (expr_read d) (arg_in d (expr_read d)) k.0 k.2 in
-    let one : Regular (expr_read (suc d)) = expression_keeps Law Free fairness (expr_read d) (expr_read d) k.0 (operand_read d) (operand_read d) (primary_read (expr_read d) (arg_in d (expr_read d))) (primary_read (expr_read d) (arg_in d (expr_read d))) k.1 p in
-    (one, unary_keeps Law Free fairness (expr_read d) (expr_read d) k.0 (operand_read d) (operand_read d) (primary_read (expr_read d) (arg_in d (expr_read d))) (primary_read (expr_read d) (arg_in d (expr_read d))) k.1 p, arg_keeps Law Free fairness (expr_read (suc d)) (expr_read (suc d)) one)
+    let token_read : Regular (expr_read (suc d)) = expression_keeps Law Free fairness (expr_read d) (expr_read d) k.0 (operand_read d) (operand_read d) (primary_read (expr_read d) (arg_in d (expr_read d))) (primary_read (expr_read d) (arg_in d (expr_read d))) k.1 p in
+    (token_read, unary_keeps Law Free fairness (expr_read d) (expr_read d) k.0 (operand_read d) (operand_read d) (primary_read (expr_read d) (arg_in d (expr_read d))) (primary_read (expr_read d) (arg_in d (expr_read d))) k.1 p, arg_keeps Law Free fairness (expr_read (suc d)) (expr_read (suc d)) token_read)
 
 params : (d : ℕ) → Regular (param_in d (expr_read d))
 params zero = nested_fair (name_class ∷ []) left_out_classes everywhere

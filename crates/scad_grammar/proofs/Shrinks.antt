@@ -2,7 +2,7 @@
 use Rattle.std.proofs.Common.{◌≡◌, ℕ, zero, suc, ◌≤◌, List, [], ◌∷◌, length, Bool, true, false, cond, Ok, Err, Option, Some, refl, arith, ◌&&◌}
 use Rattle.scad_lexer.specs.declared.token.Token.{Token}
 use Rattle.scad_grammar.specs.declared.SyntaxFault.{SyntaxFault}
-use Rattle.scad_grammar.specs.Reading.{Read, then_read, next_is, one_of, image_read, nothing, both, choice, two_ahead, with_front, many_times, many, trailing_times, trailing_items}
+use Rattle.scad_grammar.specs.Reading.{Read, then_read, next_is, token_or_fault_read, image_read, empty_read, sequence_read, alternative_read, two_ahead, with_front, repeated_times, repeated_read, trailing_times, trailing_items}
 use Rattle.scad_grammar.specs.Faults.{TokenReader}
 use Rattle.scad_grammar.proofs.Ahead.{rest_of}
 
@@ -23,23 +23,23 @@ cond_left n false q p l m = m
 same_left : (ts : List Token) → length ts ≤ length ts
 same_left ts = omega arith
 
-pub one_shrinks : (test : Token → Bool) (fault : Option Token → SyntaxFault) → Shrinks (one_of test fault)
+pub one_shrinks : (test : Token → Bool) (fault : Option Token → SyntaxFault) → Shrinks (token_or_fault_read test fault)
 one_shrinks test fault = record { at = at }
   where
-    at : (ts : List Token) → left (one_of test fault ts) ≤ length ts
+    at : (ts : List Token) → left (token_or_fault_read test fault ts) ≤ length ts
     at [] = omega arith
     at (t ∷ ts) = cond_left (length (t ∷ ts)) (test t) (Ok (t, ts)) (Err (fault (Some t), t ∷ ts)) (omega arith) (omega arith)
 
-pub nothing_shrinks : {A : Type 0} (a : A) → Shrinks (nothing a)
+pub nothing_shrinks : {A : Type 0} (a : A) → Shrinks (empty_read a)
 nothing_shrinks a = record { at = same_left }
 
 pub mapped_shrinks : {A B : Type 0} (f : A → B) (r : TokenReader A) → Shrinks r → Shrinks (image_read f r)
 mapped_shrinks f r h = record { at = λ ts. after_left (length ts) (r ts) (λ a us. Ok (f a, us)) (h.at ts) (λ a us. same_left us) }
 
-pub both_shrinks : {A B C : Type 0} (f : A → B → C) (r : TokenReader A) (s : TokenReader B) → Shrinks r → Shrinks s → Shrinks (both f r s)
+pub both_shrinks : {A B C : Type 0} (f : A → B → C) (r : TokenReader A) (s : TokenReader B) → Shrinks r → Shrinks s → Shrinks (sequence_read f r s)
 both_shrinks f r s h k = record { at = λ ts. after_left (length ts) (r ts) (λ a us. then_read (s us) (λ b vs. Ok (f a b, vs))) (h.at ts) (λ a us. after_left (length us) (s us) (λ b vs. Ok (f a b, vs)) (k.at us) (λ b vs. same_left vs)) }
 
-pub choice_shrinks : {A : Type 0} (test : Token → Bool) (r s : TokenReader A) → Shrinks r → Shrinks s → Shrinks (choice test r s)
+pub choice_shrinks : {A : Type 0} (test : Token → Bool) (r s : TokenReader A) → Shrinks r → Shrinks s → Shrinks (alternative_read test r s)
 choice_shrinks test r s h k = record { at = λ ts. cond_left (length ts) (next_is test ts) (r ts) (s ts) (h.at ts) (k.at ts) }
 
 ahead_left : {A C : Type 0} (f : Token → Token → A → C) (a b : Token → Bool) (r : TokenReader A) (s : TokenReader C) → Shrinks r → Shrinks s → (ts : List Token) → left (two_ahead f a b r s ts) ≤ length ts
@@ -56,15 +56,15 @@ front_left : {A : Type 0} (n : ℕ) (x : A) (q : Read Token SyntaxFault (List A)
 front_left n x (Ok p) l = l
 front_left n x (Err e) l = l
 
-pub times_left : {A : Type 0} (n : ℕ) (test : Token → Bool) (r : TokenReader A) → Shrinks r → (ts : List Token) → left (many_times n test r ts) ≤ length ts
-unfolding many_times
+pub times_left : {A : Type 0} (n : ℕ) (test : Token → Bool) (r : TokenReader A) → Shrinks r → (ts : List Token) → left (repeated_times n test r ts) ≤ length ts
+unfolding repeated_times
 times_left zero test r h ts = same_left ts
 times_left (suc n) test r h ts =
-    cond_left (length ts) (next_is test ts) (then_read (r ts) (λ x us. with_front x (many_times n test r us))) (Ok ([], ts))
-    (after_left (length ts) (r ts) (λ x us. with_front x (many_times n test r us)) (h.at ts) (λ x us. front_left (length us) x (many_times n test r us) (times_left n test r h us))) (same_left ts)
+    cond_left (length ts) (next_is test ts) (then_read (r ts) (λ x us. with_front x (repeated_times n test r us))) (Ok ([], ts))
+    (after_left (length ts) (r ts) (λ x us. with_front x (repeated_times n test r us)) (h.at ts) (λ x us. front_left (length us) x (repeated_times n test r us) (times_left n test r h us))) (same_left ts)
 
-pub many_shrinks : {A : Type 0} (test : Token → Bool) (r : TokenReader A) → Shrinks r → Shrinks (many test r)
-unfolding many
+pub many_shrinks : {A : Type 0} (test : Token → Bool) (r : TokenReader A) → Shrinks r → Shrinks (repeated_read test r)
+unfolding repeated_read
 many_shrinks test r h = record { at = λ ts. times_left (length ts) test r h ts }
 
 pub trailing_left : {A : Type 0} (n : ℕ) (mark go : Token → Bool) (r : TokenReader A) → Shrinks r → (ts : List Token) → left (trailing_times n mark go r ts) ≤ length ts

@@ -3,7 +3,7 @@ use Rattle.std.proofs.Common.{◌≡◌, ℕ, suc, List, [], ◌∷◌, ◌++◌
 use Rattle.scad_lexer.specs.declared.token.Token.{Token}
 use Rattle.scad_ast.specs.Terms.{Term, NumberTerm, TextTerm, TruthTerm, UndefTerm, ChildCountTerm, SpecialTerm, NameTerm, CallTerm, ParenTerm, ListTerm, RangeTerm, SteppedRangeTerm, PostfixTerm, UnaryTerm, ChainTerm, ChoiceTerm, Terms, no_terms, and_term, ArgTerms, no_args, and_named, and_special, and_positional, SuffixTerms, no_suffixes, and_index, and_member, LinkTerms, no_links, and_link, LinkTerm, SuffixTerm, IndexTerm, MemberTerm, ArgTerm, NamedTerm, SpecialArgTerm, PositionalTerm, terms_from, links_from, suffixes_from, args_from, ParamTerm, PlainTerm, DefaultTerm, BinderTerm, ModifierTerm, StatementTerm, EmptyStatement, BlockStatement, AssignmentTerm, SpecialAssignmentTerm, ModuleTerm, FunctionTerm, InstanceStatement, StatementTerms, no_statements, and_statement, InstanceTerm, AnInstance, CoreTerm, IfTerm, IfElseTerm, ForTerm, IntersectionForTerm, ModuleCallTerm, BodyTerm, EmptyBody, BlockBody, InstanceBody, statements_from}
 use Rattle.scad_grammar.specs.Classes.{comma_sign, for_word, special_class, has_class}
-use Rattle.scad_grammar.specs.Grammar.{Rest, items, range, stepped_range, chain_term, choice_term, postfix_term, name_term, bracket_term, given_term, param_term, instance_term, loop_term, if_term}
+use Rattle.scad_grammar.specs.Grammar.{Rest, items, range, stepped_range, chain_term, choice_term, postfix_term, name_term, bracket_term, named_argument_term, param_term, instance_term, loop_term, if_term}
 
 -- the depths of the first tokens, and what stands behind them
 abbrev pub Taken : Type 0
@@ -251,10 +251,10 @@ bracket_taken t (Some (x, items xs)) ts =
 bracket_taken t (Some (x, range to)) ts = refl
 bracket_taken t (Some (x, stepped_range step to)) ts = refl
 
-pub given_taken : (t : Token) (x : Term) (ts : List Token) → argument (given_term t x) ts ≡ and_then one (and_then one (term x)) ts
+pub given_taken : (t : Token) (x : Term) (ts : List Token) → argument (named_argument_term t x) ts ≡ and_then one (and_then one (term x)) ts
 given_taken t x ts = go (has_class special_class t) refl
   where
-    go : (b : Bool) → has_class special_class t ≡ b → argument (given_term t x) ts ≡ and_then one (and_then one (term x)) ts
+    go : (b : Bool) → has_class special_class t ≡ b → argument (named_argument_term t x) ts ≡ and_then one (and_then one (term x)) ts
     go true e = rw e refl
     go false e = rw e refl
 

@@ -3,10 +3,10 @@ use Rattle.std.proofs.Common.{◌≡◌, ℕ, zero, suc, List, [], ◌∷◌, �
 use Rattle.scad_lexer.specs.declared.token.Token.{Token}
 use Rattle.scad_ast.specs.Terms.{Term, ArgTerm, PositionalTerm, ParamTerm, BinderTerm, StatementTerm, InstanceStatement, InstanceTerm, BodyTerm, InstanceBody, statements_from}
 use Rattle.scad_grammar.specs.Classes.{numeral_class, text_class, true_word, false_word, undef_word, child_count_class, special_class, open_parenthesis_sign, close_parenthesis_sign, open_bracket_sign, close_bracket_sign, open_brace_sign, close_brace_sign, comma_sign, semicolon_sign, assign_sign, colon_sign, question_sign, dot_sign, name_class, end_class, if_word, else_word, for_word, intersection_for_word, module_word, function_word, token_class, has_class, has_class_in}
-use Rattle.scad_grammar.specs.Languages.{Language, One, ImageOf, Both, BothIf, EitherOf, Nothing, Many, Maybe, Never, AfterToken, BeforeToken, SeparatedList, first_of, second_of, pair_of, cons}
-use Rattle.scad_grammar.specs.Grammar.{InParentheses, items, range_rest, Arg, Args, Param, Params, Binders, Bracket, Primary, Suffix, Unary, Chain, Choice, whole, ArgsIn, ParamsIn, BindersIn, StatementsIn, InstanceIn, Expr, Operand, CoreOf, Instance, BodyOf, StatementOf, Statement, Body, WholeProgram, levels, link, chain_term, choice_term, unary_term, postfix_term, index_term, member_term, name_term, paren_term, bracket_term, given_term, param_term, binder_term, if_term, IsNearest, instance_term, loop_term, call_term, block_term, bare_block_term, assignment_term, special_assignment_term, module_term, function_term}
+use Rattle.scad_grammar.specs.Languages.{Language, SingleToken, ImageOf, Concatenation, ConcatenationIf, Alternation, EmptySequence, Repetition, OptionalSequence, EmptyLanguage, AfterToken, BeforeToken, SeparatedList, first_of, second_of, pair_of, cons}
+use Rattle.scad_grammar.specs.Grammar.{InParentheses, items, range_rest, Arg, Args, Param, Params, Binders, Bracket, Primary, Suffix, Unary, Chain, Choice, without_gaps, ArgsIn, ParamsIn, BindersIn, StatementsIn, InstanceIn, Expr, Operand, CoreOf, Instance, BodyOf, StatementOf, Statement, Body, WholeProgram, levels, link_term, chain_term, choice_term, unary_term, postfix_term, index_term, member_term, name_term, paren_term, bracket_term, named_argument_term, param_term, binder_term, if_term, IsNearest, instance_term, loop_term, call_term, block_term, bare_block_term, assignment_term, special_assignment_term, module_term, function_term}
 use Rattle.scad_grammar.specs.Reading.{next_is}
-use Rattle.scad_grammar.specs.Depths.{Depths, deeper, one_depth, image_depths, both_depths, both_if_depths, of_either, either_depths, nothing_depths, of_many, many_depths, of_maybe, maybe_depths, never_depths, after_token_depths, before_token_depths, separated_list_depths, parentheses_depths, arg_depths, args_depths, param_depths, params_depths, binders_depths, bracket_depths, primary_depths, suffix_depths, unary_depths, chain_depths, choice_depths, args_in_depths, params_in_depths, binders_in_depths, expr_depths, operand_depths, core_depths, instance_depths, body_of_depths, statement_of_depths, statements_in_depths, instance_in_depths, statement_depths, body_depths, program_depths, HasDepths}
+use Rattle.scad_grammar.specs.Depths.{Depths, one_deeper, single_token_depths, image_depths, concatenation_depths, concatenation_if_depths, depths_of_alternation, alternation_depths, empty_sequence_depths, depths_of_repetition, repetition_depths, depths_of_optional, optional_depths, empty_language_depths, after_token_depths, before_token_depths, separated_list_depths, parentheses_depths, arg_depths, args_depths, param_depths, params_depths, binders_depths, bracket_depths, primary_depths, suffix_depths, unary_depths, chain_depths, choice_depths, args_in_depths, params_in_depths, binders_in_depths, expr_depths, operand_depths, core_depths, instance_depths, body_of_depths, statement_of_depths, statements_in_depths, instance_in_depths, statement_depths, body_depths, program_depths, HasDepths}
 use Rattle.scad_grammar.proofs.Tests.{apart, classes_apart}
 use Rattle.scad_grammar.proofs.Programs.{one_program}
 use Rattle.scad_grammar.proofs.Taken.{Taken, Takes, one, none, and_then, deep, last_comma, in_pair, each, perhaps, more, items_taken, separated, term, link_taken, suffix_taken, argument, rest_taken, range_taken, parameter, binder, statement, statements, instance, core, body, same_pair, statements_taken, chain_taken, postfix_taken, sides, choice_taken, named_taken, inner_taken, bracket_taken, given_taken, parameter_taken, instance_taken, tested, if_taken, loop_taken}
@@ -27,8 +27,8 @@ weaker h = record { at = λ x s e r n. h.at x s e r tt }
 joined : (f g : Takes) (ts us vs : List Token) (ms ns : List ℕ) → f ts ≡ (ms, us) → g us ≡ (ns, vs) → and_then f g ts ≡ (ms ++ ns, vs)
 joined f g ts us vs ms ns a b = ap (λ (u : Taken). (u.0 ++ (g u.1).0, (g u.1).1)) a ∙ ap (λ (u : Taken). (ms ++ u.0, u.1)) b
 
-one_walks : (test : Token → Bool) → Walks (λ t. one) any (One test) (one_depth test)
-unfolding one_depth
+one_walks : (test : Token → Bool) → Walks (λ t. one) any (SingleToken test) (single_token_depths test)
+unfolding single_token_depths
 one_walks test = record { at = λ t s h r n. ap (λ s. one (s ++ r)) h.1 }
 
 mapped_walks : {A B : Type 0} (f : A → B) {w : A → Takes} (v : B → Takes) {stops : List Token → Type 0} {L : Language A} {D : Depths L} → ((a : A) (ts : List Token) → v (f a) ts ≡ w a ts) → Walks w stops L D → Walks v stops (ImageOf f L) (image_depths f D)
@@ -37,8 +37,8 @@ mapped_walks f v same h = record { at = λ b s x r n. ap (λ b. v b (s ++ r)) x.
 
 both_walks : {A B C : Type 0} (f : A → B → C) (wa : A → Takes) (wb : B → Takes) (wc : C → Takes) {sa sb : List Token → Type 0} {La : Language A} {Lb : Language B} {D : Depths La} {E : Depths Lb}
     → ((a : A) (b : B) (p q ts : List Token) → La a p → Lb b q → wc (f a b) ts ≡ and_then (wa a) (wb b) ts) → ((b : B) (q r : List Token) → Lb b q → sb r → sa (q ++ r))
-    → Walks wa sa La D → Walks wb sb Lb E → Walks wc sb (Both f La Lb) (both_depths f D E)
-unfolding both_depths
+    → Walks wa sa La D → Walks wb sb Lb E → Walks wc sb (Concatenation f La Lb) (concatenation_depths f D E)
+unfolding concatenation_depths
 both_walks f wa wb wc {sa} {sb} {La} {Lb} {D} {E} same before h k = record {
   at = λ c s x r n.
       ap (λ c. wc c (s ++ r)) x.6 ∙ ap (λ s. wc (f x.0 x.1) (s ++ r)) x.7 ∙ ap (wc (f x.0 x.1)) (append_assoc x.2 x.3 r)
@@ -48,13 +48,13 @@ both_walks f wa wb wc {sa} {sb} {La} {Lb} {D} {E} same before h k = record {
 
 any_walks : {A B C : Type 0} (f : A → B → C) (wa : A → Takes) (wb : B → Takes) (wc : C → Takes) {sb : List Token → Type 0} {La : Language A} {Lb : Language B} {D : Depths La} {E : Depths Lb}
     → ((a : A) (b : B) (ts : List Token) → wc (f a b) ts ≡ and_then (wa a) (wb b) ts)
-    → Walks wa any La D → Walks wb sb Lb E → Walks wc sb (Both f La Lb) (both_depths f D E)
+    → Walks wa any La D → Walks wb sb Lb E → Walks wc sb (Concatenation f La Lb) (concatenation_depths f D E)
 any_walks f wa wb wc same h k = both_walks f wa wb wc (λ a b p q ts x y. same a b ts) (λ b q r x n. tt) h k
 
 if_walks : (wa : Token × (Term × BodyTerm) → Takes) (wb : Option BodyTerm → Takes) {La : Language (Token × (Term × BodyTerm))} {Lb : Language (Option BodyTerm)} {D : Depths La} {E : Depths Lb}
     → ((a : Token × (Term × BodyTerm)) (b : Option BodyTerm) (ts : List Token) → core (if_term a b) ts ≡ and_then (wa a) (wb b) ts)
-    → Walks wa any La D → Walks wb any Lb E → Walks core any (BothIf if_term IsNearest La Lb) (both_if_depths if_term IsNearest D E)
-unfolding both_if_depths
+    → Walks wa any La D → Walks wb any Lb E → Walks core any (ConcatenationIf if_term IsNearest La Lb) (concatenation_if_depths if_term IsNearest D E)
+unfolding concatenation_if_depths
 if_walks wa wb {La} {Lb} {D} {E} same h k = record {
   at = λ c s x r n.
       ap (λ c. core c (s ++ r)) x.7 ∙ ap (λ s. core (if_term x.0 x.1) (s ++ r)) x.8 ∙ ap (core (if_term x.0 x.1)) (append_assoc x.2 x.3 r)
@@ -63,39 +63,39 @@ if_walks wa wb {La} {Lb} {D} {E} same h k = record {
 }
 
 module _ {A : Type 0} (w : A → Takes) (stops : List Token → Type 0) (La Lb : Language A) (D : Depths La) (E : Depths Lb) (h : Walks w stops La D) (k : Walks w stops Lb E) where
-  either_at : (x : A) (s : List Token) (e : EitherOf La Lb x s) (r : List Token) → stops r → w x (s ++ r) ≡ (of_either La Lb D E x s e, r)
+  either_at : (x : A) (s : List Token) (e : Alternation La Lb x s) (r : List Token) → stops r → w x (s ++ r) ≡ (depths_of_alternation La Lb D E x s e, r)
   either_at x s (inl e) r n = h.at x s e r n
   either_at x s (inr e) r n = k.at x s e r n
 
-either_walks : {A : Type 0} {w : A → Takes} {stops : List Token → Type 0} {La Lb : Language A} {D : Depths La} {E : Depths Lb} → Walks w stops La D → Walks w stops Lb E → Walks w stops (EitherOf La Lb) (either_depths D E)
-unfolding either_depths
+either_walks : {A : Type 0} {w : A → Takes} {stops : List Token → Type 0} {La Lb : Language A} {D : Depths La} {E : Depths Lb} → Walks w stops La D → Walks w stops Lb E → Walks w stops (Alternation La Lb) (alternation_depths D E)
+unfolding alternation_depths
 either_walks {A} {w} {stops} {La} {Lb} {D} {E} h k = record { at = either_at w stops La Lb D E h k }
 
-never_walks : {A : Type 0} (w : A → Takes) (stops : List Token → Type 0) → Walks w stops Never never_depths
+never_walks : {A : Type 0} (w : A → Takes) (stops : List Token → Type 0) → Walks w stops EmptyLanguage empty_language_depths
 never_walks w stops = record { at = λ x s h r n. elim h [ ] }
 
 module _ {A : Type 0} (w : A → Takes) (L : Language A) (D : Depths L) (h : Walks w any L D) where
-  many_at : (xs : List A) (s : List Token) (x : Many L xs s) (r : List Token) → any r → each w xs (s ++ r) ≡ (of_many L D xs s x, r)
+  many_at : (xs : List A) (s : List Token) (x : Repetition L xs s) (r : List Token) → any r → each w xs (s ++ r) ≡ (depths_of_repetition L D xs s x, r)
   many_at [] s x r n = ap (λ s. none (s ++ r)) x
   many_at (y ∷ ys) s x r n =
       ap (λ s. each w (y ∷ ys) (s ++ r)) x.4 ∙ ap (each w (y ∷ ys)) (append_assoc x.0 x.1 r)
-      ∙ joined (w y) (each w ys) (x.0 ++ (x.1 ++ r)) (x.1 ++ r) r (D.of y x.0 x.2) (of_many L D ys x.1 x.3) (h.at y x.0 x.2 (x.1 ++ r) tt) (many_at ys x.1 x.3 r tt)
+      ∙ joined (w y) (each w ys) (x.0 ++ (x.1 ++ r)) (x.1 ++ r) r (D.of y x.0 x.2) (depths_of_repetition L D ys x.1 x.3) (h.at y x.0 x.2 (x.1 ++ r) tt) (many_at ys x.1 x.3 r tt)
 
-many_walks : {A : Type 0} {w : A → Takes} {L : Language A} {D : Depths L} → Walks w any L D → Walks (each w) any (Many L) (many_depths D)
-unfolding many_depths
+many_walks : {A : Type 0} {w : A → Takes} {L : Language A} {D : Depths L} → Walks w any L D → Walks (each w) any (Repetition L) (repetition_depths D)
+unfolding repetition_depths
 many_walks {A} {w} {L} {D} h = record { at = many_at w L D h }
 
 module _ {A : Type 0} (w : A → Takes) (stops : List Token → Type 0) (L : Language A) (D : Depths L) (h : Walks w stops L D) where
-  maybe_at : (x : Option A) (s : List Token) (e : Maybe L x s) (r : List Token) → stops r → perhaps w x (s ++ r) ≡ (of_maybe L D x s e, r)
+  maybe_at : (x : Option A) (s : List Token) (e : OptionalSequence L x s) (r : List Token) → stops r → perhaps w x (s ++ r) ≡ (depths_of_optional L D x s e, r)
   maybe_at None s e r n = ap (λ s. none (s ++ r)) e
   maybe_at (Some x) s e r n = h.at x s e r n
 
-maybe_walks : {A : Type 0} {w : A → Takes} {stops : List Token → Type 0} {L : Language A} {D : Depths L} → Walks w stops L D → Walks (perhaps w) stops (Maybe L) (maybe_depths D)
-unfolding maybe_depths
+maybe_walks : {A : Type 0} {w : A → Takes} {stops : List Token → Type 0} {L : Language A} {D : Depths L} → Walks w stops L D → Walks (perhaps w) stops (OptionalSequence L) (optional_depths D)
+unfolding optional_depths
 maybe_walks {A} {w} {stops} {L} {D} h = record { at = maybe_at w stops L D h }
 
-deep_walks : {A : Type 0} {w : A → Takes} {stops : List Token → Type 0} {L : Language A} {D : Depths L} → Walks w stops L D → Walks (λ x. deep (w x)) stops L (deeper D)
-unfolding deeper
+deep_walks : {A : Type 0} {w : A → Takes} {stops : List Token → Type 0} {L : Language A} {D : Depths L} → Walks w stops L D → Walks (λ x. deep (w x)) stops L (one_deeper D)
+unfolding one_deeper
 deep_walks h = record { at = λ x s e r n. ap (λ (u : Taken). (map suc u.0, u.1)) (h.at x s e r n) }
 
 -- a comma behind the last item is told by what stands there
@@ -103,13 +103,13 @@ no_comma_there : (r : List Token) → no_comma r → last_comma r ≡ ([], r)
 no_comma_there [] n = refl
 no_comma_there (t ∷ r) n = ap (λ b. cond b (0 ∷ [], r) ([], t ∷ r)) n
 
-comma_at : (o : Option Token) (s : List Token) (h : Maybe (One (has_class comma_sign)) o s) (r : List Token) → no_comma r → last_comma (s ++ r) ≡ (of_maybe (One (has_class comma_sign)) (one_depth (has_class comma_sign)) o s h, r)
-unfolding one_depth
+comma_at : (o : Option Token) (s : List Token) (h : OptionalSequence (SingleToken (has_class comma_sign)) o s) (r : List Token) → no_comma r → last_comma (s ++ r) ≡ (depths_of_optional (SingleToken (has_class comma_sign)) (single_token_depths (has_class comma_sign)) o s h, r)
+unfolding single_token_depths
 comma_at None s h r n = ap (λ s. last_comma (s ++ r)) h ∙ no_comma_there r n
 comma_at (Some t) s h r n = ap (λ s. last_comma (s ++ r)) h.1 ∙ ap (λ b. cond b (0 ∷ [], r) ([], t ∷ r)) h.0
 
-comma_walks : Walks (λ o. last_comma) no_comma (Maybe (One (has_class comma_sign))) (maybe_depths (one_depth (has_class comma_sign)))
-unfolding maybe_depths
+comma_walks : Walks (λ o. last_comma) no_comma (OptionalSequence (SingleToken (has_class comma_sign))) (optional_depths (single_token_depths (has_class comma_sign)))
+unfolding optional_depths
 comma_walks = record { at = comma_at }
 
 behind_walks : {A : Type 0} (c : ℕ) {w : A → Takes} {stops : List Token → Type 0} {L : Language A} {D : Depths L} → Walks w stops L D → Walks (λ x. and_then one (w x)) stops (AfterToken (has_class c) L) (after_token_depths (has_class c) D)
@@ -135,8 +135,8 @@ separated_walks {A} {w} h =
     any_walks first_of (items_taken w) (λ o. last_comma) (separated w) (λ a b ts. refl)
     (any_walks cons w (each (more w)) (items_taken w) (λ x xs ts. refl) h (many_walks (behind_walks comma_sign h))) comma_walks
 
-no_items : {A : Type 0} (w : A → Takes) → Walks (separated w) no_comma (Nothing []) (nothing_depths [])
-unfolding nothing_depths
+no_items : {A : Type 0} (w : A → Takes) → Walks (separated w) no_comma (EmptySequence []) (empty_sequence_depths [])
+unfolding empty_sequence_depths
 no_items w = record { at = λ x s h r n. ap (λ x. separated w x (s ++ r)) h.0 ∙ ap (λ s. separated w [] (s ++ r)) h.1 ∙ no_comma_there r n }
 
 -- behind the first expression of a bracket
@@ -150,7 +150,7 @@ colon_first x (Some y) ts = refl
 
 module _ (L : Language Term) (D : Depths L) (e : Walks term any L D) where
   arg_walks : Walks argument any (Arg L) (arg_depths D)
-  arg_walks = either_walks (any_walks given_term (λ t. one) (λ x. and_then one (term x)) argument given_taken (one_walks _) (behind_walks assign_sign e)) (mapped_walks PositionalTerm argument (λ x ts. refl) e)
+  arg_walks = either_walks (any_walks named_argument_term (λ t. one) (λ x. and_then one (term x)) argument given_taken (one_walks _) (behind_walks assign_sign e)) (mapped_walks PositionalTerm argument (λ x ts. refl) e)
 
   args_walks : Walks (separated argument) no_comma (Args L) (args_depths D)
   args_walks = either_walks (separated_walks arg_walks) (no_items argument)
@@ -164,13 +164,13 @@ module _ (L : Language Term) (D : Depths L) (e : Walks term any L D) where
   binders_walks : Walks (separated binder) no_comma (Binders L) (binders_depths D)
   binders_walks = separated_walks (any_walks binder_term (λ t. one) (λ x. and_then one (term x)) binder (λ t x ts. refl) (one_walks (has_class name_class)) (behind_walks assign_sign e))
 
-  range_walks : Walks rest_taken no_comma (AfterToken (has_class colon_sign) (Both range_rest L (Maybe (AfterToken (has_class colon_sign) L)))) (after_token_depths (has_class colon_sign) (both_depths range_rest D (maybe_depths (after_token_depths (has_class colon_sign) D))))
+  range_walks : Walks rest_taken no_comma (AfterToken (has_class colon_sign) (Concatenation range_rest L (OptionalSequence (AfterToken (has_class colon_sign) L)))) (after_token_depths (has_class colon_sign) (concatenation_depths range_rest D (optional_depths (after_token_depths (has_class colon_sign) D))))
   range_walks =
       weaker (both_walks second_of (λ t. one) range_taken rest_taken
       (λ t b p q ts x y. subst (λ b. rest_taken b ts ≡ and_then one (range_taken b) ts) (sym y.6) (colon_first y.0 y.1 ts)) (λ b q r x n. tt) (one_walks (has_class colon_sign))
       (any_walks range_rest term (perhaps (λ y. and_then one (term y))) range_taken of_range e (maybe_walks (behind_walks colon_sign e))))
 
-  items_walks : Walks rest_taken no_comma (ImageOf items (Both first_of (Many (AfterToken (has_class comma_sign) L)) (Maybe (One (has_class comma_sign))))) (image_depths items (both_depths first_of (many_depths (after_token_depths (has_class comma_sign) D)) (maybe_depths (one_depth (has_class comma_sign)))))
+  items_walks : Walks rest_taken no_comma (ImageOf items (Concatenation first_of (Repetition (AfterToken (has_class comma_sign) L)) (OptionalSequence (SingleToken (has_class comma_sign))))) (image_depths items (concatenation_depths first_of (repetition_depths (after_token_depths (has_class comma_sign) D)) (optional_depths (single_token_depths (has_class comma_sign)))))
   items_walks =
       mapped_walks items rest_taken (λ xs ts. refl)
       (any_walks first_of (each (more term)) (λ o. last_comma) (λ xs. and_then (each (more term) xs) last_comma) (λ a b ts. refl) (many_walks (behind_walks comma_sign e)) comma_walks)
@@ -190,9 +190,9 @@ module _ (L : Language Term) (D : Depths L) (e : Walks term any L D) where
   chain_walks [] = e
   chain_walks (ops ∷ below) =
       any_walks chain_term term (each link_taken) term chain_taken (chain_walks below)
-      (many_walks (any_walks link (λ t. one) term link_taken (λ t x ts. refl) (one_walks (has_class_in ops)) (chain_walks below)))
+      (many_walks (any_walks link_term (λ t. one) term link_taken (λ t x ts. refl) (one_walks (has_class_in ops)) (chain_walks below)))
 
-one_of_term : (f : Token → Term) (c : ℕ) → ((t : Token) (ts : List Token) → term (f t) ts ≡ one ts) → Walks term any (ImageOf f (One (has_class c))) (image_depths f (one_depth (has_class c)))
+one_of_term : (f : Token → Term) (c : ℕ) → ((t : Token) (ts : List Token) → term (f t) ts ≡ one ts) → Walks term any (ImageOf f (SingleToken (has_class c))) (image_depths f (single_token_depths (has_class c)))
 one_of_term f c same = mapped_walks f term same (one_walks (has_class c))
 
 abbrev sides_of : Term × Term → Takes
@@ -217,20 +217,20 @@ module _ (L : Language Term) (D : Depths L) (e : Walks term any L D) (As : Langu
       (maybe_walks (any_walks pair_of (λ t. one) sides_of sides (λ t q ts. refl) (one_walks (has_class question_sign))
       (any_walks pair_of (λ x. deep (term x)) (λ y. and_then one (deep (term y))) sides_of (λ x y ts. refl) (deep_walks e) (behind_walks colon_sign (deep_walks e)))))
 
-args_in_walks : (k : ℕ) → Walks term any (Expr whole k) (expr_depths k) → Walks (separated argument) no_comma (ArgsIn k (Expr whole k)) (args_in_depths k (expr_depths k))
+args_in_walks : (k : ℕ) → Walks term any (Expr without_gaps k) (expr_depths k) → Walks (separated argument) no_comma (ArgsIn k (Expr without_gaps k)) (args_in_depths k (expr_depths k))
 args_in_walks zero e = no_items argument
-args_in_walks (suc k) e = args_walks (Expr whole (suc k)) (expr_depths (suc k)) e
+args_in_walks (suc k) e = args_walks (Expr without_gaps (suc k)) (expr_depths (suc k)) e
 
-params_in_walks : (k : ℕ) → Walks term any (Expr whole k) (expr_depths k) → Walks (separated parameter) no_comma (ParamsIn k (Expr whole k)) (params_in_depths k (expr_depths k))
+params_in_walks : (k : ℕ) → Walks term any (Expr without_gaps k) (expr_depths k) → Walks (separated parameter) no_comma (ParamsIn k (Expr without_gaps k)) (params_in_depths k (expr_depths k))
 params_in_walks zero e = no_items parameter
-params_in_walks (suc k) e = params_walks (Expr whole (suc k)) (expr_depths (suc k)) e
+params_in_walks (suc k) e = params_walks (Expr without_gaps (suc k)) (expr_depths (suc k)) e
 
-binders_in_walks : (k : ℕ) → Walks term any (Expr whole k) (expr_depths k) → Walks (separated binder) no_comma (BindersIn whole k (Expr whole k)) (binders_in_depths k (expr_depths k))
+binders_in_walks : (k : ℕ) → Walks term any (Expr without_gaps k) (expr_depths k) → Walks (separated binder) no_comma (BindersIn without_gaps k (Expr without_gaps k)) (binders_in_depths k (expr_depths k))
 binders_in_walks zero e = never_walks (separated binder) no_comma
-binders_in_walks (suc k) e = binders_walks (Expr whole (suc k)) (expr_depths (suc k)) e
+binders_in_walks (suc k) e = binders_walks (Expr without_gaps (suc k)) (expr_depths (suc k)) e
 
 abbrev WalksExpr : ℕ → Type 0
-WalksExpr k = Walks term any (Expr whole k) (expr_depths k) × Walks term any (Operand whole k) (operand_depths k)
+WalksExpr k = Walks term any (Expr without_gaps k) (expr_depths k) × Walks term any (Operand without_gaps k) (operand_depths k)
 
 no_expr : WalksExpr 0
 unfolding Expr Operand expr_depths operand_depths
@@ -240,8 +240,8 @@ next_expr : (k : ℕ) → WalksExpr k → WalksExpr (suc k)
 unfolding Expr Operand expr_depths operand_depths
 next_expr k e =
     let a = args_in_walks k e.0 in (
-      choice_walks (Expr whole k) (expr_depths k) e.0 (ArgsIn k (Expr whole k)) (args_in_depths k (expr_depths k)) a (Operand whole k) (operand_depths k) e.1,
-      unary_walks (Expr whole k) (expr_depths k) e.0 (ArgsIn k (Expr whole k)) (args_in_depths k (expr_depths k)) a (Operand whole k) (operand_depths k) e.1,
+      choice_walks (Expr without_gaps k) (expr_depths k) e.0 (ArgsIn k (Expr without_gaps k)) (args_in_depths k (expr_depths k)) a (Operand without_gaps k) (operand_depths k) e.1,
+      unary_walks (Expr without_gaps k) (expr_depths k) e.0 (ArgsIn k (Expr without_gaps k)) (args_in_depths k (expr_depths k)) a (Operand without_gaps k) (operand_depths k) e.1,
     )
 
 expr_walks : (k : ℕ) → WalksExpr k
@@ -306,29 +306,29 @@ module _ (I : Language InstanceTerm) (DI : Depths I) (i : Walks instance any I D
 
 abbrev WalksBody : ℕ → Type 0
 WalksBody k =
-    Walks (each statement) any (StatementsIn k (Statement whole k)) (statements_in_depths k (statement_depths k))
-    × Walks body any (Body whole k) (body_depths k)
+    Walks (each statement) any (StatementsIn k (Statement without_gaps k)) (statements_in_depths k (statement_depths k))
+    × Walks body any (Body without_gaps k) (body_depths k)
 
 abbrev WalksStatement : ℕ → Type 0
-WalksStatement k = Walks statement any (Statement whole k) (statement_depths k)
+WalksStatement k = Walks statement any (Statement without_gaps k) (statement_depths k)
 
-instance_in_walks : (k : ℕ) → WalksBody k → Walks instance any (InstanceIn whole k (Body whole k)) (instance_in_depths k (body_depths k))
+instance_in_walks : (k : ℕ) → WalksBody k → Walks instance any (InstanceIn without_gaps k (Body without_gaps k)) (instance_in_depths k (body_depths k))
 instance_in_walks k b =
     let e = (expr_walks k).0 in
-    instance_walks (Expr whole k) (expr_depths k) e (ArgsIn k (Expr whole k)) (args_in_depths k (expr_depths k)) (args_in_walks k e)
-    (BindersIn whole k (Expr whole k)) (binders_in_depths k (expr_depths k)) (binders_in_walks k e) (Body whole k) (body_depths k) b.1
+    instance_walks (Expr without_gaps k) (expr_depths k) e (ArgsIn k (Expr without_gaps k)) (args_in_depths k (expr_depths k)) (args_in_walks k e)
+    (BindersIn without_gaps k (Expr without_gaps k)) (binders_in_depths k (expr_depths k)) (binders_in_walks k e) (Body without_gaps k) (body_depths k) b.1
 
 next_statement : (k : ℕ) → WalksBody k → WalksStatement (suc k)
 unfolding Statement Body statement_depths body_depths
 next_statement k b =
-    statement_of_walks (InstanceIn whole k (Body whole k)) (instance_in_depths k (body_depths k)) (instance_in_walks k b) (StatementsIn k (Statement whole k)) (statements_in_depths k (statement_depths k)) b.0
-    (Expr whole (suc k)) (expr_depths (suc k)) (expr_walks (suc k)).0 (ParamsIn k (Expr whole k)) (params_in_depths k (expr_depths k)) (params_in_walks k (expr_walks k).0) (Body whole k) (body_depths k) b.1
+    statement_of_walks (InstanceIn without_gaps k (Body without_gaps k)) (instance_in_depths k (body_depths k)) (instance_in_walks k b) (StatementsIn k (Statement without_gaps k)) (statements_in_depths k (statement_depths k)) b.0
+    (Expr without_gaps (suc k)) (expr_depths (suc k)) (expr_walks (suc k)).0 (ParamsIn k (Expr without_gaps k)) (params_in_depths k (expr_depths k)) (params_in_walks k (expr_walks k).0) (Body without_gaps k) (body_depths k) b.1
 
-next_body : (k : ℕ) → WalksBody k → Walks body any (Body whole (suc k)) (body_depths (suc k))
+next_body : (k : ℕ) → WalksBody k → Walks body any (Body without_gaps (suc k)) (body_depths (suc k))
 unfolding Statement Body statement_depths body_depths
-next_body k b = body_of_walks (InstanceIn whole k (Body whole k)) (instance_in_depths k (body_depths k)) (instance_in_walks k b) (StatementsIn k (Statement whole k)) (statements_in_depths k (statement_depths k)) b.0
+next_body k b = body_of_walks (InstanceIn without_gaps k (Body without_gaps k)) (instance_in_depths k (body_depths k)) (instance_in_walks k b) (StatementsIn k (Statement without_gaps k)) (statements_in_depths k (statement_depths k)) b.0
 
-no_body : Walks body any (Body whole 0) (body_depths 0)
+no_body : Walks body any (Body without_gaps 0) (body_depths 0)
 unfolding Statement Body statement_depths body_depths
 no_body = never_walks body any
 
@@ -336,8 +336,8 @@ no_statement : WalksStatement 0
 unfolding Statement Body statement_depths body_depths
 no_statement = never_walks statement any
 
-no_statements : Walks (each statement) any (Nothing []) (nothing_depths [])
-unfolding nothing_depths
+no_statements : Walks (each statement) any (EmptySequence []) (empty_sequence_depths [])
+unfolding empty_sequence_depths
 no_statements = record { at = λ x s h r n. ap (λ x. each statement x (s ++ r)) h.0 ∙ ap (λ s. none (s ++ r)) h.1 }
 
 body_walks : (k : ℕ) → WalksBody k

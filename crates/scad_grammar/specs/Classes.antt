@@ -255,13 +255,13 @@ token_class (SymbolToken symbol) = symbol_class symbol
 token_class End = end_class
 
 -- the class is one of these
-abbrev pub is_listed : List ℕ → ℕ → Bool
-is_listed [] wanted = false
-is_listed (known ∷ others) wanted = cond (nat_eq wanted known) true (is_listed others wanted)
+abbrev pub is_class_among : List ℕ → ℕ → Bool
+is_class_among [] wanted = false
+is_class_among (known ∷ others) wanted = cond (nat_eq wanted known) true (is_class_among others wanted)
 
 -- a token of one of these classes
 abbrev pub has_class_in : List ℕ → Token → Bool
-has_class_in classes token = is_listed classes (token_class token.kind)
+has_class_in classes token = is_class_among classes (token_class token.kind)
 
 -- a token of this class
 abbrev pub has_class : ℕ → Token → Bool

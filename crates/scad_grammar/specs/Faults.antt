@@ -4,7 +4,7 @@ use Rattle.scad_lexer.specs.declared.token.Token.{Token}
 use Rattle.scad_grammar.specs.declared.SyntaxFault.{SyntaxFault}
 use Rattle.scad_grammar.specs.declared.SyntaxFault.TheVariants.{Expected, NotInProfile}
 use Rattle.scad_grammar.specs.Classes.{special_class, for_word, if_word, function_word, use_word, include_word, let_word, each_word, caret_sign, has_class_in}
-use Rattle.scad_grammar.specs.Reading.{Reader, one_of}
+use Rattle.scad_grammar.specs.Reading.{Reader, token_or_fault_read}
 
 -- forms that this profile leaves out wherever no program goes on with them
 abbrev pub left_out_classes : List ℕ
@@ -24,9 +24,9 @@ abbrev pub TokenReader : Type 0 → Type 0
 TokenReader A = Reader Token SyntaxFault A
 
 -- one token of these
-abbrev pub one : (Token → Bool) → TokenReader Token
-one test = one_of test (fault_of left_out_classes)
+abbrev pub token_read : (Token → Bool) → TokenReader Token
+token_read test = token_or_fault_read test (fault_of left_out_classes)
 
 -- one token of these, where an expression may begin
-abbrev pub first : (Token → Bool) → TokenReader Token
-first test = one_of test (fault_of left_out_of_expressions)
+abbrev pub first_token_read : (Token → Bool) → TokenReader Token
+first_token_read test = token_or_fault_read test (fault_of left_out_of_expressions)

@@ -6,20 +6,20 @@ use Rattle.scad_grammar.specs.declared.SyntaxFault.{SyntaxFault}
 use Rattle.scad_grammar.specs.declared.SyntaxFault.TheVariants.{Expected, Nested, NotInProfile}
 use Rattle.scad_grammar.specs.Classes.{numeral_class, has_class_in, has_class}
 use Rattle.scad_grammar.specs.Faults.{left_out_classes, left_out_of_expressions}
-use Rattle.scad_grammar.specs.Grammar.{WholeProgram, ProgramOutline}
+use Rattle.scad_grammar.specs.Grammar.{WholeProgram, ProgramWithGaps}
 
 -- some program, however deep, begins with these tokens
-abbrev pub BeginsSome : List Token → Type 0
-BeginsSome tokens = (depth : ℕ) × (program : List StatementTerm) × (rest : List Token) × WholeProgram depth program (tokens ++ rest)
+abbrev pub IsProgramPrefix : List Token → Type 0
+IsProgramPrefix tokens = (depth : ℕ) × (program : List StatementTerm) × (rest : List Token) × WholeProgram depth program (tokens ++ rest)
 
--- Some program begins with these tokens in which each of them is less deep than so much: an outline does,
--- and before its first gap an outline shows only what is less deep.
-abbrev pub BeginsWithin : ℕ → List Token → Type 0
-BeginsWithin depth tokens = BeginsSome tokens × (program : List StatementTerm) × (rest : List Token) × ProgramOutline depth program (tokens ++ rest)
+-- Some program begins with these tokens in which each of them is less deep than so much: one with gaps
+-- does, and before its first gap it shows only what is less deep.
+abbrev pub IsShallowProgramPrefix : ℕ → List Token → Type 0
+IsShallowProgramPrefix depth tokens = IsProgramPrefix tokens × (program : List StatementTerm) × (rest : List Token) × ProgramWithGaps depth program (tokens ++ rest)
 
 -- the place behind these tokens is that of an expression: a numeral could stand there
 abbrev pub BeforeExpression : List Token → Type 0
-BeforeExpression tokens = (next : Token) × (has_class numeral_class next ≡ true) × BeginsSome (tokens ++ next ∷ [])
+BeforeExpression tokens = (next : Token) × (has_class numeral_class next ≡ true) × IsProgramPrefix (tokens ++ next ∷ [])
 
 -- behind these tokens, this one is of a form that the profile leaves out
 abbrev pub IsLeftOut : List Token → Token → Type 0
@@ -28,13 +28,13 @@ IsLeftOut tokens token = (has_class_in left_out_classes token ≡ true) ⊎ ((ha
 -- Behind these tokens, this one is such a fault. Nested: programs go on with it, but in each it is too deep. Else none goes
 -- on with it: NotInProfile where its form is left out, or Expected.
 abbrev pub IsFault : ℕ → SyntaxFault → List Token → Token → Type 0
-IsFault depth Expected tokens token = (BeginsSome (tokens ++ token ∷ []) → ⊥) × (IsLeftOut tokens token → ⊥)
-IsFault depth NotInProfile tokens token = (BeginsSome (tokens ++ token ∷ []) → ⊥) × IsLeftOut tokens token
-IsFault depth Nested tokens token = BeginsSome (tokens ++ token ∷ []) × (BeginsWithin depth (tokens ++ token ∷ []) → ⊥)
+IsFault depth Expected tokens token = (IsProgramPrefix (tokens ++ token ∷ []) → ⊥) × (IsLeftOut tokens token → ⊥)
+IsFault depth NotInProfile tokens token = (IsProgramPrefix (tokens ++ token ∷ []) → ⊥) × IsLeftOut tokens token
+IsFault depth Nested tokens token = IsProgramPrefix (tokens ++ token ∷ []) × (IsShallowProgramPrefix depth (tokens ++ token ∷ []) → ⊥)
 
 -- The first fault of the tokens is that of the first one of `at`: programs begin with all tokens before it, none of
 -- which is too deep in them.
 abbrev pub IsFirstFault : ℕ → List Token → SyntaxFault → List Token → Type 0
 IsFirstFault depth tokens fault at =
-    (front : List Token) × (token : Token) × (more : List Token) × (tokens ≡ front ++ at) × (at ≡ token ∷ more) × BeginsWithin depth front
+    (front : List Token) × (token : Token) × (more : List Token) × (tokens ≡ front ++ at) × (at ≡ token ∷ more) × IsShallowProgramPrefix depth front
     × IsFault depth fault front token

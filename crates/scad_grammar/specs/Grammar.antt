@@ -10,7 +10,7 @@ use Rattle.scad_ast.specs.declared.operator.Modifier.{Modifier}
 use Rattle.scad_ast.specs.declared.operator.Modifier.TheVariants.{Disable, Background, Highlight, Root}
 use Rattle.scad_ast.specs.Terms.{Term, NumberTerm, TextTerm, TruthTerm, UndefTerm, ChildCountTerm, SpecialTerm, NameTerm, CallTerm, ParenTerm, ListTerm, RangeTerm, SteppedRangeTerm, PostfixTerm, UnaryTerm, ChainTerm, ChoiceTerm, LinkTerm, SuffixTerm, IndexTerm, MemberTerm, ArgTerm, NamedTerm, SpecialArgTerm, PositionalTerm, terms_from, links_from, suffixes_from, args_from, place_of_term, ParamTerm, PlainTerm, DefaultTerm, BinderTerm, ModifierTerm, StatementTerm, EmptyStatement, BlockStatement, AssignmentTerm, SpecialAssignmentTerm, ModuleTerm, FunctionTerm, InstanceStatement, InstanceTerm, AnInstance, CoreTerm, IfTerm, IfElseTerm, ForTerm, IntersectionForTerm, ModuleCallTerm, BodyTerm, EmptyBody, BlockBody, InstanceBody, statements_from, place_of_core}
 use Rattle.scad_grammar.specs.Classes.{numeral_class, name_class, child_count_class, special_class, text_class, end_class, module_word, function_word, if_word, else_word, for_word, intersection_for_word, true_word, false_word, undef_word, open_parenthesis_sign, close_parenthesis_sign, open_bracket_sign, close_bracket_sign, open_brace_sign, close_brace_sign, comma_sign, semicolon_sign, assign_sign, colon_sign, question_sign, dot_sign, plus_sign, minus_sign, times_sign, divide_sign, remainder_sign, less_sign, greater_sign, less_equal_sign, greater_equal_sign, equal_sign, not_equal_sign, and_sign, or_sign, not_sign, hash_sign, caret_sign, argument_names, token_class, has_class_in, has_class, numeral_value, bytes_of}
-use Rattle.scad_grammar.specs.Languages.{Language, One, ImageOf, Both, BothIf, EitherOf, Nothing, Many, Maybe, Never, first_of, pair_of, AfterToken, BeforeToken, SeparatedList}
+use Rattle.scad_grammar.specs.Languages.{Language, SingleToken, ImageOf, Concatenation, ConcatenationIf, Alternation, EmptySequence, Repetition, OptionalSequence, EmptyLanguage, first_of, pair_of, AfterToken, BeforeToken, SeparatedList}
 
 -- something in parentheses
 abbrev pub InParentheses : {A : Type 0} → Language A → Language A
@@ -35,8 +35,8 @@ abbrev pub modifier_at : ℕ → Modifier
 modifier_at sign = cond (nat_eq sign times_sign) Disable (cond (nat_eq sign remainder_sign) Background (cond (nat_eq sign hash_sign) Highlight Root))
 
 -- what the parts of a form make: here an operator with its right side
-abbrev pub link : Token → Term → LinkTerm
-link token right = record { op = binary_at (token_class token.kind); at = token.place; right = right }
+abbrev pub link_term : Token → Term → LinkTerm
+link_term token right = record { op = binary_at (token_class token.kind); at = token.place; right = right }
 
 -- a chain of one is what it has; operators of one level group to the left
 abbrev pub chain_term : Term → List LinkTerm → Term
@@ -81,15 +81,15 @@ pub data Rest : Type 0 where
   stepped_range : (step to : Term) → Rest
 
 -- a list or a range, by what stands behind its first expression
-abbrev pub filled_term : Token → Term → Rest → Term
-filled_term token first (items more) = ListTerm token.place (terms_from (first ∷ more))
-filled_term token first (range to) = RangeTerm token.place first to
-filled_term token first (stepped_range step to) = SteppedRangeTerm token.place first step to
+abbrev pub list_or_range_term : Token → Term → Rest → Term
+list_or_range_term token first (items more) = ListTerm token.place (terms_from (first ∷ more))
+list_or_range_term token first (range to) = RangeTerm token.place first to
+list_or_range_term token first (stepped_range step to) = SteppedRangeTerm token.place first step to
 
 -- the same, or the empty list
 abbrev pub bracket_term : Token → Option (Term × Rest) → Term
 bracket_term token None = ListTerm token.place (terms_from [])
-bracket_term token (Some parts) = filled_term token parts.0 parts.1
+bracket_term token (Some parts) = list_or_range_term token parts.0 parts.1
 
 -- the rest of a range: up to the next expression, or by it as a step up to one more
 abbrev pub range_rest : Term → Option Term → Rest
@@ -99,17 +99,17 @@ range_rest next (Some to) = stepped_range next to
 -- arguments, parameters and variables of loops
 
 -- an argument with a name or a special name
-abbrev pub given_term : Token → Term → ArgTerm
-given_term token value = cond (has_class special_class token) (SpecialArgTerm token.place (bytes_of token.kind) value) (NamedTerm token.place (bytes_of token.kind) value)
+abbrev pub named_argument_term : Token → Term → ArgTerm
+named_argument_term token value = cond (has_class special_class token) (SpecialArgTerm token.place (bytes_of token.kind) value) (NamedTerm token.place (bytes_of token.kind) value)
 
 -- SPECIAL is a special name other than `$children`.
 -- arg = NAME "=" expr | SPECIAL "=" expr | expr
 abbrev pub Arg : Language Term → Language ArgTerm
-Arg E = EitherOf (Both given_term (One (has_class_in argument_names)) (AfterToken (has_class assign_sign) E)) (ImageOf PositionalTerm E)
+Arg E = Alternation (Concatenation named_argument_term (SingleToken (has_class_in argument_names)) (AfterToken (has_class assign_sign) E)) (ImageOf PositionalTerm E)
 
 -- args = [ arg { "," arg } [","] ]
 abbrev pub Args : Language Term → Language (List ArgTerm)
-Args E = EitherOf (SeparatedList (has_class comma_sign) (Arg E)) (Nothing [])
+Args E = Alternation (SeparatedList (has_class comma_sign) (Arg E)) (EmptySequence [])
 
 -- a parameter, with its default where one follows
 abbrev pub param_term : Token → Option Term → ParamTerm
@@ -118,11 +118,11 @@ param_term token (Some default) = DefaultTerm token.place (bytes_of token.kind) 
 
 -- param = NAME [ "=" expr ]
 abbrev pub Param : Language Term → Language ParamTerm
-Param E = Both param_term (One (has_class name_class)) (Maybe (AfterToken (has_class assign_sign) E))
+Param E = Concatenation param_term (SingleToken (has_class name_class)) (OptionalSequence (AfterToken (has_class assign_sign) E))
 
 -- params = [ param { "," param } [","] ], over what a parameter is
 abbrev pub Params : Language ParamTerm → Language (List ParamTerm)
-Params P = EitherOf (SeparatedList (has_class comma_sign) P) (Nothing [])
+Params P = Alternation (SeparatedList (has_class comma_sign) P) (EmptySequence [])
 
 -- a variable of a loop, with what it goes over
 abbrev pub binder_term : Token → Term → BinderTerm
@@ -130,7 +130,7 @@ binder_term token over = record { at = token.place; name = bytes_of token.kind; 
 
 -- binder = NAME "=" expr
 abbrev pub Binder : Language Term → Language BinderTerm
-Binder E = Both binder_term (One (has_class name_class)) (AfterToken (has_class assign_sign) E)
+Binder E = Concatenation binder_term (SingleToken (has_class name_class)) (AfterToken (has_class assign_sign) E)
 
 -- binder { "," binder } [","]
 abbrev pub Binders : Language Term → Language (List BinderTerm)
@@ -141,45 +141,46 @@ Binders E = SeparatedList (has_class comma_sign) (Binder E)
 -- "[" "]" | "[" expr { "," expr } [","] "]" | "[" expr ":" expr [ ":" expr ] "]"
 abbrev pub Bracket : Language Term → Language Term
 Bracket E =
-    Both bracket_term (One (has_class open_bracket_sign))
+    Concatenation bracket_term (SingleToken (has_class open_bracket_sign))
     (BeforeToken
-    (Maybe (Both pair_of E
-    (EitherOf (AfterToken (has_class colon_sign) (Both range_rest E (Maybe (AfterToken (has_class colon_sign) E))))
-    (ImageOf items (Both first_of (Many (AfterToken (has_class comma_sign) E)) (Maybe (One (has_class comma_sign))))))))
+    (OptionalSequence (Concatenation pair_of E
+    (Alternation (AfterToken (has_class colon_sign) (Concatenation range_rest E (OptionalSequence (AfterToken (has_class colon_sign) E))))
+    (ImageOf items (Concatenation first_of (Repetition (AfterToken (has_class comma_sign) E)) (OptionalSequence (SingleToken (has_class comma_sign))))))))
     (has_class close_bracket_sign))
 
--- primary = NUMERAL | TEXT | "true" | "false" | "undef" | "$children" | SPECIAL | NAME | NAME "(" args ")" | "(" expr ")" | lists and ranges
+-- primary = NUMERAL | TEXT | "true" | "false" | "undef" | "$children" | SPECIAL | NAME | NAME "(" args ")" | "(" expr ")"
+-- | lists and ranges
 abbrev pub Primary : Language Term → Language (List ArgTerm) → Language Term
 Primary E As =
-    EitherOf (ImageOf (λ token. NumberTerm token.place (numeral_value token.kind)) (One (has_class numeral_class)))
-    (EitherOf (ImageOf (λ token. TextTerm token.place (bytes_of token.kind)) (One (has_class text_class)))
-    (EitherOf (ImageOf (λ token. TruthTerm token.place true) (One (has_class true_word)))
-    (EitherOf (ImageOf (λ token. TruthTerm token.place false) (One (has_class false_word)))
-    (EitherOf (ImageOf (λ token. UndefTerm token.place) (One (has_class undef_word)))
-    (EitherOf (ImageOf (λ token. ChildCountTerm token.place) (One (has_class child_count_class)))
-    (EitherOf (ImageOf (λ token. SpecialTerm token.place (bytes_of token.kind)) (One (has_class special_class)))
-    (EitherOf (Both name_term (One (has_class name_class)) (Maybe (InParentheses As)))
-    (EitherOf (Both paren_term (One (has_class open_parenthesis_sign)) (BeforeToken E (has_class close_parenthesis_sign)))
+    Alternation (ImageOf (λ token. NumberTerm token.place (numeral_value token.kind)) (SingleToken (has_class numeral_class)))
+    (Alternation (ImageOf (λ token. TextTerm token.place (bytes_of token.kind)) (SingleToken (has_class text_class)))
+    (Alternation (ImageOf (λ token. TruthTerm token.place true) (SingleToken (has_class true_word)))
+    (Alternation (ImageOf (λ token. TruthTerm token.place false) (SingleToken (has_class false_word)))
+    (Alternation (ImageOf (λ token. UndefTerm token.place) (SingleToken (has_class undef_word)))
+    (Alternation (ImageOf (λ token. ChildCountTerm token.place) (SingleToken (has_class child_count_class)))
+    (Alternation (ImageOf (λ token. SpecialTerm token.place (bytes_of token.kind)) (SingleToken (has_class special_class)))
+    (Alternation (Concatenation name_term (SingleToken (has_class name_class)) (OptionalSequence (InParentheses As)))
+    (Alternation (Concatenation paren_term (SingleToken (has_class open_parenthesis_sign)) (BeforeToken E (has_class close_parenthesis_sign)))
     (Bracket E)))))))))
 
 -- suffix = "[" expr "]" | "." NAME
 abbrev pub Suffix : Language Term → Language SuffixTerm
 Suffix E =
-    EitherOf (Both index_term (One (has_class open_bracket_sign)) (BeforeToken E (has_class close_bracket_sign)))
-    (Both member_term (One (has_class dot_sign)) (One (has_class name_class)))
+    Alternation (Concatenation index_term (SingleToken (has_class open_bracket_sign)) (BeforeToken E (has_class close_bracket_sign)))
+    (Concatenation member_term (SingleToken (has_class dot_sign)) (SingleToken (has_class name_class)))
 
 -- postfix = primary { suffix }
 abbrev pub Postfix : Language Term → Language (List ArgTerm) → Language Term
-Postfix E As = Both postfix_term (Primary E As) (Many (Suffix E))
+Postfix E As = Concatenation postfix_term (Primary E As) (Repetition (Suffix E))
 
 -- unary = ("-" | "+" | "!") unary | postfix
 abbrev pub Unary : Language Term → Language (List ArgTerm) → Language Term → Language Term
-Unary E As U = EitherOf (Both unary_term (One (has_class_in (minus_sign ∷ plus_sign ∷ not_sign ∷ []))) U) (Postfix E As)
+Unary E As U = Alternation (Concatenation unary_term (SingleToken (has_class_in (minus_sign ∷ plus_sign ∷ not_sign ∷ []))) U) (Postfix E As)
 
 -- a chain of the operators of some levels, the loosest first
 abbrev pub Chain : List (List ℕ) → Language Term → Language Term
 Chain [] X = X
-Chain (ops ∷ levels) X = Both chain_term (Chain levels X) (Many (Both link (One (has_class_in ops)) (Chain levels X)))
+Chain (ops ∷ levels) X = Concatenation chain_term (Chain levels X) (Repetition (Concatenation link_term (SingleToken (has_class_in ops)) (Chain levels X)))
 
 -- or, and, equal, order, sum, product
 abbrev pub levels : List (List ℕ)
@@ -190,28 +191,28 @@ levels =
 
 -- expr = or [ "?" expr ":" expr ]
 abbrev pub Choice : Language Term → Language (List ArgTerm) → Language Term → Language Term
-Choice E As U = Both choice_term (Chain levels (Unary E As U)) (Maybe (Both pair_of (One (has_class question_sign)) (Both pair_of E (AfterToken (has_class colon_sign) E))))
+Choice E As U = Concatenation choice_term (Chain levels (Unary E As U)) (OptionalSequence (Concatenation pair_of (SingleToken (has_class question_sign)) (Concatenation pair_of E (AfterToken (has_class colon_sign) E))))
 
--- A program is written whole, or in outline. Before its first gap an outline shows nothing that is too deep: what may
+-- A program is written without gaps, or with them. Before its first gap it then shows nothing that is too deep: what may
 -- be missing is missing there, and a gap stands for what may not.
 pub data Detail : Type 0 where
-  whole : Detail
-  outline : Detail
+  without_gaps : Detail
+  with_gaps : Detail
 
--- What is too deep: no whole program has it. In an outline a gap stands for it: a token that no form of the grammar
--- has, the sign `^`.
+-- What is too deep: no program without gaps has it. Else a gap stands for it: a token that no form of the grammar has,
+-- the sign `^`.
 abbrev pub Gap : {A : Type 0} → Detail → (Token → A) → Language A
-Gap whole f = Never
-Gap outline f = ImageOf f (One (has_class caret_sign))
+Gap without_gaps f = EmptyLanguage
+Gap with_gaps f = ImageOf f (SingleToken (has_class caret_sign))
 
 -- arguments whose tokens are less deep than so much; E is an expression as deep
 abbrev pub ArgsIn : ℕ → Language Term → Language (List ArgTerm)
-ArgsIn zero E = Nothing []
+ArgsIn zero E = EmptySequence []
 ArgsIn (suc depth) E = Args E
 
 -- parameters whose tokens are less deep than so much
 abbrev pub ParamsIn : ℕ → Language Term → Language (List ParamTerm)
-ParamsIn zero E = Nothing []
+ParamsIn zero E = EmptySequence []
 ParamsIn (suc depth) E = Params (Param E)
 
 -- variables of a loop whose tokens are less deep than so much
@@ -282,13 +283,13 @@ call_term token parts = ModuleCallTerm token.place (bytes_of token.kind) parts.0
 -- core = "if" "(" expr ")" body [ "else" body ] | ("for" | "intersection_for") "(" binders ")" body | NAME "(" args ")" body
 abbrev pub CoreOf : Language Term → Language (List ArgTerm) → Language (List BinderTerm) → Language BodyTerm → Language CoreTerm
 CoreOf E As Ns B =
-    EitherOf (BothIf if_term IsNearest (Both pair_of (One (has_class if_word)) (Both pair_of (InParentheses E) B)) (Maybe (AfterToken (has_class else_word) B)))
-    (EitherOf (Both loop_term (One (has_class_in (for_word ∷ intersection_for_word ∷ []))) (Both pair_of (InParentheses Ns) B))
-    (Both call_term (One (has_class name_class)) (Both pair_of (InParentheses As) B)))
+    Alternation (ConcatenationIf if_term IsNearest (Concatenation pair_of (SingleToken (has_class if_word)) (Concatenation pair_of (InParentheses E) B)) (OptionalSequence (AfterToken (has_class else_word) B)))
+    (Alternation (Concatenation loop_term (SingleToken (has_class_in (for_word ∷ intersection_for_word ∷ []))) (Concatenation pair_of (InParentheses Ns) B))
+    (Concatenation call_term (SingleToken (has_class name_class)) (Concatenation pair_of (InParentheses As) B)))
 
 -- instance = { "*" | "%" | "#" | "!" } core
 abbrev pub Instance : Language Term → Language (List ArgTerm) → Language (List BinderTerm) → Language BodyTerm → Language InstanceTerm
-Instance E As Ns B = Both instance_term (Many (ImageOf modifier_term (One (has_class_in (times_sign ∷ remainder_sign ∷ hash_sign ∷ not_sign ∷ []))))) (CoreOf E As Ns B)
+Instance E As Ns B = Concatenation instance_term (Repetition (ImageOf modifier_term (SingleToken (has_class_in (times_sign ∷ remainder_sign ∷ hash_sign ∷ not_sign ∷ []))))) (CoreOf E As Ns B)
 
 -- a body of statements in braces
 abbrev pub block_term : Token → List StatementTerm → BodyTerm
@@ -297,8 +298,8 @@ block_term token statements = BlockBody token.place (statements_from statements)
 -- body = ";" | "{" { statement } "}" | instance
 abbrev pub BodyOf : Language InstanceTerm → Language (List StatementTerm) → Language BodyTerm
 BodyOf I Ss =
-    EitherOf (ImageOf (λ token. EmptyBody token.place) (One (has_class semicolon_sign)))
-    (EitherOf (Both block_term (One (has_class open_brace_sign)) (BeforeToken Ss (has_class close_brace_sign)))
+    Alternation (ImageOf (λ token. EmptyBody token.place) (SingleToken (has_class semicolon_sign)))
+    (Alternation (Concatenation block_term (SingleToken (has_class open_brace_sign)) (BeforeToken Ss (has_class close_brace_sign)))
     (ImageOf InstanceBody I))
 
 -- a bare block
@@ -325,18 +326,18 @@ function_term token parts = FunctionTerm token.place (bytes_of parts.0.kind) par
 --           | "function" NAME "(" params ")" "=" expr ";" | instance
 abbrev pub StatementOf : Language Term → Language (List ParamTerm) → Language InstanceTerm → Language (List StatementTerm) → Language BodyTerm → Language StatementTerm
 StatementOf X Ps I Ss B =
-    EitherOf (ImageOf (λ token. EmptyStatement token.place) (One (has_class semicolon_sign)))
-    (EitherOf (Both bare_block_term (One (has_class open_brace_sign)) (BeforeToken Ss (has_class close_brace_sign)))
-    (EitherOf (Both special_assignment_term (One (has_class special_class)) (AfterToken (has_class assign_sign) (BeforeToken X (has_class semicolon_sign))))
-    (EitherOf (Both assignment_term (One (has_class name_class)) (AfterToken (has_class assign_sign) (BeforeToken X (has_class semicolon_sign))))
-    (EitherOf (Both module_term (One (has_class module_word)) (Both pair_of (One (has_class name_class)) (Both pair_of (InParentheses Ps) B)))
-    (EitherOf (Both function_term (One (has_class function_word)) (Both pair_of (One (has_class name_class)) (Both pair_of (InParentheses Ps) (AfterToken (has_class assign_sign) (BeforeToken X (has_class semicolon_sign))))))
+    Alternation (ImageOf (λ token. EmptyStatement token.place) (SingleToken (has_class semicolon_sign)))
+    (Alternation (Concatenation bare_block_term (SingleToken (has_class open_brace_sign)) (BeforeToken Ss (has_class close_brace_sign)))
+    (Alternation (Concatenation special_assignment_term (SingleToken (has_class special_class)) (AfterToken (has_class assign_sign) (BeforeToken X (has_class semicolon_sign))))
+    (Alternation (Concatenation assignment_term (SingleToken (has_class name_class)) (AfterToken (has_class assign_sign) (BeforeToken X (has_class semicolon_sign))))
+    (Alternation (Concatenation module_term (SingleToken (has_class module_word)) (Concatenation pair_of (SingleToken (has_class name_class)) (Concatenation pair_of (InParentheses Ps) B)))
+    (Alternation (Concatenation function_term (SingleToken (has_class function_word)) (Concatenation pair_of (SingleToken (has_class name_class)) (Concatenation pair_of (InParentheses Ps) (AfterToken (has_class assign_sign) (BeforeToken X (has_class semicolon_sign))))))
     (ImageOf InstanceStatement I))))))
 
 -- statements whose tokens are less deep than so much; S is a statement as deep
 abbrev pub StatementsIn : ℕ → Language StatementTerm → Language (List StatementTerm)
-StatementsIn zero S = Nothing []
-StatementsIn (suc depth) S = Many S
+StatementsIn zero S = EmptySequence []
+StatementsIn (suc depth) S = Repetition S
 
 -- an instance over a body one deeper
 abbrev pub InstanceIn : Detail → ℕ → Language BodyTerm → Language InstanceTerm
@@ -345,7 +346,7 @@ InstanceIn detail depth B = Instance (Expr detail depth) (ArgsIn depth (Expr det
 -- a statement whose tokens are less deep than so much
 unfoldable mutual
   pub Statement : Detail → ℕ → Language StatementTerm
-  Statement detail zero = Never
+  Statement detail zero = EmptyLanguage
   Statement detail (suc depth) =
       StatementOf (Expr detail (suc depth)) (ParamsIn depth (Expr detail depth)) (InstanceIn detail depth (Body detail depth))
       (StatementsIn depth (Statement detail depth)) (Body detail depth)
@@ -357,7 +358,7 @@ unfoldable mutual
 
 -- { statement }, and the end
 abbrev pub ProgramIn : Detail → ℕ → Language (List StatementTerm)
-ProgramIn detail depth = BeforeToken (Many (Statement detail depth)) (has_class end_class)
+ProgramIn detail depth = BeforeToken (Repetition (Statement detail depth)) (has_class end_class)
 
 -- the least depth that no token of a program may have
 abbrev pub least_too_deep : ℕ
@@ -365,8 +366,8 @@ least_too_deep = 65
 
 -- a program whose tokens are less deep than so much
 abbrev pub WholeProgram : ℕ → Language (List StatementTerm)
-WholeProgram = ProgramIn whole
+WholeProgram = ProgramIn without_gaps
 
--- an outline whose tokens are less deep than so much, but for the gaps and what stands behind one
-abbrev pub ProgramOutline : ℕ → Language (List StatementTerm)
-ProgramOutline = ProgramIn outline
+-- a program with gaps whose tokens are less deep than so much, but for the gaps and what stands behind one
+abbrev pub ProgramWithGaps : ℕ → Language (List StatementTerm)
+ProgramWithGaps = ProgramIn with_gaps

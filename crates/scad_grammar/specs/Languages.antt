@@ -7,44 +7,44 @@ abbrev pub Language : Type 0 → Type 1
 Language A = A → List Token → Type 0
 
 -- one token of these
-abbrev pub One : (Token → Bool) → Language Token
-One test token tokens = (test token ≡ true) × (tokens ≡ token ∷ [])
+abbrev pub SingleToken : (Token → Bool) → Language Token
+SingleToken test token tokens = (test token ≡ true) × (tokens ≡ token ∷ [])
 
 -- something that stands for another thing
 abbrev pub ImageOf : {A B : Type 0} → (A → B) → Language A → Language B
 ImageOf {A} f L b tokens = (a : A) × L a tokens × (b ≡ f a)
 
 -- one after the other
-abbrev pub Both : {A B C : Type 0} → (A → B → C) → Language A → Language B → Language C
-Both {A} {B} f La Lb c tokens =
+abbrev pub Concatenation : {A B C : Type 0} → (A → B → C) → Language A → Language B → Language C
+Concatenation {A} {B} f La Lb c tokens =
     (a : A) × (b : B) × (front : List Token) × (rest : List Token) × La a front × Lb b rest × (c ≡ f a b) × (tokens ≡ front ++ rest)
 
 -- one after the other, where they go together
-abbrev pub BothIf : {A B C : Type 0} → (A → B → C) → (A → B → Type 0) → Language A → Language B → Language C
-BothIf {A} {B} f Fit La Lb c tokens =
+abbrev pub ConcatenationIf : {A B C : Type 0} → (A → B → C) → (A → B → Type 0) → Language A → Language B → Language C
+ConcatenationIf {A} {B} f Fit La Lb c tokens =
     (a : A) × (b : B) × (front : List Token) × (rest : List Token) × La a front × Lb b rest × Fit a b × (c ≡ f a b) × (tokens ≡ front ++ rest)
 
 -- the one or the other
-abbrev pub EitherOf : {A : Type 0} → Language A → Language A → Language A
-EitherOf La Lb x tokens = La x tokens ⊎ Lb x tokens
+abbrev pub Alternation : {A : Type 0} → Language A → Language A → Language A
+Alternation La Lb x tokens = La x tokens ⊎ Lb x tokens
 
 -- no tokens
-abbrev pub Nothing : {A : Type 0} → A → Language A
-Nothing a x tokens = (x ≡ a) × (tokens ≡ [])
+abbrev pub EmptySequence : {A : Type 0} → A → Language A
+EmptySequence a x tokens = (x ≡ a) × (tokens ≡ [])
 
 -- any number of them
-abbrev pub Many : {A : Type 0} → Language A → Language (List A)
-Many L [] tokens = tokens ≡ []
-Many {A} L (x ∷ xs) tokens = (front : List Token) × (rest : List Token) × L x front × Many L xs rest × (tokens ≡ front ++ rest)
+abbrev pub Repetition : {A : Type 0} → Language A → Language (List A)
+Repetition L [] tokens = tokens ≡ []
+Repetition {A} L (x ∷ xs) tokens = (front : List Token) × (rest : List Token) × L x front × Repetition L xs rest × (tokens ≡ front ++ rest)
 
 -- it, or nothing
-abbrev pub Maybe : {A : Type 0} → Language A → Language (Option A)
-Maybe L None tokens = tokens ≡ []
-Maybe L (Some x) tokens = L x tokens
+abbrev pub OptionalSequence : {A : Type 0} → Language A → Language (Option A)
+OptionalSequence L None tokens = tokens ≡ []
+OptionalSequence L (Some x) tokens = L x tokens
 
 -- nothing at all is so
-abbrev pub Never : {A : Type 0} → Language A
-Never x tokens = ⊥
+abbrev pub EmptyLanguage : {A : Type 0} → Language A
+EmptyLanguage x tokens = ⊥
 
 -- of two that are one after the other, the first
 abbrev pub first_of : {A B : Type 0} → A → B → A
@@ -64,12 +64,12 @@ cons x xs = x ∷ xs
 
 -- first one token of these, then something behind it, for which the whole stands
 abbrev pub AfterToken : {A : Type 0} → (Token → Bool) → Language A → Language A
-AfterToken test L = Both second_of (One test) L
+AfterToken test L = Concatenation second_of (SingleToken test) L
 
 -- first something, for which the whole stands, then one token of these behind it
 abbrev pub BeforeToken : {A : Type 0} → Language A → (Token → Bool) → Language A
-BeforeToken L test = Both first_of L (One test)
+BeforeToken L test = Concatenation first_of L (SingleToken test)
 
 -- some, at least one, with separators between them and maybe one behind the last
 abbrev pub SeparatedList : {A : Type 0} → (Token → Bool) → Language A → Language (List A)
-SeparatedList mark L = Both first_of (Both cons L (Many (AfterToken mark L))) (Maybe (One mark))
+SeparatedList mark L = Concatenation first_of (Concatenation cons L (Repetition (AfterToken mark L))) (OptionalSequence (SingleToken mark))

@@ -5,9 +5,9 @@ use Rattle.scad_ast.specs.Terms.{Term, NumberTerm, TextTerm, TruthTerm, UndefTer
 use Rattle.scad_grammar.specs.declared.SyntaxFault.TheVariants.{Nested}
 use Rattle.scad_grammar.specs.Classes.{numeral_class, name_class, child_count_class, special_class, text_class, true_word, false_word, undef_word, open_parenthesis_sign, close_parenthesis_sign, open_bracket_sign, close_bracket_sign, comma_sign, assign_sign, colon_sign, question_sign, dot_sign, plus_sign, minus_sign, not_sign, argument_names, has_class_in, has_class, has_class_outside, numeral_value, bytes_of}
 use Rattle.scad_grammar.specs.Languages.{first_of, second_of, pair_of, cons}
-use Rattle.scad_grammar.specs.Grammar.{link, chain_term, unary_term, postfix_term, index_term, member_term, levels, choice_term, given_term, name_term, paren_term, Rest, items, bracket_term, range_rest}
-use Rattle.scad_grammar.specs.Reading.{next_is, image_read, nothing, both, choice, maybe, two_ahead, many, trailing_items}
-use Rattle.scad_grammar.specs.Faults.{TokenReader, one, first, fault_of, left_out_of_expressions}
+use Rattle.scad_grammar.specs.Grammar.{link_term, chain_term, unary_term, postfix_term, index_term, member_term, levels, choice_term, named_argument_term, name_term, paren_term, Rest, items, bracket_term, range_rest}
+use Rattle.scad_grammar.specs.Reading.{next_is, image_read, empty_read, sequence_read, alternative_read, optional_read, two_ahead, repeated_read, trailing_items}
+use Rattle.scad_grammar.specs.Faults.{TokenReader, token_read, first_token_read, fault_of, left_out_of_expressions}
 
 -- what may begin a primary
 abbrev pub firsts_of_primary : List ℕ
@@ -30,73 +30,73 @@ nested_read begins classes tokens =
 -- The reader of each production, over those of an expression, an argument and an operand one deeper, and of a primary.
 abbrev pub suffix_read : TokenReader Term → TokenReader SuffixTerm
 suffix_read expression =
-    choice (has_class open_bracket_sign) (both index_term (one (has_class open_bracket_sign)) (both first_of expression (one (has_class close_bracket_sign))))
-    (both member_term (one (has_class dot_sign)) (one (has_class name_class)))
+    alternative_read (has_class open_bracket_sign) (sequence_read index_term (token_read (has_class open_bracket_sign)) (sequence_read first_of expression (token_read (has_class close_bracket_sign))))
+    (sequence_read member_term (token_read (has_class dot_sign)) (token_read (has_class name_class)))
 
 abbrev pub postfix_read : TokenReader Term → TokenReader Term → TokenReader Term
-postfix_read expression primary = both postfix_term primary (many (has_class_in (open_bracket_sign ∷ dot_sign ∷ [])) (suffix_read expression))
+postfix_read expression primary = sequence_read postfix_term primary (repeated_read (has_class_in (open_bracket_sign ∷ dot_sign ∷ [])) (suffix_read expression))
 
 abbrev pub unary_read : TokenReader Term → TokenReader Term → TokenReader Term → TokenReader Term
 unary_read expression operand primary =
-    choice (has_class_in (minus_sign ∷ plus_sign ∷ not_sign ∷ []))
-    (both unary_term (one (has_class_in (minus_sign ∷ plus_sign ∷ not_sign ∷ []))) operand) (postfix_read expression primary)
+    alternative_read (has_class_in (minus_sign ∷ plus_sign ∷ not_sign ∷ []))
+    (sequence_read unary_term (token_read (has_class_in (minus_sign ∷ plus_sign ∷ not_sign ∷ []))) operand) (postfix_read expression primary)
 
 abbrev pub chain_read : List (List ℕ) → TokenReader Term → TokenReader Term
 chain_read [] operand = operand
 chain_read (ops ∷ levels) operand =
-    both chain_term (chain_read levels operand) (many (has_class_in ops) (both link (one (has_class_in ops)) (chain_read levels operand)))
+    sequence_read chain_term (chain_read levels operand) (repeated_read (has_class_in ops) (sequence_read link_term (token_read (has_class_in ops)) (chain_read levels operand)))
 
 -- an argument that has a name, by its name, its `=` and its value
-abbrev pub argument_given : Token → Token → Term → ArgTerm
-argument_given token assign value = given_term token value
+abbrev pub argument_of_tokens : Token → Token → Term → ArgTerm
+argument_of_tokens token assign value = named_argument_term token value
 
 abbrev pub arg_read : TokenReader Term → TokenReader ArgTerm
-arg_read expression = two_ahead argument_given (has_class_in argument_names) (has_class assign_sign) expression (image_read PositionalTerm expression)
+arg_read expression = two_ahead argument_of_tokens (has_class_in argument_names) (has_class assign_sign) expression (image_read PositionalTerm expression)
 
 abbrev pub args_read : TokenReader ArgTerm → TokenReader (List ArgTerm)
 args_read argument =
-    choice (has_class_outside (close_parenthesis_sign ∷ [])) (both cons argument (trailing_items (has_class comma_sign) (has_class_outside (close_parenthesis_sign ∷ [])) argument)) (nothing [])
+    alternative_read (has_class_outside (close_parenthesis_sign ∷ [])) (sequence_read cons argument (trailing_items (has_class comma_sign) (has_class_outside (close_parenthesis_sign ∷ [])) argument)) (empty_read [])
 
 -- what stands in parentheses
 abbrev pub in_parentheses : {A : Type 0} → TokenReader A → TokenReader A
-in_parentheses reader = both second_of (one (has_class open_parenthesis_sign)) (both first_of reader (one (has_class close_parenthesis_sign)))
+in_parentheses reader = sequence_read second_of (token_read (has_class open_parenthesis_sign)) (sequence_read first_of reader (token_read (has_class close_parenthesis_sign)))
 
 -- the rest of a range behind its first expression
 abbrev pub range_read : TokenReader Term → TokenReader Rest
 range_read expression =
-    both second_of (one (has_class colon_sign)) (both range_rest expression (maybe (has_class colon_sign) (both second_of (one (has_class colon_sign)) expression)))
+    sequence_read second_of (token_read (has_class colon_sign)) (sequence_read range_rest expression (optional_read (has_class colon_sign) (sequence_read second_of (token_read (has_class colon_sign)) expression)))
 
 -- what stands behind the first expression in brackets
 abbrev pub rest_read : TokenReader Term → TokenReader Rest
 rest_read expression =
-    choice (has_class colon_sign) (range_read expression) (image_read items (trailing_items (has_class comma_sign) (has_class_outside (close_bracket_sign ∷ [])) expression))
+    alternative_read (has_class colon_sign) (range_read expression) (image_read items (trailing_items (has_class comma_sign) (has_class_outside (close_bracket_sign ∷ [])) expression))
 
 abbrev pub bracket_read : TokenReader Term → TokenReader Term
 bracket_read expression =
-    both bracket_term (first (has_class open_bracket_sign))
-    (both first_of (maybe (has_class_outside (close_bracket_sign ∷ [])) (both pair_of expression (rest_read expression))) (one (has_class close_bracket_sign)))
+    sequence_read bracket_term (first_token_read (has_class open_bracket_sign))
+    (sequence_read first_of (optional_read (has_class_outside (close_bracket_sign ∷ [])) (sequence_read pair_of expression (rest_read expression))) (token_read (has_class close_bracket_sign)))
 
 abbrev pub name_read : TokenReader ArgTerm → TokenReader Term
-name_read argument = both name_term (one (has_class name_class)) (maybe (has_class open_parenthesis_sign) (in_parentheses (args_read argument)))
+name_read argument = sequence_read name_term (token_read (has_class name_class)) (optional_read (has_class open_parenthesis_sign) (in_parentheses (args_read argument)))
 
 abbrev pub paren_read : TokenReader Term → TokenReader Term
-paren_read expression = both paren_term (one (has_class open_parenthesis_sign)) (both first_of expression (one (has_class close_parenthesis_sign)))
+paren_read expression = sequence_read paren_term (token_read (has_class open_parenthesis_sign)) (sequence_read first_of expression (token_read (has_class close_parenthesis_sign)))
 
 abbrev pub primary_read : TokenReader Term → TokenReader ArgTerm → TokenReader Term
 primary_read expression argument =
-    choice (has_class numeral_class) (image_read (λ token. NumberTerm token.place (numeral_value token.kind)) (one (has_class numeral_class)))
-    (choice (has_class text_class) (image_read (λ token. TextTerm token.place (bytes_of token.kind)) (one (has_class text_class)))
-    (choice (has_class true_word) (image_read (λ token. TruthTerm token.place true) (one (has_class true_word)))
-    (choice (has_class false_word) (image_read (λ token. TruthTerm token.place false) (one (has_class false_word)))
-    (choice (has_class undef_word) (image_read (λ token. UndefTerm token.place) (one (has_class undef_word)))
-    (choice (has_class child_count_class) (image_read (λ token. ChildCountTerm token.place) (one (has_class child_count_class)))
-    (choice (has_class special_class) (image_read (λ token. SpecialTerm token.place (bytes_of token.kind)) (one (has_class special_class)))
-    (choice (has_class name_class) (name_read argument) (choice (has_class open_parenthesis_sign) (paren_read expression) (bracket_read expression)))))))))
+    alternative_read (has_class numeral_class) (image_read (λ token. NumberTerm token.place (numeral_value token.kind)) (token_read (has_class numeral_class)))
+    (alternative_read (has_class text_class) (image_read (λ token. TextTerm token.place (bytes_of token.kind)) (token_read (has_class text_class)))
+    (alternative_read (has_class true_word) (image_read (λ token. TruthTerm token.place true) (token_read (has_class true_word)))
+    (alternative_read (has_class false_word) (image_read (λ token. TruthTerm token.place false) (token_read (has_class false_word)))
+    (alternative_read (has_class undef_word) (image_read (λ token. UndefTerm token.place) (token_read (has_class undef_word)))
+    (alternative_read (has_class child_count_class) (image_read (λ token. ChildCountTerm token.place) (token_read (has_class child_count_class)))
+    (alternative_read (has_class special_class) (image_read (λ token. SpecialTerm token.place (bytes_of token.kind)) (token_read (has_class special_class)))
+    (alternative_read (has_class name_class) (name_read argument) (alternative_read (has_class open_parenthesis_sign) (paren_read expression) (bracket_read expression)))))))))
 
 abbrev pub choice_read : TokenReader Term → TokenReader Term → TokenReader Term → TokenReader Term
 choice_read expression operand primary =
-    both choice_term (chain_read levels (unary_read expression operand primary))
-    (maybe (has_class question_sign) (both pair_of (one (has_class question_sign)) (both pair_of expression (both second_of (one (has_class colon_sign)) expression))))
+    sequence_read choice_term (chain_read levels (unary_read expression operand primary))
+    (optional_read (has_class question_sign) (sequence_read pair_of (token_read (has_class question_sign)) (sequence_read pair_of expression (sequence_read second_of (token_read (has_class colon_sign)) expression))))
 
 -- an argument whose tokens are less deep than so much, by its expression
 abbrev pub arg_in : ℕ → TokenReader Term → TokenReader ArgTerm

@@ -5,10 +5,10 @@ ghost use Rattle.std.specs.Prelude.{◌≡◌, ◌≤◌, ℕ, suc, List, length
 ghost use Rattle.scad_lexer.specs.declared.token.Token.{Token};
 ghost use Rattle.scad_lexer.specs.Tokens.{ends_once};
 ghost use Rattle.scad_ast.specs.Terms.{StatementTerm};
-ghost use Rattle.scad_ast.specs.Counts.{begun_by_program};
+ghost use Rattle.scad_ast.specs.Counts.{count_begun_by_program};
 ghost use Rattle.scad_grammar.specs.Grammar.{WholeProgram};
-ghost use Rattle.scad_grammar.specs.Depths.{HasDepths, AllBelow, BeginsShallow};
-ghost use Rattle.scad_grammar.specs.FirstFault.{BeginsWithin, IsFirstFault};
+ghost use Rattle.scad_grammar.specs.Depths.{HasDepths, AllBelow, IsProgramPrefixBelow};
+ghost use Rattle.scad_grammar.specs.FirstFault.{IsShallowProgramPrefix, IsFirstFault};
 
 /// Why tokens are no program.
 #[derive(Clone, Copy, Debug, PartialEq, Eq)]
@@ -50,7 +50,7 @@ pub fn one_fault_each()
 /// A program has no more blocks, functions and modules than tokens.
 pub fn few_definitions()
     ensures { (d : ℕ) (x : List StatementTerm) (s : List Token) → WholeProgram d x s →
-        begun_by_program x ≤ length s }
+        count_begun_by_program x ≤ length s }
 {}
 
 /// Each token of a program has a depth.
@@ -70,8 +70,10 @@ pub fn programs_by_depth()
 /// An outline begins with some tokens exactly where a program does in which each of them is less deep than so much:
 /// so `Nested` stands at the first token with which programs go on, but only such in which it is too deep.
 pub fn outlines_by_depth()
-    ensures outline { (d : ℕ) (s : List Token) → BeginsWithin (suc d) s → BeginsShallow (suc d) s }
-    ensures shallow { (d : ℕ) (s : List Token) → BeginsShallow (suc d) s → BeginsWithin (suc d) s }
+    ensures outline { (d : ℕ) (s : List Token) → IsShallowProgramPrefix (suc d) s →
+        IsProgramPrefixBelow (suc d) s }
+    ensures shallow { (d : ℕ) (s : List Token) → IsProgramPrefixBelow (suc d) s →
+        IsShallowProgramPrefix (suc d) s }
 {}
 
 /// A token of a program has one depth.

@@ -2,7 +2,7 @@
 use Rattle.std.proofs.Common.{◌≡◌, inl, inr, Bool, true, false, not, ◌&&◌, ◌||◌, ℕ, suc, zero, ◌+◌, ◌-◌, ◌<◌, ◌≤◌, ℤ, List, [], ◌∷◌, ◌++◌, length, map, filter, flat_map, fold, refl, sym, ap, ◌∙◌, arith, true≢false, append-nil, append_assoc}
 use Rattle.std.specs.List.{AllByRecursion, list_any, range_with_len}
 use Rattle.std.proofs.lemmas.Bool.{cases_Bool, cond-true, cond-false, and_from, and_left, and_right, or_left, or_right, or_cases, not_from_true, not_from_false}
-use Rattle.scad_hull.specs.Hulls.{faces_of, first_of_planes, numbers_between, is_supporting, shares_plane, triples, triples_by, triples_from}
+use Rattle.scad_hull.specs.Hulls.{faces_of_hull, first_of_planes, numbers_between, is_supporting, shares_plane, triples, triples_by, triples_from}
 use Rattle.scad_hull.specs.Steps.{with_triple, with_triples}
 use Rattle.scad_hull.proofs.Supporting.{all_first, all_triples, support_of, through_both, IsSupport, IsTriple}
 use Rattle.scad_hull.proofs.Members.{all_filter}
@@ -127,7 +127,7 @@ one_by_one points faces (t ∷ ts) h = elim (cases_Bool (is_supporting points t)
 ]
 
 -- all of them, where none were found before
-pub all_faces_are : (points : List (List ℤ)) → with_triples points [] (triples (length points)) ≡ faces_of points
+pub all_faces_are : (points : List (List ℤ)) → with_triples points [] (triples (length points)) ≡ faces_of_hull points
 all_faces_are points = one_by_one points [] (triples (length points)) (all_triples (length points)) ∙ filter_all (λ u. not (listed points [] u)) (λ u. refl) (found points (triples (length points)))
 
 -- ---- the numbers that are left

@@ -7,7 +7,7 @@ use Rattle.plane_predicate.proofs.IntegerRing.{sums, mul_neg_right}
 use Rattle.plane_predicate.proofs.Polynomials.{var, num, plus, times, minus, ring}
 use Rattle.plane_predicate.proofs.Signs.{signs, pos_neg, least_most, neg_cancel}
 use Rattle.plane_predicate.proofs.Vectors.{form, place, of_plane, of_point, valueP}
-use Rattle.primitives.specs.Shapes.{value_at}
+use Rattle.primitives.specs.Shapes.{value_at_point}
 use Rattle.scad_hull.specs.Combinations.{sum_of_weights, weighted_sum, IsInnerCombination}
 use Rattle.scad_hull.specs.Hulls.{AreOnOnePlane}
 use Rattle.scad_hull.proofs.Alternative.{alternative, AreLeast, IsApart, IsCombination, axis, at_x, at_y, at_z, at_w, weighted_most}
@@ -86,7 +86,7 @@ below_by : (x y : ℤ) → x ≡ y → y <ℤ pos 0 → x <ℤ pos 0
 below_by x y e h = omega (arith, sums, e, h)
 
 -- an inner combination is strictly behind a plane that no point is ahead of, and some point is behind
-pub behind_each : (points : List (List ℤ)) (q : Coordinates) → pos 0 <ℤ q.w → IsInnerCombination points q → (m : Coefficients) → All (λ p. value m (point_at p) ≤ℤ pos 0) points → (far : ℕ) → far < length points → value_at points m far <ℤ pos 0 → value m q <ℤ pos 0
+pub behind_each : (points : List (List ℤ)) (q : Coordinates) → pos 0 <ℤ q.w → IsInnerCombination points q → (m : Coefficients) → All (λ p. value m (point_at p) ≤ℤ pos 0) points → (far : ℕ) → far < length points → value_at_point points m far <ℤ pos 0 → value m q <ℤ pos 0
 behind_each points q hw c m most far lt below =
     let above = recursion_from_All (λ l. pos 0 <ℤ l) c.weights c.above in
     let sum : weighted_sum c.weights (values m points) <ℤ pos 0 = weighted_below (λ p. value m (point_at p)) c.weights points far [] c.one_each above (recursion_from_All (λ p. value m (point_at p) ≤ℤ pos 0) points most) lt below in
@@ -193,7 +193,7 @@ from_weights : (points : List (List ℤ)) (q : Coordinates) → IsCombination (n
 from_weights points q c = from_weights_of points q c.weights c.by c.one_each c.least c.above c.sum
 
 -- ---- the plane that keeps them apart
-some_below : (m : Coefficients) (points : List (List ℤ)) → value m (summed points) <ℤ pos 0 → (k : ℕ) × (k < length points) × (value_at points m k <ℤ pos 0)
+some_below : (m : Coefficients) (points : List (List ℤ)) → value m (summed points) <ℤ pos 0 → (k : ℕ) × (k < length points) × (value_at_point points m k <ℤ pos 0)
 some_below m [] h = absurd (omega (arith, sums, none_summed m, h))
 some_below m (p ∷ points) h = elim (signs (value m (point_at p))) [
   | inl below ↦ (0, omega arith, below)

@@ -8,14 +8,14 @@ use Rattle.std.proofs.lemmas.List.{get_or_default, take_all, take_more}
 use Rattle.std.proofs.lemmas.List.Elements.{All-from_recursion, recursion_from_All}
 use Rattle.plane_predicate.specs.Space.{Coefficients, Coordinates, point_at, value, opposite_of, AreCollinear}
 use Rattle.plane_predicate.proofs.IntegerRing.{sums}
-use Rattle.primitives.specs.Shapes.{corner, value_at, HasTriangle, IsInRange, IsInside, IsShape, MakesShape}
+use Rattle.primitives.specs.Shapes.{mesh_point, value_at_point, HasTriangle, IsPointInRange, IsInside, IsShape, MakesShape}
 use Rattle.primitives.specs.GridSizes.{IsWithinGridLimits}
 use Rattle.primitives.proofs.ShapeBodies.{range_on_grid, shape_of}
 use Rattle.std.specs.Cmp.Lexicographic.{slice_cmp}
 use Rattle.primitives.specs.Spanning.{HasNoDirection, IsTriangle}
 use Rattle.primitives.specs.declared.spanning.Triangle.{Triangle}
 use Rattle.primitives.proofs.OnePlane.{nowhere}
-use Rattle.scad_hull.specs.Hulls.{points_in_order, faces_of, numbers_between, hull_of, point_put_among, is_directed, has_none_ahead, is_supporting, plane_of, shares_plane, AreOnOnePlane}
+use Rattle.scad_hull.specs.Hulls.{points_in_order, faces_of_hull, numbers_between, hull_of, point_put_among, is_directed, has_none_ahead, is_supporting, plane_of, shares_plane, AreOnOnePlane}
 use Rattle.scad_hull.specs.Combinations.{IsInnerCombination}
 use Rattle.scad_hull.specs.Refusals.{ArePointsInRange, HaveHull}
 use Rattle.scad_hull.specs.Steps.{with_triple, AreNumberedPoints}
@@ -54,17 +54,17 @@ number_at points all h k d lt = ap (λ (ks : List ℕ). get_or ks k d) h.numbers
 above_most : (x : ℤ) → pos 0 <ℤ x → x ≤ℤ pos 0 → ⊥
 above_most x h k = omega (arith, sums, h, k)
 
-some_ahead : (points : List (List ℤ)) (all : List ℕ) (m : Coefficients) → AreNumberedPoints points all → Any (λ (i : ℕ). pos 0 <ℤ value_at points m i) all → has_none_ahead points m ≡ true → ⊥
+some_ahead : (points : List (List ℤ)) (all : List ℕ) (m : Coefficients) → AreNumberedPoints points all → Any (λ (i : ℕ). pos 0 <ℤ value_at_point points m i) all → has_none_ahead points m ≡ true → ⊥
 some_ahead points all m h a e =
     let below : a.1 < length points = subst (λ (i : ℕ). i < length points) a.3 (all_below points all h a.0 a.1 a.2) in
-    above_most (value_at points m a.1) a.4 (none_ahead points m e a.1 [] below)
+    above_most (value_at_point points m a.1) a.4 (none_ahead points m e a.1 [] below)
 
-all_behind : (points : List (List ℤ)) (all : List ℕ) (m : Coefficients) → AreNumberedPoints points all → All (λ (i : ℕ). value_at points m i ≤ℤ pos 0) all → has_none_ahead points m ≡ true
+all_behind : (points : List (List ℤ)) (all : List ℕ) (m : Coefficients) → AreNumberedPoints points all → All (λ (i : ℕ). value_at_point points m i ≤ℤ pos 0) all → has_none_ahead points m ≡ true
 all_behind points all m h a =
     has_none points m (λ k d lt. subst (λ (p : List ℤ). value m (point_at p) ≤ℤ pos 0) (get_or_default points k [] d lt)
-    (subst (λ (i : ℕ). value_at points m i ≤ℤ pos 0) (number_at points all h k 0 lt) (a k 0 (omega (arith, lt, length_all points all h)))))
+    (subst (λ (i : ℕ). value_at_point points m i ≤ℤ pos 0) (number_at points all h k 0 lt) (a k 0 (omega (arith, lt, length_all points all h)))))
 
-pub side_is : (points : List (List ℤ)) (all : List ℕ) (m : Coefficients) → AreNumberedPoints points all → (b : Bool) → OnTrue b (Any (λ (i : ℕ). pos 0 <ℤ value_at points m i) all) → OnFalse b (All (λ (i : ℕ). value_at points m i ≤ℤ pos 0) all) → not b ≡ has_none_ahead points m
+pub side_is : (points : List (List ℤ)) (all : List ℕ) (m : Coefficients) → AreNumberedPoints points all → (b : Bool) → OnTrue b (Any (λ (i : ℕ). pos 0 <ℤ value_at_point points m i) all) → OnFalse b (All (λ (i : ℕ). value_at_point points m i ≤ℤ pos 0) all) → not b ≡ has_none_ahead points m
 side_is points all m h true some none = sym (false_from_ne_true (has_none_ahead points m) (some_ahead points all m h some))
 side_is points all m h false some none = sym (all_behind points all m h none)
 
@@ -117,13 +117,13 @@ supports_second points t m o b c r em eb e ec f eo er =
     ∙ or_false (has_none_ahead points n) (has_none_ahead points (opposite_of n)) (ap (has_none_ahead points) (sym em) ∙ sym ec ∙ f))
 
 -- ---- points on one plane
-lines_by : (points : List (List ℤ)) (all : List ℕ) → AreNumberedPoints points all → (HasTriangle points all → ⊥) → (s k : ℕ) → s < length points → k < length points → AreCollinear (corner points 0) (corner points s) (corner points k)
+lines_by : (points : List (List ℤ)) (all : List ℕ) → AreNumberedPoints points all → (HasTriangle points all → ⊥) → (s k : ℕ) → s < length points → k < length points → AreCollinear (mesh_point points 0) (mesh_point points s) (mesh_point points k)
 lines_by points all h none s k hs hk =
     let same = length_all points all h in
     let first = number_at points all h 0 0 (omega (arith, hs)) in
     let second = number_at points all h s 0 hs in
     let third = number_at points all h k 0 hk in
-    collinear_by (corner points 0) (corner points s) (corner points k) (λ apart.
+    collinear_by (mesh_point points 0) (mesh_point points s) (mesh_point points k) (λ apart.
     none (record {
       first = 0;
       second = s;
@@ -131,7 +131,7 @@ lines_by points all h none s k hs hk =
       first_in = omega (arith, same, hs);
       second_in = omega (arith, same, hs);
       third_in = omega (arith, same, hk);
-      apart = λ c. apart (subst (λ (i : ℕ). AreCollinear (corner points 0) (corner points s) (corner points i)) third (subst (λ (i : ℕ). AreCollinear (corner points 0) (corner points i) (corner points (get_or all k 0))) second (subst (λ (i : ℕ). AreCollinear (corner points i) (corner points (get_or all s 0)) (corner points (get_or all k 0))) first c)));
+      apart = λ c. apart (subst (λ (i : ℕ). AreCollinear (mesh_point points 0) (mesh_point points s) (mesh_point points i)) third (subst (λ (i : ℕ). AreCollinear (mesh_point points 0) (mesh_point points i) (mesh_point points (get_or all k 0))) second (subst (λ (i : ℕ). AreCollinear (mesh_point points i) (mesh_point points (get_or all s 0)) (mesh_point points (get_or all k 0))) first c)));
     }))
 
 pub flat_by_lines : (points : List (List ℤ)) (all : List ℕ) → AreNumberedPoints points all → (HasTriangle points all → ⊥) → AreOnOnePlane points
@@ -140,7 +140,7 @@ flat_by_lines points all h none = on_one_plane points 0 (lines_by points all h n
 pub flat_by_plane : (points : List (List ℤ)) (all : List ℕ) (t : Triangle) → IsTriangle points all t → (m : Coefficients) → m ≡ plane points (get_or all t.first 0) (get_or all t.second 0) (get_or all t.third 0) → All (λ p. value m (point_at p) ≡ pos 0) points → AreOnOnePlane points
 flat_by_plane points all t h m e on =
     let i = get_or all t.first 0 in let j = get_or all t.second 0 in let k = get_or all t.third 0 in
-    record { plane = plane points i j k; directed = with_direction (corner points i) (corner points j) (corner points k) h.apart; on = subst (λ (n : Coefficients). All (λ p. value n (point_at p) ≡ pos 0) points) e on }
+    record { plane = plane points i j k; directed = with_direction (mesh_point points i) (mesh_point points j) (mesh_point points k) h.apart; on = subst (λ (n : Coefficients). All (λ p. value n (point_at p) ≡ pos 0) points) e on }
 
 no_size : (a b c : ℤ) → 0 < unsigned_abs a + unsigned_abs b + unsigned_abs c → a ≡ pos 0 → b ≡ pos 0 → c ≡ pos 0 → ⊥
 no_size a b c h ea eb ec = omega (arith, h, ap unsigned_abs ea, ap unsigned_abs eb, ap unsigned_abs ec)
@@ -187,7 +187,7 @@ last_true true = refl
 last_true false = refl
 
 abbrev on_at : List (List ℤ) → Coefficients → ℕ → Bool
-on_at points m i = int_eq (value_at points m i) (pos 0)
+on_at points m i = int_eq (value_at_point points m i) (pos 0)
 
 shares_is : (points : List (List ℤ)) (s t : List ℕ) (m : Coefficients) → m ≡ plane_of points s → length t ≡ 3 → shares_plane points s t ≡ (on_at points m (get_or t 0 0) && (on_at points m (get_or t 1 0) && (on_at points m (get_or t 2 0) && true)))
 shares_is points s t m em three = three_all (on_at points (plane_of points s)) t three ∙ ap (λ n. on_at points n (get_or t 0 0) && (on_at points n (get_or t 1 0) && (on_at points n (get_or t 2 0) && true))) (sym em)
@@ -227,7 +227,7 @@ all_different P points [] h k = h
 all_different P points (p ∷ given) h k = all_different P (point_put_among p points) given (all_put P p points k.0 h) k.1
 
 pub range_different : (given : List (List ℤ)) → ArePointsInRange given → ArePointsInRange (points_in_order given)
-range_different given h = All-from_recursion (λ p. IsInRange (point_at p)) (points_in_order given) (all_different (λ p. IsInRange (point_at p)) [] given tt (recursion_from_All (λ p. IsInRange (point_at p)) given h))
+range_different given h = All-from_recursion (λ p. IsPointInRange (point_at p)) (points_in_order given) (all_different (λ p. IsPointInRange (point_at p)) [] given tt (recursion_from_All (λ p. IsPointInRange (point_at p)) given h))
 
 pub numbered_by : (given points : List (List ℤ)) (all : List ℕ) → points ≡ points_in_order given → ArePointsInRange given → length (points_in_order given) ≤ 128 → all ≡ numbers_between 0 (length points) → AreNumberedPoints points all
 numbered_by given points all e range few numbers = record {
@@ -236,7 +236,7 @@ numbered_by given points all e range few numbers = record {
   numbers = numbers;
 }
 
-pub shape_by : (given points : List (List ℤ)) (faces : List (List ℕ)) → points ≡ points_in_order given → ArePointsInRange given → (AreOnOnePlane points → ⊥) → faces ≡ faces_of points → MakesShape (record { points = points; faces = faces })
+pub shape_by : (given points : List (List ℤ)) (faces : List (List ℕ)) → points ≡ points_in_order given → ArePointsInRange given → (AreOnOnePlane points → ⊥) → faces ≡ faces_of_hull points → MakesShape (record { points = points; faces = faces })
 shape_by given points faces e range solid ef = subst (λ fs. MakesShape (record { points = points; faces = fs })) (sym ef) (makes_shape points (subst ArePointsInRange (sym e) (range_different given range)) solid)
 
 pub inside_by : (given points : List (List ℤ)) → points ≡ points_in_order given → (AreOnOnePlane points → ⊥) → (q : Coordinates) → pos 0 <ℤ q.w → IsInside (hull_of given) q ↔ IsInnerCombination (points_in_order given) q
@@ -244,7 +244,7 @@ inside_by given points e solid q hw = inside_where_combined (points_in_order giv
 
 -- ---- points with a hull
 pub hull_is_shape : (given : List (List ℤ)) → HaveHull given → IsShape (hull_of given)
-hull_is_shape given h = shape_of (hull_of given) (shape_by given (points_in_order given) (faces_of (points_in_order given)) refl h.range h.solid refl)
+hull_is_shape given h = shape_of (hull_of given) (shape_by given (points_in_order given) (faces_of_hull (points_in_order given)) refl h.range h.solid refl)
 
 pub hull_inside : (given : List (List ℤ)) → HaveHull given → (q : Coordinates) → pos 0 <ℤ q.w → IsInside (hull_of given) q ↔ IsInnerCombination (points_in_order given) q
 hull_inside given h = inside_by given (points_in_order given) refl h.solid

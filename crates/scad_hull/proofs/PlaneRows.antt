@@ -5,7 +5,7 @@ use Rattle.std.proofs.lemmas.Bool.{cases_Bool, cases_lt, cond-true, cond-false, 
 use Rattle.std.proofs.lemmas.List.{get_or_default, get_or-replicate, get_or-set_same, get_or-set_other, get_or_append_left, get_or-append-add, get_or_past, length-replicate}
 use Rattle.std.proofs.lemmas.List.Elements.{All-push}
 use Rattle.std.proofs.lemmas.List.Folds.{list_any_at}
-use Rattle.primitives.specs.Shapes.{value_at}
+use Rattle.primitives.specs.Shapes.{value_at_point}
 use Rattle.scad_hull.specs.Hulls.{is_supporting, plane_of, shares_plane}
 use Rattle.scad_hull.specs.Steps.{with_triple, with_triples, AreFoundFaces, AreListed, AreThree, HasNoFace, HasPointsOn, IsCommonRow}
 use Rattle.scad_hull.specs.declared.face_list.FaceList.{FaceList}
@@ -36,7 +36,7 @@ none_listed points faces i j n = λ k e. absurd (true≢false (sym e ∙ no_poin
 
 -- a point that is on the plane where the row says so
 pub one_more_on : (points : List (List ℤ)) (t : List ℕ) (row : List Bool) (n : ℕ) (on : Bool) → n < length row →
-    (on ≡ true → value_at points (plane_of points t) n ≡ pos 0) → HasPointsOn points t row → HasPointsOn points t (set row n on)
+    (on ≡ true → value_at_point points (plane_of points t) n ≡ pos 0) → HasPointsOn points t row → HasPointsOn points t (set row n on)
 one_more_on points t row n on within is before = λ k e.
     elim (cases_lt k n) [
       | inl less ↦ before k (sym (get_or-set_other row n k on false (λ d. omega (arith, less, d))) ∙ e)
@@ -44,7 +44,7 @@ one_more_on points t row n on within is before = λ k e.
         | inl above ↦ before k (sym (get_or-set_other row n k on false (λ d. omega (arith, above, d))) ∙ e)
         | inr last ↦
             let same : n ≡ k = omega (arith, more, last) in
-            subst (λ (l : ℕ). value_at points (plane_of points t) l ≡ pos 0) same
+            subst (λ (l : ℕ). value_at_point points (plane_of points t) l ≡ pos 0) same
             (is (sym (get_or-set_same row n on false within) ∙ subst (λ (l : ℕ). get_or (set row n on) l false ≡ true) (sym same) e))
       ]
     ]
@@ -54,7 +54,7 @@ pub listed_by : (points : List (List ℤ)) (found : FaceList) (i j : ℕ) (row :
     AreListed points found.faces.items i j row
 listed_by points found i j row f c = λ k e.
     let faces = found.faces.items in
-    let on : (n : ℕ) → get_or row n false ≡ true → value_at points (plane_of points (get_or faces c.at [])) n ≡ pos 0 =
+    let on : (n : ℕ) → get_or row n false ≡ true → value_at_point points (plane_of points (get_or faces c.at [])) n ≡ pos 0 =
     λ n h. f.rows c.at c.at_in n (subst (λ (r : List Bool). get_or r n false ≡ true) (c.is ∙ get_or_default found.rows.items c.at row [] c.at_in) h) in
     list_any_at (λ s. shares_plane points s (triple i j k)) faces c.at [] (omega (arith, c.at_in, f.many))
     (shares points (get_or faces c.at []) i j k (record { first = on i c.has_first; second = on j c.has_second; third = on k e }))

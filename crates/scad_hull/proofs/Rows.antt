@@ -3,7 +3,7 @@ use Rattle.std.proofs.Common.{◌≡◌, ℕ, List, [], ◌∷◌, ℤ, pos, neg
 use Rattle.std.proofs.lemmas.List.Elements.{All-from_recursion}
 use Rattle.plane_predicate.proofs.IntegerRing.{sums}
 use Rattle.scad_hull.specs.Combinations.{IsInnerCombination}
-use Rattle.scad_hull.specs.Hulls.{points_in_order, faces_of}
+use Rattle.scad_hull.specs.Hulls.{points_in_order, faces_of_hull}
 
 abbrev at : ℕ → ℕ → ℕ → List ℤ
 at x y z = pos x ∷ pos y ∷ pos z ∷ []
@@ -18,7 +18,7 @@ corner = at 0 0 0 ∷ at 0 0 2 ∷ at 0 2 0 ∷ at 3 0 0 ∷ []
 corner_points : points_in_order (at 3 0 0 ∷ at 0 0 2 ∷ at 3 0 0 ∷ at 0 2 0 ∷ at 0 0 0 ∷ at 0 0 0 ∷ []) ≡ corner
 corner_points = refl
 
-corner_faces : faces_of corner ≡ three 0 1 2 ∷ three 0 1 3 ∷ three 0 2 3 ∷ three 1 2 3 ∷ []
+corner_faces : faces_of_hull corner ≡ three 0 1 2 ∷ three 0 1 3 ∷ three 0 2 3 ∷ three 1 2 3 ∷ []
 corner_faces = refl
 
 -- points below 0 come first
@@ -26,15 +26,15 @@ ascending_points : points_in_order (at 0 0 0 ∷ (negsuc 0 ∷ pos 5 ∷ pos 5 �
 ascending_points = refl
 
 -- a point inside stays a point, and is on no face
-with_inside : faces_of (at 0 0 0 ∷ at 0 0 8 ∷ at 0 8 0 ∷ at 1 1 1 ∷ at 8 0 0 ∷ []) ≡ three 0 1 2 ∷ three 0 1 4 ∷ three 0 2 4 ∷ three 1 2 4 ∷ []
+with_inside : faces_of_hull (at 0 0 0 ∷ at 0 0 8 ∷ at 0 8 0 ∷ at 1 1 1 ∷ at 8 0 0 ∷ []) ≡ three 0 1 2 ∷ three 0 1 4 ∷ three 0 2 4 ∷ three 1 2 4 ∷ []
 with_inside = refl
 
 -- a pyramid over a square: of the four triples on its ground the first alone
-pyramid : faces_of (at 0 0 0 ∷ at 0 2 0 ∷ at 1 1 1 ∷ at 2 0 0 ∷ at 2 2 0 ∷ []) ≡ three 0 1 2 ∷ three 0 1 3 ∷ three 0 2 3 ∷ three 1 2 4 ∷ three 2 3 4 ∷ []
+pyramid : faces_of_hull (at 0 0 0 ∷ at 0 2 0 ∷ at 1 1 1 ∷ at 2 0 0 ∷ at 2 2 0 ∷ []) ≡ three 0 1 2 ∷ three 0 1 3 ∷ three 0 2 3 ∷ three 1 2 4 ∷ three 2 3 4 ∷ []
 pyramid = refl
 
 -- points on one line have no face
-line : faces_of (at 0 0 0 ∷ at 1 2 3 ∷ at 2 4 6 ∷ []) ≡ []
+line : faces_of_hull (at 0 0 0 ∷ at 1 2 3 ∷ at 2 4 6 ∷ []) ≡ []
 line = refl
 
 -- an inner combination of the corner's points, the point (3/4, 1/2, 1/2)

@@ -4,25 +4,25 @@ use Rattle.std.specs.List.{AllByRecursion}
 use Rattle.std.proofs.lemmas.Bool.{cases_Bool, not_from_false}
 use Rattle.plane_predicate.specs.Space.{Coefficients, Coordinates, value, AreCollinear}
 use Rattle.plane_predicate.proofs.IntegerRing.{mul_comm_ℤ, zero_mul}
-use Rattle.primitives.specs.Shapes.{corner}
+use Rattle.primitives.specs.Shapes.{mesh_point}
 use Rattle.primitives.proofs.Moves.{cancelled}
 use Rattle.primitives.proofs.OnePlane.{nowhere, two_planes}
-use Rattle.scad_hull.specs.Hulls.{faces_of, first_of_planes, numbers_between, is_supporting, plane_of, shares_plane, triples, triples_by, triples_from}
+use Rattle.scad_hull.specs.Hulls.{faces_of_hull, first_of_planes, numbers_between, is_supporting, plane_of, shares_plane, triples, triples_by, triples_from}
 use Rattle.scad_hull.proofs.Lines.{at, holds_first, holds_second, holds_third, plane, zero_by}
 use Rattle.scad_hull.proofs.Members.{all_filter, all_flat, all_from, all_map, all_weaker, among_filter, among_flat, among_from, among_map, IsAmong, IsWithin, member}
 use Rattle.scad_hull.proofs.Tests.{Holds, shared, shares, supports, Supports, triple}
 
 -- ---- planes through the same three points
-pub not_nowhere : (points : List (List ℤ)) (i j k : ℕ) → (AreCollinear (corner points i) (corner points j) (corner points k) → ⊥) → ((p : Coordinates) → value (plane points i j k) p ≡ pos 0) → ⊥
+pub not_nowhere : (points : List (List ℤ)) (i j k : ℕ) → (AreCollinear (mesh_point points i) (mesh_point points j) (mesh_point points k) → ⊥) → ((p : Coordinates) → value (plane points i j k) p ≡ pos 0) → ⊥
 not_nowhere points i j k apart all = let z = nowhere (plane points i j k) all in apart (record { a = z.0; b = z.1; c = z.2 })
 
-pub crossed : (points : List (List ℤ)) (i j k : ℕ) → (AreCollinear (corner points i) (corner points j) (corner points k) → ⊥) → (m n : Coefficients) → Holds points m i j k → Holds points n i j k → (q : Coordinates) → (value m q ≡ pos 0 → ⊥) → (p : Coordinates) → value m p *ℤ value n q ≡ value n p *ℤ value m q
+pub crossed : (points : List (List ℤ)) (i j k : ℕ) → (AreCollinear (mesh_point points i) (mesh_point points j) (mesh_point points k) → ⊥) → (m n : Coefficients) → Holds points m i j k → Holds points n i j k → (q : Coordinates) → (value m q ≡ pos 0 → ⊥) → (p : Coordinates) → value m p *ℤ value n q ≡ value n p *ℤ value m q
 crossed points i j k apart m n hm hn q off p =
     two_planes m n (at points i 0) (at points i 1) (at points i 2) (at points j 0) (at points j 1) (at points j 2) (at points k 0) (at points k 1) (at points k 2)
     (record { first = hm.first; second = hm.second; third = hm.third }) (record { first = hn.first; second = hn.second; third = hn.third }) apart q off p
 
 -- where one of two planes through three points, not on one line, is 0, so is the other
-pub same_zeros : (points : List (List ℤ)) (i j k : ℕ) → (AreCollinear (corner points i) (corner points j) (corner points k) → ⊥) → (m n : Coefficients) → Holds points m i j k → Holds points n i j k → (((p : Coordinates) → value n p ≡ pos 0) → ⊥) → (p : Coordinates) → value n p ≡ pos 0 → value m p ≡ pos 0
+pub same_zeros : (points : List (List ℤ)) (i j k : ℕ) → (AreCollinear (mesh_point points i) (mesh_point points j) (mesh_point points k) → ⊥) → (m n : Coefficients) → Holds points m i j k → Holds points n i j k → (((p : Coordinates) → value n p ≡ pos 0) → ⊥) → (p : Coordinates) → value n p ≡ pos 0 → value m p ≡ pos 0
 same_zeros points i j k apart m n hm hn somewhere p on =
     zero_by (value m p) (λ off. somewhere (λ r. cancelled (value m p) (value n r) off
     (mul_comm_ℤ (value m p) (value n r) ∙ sym (crossed points i j k apart m n hm hn p off r) ∙ ap (λ (z : ℤ). value m r *ℤ z) on ∙ mul_comm_ℤ (value m r) (pos 0) ∙ zero_mul (value m r))))
@@ -69,7 +69,7 @@ pub all_candidates : (points : List (List ℤ)) → AllByRecursion (IsSupport po
 all_candidates points = all_filter (IsTriple (length points)) (IsSupport points) (is_supporting points) (support_of points) (triples (length points)) (all_triples (length points))
 
 -- each face is a supporting triple
-pub all_faces : (points : List (List ℤ)) → AllByRecursion (IsSupport points) (faces_of points)
+pub all_faces : (points : List (List ℤ)) → AllByRecursion (IsSupport points) (faces_of_hull points)
 all_faces points = all_first points (IsSupport points) (filter (is_supporting points) (triples (length points))) (all_candidates points)
 
 itself : (points : List (List ℤ)) (t : List ℕ) → IsSupport points t → shares_plane points t t ≡ true
@@ -85,7 +85,7 @@ through_both points r s t hs ht first second =
     let one : Holds points (plane_of points r) a.i a.j a.k = shared points r a.i a.j a.k (subst (λ u. shares_plane points r u ≡ true) a.is first) in
     let two : Holds points (plane points a.i a.j a.k) b.i b.j b.k = shared points (triple a.i a.j a.k) b.i b.j b.k (subst (λ u. shares_plane points (triple a.i a.j a.k) u ≡ true) b.is (subst (λ u. shares_plane points u t ≡ true) a.is second)) in
     let also : (p : Coordinates) → value (plane points a.i a.j a.k) p ≡ pos 0 → value (plane_of points r) p ≡ pos 0 = same_zeros points a.i a.j a.k hs.supports.apart (plane_of points r) (plane points a.i a.j a.k) one (own points a.i a.j a.k) (not_nowhere points a.i a.j a.k hs.supports.apart) in
-    subst (λ u. shares_plane points r u ≡ true) (sym b.is) (shares points r b.i b.j b.k (record { first = also (corner points b.i) two.first; second = also (corner points b.j) two.second; third = also (corner points b.k) two.third }))
+    subst (λ u. shares_plane points r u ≡ true) (sym b.is) (shares points r b.i b.j b.k (record { first = also (mesh_point points b.i) two.first; second = also (mesh_point points b.j) two.second; third = also (mesh_point points b.k) two.third }))
 
 -- a triple whose plane is another one's
 pub record HasFirst (points : List (List ℤ)) (ts : List (List ℕ)) (t : List ℕ) : Type 0 where
@@ -107,6 +107,6 @@ has_first points (s ∷ more) t all m = elim m [
 ]
 
 -- each supporting triple has its plane among the faces
-pub has_face : (points : List (List ℤ)) (i j k : ℕ) → i < j → j < k → k < length points → is_supporting points (triple i j k) ≡ true → HasFirst points (faces_of points) (triple i j k)
+pub has_face : (points : List (List ℤ)) (i j k : ℕ) → i < j → j < k → k < length points → is_supporting points (triple i j k) ≡ true → HasFirst points (faces_of_hull points) (triple i j k)
 has_face points i j k hi hj hk e =
     has_first points (filter (is_supporting points) (triples (length points))) (triple i j k) (all_candidates points) (among_filter (is_supporting points) (triple i j k) (triples (length points)) e (among_triples (length points) i j k hi hj hk))

@@ -6,7 +6,7 @@ use Rattle.std.proofs.lemmas.Bool.Decides.{Decides-int_eq}
 use Rattle.std.proofs.lemmas.Int.{ints}
 use Rattle.std.proofs.lemmas.List.Elements.{All-from_recursion, recursion_from_All}
 use Rattle.plane_predicate.specs.Space.{Coefficients, point_at, value, opposite_of, AreCollinear}
-use Rattle.primitives.specs.Shapes.{corner, value_at}
+use Rattle.primitives.specs.Shapes.{mesh_point, value_at_point}
 use Rattle.scad_hull.specs.Hulls.{is_directed, has_none_ahead, is_supporting, plane_of, shares_plane}
 use Rattle.scad_hull.proofs.Lines.{plane}
 
@@ -54,10 +54,10 @@ true_not true h = absurd (h refl)
 true_not false h = refl
 
 -- a plane through three points has a direction just where they aren't on one line
-pub directed : (points : List (List ℤ)) (i j k : ℕ) → is_directed (plane points i j k) ≡ true → AreCollinear (corner points i) (corner points j) (corner points k) → ⊥
+pub directed : (points : List (List ℤ)) (i j k : ℕ) → is_directed (plane points i j k) ≡ true → AreCollinear (mesh_point points i) (mesh_point points j) (mesh_point points k) → ⊥
 directed points i j k h c = not_true _ h (and_from _ _ (true_eq _ _ c.a) (and_from _ _ (true_eq _ _ c.b) (true_eq _ _ c.c)))
 
-pub has_one : (points : List (List ℤ)) (i j k : ℕ) → (AreCollinear (corner points i) (corner points j) (corner points k) → ⊥) → is_directed (plane points i j k) ≡ true
+pub has_one : (points : List (List ℤ)) (i j k : ℕ) → (AreCollinear (mesh_point points i) (mesh_point points j) (mesh_point points k) → ⊥) → is_directed (plane points i j k) ≡ true
 has_one points i j k apart =
     true_not _ (λ e.
     let parts = and_parts _ _ e in
@@ -70,9 +70,9 @@ triple i j k = i ∷ j ∷ k ∷ []
 
 -- the plane goes through the three points
 pub record Holds (points : List (List ℤ)) (m : Coefficients) (i j k : ℕ) : Type 0 where
-  pub first : value_at points m i ≡ pos 0
-  pub second : value_at points m j ≡ pos 0
-  pub third : value_at points m k ≡ pos 0
+  pub first : value_at_point points m i ≡ pos 0
+  pub second : value_at_point points m j ≡ pos 0
+  pub third : value_at_point points m k ≡ pos 0
 
 pub shared : (points : List (List ℤ)) (s : List ℕ) (i j k : ℕ) → shares_plane points s (triple i j k) ≡ true → Holds points (plane_of points s) i j k
 shared points s i j k h =
@@ -86,7 +86,7 @@ shares points s i j k h = and_from _ _ (true_eq _ _ h.first) (and_from _ _ (true
 
 -- a plane through three points that aren't on one line, with no point ahead
 pub record Supports (points : List (List ℤ)) (i j k : ℕ) : Type 0 where
-  pub apart : AreCollinear (corner points i) (corner points j) (corner points k) → ⊥
+  pub apart : AreCollinear (mesh_point points i) (mesh_point points j) (mesh_point points k) → ⊥
   pub side : All (λ p. value (plane points i j k) (point_at p) ≤ℤ pos 0) points ⊎ All (λ p. value (opposite_of (plane points i j k)) (point_at p) ≤ℤ pos 0) points
 
 pub supports : (points : List (List ℤ)) (i j k : ℕ) → is_supporting points (triple i j k) ≡ true → Supports points i j k

@@ -4,8 +4,8 @@ use Rattle.std.specs.List.{list_all, range_with_len}
 use Rattle.std.specs.Ordering.{int_eq, int_cmp}
 use Rattle.std.specs.Cmp.Lexicographic.{slice_cmp}
 use Rattle.std.specs.declared.cmp.Ordering.TheVariants.{Less, Equal, Greater}
-use Rattle.plane_predicate.specs.Space.{Coefficients, point_at, value, through, opposite_of}
-use Rattle.primitives.specs.Shapes.{Mesh, corner, value_at}
+use Rattle.plane_predicate.specs.Space.{Coefficients, point_at, value, plane_of_points, opposite_of}
+use Rattle.primitives.specs.Shapes.{Mesh, mesh_point, value_at_point}
 
 -- a point put into its place among ascending points, by x, then y, then z, unless it is among them
 abbrev pub point_put_among : List ℤ → List (List ℤ) → List (List ℤ)
@@ -18,7 +18,7 @@ points_in_order given = fold (λ points p. point_put_among p points) [] given
 
 -- the plane through three points, by their numbers
 abbrev pub plane_of : List (List ℤ) → List ℕ → Coefficients
-plane_of points triple = through (corner points (get_or triple 0 0)) (corner points (get_or triple 1 0)) (corner points (get_or triple 2 0))
+plane_of points triple = plane_of_points (mesh_point points (get_or triple 0 0)) (mesh_point points (get_or triple 1 0)) (mesh_point points (get_or triple 2 0))
 
 -- no point is strictly ahead of the plane
 abbrev pub has_none_ahead : List (List ℤ) → Coefficients → Bool
@@ -37,7 +37,7 @@ is_supporting points triple =
 -- the plane of the first triple goes through the points of the second: where neither's points are on one line, the two
 -- planes are equal
 abbrev pub shares_plane : List (List ℤ) → List ℕ → List ℕ → Bool
-shares_plane points s t = list_all (λ i. int_eq (value_at points (plane_of points s) i) (pos 0)) t
+shares_plane points s t = list_all (λ i. int_eq (value_at_point points (plane_of points s) i) (pos 0)) t
 
 -- the ascending numbers that are at least a and below n
 abbrev pub numbers_between : ℕ → ℕ → List ℕ
@@ -61,12 +61,12 @@ first_of_planes points [] = []
 first_of_planes points (s ∷ more) = s ∷ filter (λ t. not (shares_plane points s t)) (first_of_planes points more)
 
 -- the faces of the hull of some points: the supporting triples in ascending order, of equal planes the first alone
-abbrev pub faces_of : List (List ℤ) → List (List ℕ)
-faces_of points = first_of_planes points (filter (is_supporting points) (triples (length points)))
+abbrev pub faces_of_hull : List (List ℤ) → List (List ℕ)
+faces_of_hull points = first_of_planes points (filter (is_supporting points) (triples (length points)))
 
 -- the hull of the given points
 abbrev pub hull_of : List (List ℤ) → Mesh
-hull_of given = record { points = points_in_order given; faces = faces_of (points_in_order given) }
+hull_of given = record { points = points_in_order given; faces = faces_of_hull (points_in_order given) }
 
 -- all points are on one plane
 pub record AreOnOnePlane (points : List (List ℤ)) : Type 0 where

@@ -2,14 +2,14 @@
 use Rattle.std.specs.Prelude.{◌<◌, ◌≤◌, ℤ, List, length, All, ⊤}
 use Rattle.text_place.specs.declared.fault.FaultKind.TheVariants.{LongList, FewPoints, OutOfRange}
 use Rattle.plane_predicate.specs.Space.{point_at}
-use Rattle.primitives.specs.Shapes.{IsInRange}
+use Rattle.primitives.specs.Shapes.{IsPointInRange}
 use Rattle.primitives.specs.declared.stop.ShapeStop.{ShapeStop}
 use Rattle.primitives.specs.declared.stop.ShapeStop.TheVariants.{Kind, NoMemory}
 use Rattle.scad_hull.specs.Hulls.{points_in_order, AreOnOnePlane}
 
 -- all coordinates are at most 65,535 in size
 abbrev pub ArePointsInRange : List (List ℤ) → Type 0
-ArePointsInRange given = All (λ p. IsInRange (point_at p)) given
+ArePointsInRange given = All (λ p. IsPointInRange (point_at p)) given
 
 -- points with a hull: in range, at most 128 different ones, and not all on one plane
 pub record HaveHull (given : List (List ℤ)) : Type 0 where

@@ -3,7 +3,7 @@ use Rattle.std.specs.Prelude.{◌≡◌, ℕ, ◌<◌, ◌≤◌, Bool, true, fa
 use Rattle.std.specs.List.{list_any}
 use Rattle.plane_predicate.specs.Space.{point_at}
 use Rattle.primitives.specs.GridSizes.{IsWithinGridLimits}
-use Rattle.primitives.specs.Shapes.{value_at}
+use Rattle.primitives.specs.Shapes.{value_at_point}
 use Rattle.scad_hull.specs.Hulls.{numbers_between, is_supporting, plane_of, shares_plane}
 use Rattle.scad_hull.specs.declared.face_list.FaceList.{FaceList}
 
@@ -28,7 +28,7 @@ pub record AreThree (count : ℕ) (t : List ℕ) : Type 0 where
 
 -- the points of a row are on the plane of a triple
 abbrev pub HasPointsOn : List (List ℤ) → List ℕ → List Bool → Type 0
-HasPointsOn points triple row = (k : ℕ) → get_or row k false ≡ true → value_at points (plane_of points triple) k ≡ pos 0
+HasPointsOn points triple row = (k : ℕ) → get_or row k false ≡ true → value_at_point points (plane_of points triple) k ≡ pos 0
 
 -- faces found so far: triples of points, each with a row of points on its plane
 pub record AreFoundFaces (points : List (List ℤ)) (found : FaceList) : Type 0 where

@@ -3,7 +3,7 @@
 ghost use Rattle.std.specs.Prelude.{◌≡◌, ◌<◌, ◌≤◌, true, IfOk, OnOk, length};
 ghost use Rattle.std.specs.Bool.{OnTrue};
 ghost use Rattle.std.specs.List.{list_any};
-ghost use Rattle.scad_hull.specs.Hulls.{faces_of, numbers_between, shares_plane, triples_by, triples_from};
+ghost use Rattle.scad_hull.specs.Hulls.{faces_of_hull, numbers_between, shares_plane, triples_by, triples_from};
 ghost use Rattle.scad_hull.specs.Steps.{with_triple, with_triples, AreFoundFaces, AreListed, AreNumberedPoints, AreThree};
 
 use crate::around::is_surrounded;
@@ -32,7 +32,7 @@ pub fn hull_faces(
     all: &[u32],
 ) -> Result<Vec<[u32; 3]>, AllocError>
     requires { AreNumberedPoints points.now all.now }
-    ensures { IfOk result (λ v. v.items ≡ faces_of points.now) }
+    ensures { IfOk result (λ v. v.items ≡ faces_of_hull points.now) }
 {
     let mut found = FaceList::new(alloc);
     for first in 0..points.len() {

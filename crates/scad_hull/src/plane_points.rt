@@ -42,7 +42,8 @@ pub fn common_row(rows: &[Row], first: usize, second: usize) -> Option<Row>
 fn has_both(row: &Row, first: usize, second: usize) -> bool
     requires first_in { first < 128 }
     requires second_in { second < 128 }
-    ensures { OnTrue result ((get_or row.now first false ≡ true) × (get_or row.now second false ≡ true)) }
+    ensures { OnTrue result ((get_or row.now first false ≡ true)
+        × (get_or row.now second false ≡ true)) }
 {
     row[first] && row[second]
 }

@@ -6,7 +6,7 @@ ghost use Rattle.std.specs.List.{list_any};
 ghost use Rattle.std.specs.Ordering.{int_eq};
 ghost use Rattle.plane_predicate.specs.Space.{point_at, value};
 ghost use Rattle.primitives.specs.GridSizes.{IsWithinGridLimits};
-ghost use Rattle.primitives.specs.Shapes.{value_at};
+ghost use Rattle.primitives.specs.Shapes.{value_at_point};
 ghost use Rattle.scad_hull.specs.Hulls.{is_directed, has_none_ahead, is_supporting, plane_of, shares_plane};
 ghost use Rattle.scad_hull.specs.Steps.{AreNumberedPoints, AreThree};
 
@@ -101,7 +101,7 @@ fn holds(plane: &FacePlane, at: [i64; 3]) -> bool
 pub fn is_point_ahead(points: &[[i64; 3]], plane: &FacePlane, number: u32) -> bool
     requires grid { All (λ p. IsWithinGridLimits (point_at p)) points.now }
     requires there { number < length points.now }
-    ensures { OnTrue result (pos 0 <ℤ value_at points.now plane.now number) }
+    ensures { OnTrue result (pos 0 <ℤ value_at_point points.now plane.now number) }
 {
     is_ahead(plane, points[number as usize])
 }
@@ -110,7 +110,7 @@ pub fn is_point_ahead(points: &[[i64; 3]], plane: &FacePlane, number: u32) -> bo
 pub fn is_point_on(points: &[[i64; 3]], plane: &FacePlane, number: u32) -> bool
     requires grid { All (λ p. IsWithinGridLimits (point_at p)) points.now }
     requires there { number < length points.now }
-    ensures { OnTrue result (value_at points.now plane.now number ≡ pos 0) }
+    ensures { OnTrue result (value_at_point points.now plane.now number ≡ pos 0) }
 {
     goes_through(plane, points[number as usize])
 }

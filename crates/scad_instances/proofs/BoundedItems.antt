@@ -5,24 +5,24 @@ use Rattle.std.proofs.lemmas.Bool.{and_parts, and_from, ltb-true, lt-ltb}
 use Rattle.std.proofs.lemmas.Int.{ints, to_z-of_z, fits_signed_from_abs}
 use Rattle.std.proofs.Math.Nat.{div-mul-le_self}
 use mir.Syntax.{w64, w128}
-use Rattle.scad_value.specs.Values.{NumberVal, ListVal, RangeVal, Vals, no_vals, and_val, parts_of, parts_in, is_small, has_small_numbers, have_small_numbers, is_bounded}
+use Rattle.scad_value.specs.Values.{NumberVal, ListVal, RangeVal, Vals, no_vals, and_val, element_count, element_count_in, is_small, has_small_numbers, have_small_numbers, is_bounded}
 use Rattle.scad_meaning.specs.Loops.{numbers_by, numbers_of_range, number_vals}
 use Rattle.scad_instances.specs.BoundedItems.{all_bounded}
 use Rattle.scad_instances.proofs.NumberedItems.{after_none}
 
 -- of a list
-each_bounded : (vs : Vals) → IsTrue (have_small_numbers vs) → parts_in vs < 2 ^ 20 → IsTrue (all_bounded vs)
+each_bounded : (vs : Vals) → IsTrue (have_small_numbers vs) → element_count_in vs < 2 ^ 20 → IsTrue (all_bounded vs)
 each_bounded no_vals s p = refl
 each_bounded (and_val v vs) s p =
     let parts = and_parts (has_small_numbers v) (have_small_numbers vs) s in
     and_from (is_bounded v) (all_bounded vs)
-    (and_from (has_small_numbers v) (ltb (parts_of v) (2 ^ 20)) parts.0 (lt-ltb (parts_of v) (2 ^ 20) (omega arith)))
+    (and_from (has_small_numbers v) (ltb (element_count v) (2 ^ 20)) parts.0 (lt-ltb (element_count v) (2 ^ 20) (omega arith)))
     (each_bounded vs parts.1 (omega arith))
 
 pub list_bounded : (vs : Vals) → IsTrue (is_bounded (ListVal vs)) → IsTrue (all_bounded vs)
 list_bounded vs h =
-    let parts = and_parts (have_small_numbers vs) (ltb (suc (parts_in vs)) (2 ^ 20)) h in
-    let few : suc (parts_in vs) < 2 ^ 20 = ltb-true (suc (parts_in vs)) (2 ^ 20) parts.1 in
+    let parts = and_parts (have_small_numbers vs) (ltb (suc (element_count_in vs)) (2 ^ 20)) h in
+    let few : suc (element_count_in vs) < 2 ^ 20 = ltb-true (suc (element_count_in vs)) (2 ^ 20) parts.1 in
     each_bounded vs parts.0 (omega arith)
 
 -- of a range

@@ -20,7 +20,7 @@ use Rattle.scad_func.specs.View.{table_in}
 use Rattle.scad_func.specs.Definitions.{statements_at, block_scope, IsWholeTable}
 use Rattle.scad_func.specs.declared.source.Source.{Source}
 use Rattle.scad_instances.specs.declared.numbered.NumberedInstance.{NumberedInstance}
-use Rattle.scad_meaning.specs.Bodies.{is_child, evaluated_in, children_in}
+use Rattle.scad_meaning.specs.Bodies.{is_child, evaluated_instances, children_in}
 use Rattle.scad_instances.specs.Positions.{term_of_numbered, HasBlocks, HaveBodyBlocks}
 use Rattle.scad_meaning.specs.Loops.{chosen_among}
 use Rattle.scad_meaning.proofs.Choosing.{map_chosen, all_chosen}
@@ -41,7 +41,7 @@ module _ (env : Env) (xs found : List NumberedInstance) (n : ℕ) (is : found �
   all_seen : found ≡ filter (is_child_here env) xs
   all_seen = is ∙ ap (filter (is_child_here env)) (take_all n xs h)
 
-  pub children_numbered : (table : BlockTable) (body : StatementTerms) → HaveBodyBlocks table (evaluated_in body) xs
+  pub children_numbered : (table : BlockTable) (body : StatementTerms) → HaveBodyBlocks table (evaluated_instances body) xs
       → HaveBodyBlocks table (children_in env body) found
   children_numbered table body all = record {
     found = ap (map term_of_numbered) all_seen ∙ map_filtered term_of_numbered (is_child env) xs ∙ ap (filter (is_child env)) all.found;

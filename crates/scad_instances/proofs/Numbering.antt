@@ -13,7 +13,7 @@ use Rattle.scad_ast.specs.Terms.{StatementTerm, EmptyStatement, BlockStatement, 
 use Rattle.scad_ast.specs.StatementView.{statement_of, statements_of, instance_of, core_of, body_step, core_step, statement_step, instance_step, statements_step}
 use Rattle.scad_definitions.specs.Blocks.{Entity, a_block, a_function, a_module, entities_of, entities_in, entities_of_instance, entities_of_core, entities_of_body, count_blocks, nothing_there, BlockTable, StandAt}
 use Rattle.scad_func.specs.Definitions.{statements_at, IsBlockOf, IsWholeTable}
-use Rattle.scad_meaning.specs.Bodies.{is_on, instances_in, instances_of, evaluated_in}
+use Rattle.scad_meaning.specs.Bodies.{is_switched_on, instances_in, instances_of, evaluated_instances}
 use Rattle.scad_meaning.specs.Meaning.{core_of_instance}
 use Rattle.scad_instances.specs.Positions.{CoreHasBlocks, has_else}
 
@@ -179,18 +179,18 @@ statements_past (s ∷ ss) (suc i) h = statements_past ss i (omega (arith, h))
 
 -- what is evaluated of a statement and of those behind it
 pub evaluated_first : (s : StatementTerm) (rest : StatementTerms)
-    → evaluated_in (and_statement s rest) ≡ filter is_on (instances_of s) ++ evaluated_in rest
-evaluated_first s rest = filter-append is_on (instances_of s) (instances_in rest)
+    → evaluated_instances (and_statement s rest) ≡ filter is_switched_on (instances_of s) ++ evaluated_instances rest
+evaluated_first s rest = filter-append is_switched_on (instances_of s) (instances_in rest)
 
 -- one statement more of a list, of which these are remaining
 pub record RemainingStatements (table : BlockTable) (first next : ℕ) (all remaining : StatementTerms) (before now : List InstanceTerm) : Type 0 where
   pub stand : StandAt table next (entities_in remaining)
   pub count : next + count_blocks (entities_in remaining) ≡ first + count_blocks (entities_in all)
-  pub found : now ++ evaluated_in remaining ≡ before ++ evaluated_in all
+  pub found : now ++ evaluated_instances remaining ≡ before ++ evaluated_instances all
 
 pub remaining_more : (table : BlockTable) (first next then : ℕ) (all remaining : StatementTerms) (before now later : List InstanceTerm)
     (s : StatementTerm) (rest : StatementTerms) → RemainingStatements table first next all remaining before now → remaining ≡ and_statement s rest
-    → then ≡ next + count_blocks (entities_of s) → later ≡ now ++ filter is_on (instances_of s)
+    → then ≡ next + count_blocks (entities_of s) → later ≡ now ++ filter is_switched_on (instances_of s)
     → RemainingStatements table first then all rest before later
 remaining_more table first next then all remaining before now later s rest l e c f =
     let stand = subst (λ (ss : StatementTerms). StandAt table next (entities_in ss)) e l.stand in
@@ -202,10 +202,10 @@ remaining_more table first next then all remaining before now later s rest l e c
         count_joined (entities_of s) (entities_in rest),
         ap (λ (ss : StatementTerms). next + count_blocks (entities_in ss)) (sym e) ∙ l.count,
       );
-      found = ap (λ (is : List InstanceTerm). is ++ evaluated_in rest) f
-          ∙ append_assoc now (filter is_on (instances_of s)) (evaluated_in rest)
+      found = ap (λ (is : List InstanceTerm). is ++ evaluated_instances rest) f
+          ∙ append_assoc now (filter is_switched_on (instances_of s)) (evaluated_instances rest)
           ∙ ap (λ (is : List InstanceTerm). now ++ is) (sym (evaluated_first s rest))
-          ∙ ap (λ (ss : StatementTerms). now ++ evaluated_in ss) (sym e) ∙ l.found;
+          ∙ ap (λ (ss : StatementTerms). now ++ evaluated_instances ss) (sym e) ∙ l.found;
     }
 
 pub remaining_first : (table : BlockTable) (first next : ℕ) (all remaining : StatementTerms) (before now : List InstanceTerm)
@@ -216,10 +216,10 @@ remaining_first table first next all remaining before now s rest l e =
 
 pub remaining_none : (table : BlockTable) (first next : ℕ) (all remaining : StatementTerms) (before now : List InstanceTerm)
     → RemainingStatements table first next all remaining before now → remaining ≡ no_statements
-    → (next ≡ first + count_blocks (entities_in all)) × (now ≡ before ++ evaluated_in all)
+    → (next ≡ first + count_blocks (entities_in all)) × (now ≡ before ++ evaluated_instances all)
 remaining_none table first next all remaining before now l e = (
   omega (arith, ap (λ (ss : StatementTerms). next + count_blocks (entities_in ss)) (sym e) ∙ l.count),
-  sym (append-nil now) ∙ ap (λ (ss : StatementTerms). now ++ evaluated_in ss) (sym e) ∙ l.found,
+  sym (append-nil now) ∙ ap (λ (ss : StatementTerms). now ++ evaluated_instances ss) (sym e) ∙ l.found,
 )
 
 -- the next statement of a list in memory stands where it is looked for

@@ -18,7 +18,7 @@ use Rattle.scad_definitions.specs.Arguments.{DestinationTerm, destination_of, ar
 use Rattle.scad_definitions.specs.ArgumentsView.{call_arguments_of, destination_term, IsFaultAt, IsOneMoreGiven}
 use Rattle.scad_definitions.specs.declared.parameters.Destination.{Destination}
 use Rattle.scad_definitions.specs.declared.parameters.CallArguments.{CallArguments}
-use Rattle.scad_func.specs.Meaning.{Outcome, Gives, then_with, or_fault, Setting, deeper_value, Arguments}
+use Rattle.scad_func.specs.Meaning.{Outcome, Gives, then_with, or_fault, ExpressionContext, value_at_next_depth, Arguments}
 use Rattle.scad_func.specs.View.{MeetsOutcome, arguments_of}
 use Rattle.scad_func.proofs.GivenSeen.{IsHeld, taker_given, held_seen}
 use Rattle.scad_func.proofs.Outcomes.{fault_at}
@@ -29,23 +29,23 @@ special_form a at name value is = ap arg_of is ∙ ap arg_of (sym (rolls-Special
     ∙ fold-roll-Arg ArgTerm Term SuffixTerm (List ArgTerm) Form Form Form (List Term) LinkTerm (List LinkTerm) Form Form Form (List SuffixTerm) arg_step expr_step suffix_step args_step call_step chain_step choice_step exprs_step link_step links_step postfix_step range_step stepped_range_step suffixes_step (SpecialIn at name value)
 
 -- a special argument, by what takes it
-module _ (here : Setting) (at : Place) (name : List ℕ) (value : Term) (given : Arguments) (turns : ℕ) where
+module _ (here : ExpressionContext) (at : Place) (name : List ℕ) (value : Term) (given : Arguments) (turns : ℕ) where
   abbrev with_value : DestinationTerm → Outcome Val → Outcome Arguments
   with_value target out = then_with out (λ turns v. Gives turns (with_argument given target v))
 
   by_taker : (target : Option DestinationTerm) → destination_of [] 0 given (SpecialArgTerm at name value) ≡ target
       → with_echo_argument here (SpecialArgTerm at name value) given turns
-      ≡ or_fault target BadArgument at (λ target. with_value target (deeper_value here true value turns))
-  by_taker target e = ap (λ o. or_fault o BadArgument at (λ target. with_value target (deeper_value here true value turns))) e
+      ≡ or_fault target BadArgument at (λ target. with_value target (value_at_next_depth here true value turns))
+  by_taker target e = ap (λ o. or_fault o BadArgument at (λ target. with_value target (value_at_next_depth here true value turns))) e
 
   special_stops : (target : DestinationTerm) → destination_of [] 0 given (SpecialArgTerm at name value) ≡ Some target → (stop : Stop) (then : ℕ)
-      → MeetsOutcome bounded_val (Err stop) then (deeper_value here true value turns)
+      → MeetsOutcome bounded_val (Err stop) then (value_at_next_depth here true value turns)
       → MeetsOutcome arguments_of (Err stop) then (with_echo_argument here (SpecialArgTerm at name value) given turns)
   special_stops target e (Fault fault) then t = by_taker (Some target) e ∙ ap (with_value target) t
   special_stops target e NoMemory then t = tt
 
   special_said : (target : DestinationTerm) → destination_of [] 0 given (SpecialArgTerm at name value) ≡ Some target → (then : ℕ)
-      (r : Result BoundedValue Stop) (after : Result (CallArguments BoundedValue) Stop) → MeetsOutcome bounded_val r then (deeper_value here true value turns)
+      (r : Result BoundedValue Stop) (after : Result (CallArguments BoundedValue) Stop) → MeetsOutcome bounded_val r then (value_at_next_depth here true value turns)
       → IsHeld given target r after
       → MeetsOutcome arguments_of after then (with_echo_argument here (SpecialArgTerm at name value) given turns)
   special_said target e then (Ok v) (Ok after) t held =
@@ -58,13 +58,13 @@ module _ (here : Setting) (at : Place) (name : List ℕ) (value : Term) (given :
       (special_stops target e fault then t)
 
 -- a special argument of `echo`, of a name that something takes, and of one that was given before
-module _ (here : Setting) (a : ArgTerm) (at : Place) (name : List ℕ) (value : Term) (is : a ≡ SpecialArgTerm at name value)
+module _ (here : ExpressionContext) (a : ArgTerm) (at : Place) (name : List ℕ) (value : Term) (is : a ≡ SpecialArgTerm at name value)
     (names : List (List ℕ)) (g : CallArguments BoundedValue) (turns : ℕ) where
   taker_same : (target : Option DestinationTerm) → destination_of names 0 (call_arguments_of g) a ≡ target → destination_of [] 0 (arguments_of g) (SpecialArgTerm at name value) ≡ target
   taker_same target e = ap (destination_of names 0 (arguments_of g)) (sym is) ∙ taker_given names 0 g a ∙ e
 
   pub taken : (d : Destination) (then : ℕ) (r : Result BoundedValue Stop) (after : Result (CallArguments BoundedValue) Stop)
-      → destination_of names 0 (call_arguments_of g) a ≡ Some (destination_term d) → MeetsOutcome bounded_val r then (deeper_value here true value turns) → IsOneMoreGiven g d r after
+      → destination_of names 0 (call_arguments_of g) a ≡ Some (destination_term d) → MeetsOutcome bounded_val r then (value_at_next_depth here true value turns) → IsOneMoreGiven g d r after
       → MeetsOutcome arguments_of after then (with_echo_argument here a (arguments_of g) turns)
   taken d then r after e t given =
       subst (λ x. MeetsOutcome arguments_of after then (with_echo_argument here x (arguments_of g) turns)) (sym is)

@@ -9,7 +9,7 @@ use Rattle.primitives.specs.Boxes.{cube_of}
 use Rattle.primitives.specs.Polygons.{square_of, polygon_of, IsWrittenPolygon, IsPolygonStop}
 use Rattle.round_four.specs.Circles.{circle_of, IsCircleSize, IsCircleStop}
 use Rattle.round_four.specs.Cylinders.{cylinder_of, AreCylinderSizes, IsCylinderStop}
-use Rattle.primitives.specs.Polyhedra.{mesh_of, IsPolyhedron, IsFirstPolyhedronFault}
+use Rattle.primitives.specs.Polyhedra.{polyhedron_of, IsPolyhedron, IsFirstPolyhedronFault}
 use Rattle.scad_modules.specs.Effects.{SolidCall, cube_call, polyhedron_call, cylinder_call, FlatCall, square_call, polygon_call, circle_call}
 use Rattle.scad_meaning.specs.Verdicts.{Verdict, Judge, IsRightJudge, IsSolidVerdict, IsFlatVerdict}
 use Rattle.scad_instances.specs.Answers.{MeetsShape, MeetsFlat}
@@ -30,8 +30,8 @@ cube_answer unit center size (Err (Kind kind)) shape sizes stops judge right = j
 cube_answer unit center size (Err NoMemory) shape sizes stops judge right = tt
 
 pub polyhedron_answer : (unit : LengthUnit) (points : List (List ℤ)) (faces : List (List ℕ)) (r : Result Mesh ShapeStop) →
-    IfOk r (λ s. s ≡ mesh_of unit points faces) → OnOk r (IsPolyhedron unit points faces) → IfErr r (IsFirstPolyhedronFault unit points faces) →
-    (judge : Judge) → IsRightJudge judge → MeetsShape r (judge.solid unit (polyhedron_call points faces)) (mesh_of unit points faces)
+    IfOk r (λ s. s ≡ polyhedron_of unit points faces) → OnOk r (IsPolyhedron unit points faces) → IfErr r (IsFirstPolyhedronFault unit points faces) →
+    (judge : Judge) → IsRightJudge judge → MeetsShape r (judge.solid unit (polyhedron_call points faces)) (polyhedron_of unit points faces)
 polyhedron_answer unit points faces (Ok s) shape is stops judge right = (judges_solid judge right unit (polyhedron_call points faces) None is, shape)
 polyhedron_answer unit points faces (Err (Kind kind)) shape is stops judge right = judges_solid judge right unit (polyhedron_call points faces) (Some kind) stops
 polyhedron_answer unit points faces (Err NoMemory) shape is stops judge right = tt

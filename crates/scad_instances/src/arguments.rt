@@ -14,7 +14,7 @@ ghost use Rattle.scad_func.specs.Evaluations.{EvaluatesTo};
 ghost use Rattle.scad_modules.specs.Bounds.{IsSafeCall};
 ghost use Rattle.scad_modules.specs.Calls.{effect_of};
 ghost use Rattle.scad_modules.specs.Table.{is_left_out_module};
-ghost use Rattle.scad_modules.specs.View.{call_of};
+ghost use Rattle.scad_modules.specs.View.{effect_call_of};
 ghost use Rattle.scad_meaning.specs.Meaning.{arguments_for, each_echo_argument};
 ghost use Rattle.scad_instances.specs.Seen.{MeetsNoGeometry};
 ghost use Rattle.scad_instances.specs.Calls.{MeetsEffectAt, with_echo_argument};
@@ -42,7 +42,7 @@ pub fn effect_of(
     ensures effect { MeetsEffectAt result place (effect_of unit (is_some position.inside)
         (find_in (bindings_of evaluation.now.scopes.now) (codes "fn")) built_in
         (bound_arguments_in bound.items)) }
-    ensures safe { IfOk result (λ effect. IsSafeCall (call_of effect)) }
+    ensures safe { IfOk result (λ effect. IsSafeCall (effect_call_of effect)) }
 {
     let fragments = match evaluation.scopes.special(b"fn", place) {
         Ok(value) => Some(value),

@@ -2,7 +2,7 @@
 
 ghost use Rattle.std.specs.Prelude.{◌≡◌, ◌++◌, OnOk, IfErr, map};
 ghost use Rattle.plane_predicate.specs.Space.{point_at};
-ghost use Rattle.int_transform.specs.Maps.{coordinates, image, map_of};
+ghost use Rattle.int_transform.specs.Maps.{coordinate_list, image, map_of};
 ghost use Rattle.scad_design.specs.Placing.{StaysSafe};
 ghost use Rattle.scad_design.specs.View.{plain_of};
 ghost use Rattle.scad_meaning.specs.Hulls.{is_nothing, is_union, points_of, hull_mesh, StaySafe};
@@ -75,7 +75,7 @@ fn add_points(alloc: Global, points: &mut Vec<[i64; 3]>, design: &Design) -> Res
 // Adds the points of a leaf, moved by its steps.
 fn add_leaf(alloc: Global, points: &mut Vec<[i64; 3]>, part: &LeafShape) -> Result<(), ShapeStop>
     ensures points { OnOk result (points.new.items ≡ points.old.items
-        ++ map (λ p. coordinates (image (map_of part.now.steps) (point_at p)))
+        ++ map (λ p. coordinate_list (image (map_of part.now.steps) (point_at p)))
         part.now.mesh.points) }
     ensures safe { OnOk result (StaysSafe part.now) }
     ensures stops { IfErr result (IsPastRange (StaysSafe part.now)) }

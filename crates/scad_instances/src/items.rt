@@ -4,7 +4,7 @@ ghost use Rattle.std.specs.Prelude.{◌≡◌, ◌<◌, [], ◌∷◌, IsTrue, I
 ghost use Rattle.scad_value.specs.Values.{is_bounded, is_small, ListVal, RangeVal, no_vals, and_val, vals_from, count_of};
 ghost use Rattle.scad_value.specs.View.{val_of, vals_of};
 ghost use Rattle.scad_value.specs.BoundedView.{bounded_val};
-ghost use Rattle.scad_meaning.specs.Loops.{items_of, number_vals, numbers_of_range};
+ghost use Rattle.scad_meaning.specs.Loops.{iterated_values, number_vals, numbers_of_range};
 ghost use Rattle.scad_instances.specs.BoundedItems.{all_bounded};
 ghost use Rattle.scad_instances.specs.Items.{remaining_in, numbers_left};
 
@@ -86,7 +86,7 @@ impl Items {
     /// The items of a list, which are moved and not copied, or the numbers of a range. None where a
     /// value has none.
     pub fn of(value: BoundedValue) -> Option<Items>
-        ensures { option_map (λ items. remaining_in items.remaining) result ≡ items_of
+        ensures { option_map (λ items. remaining_in items.remaining) result ≡ iterated_values
             (bounded_val value) }
     {
         let BoundedValue { value, .. } = value;

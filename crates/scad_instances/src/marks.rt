@@ -3,13 +3,13 @@
 ghost use Rattle.std.specs.Prelude.{◌≡◌};
 ghost use Rattle.std.specs.List.{list_any};
 ghost use Rattle.scad_ast.specs.StatementView.{modifiers_of, instance_of};
-ghost use Rattle.scad_meaning.specs.Bodies.{switches_off, is_root, is_on, has_root_modifier};
+ghost use Rattle.scad_meaning.specs.Bodies.{switches_off, is_root, is_switched_on, has_root_modifier};
 
 use scad_ast::{Instance, Modifier, PlacedModifiers};
 
 /// Whether an instance is evaluated: one marked `*` or `%` counts as not written.
 pub(crate) fn is_on(instance: &Instance) -> bool
-    ensures { result ≡ is_on (instance_of instance.now) }
+    ensures { result ≡ is_switched_on (instance_of instance.now) }
 {
     !any_off(&instance.marks)
 }

@@ -8,7 +8,7 @@ ghost use Rattle.scad_ast.specs.StatementView.{core_of, instance_of, statement_o
 ghost use Rattle.scad_definitions.specs.Blocks.{BlockTable, StandAt, entities_in, entities_of, entities_of_instance, count_blocks};
 ghost use Rattle.scad_func.specs.Definitions.{statements_at, IsWholeTable};
 ghost use Rattle.scad_func.specs.View.{table_in};
-ghost use Rattle.scad_meaning.specs.Bodies.{instances_of, evaluated_in, is_on};
+ghost use Rattle.scad_meaning.specs.Bodies.{instances_of, evaluated_instances, is_switched_on};
 ghost use Rattle.scad_instances.specs.Positions.{term_of_numbered, HasBlocks, HaveBodyBlocks, AddsInstances, PassesOver, BlocksBegin, has_else};
 
 use crate::marks::is_on;
@@ -37,7 +37,7 @@ pub(crate) fn numbered_instances<'a>(
     requires { IsWholeTable (table_in source.now) }
     ensures { let table = table_in source.now in
         IfOk result (λ found. HaveBodyBlocks table
-        (evaluated_in (statements_at table block)) found.items) }
+        (evaluated_instances (statements_at table block)) found.items) }
 {
     let mut found = Vec::new(alloc);
     if (block as usize) < source.blocks.count() {
@@ -55,7 +55,7 @@ fn add_block<'a>(
     requires whole { IsWholeTable (table_in source.now) }
     requires there { block < length (table_in source.now).entries }
     ensures { let table = table_in source.now in
-        AddsInstances table (evaluated_in (statements_at table block)) found.old.items
+        AddsInstances table (evaluated_instances (statements_at table block)) found.old.items
         found.new.items result }
 {
     // What stands in a block begins behind it. No program has so many blocks that there is no number.
@@ -88,7 +88,7 @@ fn add_all<'a>(
         (entities_in (statements_from (statements_of statements.now))) }
     ensures { let terms = statements_from (statements_of statements.now) in
         PassesOver (table_in source.now) first (entities_in terms)
-        (evaluated_in terms) found.old.items found.new.items result }
+        (evaluated_instances terms) found.old.items found.new.items result }
 {
     let mut next = first;
     'each: for statement in &statements.items {
@@ -109,7 +109,7 @@ fn add<'a>(
         (entities_of (statement_of statement.now)) }
     ensures { let term = statement_of statement.now in
         PassesOver (table_in source.now) first (entities_of term)
-        (filter is_on (instances_of term)) found.old.items found.new.items result }
+        (filter is_switched_on (instances_of term)) found.old.items found.new.items result }
 {
     match statement {
         Statement::Block(_, statements) => add_all(source, statements, first, found),
@@ -133,7 +133,7 @@ fn add_instance<'a>(
         (entities_of_instance (instance_of instance.now)) }
     ensures { let term = instance_of instance.now in
         PassesOver (table_in source.now) block (entities_of_instance term)
-        (filter is_on (term ∷ [])) found.old.items found.new.items result }
+        (filter is_switched_on (term ∷ [])) found.old.items found.new.items result }
 {
     let numbered = NumberedInstance {
         instance,
@@ -176,7 +176,7 @@ fn add_if_on<'a>(
 ) -> Result<(), NoMemory>
     ensures instances { OnOk result (map term_of_numbered found.new.items ≡ map term_of_numbered
         found.old.items
-        ++ filter is_on (term_of_numbered numbered.entry ∷ [])) }
+        ++ filter is_switched_on (term_of_numbered numbered.entry ∷ [])) }
     ensures blocks { (table : BlockTable) → HasBlocks table numbered.entry →
         All (HasBlocks table) found.old.items
         → OnOk result (All (HasBlocks table) found.new.items) }

@@ -2,7 +2,7 @@
 
 ghost use Rattle.scad_modules.specs.Bounds.{IsSafeSolid, IsSafeFlat};
 ghost use Rattle.scad_modules.specs.View.{solid_call_of, flat_call_of};
-ghost use Rattle.scad_meaning.specs.Verdicts.{Judge, IsRightJudge, solid_mesh, flat_outline};
+ghost use Rattle.scad_meaning.specs.Verdicts.{Judge, IsRightJudge, solid_mesh, flat_points};
 ghost use Rattle.scad_instances.specs.Answers.{MeetsShape, MeetsFlat};
 
 use plane_predicate::Unit;
@@ -35,7 +35,7 @@ pub fn flat_shape(alloc: Global, unit: Unit, shape: &FlatShape) -> Result<Flat, 
     requires { IsSafeFlat (flat_call_of shape.now) }
     ensures { (judge : Judge) → IsRightJudge judge →
         MeetsFlat result (judge.flat unit (flat_call_of shape.now))
-        (flat_outline unit (flat_call_of shape.now)) }
+        (flat_points unit (flat_call_of shape.now)) }
 {
     match shape {
         FlatShape::Square { size, center } => square_flat(alloc, *size, *center, unit),

@@ -10,7 +10,7 @@ use Rattle.scad_lexer.specs.declared.token.Symbol.TheVariants.{OpenParenthesis, 
 use Rattle.scad_lexer.specs.declared.word.Word.{Word}
 use Rattle.scad_lexer.specs.declared.meaning.WordMeaning.{WordMeaning}
 use Rattle.scad_lexer.specs.declared.meaning.WordMeaning.TheVariants.{NoToken, OneToken, BadWord}
-use Rattle.scad_lexer.specs.Words.{longest, word_of_bytes, in_exponent, in_fraction, in_whole, in_text, in_escape, in_comment, after_star, word_from, IsLongest}
+use Rattle.scad_lexer.specs.Words.{longest_front, word_of_bytes, in_exponent, in_fraction, in_whole, in_text, in_escape, in_comment, after_star, word_from, IsLongest}
 use Rattle.scad_lexer.specs.Tokens.{word_meaning, place_after, bytes_written, bytes_after_backslash, LexOutcome, GivesTokens, FaultAt, tokens_in_front, tokens_at, IsFaultless, LexesFrom, Lexes}
 use Rattle.scad_lexer.proofs.Longest.{best, Best}
 
@@ -29,7 +29,7 @@ by_word go p t (Some r) = behind go p t r.1 (word_meaning r.0 (take r.1 t))
 abbrev lexed : ℕ → Place → List ℕ → Option LexOutcome
 lexed zero p t = None
 lexed (suc n) p [] = Some (GivesTokens (record { kind = End; place = p } ∷ []))
-lexed (suc n) p (b ∷ t) = by_word (lexed n) p (b ∷ t) (longest word_of_bytes (b ∷ t))
+lexed (suc n) p (b ∷ t) = by_word (lexed n) p (b ∷ t) (longest_front word_of_bytes (b ∷ t))
 
 -- ---- this is the definition's
 abbrev IsRight : (Place → List ℕ → Option LexOutcome) → Type 0
@@ -64,7 +64,7 @@ by_word_is go right p b t (Some r) l o h =
 lexed_is : (n : ℕ) → IsRight (lexed n)
 lexed_is zero p t o h = cc
 lexed_is (suc n) p [] o h = ([], inl (refl, cc))
-lexed_is (suc n) p (b ∷ t) o h = by_word_is (lexed n) (lexed_is n) p b t (longest word_of_bytes (b ∷ t)) (best word_of_bytes (b ∷ t)) o h
+lexed_is (suc n) p (b ∷ t) o h = by_word_is (lexed n) (lexed_is n) p b t (longest_front word_of_bytes (b ∷ t)) (best word_of_bytes (b ∷ t)) o h
 
 abbrev at : ℕ → ℕ → Place
 at line column = record { line = line; column = column }
@@ -100,7 +100,7 @@ tokens =
     ∷ []
 
 tokens_lexed : AreLexed tokens
-unfolding longest in_exponent in_fraction in_whole in_text in_escape in_comment after_star word_from bytes_written bytes_after_backslash
+unfolding longest_front in_exponent in_fraction in_whole in_text in_escape in_comment after_star word_from bytes_written bytes_after_backslash
 tokens_lexed = (refl, (refl, (refl, (refl, (refl, (refl, (refl, tt)))))))
 
 tokens_given : AreGiven tokens
@@ -120,7 +120,7 @@ bad_numerals =
     ∷ []
 
 bad_numerals_lexed : AreLexed bad_numerals
-unfolding longest in_exponent in_fraction in_whole in_text in_escape in_comment after_star word_from bytes_written bytes_after_backslash
+unfolding longest_front in_exponent in_fraction in_whole in_text in_escape in_comment after_star word_from bytes_written bytes_after_backslash
 bad_numerals_lexed = (refl, (refl, (refl, (refl, (refl, (refl, (refl, (refl, tt))))))))
 
 bad_numerals_given : AreGiven bad_numerals
@@ -136,7 +136,7 @@ bad_texts =
     ∷ []
 
 bad_texts_lexed : AreLexed bad_texts
-unfolding longest in_exponent in_fraction in_whole in_text in_escape in_comment after_star word_from bytes_written bytes_after_backslash
+unfolding longest_front in_exponent in_fraction in_whole in_text in_escape in_comment after_star word_from bytes_written bytes_after_backslash
 bad_texts_lexed = (refl, (refl, (refl, (refl, tt))))
 
 bad_texts_given : AreGiven bad_texts
@@ -153,7 +153,7 @@ bad_bytes =
     ∷ []
 
 bad_bytes_lexed : AreLexed bad_bytes
-unfolding longest in_exponent in_fraction in_whole in_text in_escape in_comment after_star word_from bytes_written bytes_after_backslash
+unfolding longest_front in_exponent in_fraction in_whole in_text in_escape in_comment after_star word_from bytes_written bytes_after_backslash
 bad_bytes_lexed = (refl, (refl, (refl, (refl, (refl, tt)))))
 
 bad_bytes_given : AreGiven bad_bytes

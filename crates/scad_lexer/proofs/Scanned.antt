@@ -7,7 +7,7 @@ use Rattle.scad_lexer.specs.declared.token.Symbol.{Symbol}
 use Rattle.scad_lexer.specs.declared.token.Symbol.TheVariants.{Dot, Divide}
 use Rattle.scad_lexer.specs.declared.word.Word.{Word}
 use Rattle.scad_lexer.specs.declared.word.Word.TheVariants.{Blank, UnclosedComment, Name, Special, Numeral, NumeralAndLetter, Text, UnclosedText, Symbol as SymbolWord}
-use Rattle.scad_lexer.specs.Words.{is_of_class, is_digit_byte, is_letter_byte, is_blank_byte, is_name_byte, begins_with, run_of, all_bytes, word_where, where_last, with_bytes, more_bytes, one_longer, longest, in_whole, in_fraction, number_end, after_e, after_sign, in_exponent, after_point, after_dollar, after_slash, in_comment, after_star, in_text, in_escape, one_byte_symbol, two_byte_symbol, two_byte_symbol_from, symbol_word, symbol_of, word_from, IsLongest, HasNoWord}
+use Rattle.scad_lexer.specs.Words.{is_of_class, is_digit_byte, is_letter_byte, is_blank_byte, is_name_byte, begins_with, run_of, all_bytes, word_where, where_last, with_bytes, more_bytes, one_longer, longest_front, in_whole, in_fraction, number_end, after_e, after_sign, in_exponent, after_point, after_dollar, after_slash, in_comment, after_star, in_text, in_escape, one_byte_symbol, two_byte_symbol, two_byte_symbol_from, symbol_word, symbol_of, word_from, IsLongest, HasNoWord}
 use Rattle.scad_lexer.proofs.Longest.{longest_end, longest_step, longest_taken, longest_stop, longest_alone, longest_some, longest_same, longest_every, run_then, behind_run, drop_more, longest_is, longest_isnt}
 
 not_equal : (b c : ℕ) → (b ≡ c → ⊥) → nat_eq b c ≡ false
@@ -24,14 +24,14 @@ pub rest_all : (t : List ℕ) (n : ℕ) → take (length t - n) (drop n t) ≡ d
 rest_all t n = take_all (drop n t) (length t - n) (omega (arith, length-drop n t))
 
 -- a byte of a class, and then what g reads
-pub begin_then : (p : ℕ → Bool) (f g : List ℕ → Option Word) → ((b : ℕ) (w : List ℕ) → p b ≡ true → f (b ∷ w) ≡ g w) → (t : List ℕ) (x : Word) (n : ℕ) → begins_with p t ≡ true → longest g (take (length t - 1) (drop 1 t)) ≡ Some (x, n) → longest f t ≡ Some (x, 1 + n)
+pub begin_then : (p : ℕ → Bool) (f g : List ℕ → Option Word) → ((b : ℕ) (w : List ℕ) → p b ≡ true → f (b ∷ w) ≡ g w) → (t : List ℕ) (x : Word) (n : ℕ) → begins_with p t ≡ true → longest_front g (take (length t - 1) (drop 1 t)) ≡ Some (x, n) → longest_front f t ≡ Some (x, 1 + n)
 begin_then p f g h [] x n e k = absurd (cc)
 begin_then p f g h (b ∷ t) x n e k =
     let one : suc n ≡ 1 + n = omega arith in
-    longest_taken f g b (λ w. h b w e) t x n (ap (longest g) (sym (rest_all (b ∷ t) 1)) ∙ k) ∙ ap (λ n. Some (x, n)) one
+    longest_taken f g b (λ w. h b w e) t x n (ap (longest_front g) (sym (rest_all (b ∷ t) 1)) ∙ k) ∙ ap (λ n. Some (x, n)) one
 
 -- no byte that goes on
-pub begin_none : (f : List ℕ → Option Word) (x : Option Word) → f [] ≡ x → (t : List ℕ) → ((b : ℕ) (u w : List ℕ) → t ≡ b ∷ u → f (b ∷ w) ≡ None) → longest f t ≡ with_bytes 0 x
+pub begin_none : (f : List ℕ → Option Word) (x : Option Word) → f [] ≡ x → (t : List ℕ) → ((b : ℕ) (u w : List ℕ) → t ≡ b ∷ u → f (b ∷ w) ≡ None) → longest_front f t ≡ with_bytes 0 x
 begin_none f x e [] h = longest_end f ∙ ap (with_bytes 0) e
 begin_none f x e (b ∷ t) h = longest_stop f b (λ w. h b t w refl) t ∙ ap (with_bytes 0) e
 
@@ -39,8 +39,8 @@ pub begins_at : (p : ℕ → Bool) (t : List ℕ) (b : ℕ) (u : List ℕ) (c : 
 begins_at p t b u c e h = ap (begins_with p) (sym h) ∙ e
 
 -- a run of digits, and what is found behind it
-pub digits_then : (f : List ℕ → Option Word) (x : Word) → f [] ≡ Some x → ((b : ℕ) (w : List ℕ) → is_digit_byte b ≡ true → f (b ∷ w) ≡ f w) → (t : List ℕ) (n : ℕ) → n ≡ run_of is_digit_byte t → (y : Word) (m : ℕ) → longest f (take (length t - n) (drop n t)) ≡ Some (y, m) → longest f t ≡ Some (y, n + m)
-digits_then f x e h t n same y m g = run_then is_digit_byte f x e h t n same y m (ap (longest f) (sym (rest_all t n)) ∙ g)
+pub digits_then : (f : List ℕ → Option Word) (x : Word) → f [] ≡ Some x → ((b : ℕ) (w : List ℕ) → is_digit_byte b ≡ true → f (b ∷ w) ≡ f w) → (t : List ℕ) (n : ℕ) → n ≡ run_of is_digit_byte t → (y : Word) (m : ℕ) → longest_front f (take (length t - n) (drop n t)) ≡ Some (y, m) → longest_front f t ≡ Some (y, n + m)
+digits_then f x e h t n same y m g = run_then is_digit_byte f x e h t n same y m (ap (longest_front f) (sym (rest_all t n)) ∙ g)
 
 pub no_digit : (t : List ℕ) (n : ℕ) → n ≡ run_of is_digit_byte t → begins_with is_digit_byte (take (length t - n) (drop n t)) ≡ false
 no_digit t n same = ap (begins_with is_digit_byte) (rest_all t n ∙ ap (λ n. drop n t) same) ∙ go (drop (run_of is_digit_byte t) t) refl
@@ -57,7 +57,7 @@ whole_empty : in_whole [] ≡ Some Numeral
 unfolding in_whole
 whole_empty = refl
 
-pub whole_then : (t : List ℕ) (n : ℕ) → n ≡ run_of is_digit_byte t → (y : Word) (m : ℕ) → longest in_whole (take (length t - n) (drop n t)) ≡ Some (y, m) → longest in_whole t ≡ Some (y, n + m)
+pub whole_then : (t : List ℕ) (n : ℕ) → n ≡ run_of is_digit_byte t → (y : Word) (m : ℕ) → longest_front in_whole (take (length t - n) (drop n t)) ≡ Some (y, m) → longest_front in_whole t ≡ Some (y, n + m)
 whole_then = digits_then in_whole Numeral whole_empty whole_digit
 
 -- where no digit stands, a point or the end of the number
@@ -69,16 +69,16 @@ whole_other : (b : ℕ) (w : List ℕ) → is_digit_byte b ≡ false → nat_eq 
 unfolding in_whole
 whole_other b w d e = rw (d, e) refl
 
-same_from : (f g : List ℕ → Option Word) → f [] ≡ g [] → (b : ℕ) (t : List ℕ) → ((w : List ℕ) → f (b ∷ w) ≡ g (b ∷ w)) → longest f (b ∷ t) ≡ longest g (b ∷ t)
-same_from f g e b t h = longest_step f (λ w. g (b ∷ w)) b h t ∙ ap (λ x. one_longer (longest (λ w. g (b ∷ w)) t) (with_bytes 0 x)) e ∙ sym (longest_step g (λ w. g (b ∷ w)) b (λ w. refl) t)
+same_from : (f g : List ℕ → Option Word) → f [] ≡ g [] → (b : ℕ) (t : List ℕ) → ((w : List ℕ) → f (b ∷ w) ≡ g (b ∷ w)) → longest_front f (b ∷ t) ≡ longest_front g (b ∷ t)
+same_from f g e b t h = longest_step f (λ w. g (b ∷ w)) b h t ∙ ap (λ x. one_longer (longest_front (λ w. g (b ∷ w)) t) (with_bytes 0 x)) e ∙ sym (longest_step g (λ w. g (b ∷ w)) b (λ w. refl) t)
 
-pub point_then : (t : List ℕ) (x : Word) (n : ℕ) → begins_with is_digit_byte t ≡ false → begins_with (is_of_class (Byte 46)) t ≡ true → longest in_fraction (take (length t - 1) (drop 1 t)) ≡ Some (x, n) → longest in_whole t ≡ Some (x, 1 + n)
+pub point_then : (t : List ℕ) (x : Word) (n : ℕ) → begins_with is_digit_byte t ≡ false → begins_with (is_of_class (Byte 46)) t ≡ true → longest_front in_fraction (take (length t - 1) (drop 1 t)) ≡ Some (x, n) → longest_front in_whole t ≡ Some (x, 1 + n)
 point_then [] x n d e k = absurd (cc)
 point_then (b ∷ t) x n d e k =
     let one : suc n ≡ 1 + n = omega arith in
-    longest_taken in_whole in_fraction b (λ w. whole_point b w d e) t x n (ap (longest in_fraction) (sym (rest_all (b ∷ t) 1)) ∙ k) ∙ ap (λ n. Some (x, n)) one
+    longest_taken in_whole in_fraction b (λ w. whole_point b w d e) t x n (ap (longest_front in_fraction) (sym (rest_all (b ∷ t) 1)) ∙ k) ∙ ap (λ n. Some (x, n)) one
 
-pub whole_ends : (t : List ℕ) (r : Option (Word × ℕ)) → begins_with is_digit_byte t ≡ false → begins_with (is_of_class (Byte 46)) t ≡ false → longest number_end t ≡ r → longest in_whole t ≡ r
+pub whole_ends : (t : List ℕ) (r : Option (Word × ℕ)) → begins_with is_digit_byte t ≡ false → begins_with (is_of_class (Byte 46)) t ≡ false → longest_front number_end t ≡ r → longest_front in_whole t ≡ r
 unfolding in_whole
 whole_ends [] r d e k = longest_end in_whole ∙ sym (longest_end number_end) ∙ k
 whole_ends (b ∷ t) r d e k = same_from in_whole number_end refl b t (λ w. whole_other b w d e) ∙ k
@@ -91,19 +91,19 @@ fraction_empty : in_fraction [] ≡ Some Numeral
 unfolding in_fraction
 fraction_empty = refl
 
-fraction_ends : (t : List ℕ) (r : Option (Word × ℕ)) → begins_with is_digit_byte t ≡ false → longest number_end t ≡ r → longest in_fraction t ≡ r
+fraction_ends : (t : List ℕ) (r : Option (Word × ℕ)) → begins_with is_digit_byte t ≡ false → longest_front number_end t ≡ r → longest_front in_fraction t ≡ r
 unfolding in_fraction
 fraction_ends [] r d k = longest_end in_fraction ∙ sym (longest_end number_end) ∙ k
 fraction_ends (b ∷ t) r d k = same_from in_fraction number_end refl b t (λ w. ap (λ c. cond c (in_fraction w) (number_end (b ∷ w))) d) ∙ k
 
-pub fraction_then : (t : List ℕ) (n : ℕ) → n ≡ run_of is_digit_byte t → (y : Word) (m : ℕ) → longest number_end (take (length t - n) (drop n t)) ≡ Some (y, m) → longest in_fraction t ≡ Some (y, n + m)
+pub fraction_then : (t : List ℕ) (n : ℕ) → n ≡ run_of is_digit_byte t → (y : Word) (m : ℕ) → longest_front number_end (take (length t - n) (drop n t)) ≡ Some (y, m) → longest_front in_fraction t ≡ Some (y, n + m)
 fraction_then t n same y m g = digits_then in_fraction Numeral fraction_empty fraction_digit t n same y m (fraction_ends (take (length t - n) (drop n t)) (Some (y, m)) (no_digit t n same) g)
 
 -- the end of a number
 end_power : (b : ℕ) (w : List ℕ) → is_of_class Exponent b ≡ true → number_end (b ∷ w) ≡ after_e w
 end_power b w e = ap (λ c. cond c (after_e w) (cond (is_letter_byte b) (where_last NumeralAndLetter w) None)) e
 
-pub power_then : (t : List ℕ) (x : Word) (n : ℕ) → begins_with (is_of_class Exponent) t ≡ true → longest after_e (take (length t - 1) (drop 1 t)) ≡ Some (x, n) → longest number_end t ≡ Some (x, 1 + n)
+pub power_then : (t : List ℕ) (x : Word) (n : ℕ) → begins_with (is_of_class Exponent) t ≡ true → longest_front after_e (take (length t - 1) (drop 1 t)) ≡ Some (x, n) → longest_front number_end t ≡ Some (x, 1 + n)
 power_then = begin_then (is_of_class Exponent) number_end after_e end_power
 
 end_letter : (b : ℕ) (w : List ℕ) → is_of_class Exponent b ≡ false → is_letter_byte b ≡ true → number_end (b ∷ w) ≡ where_last NumeralAndLetter w
@@ -112,18 +112,18 @@ end_letter b w e l = rw (e, l) refl
 end_none : (b : ℕ) (w : List ℕ) → is_of_class Exponent b ≡ false → is_letter_byte b ≡ false → number_end (b ∷ w) ≡ None
 end_none b w e l = rw (e, l) refl
 
-pub letter_ends : (t : List ℕ) → begins_with (is_of_class Exponent) t ≡ false → begins_with is_letter_byte t ≡ true → longest number_end t ≡ Some (NumeralAndLetter, 1)
+pub letter_ends : (t : List ℕ) → begins_with (is_of_class Exponent) t ≡ false → begins_with is_letter_byte t ≡ true → longest_front number_end t ≡ Some (NumeralAndLetter, 1)
 letter_ends [] e l = absurd (cc)
 letter_ends (b ∷ t) e l = longest_taken number_end (where_last NumeralAndLetter) b (λ w. end_letter b w e l) t NumeralAndLetter 0 (longest_alone NumeralAndLetter t)
 
-pub number_ends : (t : List ℕ) → begins_with (is_of_class Exponent) t ≡ false → begins_with is_letter_byte t ≡ false → longest number_end t ≡ Some (Numeral, 0)
+pub number_ends : (t : List ℕ) → begins_with (is_of_class Exponent) t ≡ false → begins_with is_letter_byte t ≡ false → longest_front number_end t ≡ Some (Numeral, 0)
 number_ends t e l = begin_none number_end (Some Numeral) refl t (λ b u w h. end_none b w (begins_at (is_of_class Exponent) t b u false e h) (begins_at is_letter_byte t b u false l h))
 
 -- exponents
 exponent_digit : (b : ℕ) (w : List ℕ) → is_digit_byte b ≡ true → after_e (b ∷ w) ≡ in_exponent w
 exponent_digit b w e = ap (λ c. cond c (in_exponent w) (cond (is_of_class Sign b) (after_sign w) None)) e
 
-pub exponent_then : (t : List ℕ) (x : Word) (n : ℕ) → begins_with is_digit_byte t ≡ true → longest in_exponent (take (length t - 1) (drop 1 t)) ≡ Some (x, n) → longest after_e t ≡ Some (x, 1 + n)
+pub exponent_then : (t : List ℕ) (x : Word) (n : ℕ) → begins_with is_digit_byte t ≡ true → longest_front in_exponent (take (length t - 1) (drop 1 t)) ≡ Some (x, n) → longest_front after_e t ≡ Some (x, 1 + n)
 exponent_then = begin_then is_digit_byte after_e in_exponent exponent_digit
 
 exponent_sign : (b : ℕ) (w : List ℕ) → is_digit_byte b ≡ false → is_of_class Sign b ≡ true → after_e (b ∷ w) ≡ after_sign w
@@ -141,23 +141,23 @@ sign_none b w e = ap (λ c. cond c (in_exponent w) None) e
 two_more : (n : ℕ) → suc (suc n) ≡ 2 + n
 two_more n = omega arith
 
-pub sign_then : (t : List ℕ) (x : Word) (n : ℕ) → begins_with is_digit_byte t ≡ false → begins_with (is_of_class Sign) t ≡ true → begins_with is_digit_byte (take (length t - 1) (drop 1 t)) ≡ true → longest in_exponent (take (length t - 2) (drop 2 t)) ≡ Some (x, n) → longest after_e t ≡ Some (x, 2 + n)
+pub sign_then : (t : List ℕ) (x : Word) (n : ℕ) → begins_with is_digit_byte t ≡ false → begins_with (is_of_class Sign) t ≡ true → begins_with is_digit_byte (take (length t - 1) (drop 1 t)) ≡ true → longest_front in_exponent (take (length t - 2) (drop 2 t)) ≡ Some (x, n) → longest_front after_e t ≡ Some (x, 2 + n)
 sign_then [] x n d e g k = absurd (cc)
 sign_then (b ∷ []) x n d e g k = absurd (cc)
 sign_then (b ∷ c ∷ t) x n d e g k =
     let next : is_digit_byte c ≡ true = ap (begins_with is_digit_byte) (sym (rest_all (b ∷ c ∷ t) 1)) ∙ g in
     longest_taken after_e after_sign b (λ w. exponent_sign b w d e) (c ∷ t) x (suc n)
-    (longest_taken after_sign in_exponent c (λ w. sign_digit c w next) t x n (ap (longest in_exponent) (sym (rest_all (b ∷ c ∷ t) 2)) ∙ k))
+    (longest_taken after_sign in_exponent c (λ w. sign_digit c w next) t x n (ap (longest_front in_exponent) (sym (rest_all (b ∷ c ∷ t) 2)) ∙ k))
     ∙ ap (λ n. Some (x, n)) (two_more n)
 
 -- a sign with no digit behind it
-sign_alone : (t : List ℕ) → begins_with is_digit_byte t ≡ false → longest after_sign t ≡ None
+sign_alone : (t : List ℕ) → begins_with is_digit_byte t ≡ false → longest_front after_sign t ≡ None
 sign_alone t d = begin_none after_sign None refl t (λ b u w h. sign_none b w (begins_at is_digit_byte t b u false d h))
 
-pub no_exponent : (t : List ℕ) → begins_with is_digit_byte t ≡ false → begins_with (is_of_class Sign) t ≡ false → longest after_e t ≡ Some (NumeralAndLetter, 0)
+pub no_exponent : (t : List ℕ) → begins_with is_digit_byte t ≡ false → begins_with (is_of_class Sign) t ≡ false → longest_front after_e t ≡ Some (NumeralAndLetter, 0)
 no_exponent t d e = begin_none after_e (Some NumeralAndLetter) refl t (λ b u w h. exponent_none b w (begins_at is_digit_byte t b u false d h) (begins_at (is_of_class Sign) t b u false e h))
 
-pub no_power : (t : List ℕ) → begins_with is_digit_byte t ≡ false → begins_with (is_of_class Sign) t ≡ true → begins_with is_digit_byte (take (length t - 1) (drop 1 t)) ≡ false → longest after_e t ≡ Some (NumeralAndLetter, 0)
+pub no_power : (t : List ℕ) → begins_with is_digit_byte t ≡ false → begins_with (is_of_class Sign) t ≡ true → begins_with is_digit_byte (take (length t - 1) (drop 1 t)) ≡ false → longest_front after_e t ≡ Some (NumeralAndLetter, 0)
 no_power [] d e g = absurd (cc)
 no_power (b ∷ t) d e g =
     longest_step after_e after_sign b (λ w. exponent_sign b w d e) t
@@ -179,14 +179,14 @@ in_exponent_empty : in_exponent [] ≡ Some Numeral
 unfolding in_exponent
 in_exponent_empty = refl
 
-behind_letter : (t : List ℕ) → begins_with is_digit_byte t ≡ false → begins_with is_letter_byte t ≡ true → longest in_exponent t ≡ Some (NumeralAndLetter, 1)
+behind_letter : (t : List ℕ) → begins_with is_digit_byte t ≡ false → begins_with is_letter_byte t ≡ true → longest_front in_exponent t ≡ Some (NumeralAndLetter, 1)
 behind_letter [] d e = absurd (cc)
 behind_letter (b ∷ t) d e = longest_taken in_exponent (where_last NumeralAndLetter) b (λ w. in_exponent_letter b w d e) t NumeralAndLetter 0 (longest_alone NumeralAndLetter t)
 
-pub power_letter : (t : List ℕ) (n : ℕ) → n ≡ run_of is_digit_byte t → begins_with is_letter_byte (take (length t - n) (drop n t)) ≡ true → longest in_exponent t ≡ Some (NumeralAndLetter, n + 1)
+pub power_letter : (t : List ℕ) (n : ℕ) → n ≡ run_of is_digit_byte t → begins_with is_letter_byte (take (length t - n) (drop n t)) ≡ true → longest_front in_exponent t ≡ Some (NumeralAndLetter, n + 1)
 power_letter t n same e = digits_then in_exponent Numeral in_exponent_empty in_exponent_digit t n same NumeralAndLetter 1 (behind_letter (take (length t - n) (drop n t)) (no_digit t n same) e)
 
-pub power_ends : (t : List ℕ) (n : ℕ) → n ≡ run_of is_digit_byte t → begins_with is_letter_byte (take (length t - n) (drop n t)) ≡ false → longest in_exponent t ≡ Some (Numeral, n)
+pub power_ends : (t : List ℕ) (n : ℕ) → n ≡ run_of is_digit_byte t → begins_with is_letter_byte (take (length t - n) (drop n t)) ≡ false → longest_front in_exponent t ≡ Some (Numeral, n)
 power_ends t n same e =
     let r = take (length t - n) (drop n t) in
     let none : n + 0 ≡ n = omega arith in
@@ -201,10 +201,10 @@ point_digit b w e = ap (λ c. cond c (in_fraction w) None) e
 point_none : (b : ℕ) (w : List ℕ) → is_digit_byte b ≡ false → after_point (b ∷ w) ≡ None
 point_none b w e = ap (λ c. cond c (in_fraction w) None) e
 
-pub fraction_behind : (t : List ℕ) (x : Word) (n : ℕ) → begins_with is_digit_byte t ≡ true → longest in_fraction (take (length t - 1) (drop 1 t)) ≡ Some (x, n) → longest after_point t ≡ Some (x, 1 + n)
+pub fraction_behind : (t : List ℕ) (x : Word) (n : ℕ) → begins_with is_digit_byte t ≡ true → longest_front in_fraction (take (length t - 1) (drop 1 t)) ≡ Some (x, n) → longest_front after_point t ≡ Some (x, 1 + n)
 fraction_behind = begin_then is_digit_byte after_point in_fraction point_digit
 
-pub point_alone : (t : List ℕ) → begins_with is_digit_byte t ≡ false → longest after_point t ≡ Some (SymbolWord Dot, 0)
+pub point_alone : (t : List ℕ) → begins_with is_digit_byte t ≡ false → longest_front after_point t ≡ Some (SymbolWord Dot, 0)
 point_alone t d = begin_none after_point (Some (SymbolWord Dot)) refl t (λ b u w h. point_none b w (begins_at is_digit_byte t b u false d h))
 
 -- a dollar
@@ -214,10 +214,10 @@ dollar_letter b w e = ap (λ c. cond c (word_where (all_bytes is_name_byte w) Sp
 dollar_none : (b : ℕ) (w : List ℕ) → is_letter_byte b ≡ false → after_dollar (b ∷ w) ≡ None
 dollar_none b w e = ap (λ c. cond c (word_where (all_bytes is_name_byte w) Special) None) e
 
-pub special_name : (t : List ℕ) (n : ℕ) → begins_with is_letter_byte t ≡ true → n ≡ run_of is_name_byte (take (length t - 1) (drop 1 t)) → longest after_dollar t ≡ Some (Special, 1 + n)
+pub special_name : (t : List ℕ) (n : ℕ) → begins_with is_letter_byte t ≡ true → n ≡ run_of is_name_byte (take (length t - 1) (drop 1 t)) → longest_front after_dollar t ≡ Some (Special, 1 + n)
 special_name t n e h = begin_then is_letter_byte after_dollar (λ w. word_where (all_bytes is_name_byte w) Special) dollar_letter t Special n e (longest_every is_name_byte Special (take (length t - 1) (drop 1 t)) ∙ ap (λ n. Some (Special, n)) (sym h))
 
-pub no_special : (t : List ℕ) → begins_with is_letter_byte t ≡ false → longest after_dollar t ≡ None
+pub no_special : (t : List ℕ) → begins_with is_letter_byte t ≡ false → longest_front after_dollar t ≡ None
 no_special t e = begin_none after_dollar None refl t (λ b u w h. dollar_none b w (begins_at is_letter_byte t b u false e h))
 
 -- a slash
@@ -230,27 +230,27 @@ slash_star b w d e = rw (d, e) refl
 slash_none : (b : ℕ) (w : List ℕ) → nat_eq b 47 ≡ false → nat_eq b 42 ≡ false → after_slash (b ∷ w) ≡ None
 slash_none b w d e = rw (d, e) refl
 
-pub line_comment : (t : List ℕ) (n : ℕ) → begins_with (is_of_class (Byte 47)) t ≡ true → n ≡ run_of (is_of_class InLine) (take (length t - 1) (drop 1 t)) → longest after_slash t ≡ Some (Blank, 1 + n)
+pub line_comment : (t : List ℕ) (n : ℕ) → begins_with (is_of_class (Byte 47)) t ≡ true → n ≡ run_of (is_of_class InLine) (take (length t - 1) (drop 1 t)) → longest_front after_slash t ≡ Some (Blank, 1 + n)
 line_comment t n e h = begin_then (is_of_class (Byte 47)) after_slash (λ w. word_where (all_bytes (is_of_class InLine) w) Blank) slash_line t Blank n e (longest_every (is_of_class InLine) Blank (take (length t - 1) (drop 1 t)) ∙ ap (λ n. Some (Blank, n)) (sym h))
 
-pub block_comment : (t : List ℕ) (x : Word) (n : ℕ) → begins_with (is_of_class (Byte 47)) t ≡ false → begins_with (is_of_class (Byte 42)) t ≡ true → longest in_comment (take (length t - 1) (drop 1 t)) ≡ Some (x, n) → longest after_slash t ≡ Some (x, 1 + n)
+pub block_comment : (t : List ℕ) (x : Word) (n : ℕ) → begins_with (is_of_class (Byte 47)) t ≡ false → begins_with (is_of_class (Byte 42)) t ≡ true → longest_front in_comment (take (length t - 1) (drop 1 t)) ≡ Some (x, n) → longest_front after_slash t ≡ Some (x, 1 + n)
 block_comment [] x n d e k = absurd (cc)
 block_comment (b ∷ t) x n d e k =
     let one : suc n ≡ 1 + n = omega arith in
-    longest_taken after_slash in_comment b (λ w. slash_star b w d e) t x n (ap (longest in_comment) (sym (rest_all (b ∷ t) 1)) ∙ k) ∙ ap (λ n. Some (x, n)) one
+    longest_taken after_slash in_comment b (λ w. slash_star b w d e) t x n (ap (longest_front in_comment) (sym (rest_all (b ∷ t) 1)) ∙ k) ∙ ap (λ n. Some (x, n)) one
 
-pub slash_alone : (t : List ℕ) → begins_with (is_of_class (Byte 47)) t ≡ false → begins_with (is_of_class (Byte 42)) t ≡ false → longest after_slash t ≡ Some (SymbolWord Divide, 0)
+pub slash_alone : (t : List ℕ) → begins_with (is_of_class (Byte 47)) t ≡ false → begins_with (is_of_class (Byte 42)) t ≡ false → longest_front after_slash t ≡ Some (SymbolWord Divide, 0)
 slash_alone t d e = begin_none after_slash (Some (SymbolWord Divide)) refl t (λ b u w h. slash_none b w (begins_at (is_of_class (Byte 47)) t b u false d h) (begins_at (is_of_class (Byte 42)) t b u false e h))
 
 -- symbols
-pair_rest : (b c : ℕ) (x : Option Word) → symbol_of b (c ∷ []) ≡ x → (t : List ℕ) → longest (λ w. symbol_of b (c ∷ w)) t ≡ with_bytes 0 x
+pair_rest : (b c : ℕ) (x : Option Word) → symbol_of b (c ∷ []) ≡ x → (t : List ℕ) → longest_front (λ w. symbol_of b (c ∷ w)) t ≡ with_bytes 0 x
 pair_rest b c x e t = begin_none (λ w. symbol_of b (c ∷ w)) x e t (λ d u w h. refl)
 
-pub symbol_pair : (b : ℕ) (t : List ℕ) (s : Symbol) → two_byte_symbol_from b t ≡ Some s → Some (SymbolWord s, 1) ≡ longest (symbol_of b) t
+pub symbol_pair : (b : ℕ) (t : List ℕ) (s : Symbol) → two_byte_symbol_from b t ≡ Some s → Some (SymbolWord s, 1) ≡ longest_front (symbol_of b) t
 symbol_pair b [] s e = absurd (cc)
 symbol_pair b (c ∷ t) s e = sym (longest_taken (symbol_of b) (λ w. symbol_of b (c ∷ w)) c (λ w. refl) t (SymbolWord s) 0 (pair_rest b c (Some (SymbolWord s)) (ap symbol_word e) t))
 
-pub symbol_single : (b : ℕ) (t : List ℕ) (x : Option Symbol) → two_byte_symbol_from b t ≡ None → one_byte_symbol b ≡ x → longest (symbol_of b) t ≡ with_bytes 0 (symbol_word x)
+pub symbol_single : (b : ℕ) (t : List ℕ) (x : Option Symbol) → two_byte_symbol_from b t ≡ None → one_byte_symbol b ≡ x → longest_front (symbol_of b) t ≡ with_bytes 0 (symbol_word x)
 symbol_single b [] x e h = longest_end (symbol_of b) ∙ ap (λ x. with_bytes 0 (symbol_word x)) h
 symbol_single b (c ∷ t) x e h =
     longest_step (symbol_of b) (λ w. symbol_of b (c ∷ w)) c (λ w. refl) t
@@ -258,7 +258,7 @@ symbol_single b (c ∷ t) x e h =
     ∙ ap (λ x. with_bytes 0 (symbol_word x)) h
 
 -- one byte on, in a loop
-pub longest_on : (f g : List ℕ → Option Word) (x : Word) → g [] ≡ Some x → (b : ℕ) → ((w : List ℕ) → f (b ∷ w) ≡ g w) → (t : List ℕ) → longest f (b ∷ t) ≡ more_bytes 1 (longest g t)
+pub longest_on : (f g : List ℕ → Option Word) (x : Word) → g [] ≡ Some x → (b : ℕ) → ((w : List ℕ) → f (b ∷ w) ≡ g w) → (t : List ℕ) → longest_front f (b ∷ t) ≡ more_bytes 1 (longest_front g t)
 longest_on f g x e b h t =
     let s = longest_some g x e t in
     let one : suc s.0.1 ≡ 1 + s.0.1 = omega arith in
@@ -290,19 +290,19 @@ unfolding in_comment after_star
 comment_go true b w e = ap (λ c. cond c (where_last Blank w) (cond (nat_eq b 42) (after_star w) (in_comment w))) e
 comment_go false b w e = refl
 
-pub comment_more : (t : List ℕ) (r : Option (Word × ℕ)) (s : Bool) (n : ℕ) → n < length t → r ≡ more_bytes n (longest (comment_state s) (drop n t)) → (s && nat_eq (get_or t n 0) 47) ≡ false → r ≡ more_bytes (n + 1) (longest (comment_state (nat_eq (get_or t n 0) 42)) (drop (n + 1) t))
+pub comment_more : (t : List ℕ) (r : Option (Word × ℕ)) (s : Bool) (n : ℕ) → n < length t → r ≡ more_bytes n (longest_front (comment_state s) (drop n t)) → (s && nat_eq (get_or t n 0) 47) ≡ false → r ≡ more_bytes (n + 1) (longest_front (comment_state (nat_eq (get_or t n 0) 42)) (drop (n + 1) t))
 comment_more t r s n l h e =
-    h ∙ ap (λ u. more_bytes n (longest (comment_state s) u)) (drop_more t n l)
+    h ∙ ap (λ u. more_bytes n (longest_front (comment_state s) u)) (drop_more t n l)
     ∙ ap (more_bytes n) (longest_on (comment_state s) (comment_state (nat_eq (get_or t n 0) 42)) UnclosedComment (state_open (nat_eq (get_or t n 0) 42)) (get_or t n 0) (λ w. comment_go s (get_or t n 0) w e) (drop (n + 1) t))
-    ∙ more_twice n (longest (comment_state (nat_eq (get_or t n 0) 42)) (drop (n + 1) t))
+    ∙ more_twice n (longest_front (comment_state (nat_eq (get_or t n 0) 42)) (drop (n + 1) t))
 
 comment_close : (b : ℕ) (w : List ℕ) → nat_eq b 47 ≡ true → comment_state true (b ∷ w) ≡ where_last Blank w
 unfolding after_star
 comment_close b w e = ap (λ c. cond c (where_last Blank w) (cond (nat_eq b 42) (after_star w) (in_comment w))) e
 
-pub comment_closed : (t : List ℕ) (r : Option (Word × ℕ)) (s : Bool) (n : ℕ) → n < length t → r ≡ more_bytes n (longest (comment_state s) (drop n t)) → (s && nat_eq (get_or t n 0) 47) ≡ true → r ≡ Some (Blank, n + 1)
+pub comment_closed : (t : List ℕ) (r : Option (Word × ℕ)) (s : Bool) (n : ℕ) → n < length t → r ≡ more_bytes n (longest_front (comment_state s) (drop n t)) → (s && nat_eq (get_or t n 0) 47) ≡ true → r ≡ Some (Blank, n + 1)
 comment_closed t r true n l h e =
-    h ∙ ap (λ u. more_bytes n (longest (comment_state true) u)) (drop_more t n l)
+    h ∙ ap (λ u. more_bytes n (longest_front (comment_state true) u)) (drop_more t n l)
     ∙ ap (more_bytes n) (longest_taken (comment_state true) (where_last Blank) (get_or t n 0) (λ w. comment_close (get_or t n 0) w e) (drop (n + 1) t) Blank 0 (longest_alone Blank (drop (n + 1) t)))
 comment_closed t r false n l h e = absurd (cc)
 
@@ -312,15 +312,15 @@ drop_past [] (suc n) h = refl
 drop_past (b ∷ t) zero h = absurd (omega arith)
 drop_past (b ∷ t) (suc n) h = drop_past t n (omega arith)
 
-ends_open : (f : List ℕ → Option Word) (x : Word) → f [] ≡ Some x → (t : List ℕ) (r : Option (Word × ℕ)) (n : ℕ) → length t ≤ n → r ≡ more_bytes n (longest f (drop n t)) → r ≡ Some (x, n)
+ends_open : (f : List ℕ → Option Word) (x : Word) → f [] ≡ Some x → (t : List ℕ) (r : Option (Word × ℕ)) (n : ℕ) → length t ≤ n → r ≡ more_bytes n (longest_front f (drop n t)) → r ≡ Some (x, n)
 ends_open f x e t r n l h =
     let none : n + 0 ≡ n = omega arith in
-    h ∙ ap (λ u. more_bytes n (longest f u)) (drop_past t n l) ∙ ap (more_bytes n) (longest_end f ∙ ap (with_bytes 0) e) ∙ ap (λ n. Some (x, n)) none
+    h ∙ ap (λ u. more_bytes n (longest_front f u)) (drop_past t n l) ∙ ap (more_bytes n) (longest_end f ∙ ap (with_bytes 0) e) ∙ ap (λ n. Some (x, n)) none
 
-pub comment_open : (t : List ℕ) (r : Option (Word × ℕ)) (s : Bool) (n : ℕ) → length t ≤ n → r ≡ more_bytes n (longest (comment_state s) (drop n t)) → r ≡ Some (UnclosedComment, n)
+pub comment_open : (t : List ℕ) (r : Option (Word × ℕ)) (s : Bool) (n : ℕ) → length t ≤ n → r ≡ more_bytes n (longest_front (comment_state s) (drop n t)) → r ≡ Some (UnclosedComment, n)
 comment_open t r s n = ends_open (comment_state s) UnclosedComment (state_open s) t r n
 
-pub text_ends : (t : List ℕ) (r : Option (Word × ℕ)) (s : Bool) (n : ℕ) → length t ≤ n → r ≡ more_bytes n (longest (text_state s) (drop n t)) → r ≡ Some (UnclosedText, n)
+pub text_ends : (t : List ℕ) (r : Option (Word × ℕ)) (s : Bool) (n : ℕ) → length t ≤ n → r ≡ more_bytes n (longest_front (text_state s) (drop n t)) → r ≡ Some (UnclosedText, n)
 text_ends t r s n = ends_open (text_state s) UnclosedText (text_open s) t r n
 
 text_go : (s : Bool) (b : ℕ) (w : List ℕ) → nat_eq b 10 ≡ false → (not s && nat_eq b 34) ≡ false → text_state s (b ∷ w) ≡ text_state (not s && nat_eq b 92) w
@@ -328,12 +328,12 @@ unfolding in_text in_escape
 text_go true b w e q = ap (λ c. cond c None (in_text w)) e
 text_go false b w e q = rw (q, e) refl
 
-pub text_more : (t : List ℕ) (r : Option (Word × ℕ)) (s : Bool) (n : ℕ) → n < length t → r ≡ more_bytes n (longest (text_state s) (drop n t)) → (get_or t n 0 ≡ 10 → ⊥) → (not s && nat_eq (get_or t n 0) 34) ≡ false → r ≡ more_bytes (n + 1) (longest (text_state (not s && nat_eq (get_or t n 0) 92)) (drop (n + 1) t))
+pub text_more : (t : List ℕ) (r : Option (Word × ℕ)) (s : Bool) (n : ℕ) → n < length t → r ≡ more_bytes n (longest_front (text_state s) (drop n t)) → (get_or t n 0 ≡ 10 → ⊥) → (not s && nat_eq (get_or t n 0) 34) ≡ false → r ≡ more_bytes (n + 1) (longest_front (text_state (not s && nat_eq (get_or t n 0) 92)) (drop (n + 1) t))
 text_more t r s n l h e q =
     let next = not s && nat_eq (get_or t n 0) 92 in
-    h ∙ ap (λ u. more_bytes n (longest (text_state s) u)) (drop_more t n l)
+    h ∙ ap (λ u. more_bytes n (longest_front (text_state s) u)) (drop_more t n l)
     ∙ ap (more_bytes n) (longest_on (text_state s) (text_state next) UnclosedText (text_open next) (get_or t n 0) (λ w. text_go s (get_or t n 0) w (not_equal (get_or t n 0) 10 e) q) (drop (n + 1) t))
-    ∙ more_twice n (longest (text_state next) (drop (n + 1) t))
+    ∙ more_twice n (longest_front (text_state next) (drop (n + 1) t))
 
 text_line : (s : Bool) (b : ℕ) (w : List ℕ) → nat_eq b 10 ≡ true → nat_eq b 34 ≡ false → nat_eq b 92 ≡ false → text_state s (b ∷ w) ≡ None
 unfolding in_text in_escape
@@ -343,11 +343,11 @@ text_line false b w e q k = rw (q, k, e) refl
 newline_is : (b : ℕ) → b ≡ 10 → (nat_eq b 10 ≡ true) × (nat_eq b 34 ≡ false) × (nat_eq b 92 ≡ false)
 newline_is b e = subst (λ b. (nat_eq b 10 ≡ true) × (nat_eq b 34 ≡ false) × (nat_eq b 92 ≡ false)) (sym e) (refl, refl, refl)
 
-pub text_newline : (t : List ℕ) (r : Option (Word × ℕ)) (s : Bool) (n : ℕ) → n < length t → r ≡ more_bytes n (longest (text_state s) (drop n t)) → get_or t n 0 ≡ 10 → r ≡ Some (UnclosedText, n)
+pub text_newline : (t : List ℕ) (r : Option (Word × ℕ)) (s : Bool) (n : ℕ) → n < length t → r ≡ more_bytes n (longest_front (text_state s) (drop n t)) → get_or t n 0 ≡ 10 → r ≡ Some (UnclosedText, n)
 text_newline t r s n l h e =
     let is = newline_is (get_or t n 0) e in
     let none : n + 0 ≡ n = omega arith in
-    h ∙ ap (λ u. more_bytes n (longest (text_state s) u)) (drop_more t n l)
+    h ∙ ap (λ u. more_bytes n (longest_front (text_state s) u)) (drop_more t n l)
     ∙ ap (more_bytes n) (longest_stop (text_state s) (get_or t n 0) (λ w. text_line s (get_or t n 0) w is.0 is.1 is.2) (drop (n + 1) t) ∙ ap (with_bytes 0) (text_open s))
     ∙ ap (λ n. Some (UnclosedText, n)) none
 
@@ -355,9 +355,9 @@ text_quote : (b : ℕ) (w : List ℕ) → nat_eq b 34 ≡ true → text_state fa
 unfolding in_text
 text_quote b w e = ap (λ c. cond c (where_last Text w) (cond (nat_eq b 92) (in_escape w) (cond (nat_eq b 10) None (in_text w)))) e
 
-pub text_closed : (t : List ℕ) (r : Option (Word × ℕ)) (s : Bool) (n : ℕ) → n < length t → r ≡ more_bytes n (longest (text_state s) (drop n t)) → (not s && nat_eq (get_or t n 0) 34) ≡ true → r ≡ Some (Text, n + 1)
+pub text_closed : (t : List ℕ) (r : Option (Word × ℕ)) (s : Bool) (n : ℕ) → n < length t → r ≡ more_bytes n (longest_front (text_state s) (drop n t)) → (not s && nat_eq (get_or t n 0) 34) ≡ true → r ≡ Some (Text, n + 1)
 text_closed t r false n l h e =
-    h ∙ ap (λ u. more_bytes n (longest (text_state false) u)) (drop_more t n l)
+    h ∙ ap (λ u. more_bytes n (longest_front (text_state false) u)) (drop_more t n l)
     ∙ ap (more_bytes n) (longest_taken (text_state false) (where_last Text) (get_or t n 0) (λ w. text_quote (get_or t n 0) w e) (drop (n + 1) t) Text 0 (longest_alone Text (drop (n + 1) t)))
 text_closed t r true n l h e = absurd (cc)
 
@@ -374,13 +374,13 @@ is_numeral : (b : ℕ) (w : List ℕ) → is_blank_byte b ≡ false → is_lette
 unfolding word_from
 is_numeral b w e f g = rw (e, f, g) refl
 
-pub blank_word : (b : ℕ) (t : List ℕ) → is_blank_byte b ≡ true → Some (Blank, 0) ≡ longest (word_from b) t
+pub blank_word : (b : ℕ) (t : List ℕ) → is_blank_byte b ≡ true → Some (Blank, 0) ≡ longest_front (word_from b) t
 blank_word b t e = sym (longest_same (word_from b) (where_last Blank) (λ w. is_blank b w e) t ∙ longest_alone Blank t)
 
-pub name_word : (b : ℕ) (t : List ℕ) (n : ℕ) → is_blank_byte b ≡ false → is_letter_byte b ≡ true → n ≡ run_of is_name_byte t → Some (Name, n) ≡ longest (word_from b) t
+pub name_word : (b : ℕ) (t : List ℕ) (n : ℕ) → is_blank_byte b ≡ false → is_letter_byte b ≡ true → n ≡ run_of is_name_byte t → Some (Name, n) ≡ longest_front (word_from b) t
 name_word b t n e f h = ap (λ n. Some (Name, n)) h ∙ sym (longest_same (word_from b) (λ w. word_where (all_bytes is_name_byte w) Name) (λ w. is_name b w e f) t ∙ longest_every is_name_byte Name t)
 
-pub numeral_word : (b : ℕ) (t : List ℕ) (r : Option (Word × ℕ)) → is_blank_byte b ≡ false → is_letter_byte b ≡ false → is_digit_byte b ≡ true → longest in_whole t ≡ r → r ≡ longest (word_from b) t
+pub numeral_word : (b : ℕ) (t : List ℕ) (r : Option (Word × ℕ)) → is_blank_byte b ≡ false → is_letter_byte b ≡ false → is_digit_byte b ≡ true → longest_front in_whole t ≡ r → r ≡ longest_front (word_from b) t
 numeral_word b t r e f g h = sym (longest_same (word_from b) in_whole (λ w. is_numeral b w e f g) t ∙ h)
 
 quote_is : (w : List ℕ) → word_from 34 w ≡ in_text w
@@ -399,23 +399,23 @@ dollar_is : (w : List ℕ) → word_from 36 w ≡ after_dollar w
 unfolding word_from
 dollar_is w = refl
 
-pub dollar_word : (b : ℕ) (t : List ℕ) → b ≡ 36 → longest after_dollar t ≡ longest (word_from b) t
-dollar_word b t e = subst (λ b. longest after_dollar t ≡ longest (word_from b) t) (sym e) (sym (longest_same (word_from 36) after_dollar dollar_is t))
+pub dollar_word : (b : ℕ) (t : List ℕ) → b ≡ 36 → longest_front after_dollar t ≡ longest_front (word_from b) t
+dollar_word b t e = subst (λ b. longest_front after_dollar t ≡ longest_front (word_from b) t) (sym e) (sym (longest_same (word_from 36) after_dollar dollar_is t))
 
-pub text_word : (b : ℕ) (t : List ℕ) (r : Option (Word × ℕ)) → b ≡ 34 → longest in_text t ≡ r → r ≡ longest (word_from b) t
-text_word b t r e h = subst (λ b. r ≡ longest (word_from b) t) (sym e) (sym (longest_same (word_from 34) in_text quote_is t ∙ h))
+pub text_word : (b : ℕ) (t : List ℕ) (r : Option (Word × ℕ)) → b ≡ 34 → longest_front in_text t ≡ r → r ≡ longest_front (word_from b) t
+text_word b t r e h = subst (λ b. r ≡ longest_front (word_from b) t) (sym e) (sym (longest_same (word_from 34) in_text quote_is t ∙ h))
 
-pub point_word : (b : ℕ) (t : List ℕ) (r : Option (Word × ℕ)) → b ≡ 46 → longest after_point t ≡ r → r ≡ longest (word_from b) t
-point_word b t r e h = subst (λ b. r ≡ longest (word_from b) t) (sym e) (sym (longest_same (word_from 46) after_point point_is t ∙ h))
+pub point_word : (b : ℕ) (t : List ℕ) (r : Option (Word × ℕ)) → b ≡ 46 → longest_front after_point t ≡ r → r ≡ longest_front (word_from b) t
+point_word b t r e h = subst (λ b. r ≡ longest_front (word_from b) t) (sym e) (sym (longest_same (word_from 46) after_point point_is t ∙ h))
 
-pub slash_word : (b : ℕ) (t : List ℕ) (r : Option (Word × ℕ)) → b ≡ 47 → longest after_slash t ≡ r → r ≡ longest (word_from b) t
-slash_word b t r e h = subst (λ b. r ≡ longest (word_from b) t) (sym e) (sym (longest_same (word_from 47) after_slash slash_is t ∙ h))
+pub slash_word : (b : ℕ) (t : List ℕ) (r : Option (Word × ℕ)) → b ≡ 47 → longest_front after_slash t ≡ r → r ≡ longest_front (word_from b) t
+slash_word b t r e h = subst (λ b. r ≡ longest_front (word_from b) t) (sym e) (sym (longest_same (word_from 47) after_slash slash_is t ∙ h))
 
 is_symbol : (b : ℕ) (w : List ℕ) → is_blank_byte b ≡ false → is_letter_byte b ≡ false → is_digit_byte b ≡ false → nat_eq b 36 ≡ false → nat_eq b 34 ≡ false → nat_eq b 46 ≡ false → nat_eq b 47 ≡ false → word_from b w ≡ symbol_of b w
 unfolding word_from
 is_symbol b w e f g h i j k = rw (e, f, g, h, i, j, k) refl
 
-pub symbol_found : (b : ℕ) (t : List ℕ) → is_blank_byte b ≡ false → is_letter_byte b ≡ false → is_digit_byte b ≡ false → (b ≡ 36 → ⊥) → (b ≡ 34 → ⊥) → (b ≡ 46 → ⊥) → (b ≡ 47 → ⊥) → longest (symbol_of b) t ≡ longest (word_from b) t
+pub symbol_found : (b : ℕ) (t : List ℕ) → is_blank_byte b ≡ false → is_letter_byte b ≡ false → is_digit_byte b ≡ false → (b ≡ 36 → ⊥) → (b ≡ 34 → ⊥) → (b ≡ 46 → ⊥) → (b ≡ 47 → ⊥) → longest_front (symbol_of b) t ≡ longest_front (word_from b) t
 symbol_found b t e f g h i j k = sym (longest_same (word_from b) (symbol_of b) (λ w. is_symbol b w e f g (not_equal b 36 h) (not_equal b 34 i) (not_equal b 46 j) (not_equal b 47 k)) t)
 
 -- a blank byte is a word of its own
@@ -444,11 +444,11 @@ text_parts [] h = absurd (omega arith)
 text_parts (b ∷ t) h = ap (λ l. b ∷ l) (rest_all (b ∷ t) 1)
 
 -- the word that a text begins with
-pub found_some : (t : List ℕ) (r : Option (Word × ℕ)) → 0 < length t → r ≡ longest (word_from (get_or t 0 0)) (take (length t - 1) (drop 1 t)) → IfSome (more_bytes 1 r) (λ p. IsLongest t p.1 p.0)
+pub found_some : (t : List ℕ) (r : Option (Word × ℕ)) → 0 < length t → r ≡ longest_front (word_from (get_or t 0 0)) (take (length t - 1) (drop 1 t)) → IfSome (more_bytes 1 r) (λ p. IsLongest t p.1 p.0)
 found_some t None h e = tt
 found_some t (Some p) h e = subst (λ t. IsLongest t (1 + p.1) p.0) (text_parts t h) (longest_is (get_or t 0 0) (take (length t - 1) (drop 1 t)) p.0 p.1 (sym e))
 
-pub found_none : (t : List ℕ) (r : Option (Word × ℕ)) → 0 < length t → r ≡ longest (word_from (get_or t 0 0)) (take (length t - 1) (drop 1 t)) → IfNone (more_bytes 1 r) (HasNoWord t)
+pub found_none : (t : List ℕ) (r : Option (Word × ℕ)) → 0 < length t → r ≡ longest_front (word_from (get_or t 0 0)) (take (length t - 1) (drop 1 t)) → IfNone (more_bytes 1 r) (HasNoWord t)
 found_none t None h e = subst HasNoWord (text_parts t h) (longest_isnt (get_or t 0 0) (take (length t - 1) (drop 1 t)) (sym e))
 found_none t (Some p) h e = tt
 

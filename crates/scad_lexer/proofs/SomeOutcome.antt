@@ -8,7 +8,7 @@ use Rattle.scad_lexer.specs.declared.token.TokenKind.TheVariants.{End}
 use Rattle.scad_lexer.specs.declared.word.Word.{Word}
 use Rattle.scad_lexer.specs.declared.meaning.WordMeaning.{WordMeaning}
 use Rattle.scad_lexer.specs.declared.meaning.WordMeaning.TheVariants.{NoToken, OneToken, BadWord}
-use Rattle.scad_lexer.specs.Words.{word_of_bytes, longest, IsLongest, HasNoWord}
+use Rattle.scad_lexer.specs.Words.{word_of_bytes, longest_front, IsLongest, HasNoWord}
 use Rattle.scad_lexer.specs.Tokens.{LexOutcome, GivesTokens, FaultAt, tokens_in_front, tokens_at, IsFaultless, LexesFrom, Lexes, word_meaning, place_after, ends_once}
 use Rattle.scad_lexer.proofs.EndsOnce.{reads_end}
 use Rattle.scad_lexer.proofs.Lexing.{stray, faulty, word_some}
@@ -16,7 +16,7 @@ use Rattle.scad_lexer.proofs.Longest.{Best, best}
 
 -- no word begins a text, or one that is the longest
 first_word : (text : List ℕ) → HasNoWord text ⊎ ((n : ℕ) × (word : Word) × IsLongest text n word)
-first_word text = go (longest word_of_bytes text) (best word_of_bytes text)
+first_word text = go (longest_front word_of_bytes text) (best word_of_bytes text)
   where
     go : (r : Option (Word × ℕ)) → Best word_of_bytes text r → HasNoWord text ⊎ ((n : ℕ) × (word : Word) × IsLongest text n word)
     go None h = inl h

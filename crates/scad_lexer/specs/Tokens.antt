@@ -1,5 +1,5 @@
 -- What a word of a source stands for, and the tokens of a whole source.
-use Rattle.std.specs.Prelude.{◌≡◌, ℕ, suc, ◌+◌, ◌-◌, ◌*◌, ◌≤◌, ◌^◌, List, [], ◌∷◌, ◌++◌, length, take, drop, Bool, true, false, not, cond, ◌&&◌, nat_eq, Option, Some, None, codes}
+use Rattle.std.specs.Prelude.{◌≡◌, ℕ, suc, ◌+◌, ◌-◌, ◌*◌, ◌≤◌, List, [], ◌∷◌, ◌++◌, length, take, drop, Bool, true, false, not, cond, ◌&&◌, nat_eq, Option, Some, None, codes}
 use Rattle.std.specs.Str.{bytes_eq}
 use Rattle.scad_lexer.specs.declared.token.Reserved.{Reserved}
 use Rattle.scad_lexer.specs.declared.token.Reserved.TheVariants.{Module, Function, If, Else, For, IntersectionFor, True, False, Undef, Use, Include, Let, Each}
@@ -19,6 +19,7 @@ use Rattle.scad_lexer.specs.declared.class.ByteClass.TheVariants.{Printable}
 use Rattle.scad_lexer.specs.declared.meaning.WordMeaning.{WordMeaning}
 use Rattle.scad_lexer.specs.declared.meaning.WordMeaning.TheVariants.{NoToken, OneToken, BadWord}
 use Rattle.scad_lexer.specs.Words.{is_of_class, is_digit_byte, run_of, all_bytes, IsLongest, HasNoWord}
+use Rattle.text_place.specs.Decimals.{least_too_large}
 
 -- the reserved name that these bytes are
 abbrev pub reserved_of : List ℕ → Option Reserved
@@ -50,13 +51,9 @@ abbrev pub zero_fraction : List ℕ → Bool
 zero_fraction [] = true
 zero_fraction (byte ∷ bytes) = nat_eq byte 46 && all_bytes (λ c. nat_eq c 48) bytes
 
--- the least number that is too large for a numeral
-abbrev pub least_too_large_numeral : ℕ
-least_too_large_numeral = 2 ^ 53
-
 -- a number, unless it is too large
 abbrev pub numeral_or_too_large : ℕ → WordMeaning
-numeral_or_too_large n = cond (nat_lt n least_too_large_numeral) (OneToken (NumeralToken n)) (BadWord TooLarge 0)
+numeral_or_too_large n = cond (nat_lt n least_too_large) (OneToken (NumeralToken n)) (BadWord TooLarge 0)
 
 -- what a numeral stands for: its whole part where only zeros are behind its point; else, and with an exponent, NotWhole;
 -- above 2^53 - 1 it is TooLarge
@@ -70,8 +67,8 @@ or_letter NoToken at = BadWord BadCharacter at
 or_letter (OneToken kind) at = BadWord BadCharacter at
 
 -- a numeral with a letter behind it: the numeral's fault, or that of the letter
-abbrev pub letter_behind : List ℕ → WordMeaning
-letter_behind bytes = or_letter (numeral_meaning (take (length bytes - 1) bytes)) (length bytes - 1)
+abbrev pub letter_after_numeral : List ℕ → WordMeaning
+letter_after_numeral bytes = or_letter (numeral_meaning (take (length bytes - 1) bytes)) (length bytes - 1)
 
 -- the byte that an escape stands for: `\"`, `\\`, `\n`, `\t`, `\r`
 abbrev pub escape_of : ℕ → Option ℕ
@@ -124,7 +121,7 @@ word_meaning UnclosedComment bytes = BadWord OpenComment 0
 word_meaning Name bytes = OneToken (name_token bytes)
 word_meaning Special bytes = OneToken (SpecialToken (drop 1 bytes))
 word_meaning Numeral bytes = numeral_meaning bytes
-word_meaning NumeralAndLetter bytes = letter_behind bytes
+word_meaning NumeralAndLetter bytes = letter_after_numeral bytes
 word_meaning Text bytes = text_meaning bytes
 word_meaning UnclosedText bytes = BadWord OpenText 0
 word_meaning (Symbol symbol) bytes = OneToken (SymbolToken symbol)

@@ -206,6 +206,6 @@ one_longer None other = other
 one_longer (Some found) other = Some (found.0, suc found.1)
 
 -- the longest front of the text that is a word by this reading of its bytes
-unfoldable pub longest : (List ℕ → Option Word) → List ℕ → Option (Word × ℕ)
-longest reading [] = with_bytes 0 (reading [])
-longest reading (byte ∷ bytes) = one_longer (longest (λ front. reading (byte ∷ front)) bytes) (with_bytes 0 (reading []))
+unfoldable pub longest_front : (List ℕ → Option Word) → List ℕ → Option (Word × ℕ)
+longest_front reading [] = with_bytes 0 (reading [])
+longest_front reading (byte ∷ bytes) = one_longer (longest_front (λ front. reading (byte ∷ front)) bytes) (with_bytes 0 (reading []))

@@ -1,7 +1,7 @@
 ghost use Rattle.std.specs.Prelude.{◌≡◌, ◌-◌, ◌^◌, ◌<◌, ◌≤◌, length, IfOk, IfErr, IfSome, IfNone, MatchOption, drop, nat_eq, MatchResult, Ok, Err};
 ghost use Rattle.std.specs.Str.{bytes_eq};
 ghost use Rattle.scad_lexer.specs.Words.{all_bytes};
-ghost use Rattle.scad_lexer.specs.Tokens.{reserved_of, escape_at, with_byte, zero_fraction, decimal_from, numeral_meaning, letter_behind, bytes_written, without_quotes, text_meaning, word_meaning, name_token, IsFaultWithin};
+ghost use Rattle.scad_lexer.specs.Tokens.{reserved_of, escape_at, with_byte, zero_fraction, decimal_from, numeral_meaning, letter_after_numeral, bytes_written, without_quotes, text_meaning, word_meaning, name_token, IsFaultWithin};
 
 use crate::class::ByteClass;
 use crate::token::{Reserved, TokenKind};
@@ -133,7 +133,7 @@ fn number(digits: &[u8]) -> Option<Numeral>
 // The fault of a numeral with a letter behind it.
 fn numeral_and_letter(bytes: &[u8]) -> WordMeaning
     requires { 1 ≤ length bytes.now }
-    ensures means { result ≡ letter_behind bytes.now }
+    ensures means { result ≡ letter_after_numeral bytes.now }
     ensures within { IsFaultWithin (length bytes.now) result }
 {
     let letter = bytes.len() - 1;

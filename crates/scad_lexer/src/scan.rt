@@ -1,6 +1,6 @@
 ghost use Rattle.std.specs.Prelude.{◌≡◌, ℕ, ◌+◌, ◌≤◌, ◌<◌, ◌^◌, length, false, not, nat_eq, ◌&&◌, Some, IfSome, IfNone};
 ghost use Rattle.scad_lexer.specs.declared.class.ByteClass.TheVariants.{BlankByte, Letter, Digit};
-ghost use Rattle.scad_lexer.specs.Words.{is_of_class, longest, more_bytes, word_from, in_whole, in_fraction, number_end, after_e, in_exponent, after_point, after_slash, after_dollar, in_text, in_comment, one_byte_symbol, two_byte_symbol, two_byte_symbol_from, symbol_of, begins_with, IsLongest, HasNoWord};
+ghost use Rattle.scad_lexer.specs.Words.{is_of_class, longest_front, more_bytes, word_from, in_whole, in_fraction, number_end, after_e, in_exponent, after_point, after_slash, after_dollar, in_text, in_comment, one_byte_symbol, two_byte_symbol, two_byte_symbol_from, symbol_of, begins_with, IsLongest, HasNoWord};
 
 use crate::class::ByteClass;
 use crate::token::Symbol;
@@ -53,7 +53,7 @@ fn longer(bytes: usize, found: Option<(Word, usize)>) -> Option<(Word, usize)>
 
 // The same after the first byte, which does not count.
 fn after_byte(byte: u8, rest: &[u8]) -> Option<(Word, usize)>
-    ensures found { result ≡ longest (word_from byte) rest.now }
+    ensures found { result ≡ longest_front (word_from byte) rest.now }
     ensures within { IfSome result (λ p. p.1 ≤ length rest.now) }
 {
     if ByteClass::BlankByte.has(byte) {
@@ -72,7 +72,7 @@ fn after_mark(byte: u8, rest: &[u8]) -> Option<(Word, usize)>
     requires blank { is_of_class BlankByte byte ≡ false }
     requires letter { is_of_class Letter byte ≡ false }
     requires digit { is_of_class Digit byte ≡ false }
-    ensures found { result ≡ longest (word_from byte) rest.now }
+    ensures found { result ≡ longest_front (word_from byte) rest.now }
     ensures within { IfSome result (λ p. p.1 ≤ length rest.now) }
 {
     if byte == b'$' {
@@ -90,7 +90,7 @@ fn after_mark(byte: u8, rest: &[u8]) -> Option<(Word, usize)>
 
 // What follows a digit of a numeral's whole part.
 fn whole(text: &[u8]) -> (Word, usize)
-    ensures found { longest in_whole text.now ≡ Some result }
+    ensures found { longest_front in_whole text.now ≡ Some result }
     ensures within { result.1 ≤ length text.now }
 {
     let digits = ByteClass::Digit.run(text);
@@ -102,7 +102,7 @@ fn whole(text: &[u8]) -> (Word, usize)
 // What follows the last digit of a numeral's whole part.
 fn whole_end(text: &[u8]) -> (Word, usize)
     requires { begins_with (is_of_class Digit) text.now ≡ false }
-    ensures found { longest in_whole text.now ≡ Some result }
+    ensures found { longest_front in_whole text.now ≡ Some result }
     ensures within { result.1 ≤ length text.now }
 {
     if ByteClass::Byte(b'.').begins(text) {
@@ -115,7 +115,7 @@ fn whole_end(text: &[u8]) -> (Word, usize)
 
 // What follows the point of a numeral.
 fn fraction(text: &[u8]) -> (Word, usize)
-    ensures found { longest in_fraction text.now ≡ Some result }
+    ensures found { longest_front in_fraction text.now ≡ Some result }
     ensures within { result.1 ≤ length text.now }
 {
     let digits = ByteClass::Digit.run(text);
@@ -125,7 +125,7 @@ fn fraction(text: &[u8]) -> (Word, usize)
 
 // What follows the last digit of a numeral's whole part or fraction.
 fn number_tail(text: &[u8]) -> (Word, usize)
-    ensures found { longest number_end text.now ≡ Some result }
+    ensures found { longest_front number_end text.now ≡ Some result }
     ensures within { result.1 ≤ length text.now }
 {
     if ByteClass::Exponent.begins(text) {
@@ -140,7 +140,7 @@ fn number_tail(text: &[u8]) -> (Word, usize)
 
 // What follows the letter of an exponent.
 fn power(text: &[u8]) -> (Word, usize)
-    ensures found { longest after_e text.now ≡ Some result }
+    ensures found { longest_front after_e text.now ≡ Some result }
     ensures within { result.1 ≤ length text.now }
 {
     if ByteClass::Digit.begins(text) {
@@ -156,7 +156,7 @@ fn power(text: &[u8]) -> (Word, usize)
 
 // What follows a digit of an exponent.
 fn power_digits(text: &[u8]) -> (Word, usize)
-    ensures found { longest in_exponent text.now ≡ Some result }
+    ensures found { longest_front in_exponent text.now ≡ Some result }
     ensures within { result.1 ≤ length text.now }
 {
     let digits = ByteClass::Digit.run(text);
@@ -169,7 +169,7 @@ fn power_digits(text: &[u8]) -> (Word, usize)
 
 // What follows `.`.
 fn point(text: &[u8]) -> (Word, usize)
-    ensures found { longest after_point text.now ≡ Some result }
+    ensures found { longest_front after_point text.now ≡ Some result }
     ensures within { result.1 ≤ length text.now }
 {
     if ByteClass::Digit.begins(text) {
@@ -182,7 +182,7 @@ fn point(text: &[u8]) -> (Word, usize)
 
 // What follows `$`.
 fn special(text: &[u8]) -> Option<(Word, usize)>
-    ensures found { result ≡ longest after_dollar text.now }
+    ensures found { result ≡ longest_front after_dollar text.now }
     ensures within { IfSome result (λ p. p.1 ≤ length text.now) }
 {
     if ByteClass::Letter.begins(text) {
@@ -194,7 +194,7 @@ fn special(text: &[u8]) -> Option<(Word, usize)>
 
 // What follows `/`.
 fn slash(text: &[u8]) -> (Word, usize)
-    ensures found { longest after_slash text.now ≡ Some result }
+    ensures found { longest_front after_slash text.now ≡ Some result }
     ensures within { result.1 ≤ length text.now }
 {
     if ByteClass::Byte(b'/').begins(text) {
@@ -209,7 +209,7 @@ fn slash(text: &[u8]) -> (Word, usize)
 
 // What follows `/*`.
 fn comment(text: &[u8]) -> (Word, usize)
-    ensures found { longest in_comment text.now ≡ Some result }
+    ensures found { longest_front in_comment text.now ≡ Some result }
     ensures within { result.1 ≤ length text.now }
 {
     let mut star = false;
@@ -234,7 +234,7 @@ fn ends_comment(star: bool, byte: u8) -> bool
 
 // What follows the opening quote of a text.
 fn text(text: &[u8]) -> (Word, usize)
-    ensures found { longest in_text text.now ≡ Some result }
+    ensures found { longest_front in_text text.now ≡ Some result }
     ensures within { result.1 ≤ length text.now }
 {
     let mut escaped = false;
@@ -269,7 +269,7 @@ fn begins_escape(escaped: bool, byte: u8) -> bool
 
 // What follows the first byte of a symbol.
 fn symbol(byte: u8, text: &[u8]) -> Option<(Word, usize)>
-    ensures found { result ≡ longest (symbol_of byte) text.now }
+    ensures found { result ≡ longest_front (symbol_of byte) text.now }
     ensures within { IfSome result (λ p. p.1 ≤ length text.now) }
 {
     match pair(byte, text) {

@@ -7,7 +7,7 @@ use Rattle.std.specs.Str.{bytes_eq}
 use Rattle.std.proofs.lemmas.Slice.Eq.{bytes_eq-Decides}
 use Rattle.std.proofs.lemmas.Bool.{false≢true}
 use Rattle.scad_ast.specs.Terms.{StatementTerms}
-use Rattle.scad_definitions.specs.Blocks.{SourceAssignment, same_assigned_name, with_assigned, all_assigned, assigned_in, assignments_of}
+use Rattle.scad_definitions.specs.Blocks.{SourceAssignment, same_assigned_name, with_assigned, assignments_with_all, assignments_in, assignments_of}
 use Rattle.scad_meaning.specs.Bodies.{is_named_in, first_of_its_name, or_later, last_of, StandsForAll, HaveDistinctNames}
 
 either : (b : Bool) → (b ≡ true) ⊎ (b ≡ false)
@@ -240,20 +240,20 @@ one_more all found a s = record {
   named = named_all found a all s.named;
 }
 
-all_more : (done found rest : List SourceAssignment) → Settled done found → Settled (done ++ rest) (all_assigned found rest)
+all_more : (done found rest : List SourceAssignment) → Settled done found → Settled (done ++ rest) (assignments_with_all found rest)
 all_more done found [] s = subst (λ (l : List SourceAssignment). Settled l found) (sym (append-nil done)) s
 all_more done found (a ∷ as_) s =
-    subst (λ (l : List SourceAssignment). Settled l (all_assigned (with_assigned found a) as_)) (append_assoc done (a ∷ []) as_)
+    subst (λ (l : List SourceAssignment). Settled l (assignments_with_all (with_assigned found a) as_)) (append_assoc done (a ∷ []) as_)
     (all_more (done ++ a ∷ []) (with_assigned found a) as_ (one_more done found a s))
 
-count_where_whole : (statements : StatementTerms) → Settled (assigned_in statements) (assignments_of statements)
-count_where_whole statements = all_more [] [] (assigned_in statements) (record { stand = tt; local = tt; named = tt })
+count_where_whole : (statements : StatementTerms) → Settled (assignments_in statements) (assignments_of statements)
+count_where_whole statements = all_more [] [] (assignments_in statements) (record { stand = tt; local = tt; named = tt })
 
-pub last_counts : (statements : StatementTerms) → AllByRecursion (StandsForAll (assigned_in statements)) (assignments_of statements)
+pub last_counts : (statements : StatementTerms) → AllByRecursion (StandsForAll (assignments_in statements)) (assignments_of statements)
 last_counts statements = (count_where_whole statements).stand
 
 pub own_names : (statements : StatementTerms) → HaveDistinctNames (assignments_of statements)
 own_names statements = (count_where_whole statements).local
 
-pub all_named : (statements : StatementTerms) → AllByRecursion (λ b. is_named_in (assignments_of statements) b ≡ true) (assigned_in statements)
+pub all_named : (statements : StatementTerms) → AllByRecursion (λ b. is_named_in (assignments_of statements) b ≡ true) (assignments_in statements)
 all_named statements = (count_where_whole statements).named

@@ -12,10 +12,10 @@ use Rattle.scad_ast.specs.Places.{places_of_term, places_of_param, places_of_sta
 use Rattle.scad_value.specs.Values.{Val}
 use Rattle.scad_value.specs.Operators.{AnswerOrFault}
 use Rattle.scad_scope.specs.Names.{Pairs, find_in, or_found_outside}
-use Rattle.scad_definitions.specs.Blocks.{SourceFunction, SourceModule, SourceAssignment, same_assigned_name, with_assigned, all_assigned, assigned_in, assigned_by, assignments_of, statements_of_body}
+use Rattle.scad_definitions.specs.Blocks.{SourceFunction, SourceModule, SourceAssignment, same_assigned_name, with_assigned, assignments_with_all, assignments_in, assignments_by, assignments_of, statements_of_body}
 use Rattle.scad_func.specs.Limits.{most_turns}
-use Rattle.scad_func.specs.Meaning.{Outcome, Gives, Faults, then_with, or_fault, answer_at, Env, Outermost, Within, Activation, no_activation, activation, with_defining_scope, visible_function, visible_module, or_outer_activation, activation_in, functions_standing_in, function_standing, modules_standing_in, module_standing, entered_scope, with_value, turn, one_call_fewer}
-use Rattle.scad_meaning.specs.Bodies.{instances_in, instances_of, is_on, evaluated_in}
+use Rattle.scad_func.specs.Meaning.{Outcome, Gives, Faults, then_with, or_fault, outcome_of_answer, Env, NoScope, InnerScope, Activation, no_activation, activation, with_defining_scope, visible_function, visible_module, or_outer_activation, activation_in, functions_standing_in, function_in_statement, modules_standing_in, module_in_statement, entered_scope, with_value, turn, one_call_fewer}
+use Rattle.scad_meaning.specs.Bodies.{instances_in, instances_of, is_switched_on, evaluated_instances}
 
 -- lists
 pub every_joined : {A : Type 0} (Q : A → Type 0) (xs ys : List A) → AllByRecursion Q xs → AllByRecursion Q ys → AllByRecursion Q (xs ++ ys)
@@ -59,8 +59,8 @@ module _ (P : Place → Type 0) where
 
   abbrev mutual
     pub ScopeHeld : Env → Type 0
-    ScopeHeld Outermost = Unit {0}
-    ScopeHeld (Within variables functions modules call outer) =
+    ScopeHeld NoScope = Unit {0}
+    ScopeHeld (InnerScope variables functions modules call outer) =
         AllByRecursion (λ p. FunctionHeld p.1) functions × AllByRecursion (λ p. ModuleHeld p.1) modules × CallHeld call × ScopeHeld outer
 
     pub CallHeld : Activation → Type 0
@@ -74,17 +74,17 @@ module _ (P : Place → Type 0) where
   standing_held Q env (Some x) s h = (h, s)
 
   pub function_found : (env : Env) (name : List ℕ) → ScopeHeld env → IfSome (visible_function env name) (λ found. FunctionHeld found.0 × ScopeHeld found.1)
-  function_found Outermost name s = tt
-  function_found (Within vs fs ms call outer) name s =
-      or_keeps (λ found. FunctionHeld found.0 × ScopeHeld found.1) (with_defining_scope (Within vs fs ms call outer) (find_in fs name)) (visible_function outer name)
-      (standing_held FunctionHeld (Within vs fs ms call outer) (find_in fs name) s (find_keeps FunctionHeld fs name s.0))
+  function_found NoScope name s = tt
+  function_found (InnerScope vs fs ms call outer) name s =
+      or_keeps (λ found. FunctionHeld found.0 × ScopeHeld found.1) (with_defining_scope (InnerScope vs fs ms call outer) (find_in fs name)) (visible_function outer name)
+      (standing_held FunctionHeld (InnerScope vs fs ms call outer) (find_in fs name) s (find_keeps FunctionHeld fs name s.0))
       (function_found outer name s.3)
 
   pub module_found : (env : Env) (name : List ℕ) → ScopeHeld env → IfSome (visible_module env name) (λ found. ModuleHeld found.0 × ScopeHeld found.1)
-  module_found Outermost name s = tt
-  module_found (Within vs fs ms call outer) name s =
-      or_keeps (λ found. ModuleHeld found.0 × ScopeHeld found.1) (with_defining_scope (Within vs fs ms call outer) (find_in ms name)) (visible_module outer name)
-      (standing_held ModuleHeld (Within vs fs ms call outer) (find_in ms name) s (find_keeps ModuleHeld ms name s.1))
+  module_found NoScope name s = tt
+  module_found (InnerScope vs fs ms call outer) name s =
+      or_keeps (λ found. ModuleHeld found.0 × ScopeHeld found.1) (with_defining_scope (InnerScope vs fs ms call outer) (find_in ms name)) (visible_module outer name)
+      (standing_held ModuleHeld (InnerScope vs fs ms call outer) (find_in ms name) s (find_keeps ModuleHeld ms name s.1))
       (module_found outer name s.3)
 
   outer_call : (call outer : Activation) → CallHeld call → CallHeld outer → CallHeld (or_outer_activation call outer)
@@ -92,22 +92,22 @@ module _ (P : Place → Type 0) where
   outer_call (activation children caller) outer h g = h
 
   pub call_found : (env : Env) → ScopeHeld env → CallHeld (activation_in env)
-  call_found Outermost s = tt
-  call_found (Within vs fs ms call outer) s = outer_call call (activation_in outer) s.2 (call_found outer s.3)
+  call_found NoScope s = tt
+  call_found (InnerScope vs fs ms call outer) s = outer_call call (activation_in outer) s.2 (call_found outer s.3)
 
   pub variable_held : (name : List ℕ) (value : Val) (env : Env) → ScopeHeld env → ScopeHeld (with_value name value env)
-  variable_held name value Outermost s = tt
-  variable_held name value (Within vs fs ms call outer) s = s
+  variable_held name value NoScope s = tt
+  variable_held name value (InnerScope vs fs ms call outer) s = s
 
   -- the definitions of statements
   mutual
     pub functions_held : (ss : StatementTerms) → Held (places_of_statements ss) → AllByRecursion (λ p. FunctionHeld p.1) (functions_standing_in ss)
     functions_held no_statements h = tt
-    functions_held (and_statement s rest) h = every_joined (λ p. FunctionHeld p.1) (functions_standing_in rest) (function_standing s)
+    functions_held (and_statement s rest) h = every_joined (λ p. FunctionHeld p.1) (functions_standing_in rest) (function_in_statement s)
         (functions_held rest (rest_held (places_of_statement s) (places_of_statements rest) h))
         (function_held s (first_held (places_of_statement s) (places_of_statements rest) h))
 
-    function_held : (s : StatementTerm) → Held (places_of_statement s) → AllByRecursion (λ p. FunctionHeld p.1) (function_standing s)
+    function_held : (s : StatementTerm) → Held (places_of_statement s) → AllByRecursion (λ p. FunctionHeld p.1) (function_in_statement s)
     function_held (EmptyStatement at) h = tt
     function_held (BlockStatement at statements) h = functions_held statements h.1
     function_held (AssignmentTerm at name value) h = tt
@@ -125,11 +125,11 @@ module _ (P : Place → Type 0) where
   mutual
     pub modules_held : (ss : StatementTerms) → Held (places_of_statements ss) → AllByRecursion (λ p. ModuleHeld p.1) (modules_standing_in ss)
     modules_held no_statements h = tt
-    modules_held (and_statement s rest) h = every_joined (λ p. ModuleHeld p.1) (modules_standing_in rest) (module_standing s)
+    modules_held (and_statement s rest) h = every_joined (λ p. ModuleHeld p.1) (modules_standing_in rest) (module_in_statement s)
         (modules_held rest (rest_held (places_of_statement s) (places_of_statements rest) h))
         (module_held s (first_held (places_of_statement s) (places_of_statements rest) h))
 
-    module_held : (s : StatementTerm) → Held (places_of_statement s) → AllByRecursion (λ p. ModuleHeld p.1) (module_standing s)
+    module_held : (s : StatementTerm) → Held (places_of_statement s) → AllByRecursion (λ p. ModuleHeld p.1) (module_in_statement s)
     module_held (EmptyStatement at) h = tt
     module_held (BlockStatement at statements) h = modules_held statements h.1
     module_held (AssignmentTerm at name value) h = tt
@@ -158,13 +158,13 @@ module _ (P : Place → Type 0) where
   AssignedHeld a = P a.at × Held (places_of_term a.value)
 
   mutual
-    assigned_held : (ss : StatementTerms) → Held (places_of_statements ss) → AllByRecursion AssignedHeld (assigned_in ss)
+    assigned_held : (ss : StatementTerms) → Held (places_of_statements ss) → AllByRecursion AssignedHeld (assignments_in ss)
     assigned_held no_statements h = tt
-    assigned_held (and_statement s rest) h = every_joined AssignedHeld (assigned_by s) (assigned_in rest)
+    assigned_held (and_statement s rest) h = every_joined AssignedHeld (assignments_by s) (assignments_in rest)
         (assignment_held s (first_held (places_of_statement s) (places_of_statements rest) h))
         (assigned_held rest (rest_held (places_of_statement s) (places_of_statements rest) h))
 
-    assignment_held : (s : StatementTerm) → Held (places_of_statement s) → AllByRecursion AssignedHeld (assigned_by s)
+    assignment_held : (s : StatementTerm) → Held (places_of_statement s) → AllByRecursion AssignedHeld (assignments_by s)
     assignment_held (EmptyStatement at) h = tt
     assignment_held (BlockStatement at statements) h = assigned_held statements h.1
     assignment_held (AssignmentTerm at name value) h = (h, tt)
@@ -179,12 +179,12 @@ module _ (P : Place → Type 0) where
       if_keeps (AllByRecursion AssignedHeld) (same_assigned_name b a) (record b { value = a.value } ∷ bs) (b ∷ with_assigned bs a)
       ((h.0.0, g.1), h.1) (h.0, with_held bs a h.1 g)
 
-  all_held : (before rest : List SourceAssignment) → AllByRecursion AssignedHeld before → AllByRecursion AssignedHeld rest → AllByRecursion AssignedHeld (all_assigned before rest)
+  all_held : (before rest : List SourceAssignment) → AllByRecursion AssignedHeld before → AllByRecursion AssignedHeld rest → AllByRecursion AssignedHeld (assignments_with_all before rest)
   all_held before [] h g = h
   all_held before (a ∷ rest) h g = all_held (with_assigned before a) rest (with_held before a h g.0) g.1
 
   pub assignments_held : (ss : StatementTerms) → Held (places_of_statements ss) → AllByRecursion AssignedHeld (assignments_of ss)
-  assignments_held ss h = all_held [] (assigned_in ss) tt (assigned_held ss h)
+  assignments_held ss h = all_held [] (assignments_in ss) tt (assigned_held ss h)
 
   -- the instances of statements
   abbrev pub InstanceHeld : InstanceTerm → Type 0
@@ -206,8 +206,8 @@ module _ (P : Place → Type 0) where
     instance_held (FunctionTerm at name name_at params value) h = All-nil InstanceHeld
     instance_held (InstanceStatement instance) h = All-cons InstanceHeld instance [] h (All-nil InstanceHeld)
 
-  pub evaluated_held : (ss : StatementTerms) → Held (places_of_statements ss) → All InstanceHeld (evaluated_in ss)
-  evaluated_held ss h = All-filter is_on InstanceHeld (instances_in ss) (instances_held ss h)
+  pub evaluated_held : (ss : StatementTerms) → Held (places_of_statements ss) → All InstanceHeld (evaluated_instances ss)
+  evaluated_held ss h = All-filter is_switched_on InstanceHeld (instances_in ss) (instances_held ss h)
 
   -- what holds of that which an outcome gives, where its fault stands at a place among the given ones
   abbrev pub Keeps : {A : Type 0} → (A → Type 0) → Outcome A → Type 0
@@ -243,6 +243,6 @@ module _ (P : Place → Type 0) where
   call_keeps Q zero at go p g = p
   call_keeps Q (suc calls) at go p g = g calls
 
-  pub answered_keeps : (answer : AnswerOrFault Val) (at : Place) (turns : ℕ) → P at → Keeps Whatever (answer_at answer at turns)
+  pub answered_keeps : (answer : AnswerOrFault Val) (at : Place) (turns : ℕ) → P at → Keeps Whatever (outcome_of_answer answer at turns)
   answered_keeps (Ok v) at turns p = tt
   answered_keeps (Err kind) at turns p = p

@@ -3,7 +3,7 @@ use Rattle.std.proofs.Common.{◌≡◌, ◌⊎◌, inl, inr, ⊎_elim, ℕ, pos
 use Rattle.text_place.specs.declared.fault.FaultKind.{FaultKind}
 use Rattle.text_place.specs.declared.fault.FaultKind.TheVariants.{NotInProfile, TooLarge, OutOfRange, LongList, FewPoints}
 use Rattle.plane_predicate.specs.Space.{point_at, value}
-use Rattle.primitives.specs.Shapes.{HasTriangle, IsInRange}
+use Rattle.primitives.specs.Shapes.{HasTriangle, IsPointInRange}
 use Rattle.primitives.specs.Spanning.{IsTriangle}
 use Rattle.primitives.specs.declared.spanning.Triangle.{Triangle}
 use Rattle.scad_hull.specs.Hulls.{points_in_order, numbers_between, AreOnOnePlane}
@@ -58,7 +58,7 @@ points_verdict design union safe =
     (λ many. inr (LongList, (union, safe, (range, many))))
     (at_most_or_more (length (points_in_order given)) 128))
     (λ past. inr (OutOfRange, (union, safe, past)))
-    (decided_all (λ p. IsInRange (point_at p)) (λ p. decided_point_range (point_at p)) given)
+    (decided_all (λ p. IsPointInRange (point_at p)) (λ p. decided_point_range (point_at p)) given)
 
 pub hull_verdict : (design : DesignTree) → HullVerdict design
 hull_verdict design =

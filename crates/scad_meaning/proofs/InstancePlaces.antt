@@ -19,13 +19,13 @@ use Rattle.scad_scope.specs.Names.{Pairs, find_in}
 use Rattle.scad_definitions.specs.Arguments.{parameter_names, no_arguments_of, destination_of, with_argument}
 use Rattle.scad_definitions.specs.Blocks.{SourceModule, SourceAssignment, assignments_of, statements_of_body}
 use Rattle.scad_func.specs.Limits.{most_evaluations}
-use Rattle.scad_func.specs.Meaning.{Outcome, Gives, Faults, then_with, Env, Outermost, Within, Activation, no_activation, activation, visible_module, activation_in, entered_scope, with_value, Setting, deeper_value, Arguments, each_argument, each_parameter}
+use Rattle.scad_func.specs.Meaning.{Outcome, Gives, Faults, then_with, Env, NoScope, InnerScope, Activation, no_activation, activation, visible_module, activation_in, entered_scope, with_value, ExpressionContext, value_at_next_depth, Arguments, each_argument, each_parameter}
 use Rattle.scad_modules.specs.declared.table.BuiltinModule.{BuiltinModule}
 use Rattle.scad_modules.specs.declared.table.BuiltinModule.TheVariants.{Echo}
-use Rattle.scad_modules.specs.Table.{module_named, parameters_of}
+use Rattle.scad_modules.specs.Table.{builtin_module_of, parameters_of}
 use Rattle.scad_modules.specs.Effects.{EffectCall, a_solid, a_flat, a_move, a_join, a_hull, an_extrusion, no_geometry, some_children, SolidCall, FlatCall, ChosenCall}
 use Rattle.scad_modules.specs.Calls.{effect_of}
-use Rattle.scad_design.specs.Designs.{DesignTree, empty, a_leaf, joined_designs, join, designs_within, balanced_join, join_children, moved_by}
+use Rattle.scad_design.specs.Designs.{DesignTree, empty, a_leaf, joined_designs, join, balanced_join_within, balanced_join, join_children, moved_design_tree}
 use Rattle.int_transform.proofs.Ranges.{IsRegular}
 use Rattle.primitives.specs.Sizes.{AreSizes}
 use Rattle.scad_design.specs.Trees.{AreRegular}
@@ -33,9 +33,9 @@ use Rattle.scad_hull.proofs.Loops.{hull_is_shape}
 use Rattle.scad_meaning.specs.declared.extrusion.Extrusion.{Extrusion}
 use Rattle.scad_meaning.specs.Hulls.{is_nothing, points_of, hull_mesh}
 use Rattle.scad_meaning.specs.Verdicts.{Judge, Verdict, IsRightJudge, IsSolidVerdict, IsFlatVerdict, IsHeightVerdict, IsHullVerdict, solid_mesh, extrusion_mesh}
-use Rattle.scad_meaning.specs.Bodies.{evaluated_in, is_child, children_in, has_root_modifier, has_no_geometry, is_bare}
-use Rattle.scad_meaning.specs.Loops.{items_of}
-use Rattle.scad_meaning.specs.Meaning.{Context, inside_scope, with_bindings, with_calls_left, inside_root, inside_extrusion, setting, InstanceDesign, MemberDesigns, first_root, no_design, no_members, as_member, and_members, joined_members, EvaluatesInstance, Evaluator, assigned_value, with_assignment, each_assigned, core_of_instance, each_member, each_in_scope, each_in_body, body_design, turn_after_step, each_step, in_loop, each_iteration, loop_design, leaf_design, unless_refused, with_leaf_of, hull_design, answered_with, module_scope, module_design, each_echo_argument, arguments_for, children_design, chosen_children, turn_after_call, flat_design, effect_design, built_in_design, call_design, core_design, root_design, instance_design, design_within, evaluator_with, program_context, or_all, design_of, counted_step, instances_chosen, block_members, module_given, most_leaves}
+use Rattle.scad_meaning.specs.Bodies.{evaluated_instances, is_child, children_in, has_root_modifier, has_no_geometry, is_bare}
+use Rattle.scad_meaning.specs.Loops.{iterated_values}
+use Rattle.scad_meaning.specs.Meaning.{Context, inside_scope, with_bindings, with_calls_left, inside_root, inside_extrusion, expression_context, InstanceDesign, MemberDesigns, first_root, no_design, no_members, as_member, and_members, joined_members, EvaluatesInstance, Evaluator, assigned_value, with_assignment, each_assignment, core_of_instance, each_member, each_in_scope, each_in_body, body_design, turn_after_step, each_step, in_loop, each_iteration, loop_design, leaf_design, unless_refused, with_leaf_of, hull_design, answered_with, module_scope, module_design, each_echo_argument, arguments_for, children_design, chosen_children, turn_after_call, flat_design, effect_design, built_in_design, call_design, core_design, root_design, instance_design, design_within, evaluator_with, program_context, root_or_union, design_of, counted_step, instances_chosen, block_members, module_with_arguments, most_leaves}
 use Rattle.scad_meaning.proofs.Choosing.{all_chosen}
 use Rattle.scad_meaning.proofs.HeldPlaces.{if_keeps, Whatever, Held, first_held, rest_held, ModuleHeld, ScopeHeld, CallHeld, module_found, call_found, variable_held, functions_held, modules_held, entered_held, body_held, AssignedHeld, assignments_held, InstanceHeld, evaluated_held, Keeps, then_keeps, skip_keeps, some_keeps, turn_keeps, call_keeps}
 use Rattle.scad_meaning.proofs.SoundShapes.{HasSides, HasFlatSides, IsSoundCall, effect_sound, solid_is_shape, extruded_is_shape}
@@ -88,14 +88,14 @@ module _ (P : Place → Type 0) (Q : Mesh → Type 0) where
   join_held Intersection (joined_designs o a b) (joined_designs k c d) hl hr = (hl, hr)
   join_held Difference (joined_designs o a b) (joined_designs k c d) hl hr = (hl, hr)
 
-  within_held : (n : ℕ) (op : Op) (designs : List DesignTree) → All DesignHeld designs → DesignHeld (designs_within n op designs)
+  within_held : (n : ℕ) (op : Op) (designs : List DesignTree) → All DesignHeld designs → DesignHeld (balanced_join_within n op designs)
   within_held zero op designs h = tt
   within_held (suc n) op [] h = tt
   within_held (suc n) op (d ∷ []) h = All-head DesignHeld d [] h
   within_held (suc n) op (d ∷ e ∷ designs) h =
       let all = d ∷ e ∷ designs in
       let half = length all / 2 in
-      join_held op (designs_within n op (take half all)) (designs_within n op (drop half all))
+      join_held op (balanced_join_within n op (take half all)) (balanced_join_within n op (drop half all))
       (within_held n op (take half all) (All-take DesignHeld half all h)) (within_held n op (drop half all) (All-drop DesignHeld half all h))
 
   grouped_held : (op : Op) (designs : List DesignTree) → All DesignHeld designs → DesignHeld (join_children op designs)
@@ -106,7 +106,7 @@ module _ (P : Place → Type 0) (Q : Mesh → Type 0) where
       join_held Difference d (balanced_join Union designs) (All-head DesignHeld d designs h)
       (within_held (length designs) Union designs (All-tail DesignHeld d designs h))
 
-  moved_held : (steps : List Affine) (design : DesignTree) → AreRegular steps → DesignHeld design → DesignHeld (moved_by steps design)
+  moved_held : (steps : List Affine) (design : DesignTree) → AreRegular steps → DesignHeld design → DesignHeld (moved_design_tree steps design)
   moved_held steps empty r h = tt
   moved_held steps (a_leaf part) r h = (h.0, (h.1.0, All-append IsRegular part.steps steps h.1.1 r))
   moved_held steps (joined_designs op left right) r h = (moved_held steps left r h.0, moved_held steps right r h.1)
@@ -168,13 +168,13 @@ module _ (P : Place → Type 0) (Q : Mesh → Type 0) where
     abbrev ContextHeld : Context → Type 0
     ContextHeld here = ScopeHeld P here.env × IsSized here.inside
 
-    sits : (evaluations : ℕ) (here : Context) → ContextHeld here → Sits P (setting evaluations here)
+    sits : (evaluations : ℕ) (here : Context) → ContextHeld here → Sits P (expression_context evaluations here)
     sits evaluations here s = (evaluated_good P evaluations, s.0)
 
     assigned_keeps : (evaluations : ℕ) (here : Context) (a : SourceAssignment) (turns : ℕ) → ContextHeld here → AssignedHeld P a
         → Keeps P Whatever (assigned_value evaluations here a turns)
     assigned_keeps zero here a turns s h = h.0
-    assigned_keeps (suc evaluations) here a turns s h = value_keeps P (setting evaluations here) (sits evaluations here s) true a.value turns h.1
+    assigned_keeps (suc evaluations) here a turns s h = value_keeps P (expression_context evaluations here) (sits evaluations here s) true a.value turns h.1
 
     still_held : (a : SourceAssignment) (v : Val) (here : Context) → ContextHeld here → ContextHeld (with_assignment a v here)
     still_held a v here s =
@@ -182,7 +182,7 @@ module _ (P : Place → Type 0) (Q : Mesh → Type 0) where
         (variable_held P a.name v here.env s.0, s.1)
 
     assignments_keep : (evaluations : ℕ) (here : Context) (as_ : List SourceAssignment) (turns : ℕ) → ContextHeld here → AllByRecursion (AssignedHeld P) as_
-        → Keeps P ContextHeld (each_assigned evaluations here as_ turns)
+        → Keeps P ContextHeld (each_assignment evaluations here as_ turns)
     assignments_keep evaluations here [] turns s h = s
     assignments_keep evaluations here (a ∷ as_) turns s h =
         skip_keeps P ContextHeld (assigned_value evaluations here a turns) _ (assigned_keeps evaluations here a turns s h.0) (λ turns v.
@@ -192,21 +192,21 @@ module _ (P : Place → Type 0) (Q : Mesh → Type 0) where
     abbrev IsGood : EvaluatesInstance → Type 0
     IsGood at_next_depth = (here : Context) (i : InstanceTerm) (turns leaves : ℕ) → ContextHeld here → InstanceHeld P i → Keeps P DesignsHeld (at_next_depth here i turns leaves)
 
-    said_keeps : (here : Setting) → Sits P here → (args : ArgTerms) (given : Arguments) (turns : ℕ) → Held P (places_of_args args)
+    said_keeps : (here : ExpressionContext) → Sits P here → (args : ArgTerms) (given : Arguments) (turns : ℕ) → Held P (places_of_args args)
         → Keeps P Whatever (each_echo_argument here args given turns)
     said_keeps here s no_args given turns h = tt
     said_keeps here s (and_named at name value rest) given turns h =
-        skip_keeps P Whatever (deeper_value here true value turns) _ (value_keeps P here s true value turns (first_held P (places_of_term value) (places_of_args rest) h.1)) (λ turns v.
+        skip_keeps P Whatever (value_at_next_depth here true value turns) _ (value_keeps P here s true value turns (first_held P (places_of_term value) (places_of_args rest) h.1)) (λ turns v.
         said_keeps here s rest given turns (rest_held P (places_of_term value) (places_of_args rest) h.1))
     said_keeps here s (and_special at name value rest) given turns h =
         some_keeps P Whatever (destination_of [] 0 given (SpecialArgTerm at name value)) BadArgument at _ h.0 (λ target.
-        skip_keeps P Whatever (deeper_value here true value turns) _ (value_keeps P here s true value turns (first_held P (places_of_term value) (places_of_args rest) h.1)) (λ turns v.
+        skip_keeps P Whatever (value_at_next_depth here true value turns) _ (value_keeps P here s true value turns (first_held P (places_of_term value) (places_of_args rest) h.1)) (λ turns v.
         said_keeps here s rest (with_argument given target v) turns (rest_held P (places_of_term value) (places_of_args rest) h.1)))
     said_keeps here s (and_positional value rest) given turns h =
-        skip_keeps P Whatever (deeper_value here true value turns) _ (value_keeps P here s true value turns (first_held P (places_of_term value) (places_of_args rest) h)) (λ turns v.
+        skip_keeps P Whatever (value_at_next_depth here true value turns) _ (value_keeps P here s true value turns (first_held P (places_of_term value) (places_of_args rest) h)) (λ turns v.
         said_keeps here s rest given turns (rest_held P (places_of_term value) (places_of_args rest) h))
 
-    given_keeps : (m : BuiltinModule) (here : Setting) → Sits P here → (args : ArgTerms) (turns : ℕ) → Held P (places_of_args args)
+    given_keeps : (m : BuiltinModule) (here : ExpressionContext) → Sits P here → (args : ArgTerms) (turns : ℕ) → Held P (places_of_args args)
         → Keeps P Whatever (arguments_for m here args turns)
     given_keeps Echo here s args turns h = said_keeps here s args (no_arguments_of 0) turns h
     given_keeps m here s args turns h = arguments_keep P here s (parameters_of m) 0 args (no_arguments_of (length (parameters_of m))) turns h
@@ -230,12 +230,12 @@ module _ (P : Place → Type 0) (Q : Mesh → Type 0) where
             → All (InstanceHeld P) (instances_chosen env chosen statements)
         chosen_held env None statements h = evaluated_held P statements h
         chosen_held env (Some chosen) statements h = all_chosen (InstanceHeld P) (children_in env statements) chosen
-            (All-filter (is_child env) (InstanceHeld P) (evaluated_in statements) (evaluated_held P statements h))
+            (All-filter (is_child env) (InstanceHeld P) (evaluated_instances statements) (evaluated_held P statements h))
 
         block_keeps : (chosen : Option ChosenCall) (here : Context) (statements : StatementTerms) (turns leaves : ℕ) → ContextHeld here → Held P (places_of_statements statements)
             → Keeps P MembersHeld (block_members evaluator chosen statements here turns leaves)
         block_keeps chosen here statements turns leaves s h =
-            then_keeps P ContextHeld MembersHeld (each_assigned evaluations here (assignments_of statements) turns) _
+            then_keeps P ContextHeld MembersHeld (each_assignment evaluations here (assignments_of statements) turns) _
             (assignments_keep evaluations here (assignments_of statements) turns s (assignments_held P statements h)) (λ turns there k.
             members_keep there (instances_chosen there.env chosen statements) turns leaves k (chosen_held there.env chosen statements h))
 
@@ -272,9 +272,9 @@ module _ (P : Place → Type 0) (Q : Mesh → Type 0) where
             as_member_held true m g))
         turns_keep at (b ∷ bs) body here turns leaves p h k s =
             let first = first_held P (places_of_binder b) (flat_map places_of_binder bs) h in
-            skip_keeps P MembersHeld (deeper_value (setting evaluations here) true b.values turns) _
-            (value_keeps P (setting evaluations here) (sits evaluations here s) true b.values turns first.1) (λ turns v.
-            some_keeps P MembersHeld (items_of v) TypeMismatch at _ p (λ items.
+            skip_keeps P MembersHeld (value_at_next_depth (expression_context evaluations here) true b.values turns) _
+            (value_keeps P (expression_context evaluations here) (sits evaluations here s) true b.values turns first.1) (λ turns v.
+            some_keeps P MembersHeld (iterated_values v) TypeMismatch at _ p (λ items.
             steps_keep at (λ item. each_iteration evaluator at bs body (in_loop here b.name item)) p
             (λ item turns leaves. turns_keep at bs body (in_loop here b.name item) turns leaves p
             (rest_held P (places_of_binder b) (flat_map places_of_binder bs) h) k ((tt, tt, tt, s.0), s.1)) items turns leaves))
@@ -348,8 +348,8 @@ module _ (P : Place → Type 0) (Q : Mesh → Type 0) where
             → Keeps P DesignsHeld (built_in_design evaluator here at name args body found turns leaves)
         built_in_keeps here at name args body None turns leaves p a h s = p
         built_in_keeps here at name args body (Some m) turns leaves p a h s =
-            skip_keeps P DesignsHeld (arguments_for m (setting evaluations here) (args_from args) turns) _
-            (given_keeps m (setting evaluations here) (sits evaluations here s) (args_from args) turns a) (λ turns given.
+            skip_keeps P DesignsHeld (arguments_for m (expression_context evaluations here) (args_from args) turns) _
+            (given_keeps m (expression_context evaluations here) (sits evaluations here s) (args_from args) turns a) (λ turns given.
             effect_keeps IsSoundCall DesignsHeld (effect_of unit (is_some here.inside) (find_in (given.dynamic ++ here.bindings) (codes "fn")) m given.bound) at _ p
             (effect_sound unit (is_some here.inside) (find_in (given.dynamic ++ here.bindings) (codes "fn")) m given.bound) (λ effect sound.
             call_effect_keeps (with_bindings here (given.dynamic ++ here.bindings)) at effect body turns leaves p h s sound))
@@ -360,9 +360,9 @@ module _ (P : Place → Type 0) (Q : Mesh → Type 0) where
         module_keeps here at found given body turns leaves p m o h s =
             call_keeps P DesignsHeld here.calls_left at _ p (λ calls.
             let there = with_calls_left (with_bindings here (given.dynamic ++ here.bindings)) calls in
-            turn_keeps P DesignsHeld at turns (λ turns. module_given evaluator found given body (with_calls_left here calls) turns leaves) p (λ turns.
-            skip_keeps P DesignsHeld (each_parameter (setting evaluations (inside_scope there found.1)) found.0.params given.bound turns) _
-            (parameters_keep P (setting evaluations (inside_scope there found.1)) (sits evaluations (inside_scope there found.1) (o, s.1)) found.0.params given.bound turns m.0) (λ turns vs.
+            turn_keeps P DesignsHeld at turns (λ turns. module_with_arguments evaluator found given body (with_calls_left here calls) turns leaves) p (λ turns.
+            skip_keeps P DesignsHeld (each_parameter (expression_context evaluations (inside_scope there found.1)) found.0.params given.bound turns) _
+            (parameters_keep P (expression_context evaluations (inside_scope there found.1)) (sits evaluations (inside_scope there found.1) (o, s.1)) found.0.params given.bound turns m.0) (λ turns vs.
             let inner = inside_scope there (module_scope found.1 found.0 vs (statements_of_body body) here.env) in
             let local = body_held P found.0.body m.1 in
             then_keeps P MembersHeld DesignsHeld (each_in_scope evaluator inner (statements_of_body found.0.body) turns leaves) _
@@ -375,22 +375,22 @@ module _ (P : Place → Type 0) (Q : Mesh → Type 0) where
             → IfSome found (λ f. ModuleHeld P f.0 × ScopeHeld P f.1)
             → Keeps P DesignsHeld (call_design evaluator here at name args body found turns leaves)
         called_keeps here at name args body (Some found) turns leaves p a h s f =
-            skip_keeps P DesignsHeld (each_argument (setting evaluations here) (parameter_names found.0.params) 0 (args_from args) (no_arguments_of (length found.0.params)) turns) _
-            (arguments_keep P (setting evaluations here) (sits evaluations here s) (parameter_names found.0.params) 0 (args_from args) (no_arguments_of (length found.0.params)) turns a)
+            skip_keeps P DesignsHeld (each_argument (expression_context evaluations here) (parameter_names found.0.params) 0 (args_from args) (no_arguments_of (length found.0.params)) turns) _
+            (arguments_keep P (expression_context evaluations here) (sits evaluations here s) (parameter_names found.0.params) 0 (args_from args) (no_arguments_of (length found.0.params)) turns a)
             (λ turns given. module_keeps here at found given body turns leaves p f.0 f.1 h s)
-        called_keeps here at name args body None turns leaves p a h s f = built_in_keeps here at name args body (module_named name) turns leaves p a h s
+        called_keeps here at name args body None turns leaves p a h s f = built_in_keeps here at name args body (builtin_module_of name) turns leaves p a h s
 
         core_keeps : (here : Context) (core : CoreTerm) (turns leaves : ℕ) → ContextHeld here → Held P (places_of_core core)
             → Keeps P DesignsHeld (core_design evaluator here core turns leaves)
         core_keeps here (IfTerm at test body) turns leaves s h =
-            skip_keeps P DesignsHeld (deeper_value (setting evaluations here) true test turns) _
-            (value_keeps P (setting evaluations here) (sits evaluations here s) true test turns (first_held P (places_of_term test) (places_of_body body) h.1)) (λ turns v.
+            skip_keeps P DesignsHeld (value_at_next_depth (expression_context evaluations here) true test turns) _
+            (value_keeps P (expression_context evaluations here) (sits evaluations here s) true test turns (first_held P (places_of_term test) (places_of_body body) h.1)) (λ turns v.
             if_keeps (Keeps P DesignsHeld) (truth_of v) (body_design evaluator Union here body turns leaves) (Gives turns (no_design leaves))
             (body_keeps Union here body turns leaves s (rest_held P (places_of_term test) (places_of_body body) h.1)) (tt, tt))
         core_keeps here (IfElseTerm at test body other) turns leaves s h =
             let both = first_held P (places_of_term test ++ places_of_body body) (places_of_body other) h.1 in
-            skip_keeps P DesignsHeld (deeper_value (setting evaluations here) true test turns) _
-            (value_keeps P (setting evaluations here) (sits evaluations here s) true test turns (first_held P (places_of_term test) (places_of_body body) both)) (λ turns v.
+            skip_keeps P DesignsHeld (value_at_next_depth (expression_context evaluations here) true test turns) _
+            (value_keeps P (expression_context evaluations here) (sits evaluations here s) true test turns (first_held P (places_of_term test) (places_of_body body) both)) (λ turns v.
             body_keeps Union here (if truth_of v then body else other) turns leaves s
             (if_keeps (λ b. Held P (places_of_body b)) (truth_of v) body other (rest_held P (places_of_term test) (places_of_body body) both)
             (rest_held P (places_of_term test ++ places_of_body body) (places_of_body other) h.1)))
@@ -428,7 +428,7 @@ module _ (P : Place → Type 0) (Q : Mesh → Type 0) where
       within_keeps (suc evaluations) here i turns leaves s h = instance_keeps evaluations (design_within unit judge evaluations) (within_keeps evaluations) here i turns leaves s h
 
       -- the design of a program
-      or_all_held : (root : Option DesignTree) (designs : List DesignTree) → IfSome root DesignHeld → All DesignHeld designs → DesignHeld (or_all root designs)
+      or_all_held : (root : Option DesignTree) (designs : List DesignTree) → IfSome root DesignHeld → All DesignHeld designs → DesignHeld (root_or_union root designs)
       or_all_held None designs m h = grouped_held Union designs h
       or_all_held (Some design) designs m h = m
 
@@ -438,5 +438,5 @@ module _ (P : Place → Type 0) (Q : Mesh → Type 0) where
       design_keeps bindings statements h =
           then_keeps P MembersHeld DesignHeld (each_in_scope (evaluator_with unit judge most_evaluations) (program_context bindings statements) statements 0 0) _
           (scope_keeps most_evaluations (design_within unit judge most_evaluations) (within_keeps most_evaluations) (program_context bindings statements) statements 0 0
-          (entered_held P statements no_activation (Within [] [] [] no_activation Outermost) h tt (tt, tt, tt, tt), tt) h)
+          (entered_held P statements no_activation (InnerScope [] [] [] no_activation NoScope) h tt (tt, tt, tt, tt), tt) h)
           (λ turns ms k. or_all_held ms.root ms.designs k.1 k.0)

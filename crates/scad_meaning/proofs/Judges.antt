@@ -5,18 +5,18 @@ use Rattle.std.proofs.lemmas.List.{get_or_default}
 use Rattle.text_place.specs.declared.fault.FaultKind.{FaultKind}
 use Rattle.text_place.specs.declared.fault.FaultKind.TheVariants.{BadSize, NotOnGrid, TooLarge, OutOfRange, LongList, FewPoints, NotConvex}
 use Rattle.plane_predicate.specs.declared.unit.Unit.{Unit as LengthUnit}
-use Rattle.plane_predicate.specs.Space.{Coefficients, point_at, opposite_of, inner_product, through}
-use Rattle.primitives.specs.Shapes.{Mesh, corner, value_at, HasTriangle, IsInRange as IsPointInRange, IsOnOnePlane}
+use Rattle.plane_predicate.specs.Space.{Coefficients, point_at, opposite_of, inner_product, plane_of_points}
+use Rattle.primitives.specs.Shapes.{Mesh, mesh_point, value_at_point, HasTriangle, IsPointInRange, IsOnOnePlane}
 use Rattle.primitives.specs.Sizes.{AreSizes, IsSizeFault, IsAtLeastOne, IsEven, IsSafe, AreOnGrid, length_in_grid_steps}
-use Rattle.primitives.specs.Polygons.{polygon_of, IsWrittenPolygon, IsPolygonFault, IsInRange, IsConvex, GoesLeft, GoesRight, HasCorner, orientation, point, next_point, x_of, y_of}
+use Rattle.primitives.specs.Polygons.{polygon_of, IsWrittenPolygon, IsPolygonFault, IsFlatPointInRange, IsConvexPolygon, GoesLeft, GoesRight, HasCorner, orientation, polygon_point, x_of, y_of}
 use Rattle.round_four.specs.Circles.{IsCircleSize, IsCircleFault}
-use Rattle.round_four.specs.Cylinders.{AreCylinderSizes, IsCylinderFault, HasBody, AreNear, IsOnGrid as IsCentredOnGrid, IsInRange as IsCylinderInRange}
-use Rattle.primitives.specs.declared.ways.Way.{Way}
-use Rattle.primitives.specs.Checks.{IsWithinLimits, HasEnoughCorners, AreCornersThere, IsFlatFace, IsClosed, HasOuterPlane, IsConvex as IsConvexMesh}
-use Rattle.primitives.specs.Ways.{missing_way, reversed_way, all_ways, ways_of, IsMetOnce, HasNoneLeft}
+use Rattle.round_four.specs.Cylinders.{AreCylinderSizes, IsCylinderFault, HasBody, AreFourInRange, IsOnGrid as IsCentredOnGrid, IsCylinderInRange}
+use Rattle.primitives.specs.declared.ways.DirectedEdge.{DirectedEdge}
+use Rattle.primitives.specs.Checks.{IsWithinLimits, HasEnoughCorners, AreCornersThere, IsFlatFace, IsClosedMesh, HasOuterPlane, IsConvexMesh}
+use Rattle.primitives.specs.DirectedEdges.{missing_edge, reversed_edge, all_edges, edges_of_mesh_face, IsMetOnce, HasNoneLeft}
 use Rattle.primitives.specs.CornerPlanes.{IsCornerPlane}
 use Rattle.primitives.specs.Bounding.{IsOuterPlane, IsFaceOfBody}
-use Rattle.primitives.specs.Polyhedra.{mesh_of, IsPolyhedron, IsFaultOf, IsFirstToFail, checks, faults}
+use Rattle.primitives.specs.Polyhedra.{polyhedron_of, IsPolyhedron, IsFaultOf, IsFirstToFail, polyhedron_checks, polyhedron_faults}
 use Rattle.primitives.proofs.ThroughCorners.{flat_by, flat_on}
 use Rattle.primitives.proofs.OuterPlanes.{one_plane, bounded_spanned, bounded_opposite}
 use Rattle.primitives.proofs.Solids.{convex_by}
@@ -26,6 +26,7 @@ use Rattle.scad_meaning.specs.Verdicts.{Verdict, Judge, IsRightJudge, IsSolidVer
 use Rattle.scad_meaning.proofs.HullVerdicts.{hull_verdict, HullVerdict}
 use Rattle.scad_meaning.proofs.Triangles.{decided_point_range, at_place, decided_triangle}
 use Rattle.scad_design.proofs.Deciding.{Decided, decided_by, decided_both, decided_either, decided_not, decided_at_most, decided_same, decided_at_most_ℤ, decided_same_ℤ, decided_same_list, decided_all_below, decided_some_below, all_or_any, decided_all, decided_any, decided_below, decided_less_ℤ, all_or_one_below, at_most_or_more}
+use Rattle.plane_predicate.specs.Indices.{index_after}
 
 -- sides and heights
 long_or_short : (s : ℤ) → IsAtLeastOne s ⊎ (s <ℤ pos 1)
@@ -63,36 +64,36 @@ size_verdict unit center sides =
     (all_or_any IsAtLeastOne (λ s. s <ℤ pos 1) long_or_short sides)
 
 -- polygons
-decided_in_range : (p : List ℤ) → Decided (IsInRange p)
+decided_in_range : (p : List ℤ) → Decided (IsFlatPointInRange p)
 decided_in_range p =
     decided_by (λ h. record { x_size = h.0; y_size = h.1 }) (λ h. (h.x_size, h.y_size))
     (decided_both (decided_at_most (unsigned_abs (x_of p)) 65535) (decided_at_most (unsigned_abs (y_of p)) 65535))
 
 decided_left : (points : List (List ℤ)) → Decided (GoesLeft points)
 decided_left points =
-    decided_all_below (length points) (λ i. All (λ r. pos 0 ≤ℤ orientation (point points i) (point points (next_point (length points) i)) r) points)
-    (λ i h. decided_all (λ r. pos 0 ≤ℤ orientation (point points i) (point points (next_point (length points) i)) r) (λ r. decided_at_most_ℤ (pos 0) (orientation (point points i) (point points (next_point (length points) i)) r)) points)
+    decided_all_below (length points) (λ i. All (λ r. pos 0 ≤ℤ orientation (polygon_point points i) (polygon_point points (index_after (length points) i)) r) points)
+    (λ i h. decided_all (λ r. pos 0 ≤ℤ orientation (polygon_point points i) (polygon_point points (index_after (length points) i)) r) (λ r. decided_at_most_ℤ (pos 0) (orientation (polygon_point points i) (polygon_point points (index_after (length points) i)) r)) points)
 
 decided_right : (points : List (List ℤ)) → Decided (GoesRight points)
 decided_right points =
-    decided_all_below (length points) (λ i. All (λ r. pos 0 ≤ℤ orientation (point points (next_point (length points) i)) (point points i) r) points)
-    (λ i h. decided_all (λ r. pos 0 ≤ℤ orientation (point points (next_point (length points) i)) (point points i) r) (λ r. decided_at_most_ℤ (pos 0) (orientation (point points (next_point (length points) i)) (point points i) r)) points)
+    decided_all_below (length points) (λ i. All (λ r. pos 0 ≤ℤ orientation (polygon_point points (index_after (length points) i)) (polygon_point points i) r) points)
+    (λ i h. decided_all (λ r. pos 0 ≤ℤ orientation (polygon_point points (index_after (length points) i)) (polygon_point points i) r) (λ r. decided_at_most_ℤ (pos 0) (orientation (polygon_point points (index_after (length points) i)) (polygon_point points i) r)) points)
 
 abbrev SomeCorner : List (List ℤ) → Type 0
 SomeCorner points = (i : ℕ) × (i < length points) × ((j : ℕ) × (j < length points) × ((k : ℕ) × (k < length points)
-    × (orientation (point points i) (point points j) (point points k) ≡ pos 0 → ⊥)))
+    × (orientation (polygon_point points i) (polygon_point points j) (polygon_point points k) ≡ pos 0 → ⊥)))
 
 decided_corner : (points : List (List ℤ)) → Decided (HasCorner points)
 decided_corner points =
     decided_by {P = SomeCorner points}
     (λ h. record { first = h.0; second = h.2.0; third = h.2.2.0; first_in = h.1; second_in = h.2.1; third_in = h.2.2.1; apart = h.2.2.2 })
     (λ h. (h.first, h.first_in, (h.second, h.second_in, (h.third, h.third_in, h.apart))))
-    (decided_some_below (length points) (λ i. (j : ℕ) × (j < length points) × ((k : ℕ) × (k < length points) × (orientation (point points i) (point points j) (point points k) ≡ pos 0 → ⊥)))
-    (λ i h. decided_some_below (length points) (λ j. (k : ℕ) × (k < length points) × (orientation (point points i) (point points j) (point points k) ≡ pos 0 → ⊥))
-    (λ j h. decided_some_below (length points) (λ k. orientation (point points i) (point points j) (point points k) ≡ pos 0 → ⊥)
-    (λ k h. decided_not (decided_same_ℤ (orientation (point points i) (point points j) (point points k)) (pos 0))))))
+    (decided_some_below (length points) (λ i. (j : ℕ) × (j < length points) × ((k : ℕ) × (k < length points) × (orientation (polygon_point points i) (polygon_point points j) (polygon_point points k) ≡ pos 0 → ⊥)))
+    (λ i h. decided_some_below (length points) (λ j. (k : ℕ) × (k < length points) × (orientation (polygon_point points i) (polygon_point points j) (polygon_point points k) ≡ pos 0 → ⊥))
+    (λ j h. decided_some_below (length points) (λ k. orientation (polygon_point points i) (polygon_point points j) (polygon_point points k) ≡ pos 0 → ⊥)
+    (λ k h. decided_not (decided_same_ℤ (orientation (polygon_point points i) (polygon_point points j) (polygon_point points k)) (pos 0))))))
 
-decided_convex : (points : List (List ℤ)) → Decided (IsConvex points)
+decided_convex : (points : List (List ℤ)) → Decided (IsConvexPolygon points)
 decided_convex points =
     decided_by (λ h. record { goes = h.0; corner = h.1 }) (λ h. (h.goes, h.corner))
     (decided_both (decided_either (decided_left points) (decided_right points)) (decided_corner points))
@@ -112,7 +113,7 @@ polygon_verdict unit points =
     (λ h. inr (NotConvex, (most, least, range, h)))
     (decided_convex (polygon_of unit points)))
     (λ some. inr (OutOfRange, (most, least, some)))
-    (all_or_any IsInRange (λ p. IsInRange p → ⊥) decided_in_range points))
+    (all_or_any IsFlatPointInRange (λ p. IsFlatPointInRange p → ⊥) decided_in_range points))
     (λ h. inr (FewPoints, more_than 3 (length points) h))
     (decided_at_most 3 (length points)))
     (λ h. inr (LongList, more_than (length points) 64 h))
@@ -144,7 +145,7 @@ height_on_grid_or_odd : (unit : LengthUnit) (center : Bool) (height : ℤ) → I
 height_on_grid_or_odd unit false height = inl tt
 height_on_grid_or_odd unit true height = ⊎_elim (λ h. inl h) (λ h. inr (refl, h)) (even_or_odd unit height)
 
-decided_near : (a b c d : ℤ) → Decided (AreNear a b c d)
+decided_near : (a b c d : ℤ) → Decided (AreFourInRange a b c d)
 decided_near a b c d =
     decided_by (λ h. record { first = h.0; second = h.1.0; third = h.1.1.0; fourth = h.1.1.1 }) (λ h. (h.first, (h.second, (h.third, h.fourth))))
     (decided_both (decided_at_most (unsigned_abs a) 65535)
@@ -187,7 +188,7 @@ decided_there points faces = decided_all (λ f. All (λ i. i < points) f) (λ f.
 
 -- a face whose corners don't lie on one line spans a plane
 abbrev plane_by : (points : List (List ℤ)) (face : List ℕ) → HasTriangle points face → Coefficients
-plane_by points face t = through (at_place points face t.first) (at_place points face t.second) (at_place points face t.third)
+plane_by points face t = plane_of_points (at_place points face t.first) (at_place points face t.second) (at_place points face t.third)
 
 spans : (points : List (List ℤ)) (face : List ℕ) (t : HasTriangle points face) → IsCornerPlane points face (plane_by points face t)
 spans points face t = record {
@@ -207,20 +208,20 @@ decided_flat points face =
     ⊎_elim (λ t.
     decided_by (λ on. flat_by points face (plane_by points face t) (spans points face t) on)
     (λ flat. flat_on points face (plane_by points face t) (spans points face t) flat)
-    (decided_all (λ i. value_at points (plane_by points face t) i ≡ pos 0) (λ i. decided_same_ℤ (value_at points (plane_by points face t) i) (pos 0)) face))
+    (decided_all (λ i. value_at_point points (plane_by points face t) i ≡ pos 0) (λ i. decided_same_ℤ (value_at_point points (plane_by points face t) i) (pos 0)) face))
     (λ none. inr (λ flat. none flat.triangle))
     (decided_triangle points face)
 
 -- each way is met once in both directions
-abbrev make_way : List ℤ → List ℤ → Way
+abbrev make_way : List ℤ → List ℤ → DirectedEdge
 make_way from to = record { from = from; to = to }
 
-same_way : (v w : Way) → (v.from ≡ w.from) × (v.to ≡ w.to) → v ≡ w
+same_way : (v w : DirectedEdge) → (v.from ≡ w.from) × (v.to ≡ w.to) → v ≡ w
 same_way v w h = ap₂ (λ (a b : List ℤ). make_way a b) h.0 h.1
 
-decided_same_way : (v w : Way) → Decided (v ≡ w)
+decided_same_way : (v w : DirectedEdge) → Decided (v ≡ w)
 decided_same_way v w =
-    decided_by (same_way v w) (λ e. (ap (λ (x : Way). x.from) e, ap (λ (x : Way). x.to) e))
+    decided_by (same_way v w) (λ e. (ap (λ (x : DirectedEdge). x.from) e, ap (λ (x : DirectedEdge). x.to) e))
     (decided_both (decided_same_list v.from w.from) (decided_same_list v.to w.to))
 
 only_one : (P Q : Type 0) → Decided P → Decided Q → Decided (P → Q)
@@ -228,31 +229,31 @@ only_one P Q p (inl q) = inl (λ _. q)
 only_one P Q (inl p) (inr n) = inr (λ h. n (h p))
 only_one P Q (inr m) (inr n) = inl (λ p. absurd (m p))
 
-abbrev OnceAt : List Way → Way → ℕ → Type 0
-OnceAt ways w i = (get_or ways i missing_way ≡ w) × ((k : ℕ) → k < length ways → get_or ways k missing_way ≡ w → k ≡ i)
+abbrev OnceAt : List DirectedEdge → DirectedEdge → ℕ → Type 0
+OnceAt ways w i = (get_or ways i missing_edge ≡ w) × ((k : ℕ) → k < length ways → get_or ways k missing_edge ≡ w → k ≡ i)
 
-decided_once : (ways : List Way) (w : Way) → Decided (IsMetOnce ways w)
+decided_once : (ways : List DirectedEdge) (w : DirectedEdge) → Decided (IsMetOnce ways w)
 decided_once ways w =
     decided_by {P = (i : ℕ) × (i < length ways) × OnceAt ways w i}
     (λ h. record { at = h.0; at_in = h.1; is = h.2.0; only = h.2.1 }) (λ h. (h.at, h.at_in, (h.is, h.only)))
     (decided_some_below (length ways) (OnceAt ways w)
-    (λ i lt. decided_both (decided_same_way (get_or ways i missing_way) w)
-    (decided_all_below (length ways) (λ k. get_or ways k missing_way ≡ w → k ≡ i)
-    (λ k below. only_one (get_or ways k missing_way ≡ w) (k ≡ i) (decided_same_way (get_or ways k missing_way) w) (decided_same k i)))))
+    (λ i lt. decided_both (decided_same_way (get_or ways i missing_edge) w)
+    (decided_all_below (length ways) (λ k. get_or ways k missing_edge ≡ w → k ≡ i)
+    (λ k below. only_one (get_or ways k missing_edge ≡ w) (k ≡ i) (decided_same_way (get_or ways k missing_edge) w) (decided_same k i)))))
 
-decided_closed : (points : List (List ℤ)) (faces : List (List ℕ)) → Decided (IsClosed points faces)
+decided_closed : (points : List (List ℤ)) (faces : List (List ℕ)) → Decided (IsClosedMesh points faces)
 decided_closed points faces =
-    decided_all (λ w. IsMetOnce (all_ways points faces) w × IsMetOnce (all_ways points faces) (reversed_way w))
-    (λ w. decided_both (decided_once (all_ways points faces) w) (decided_once (all_ways points faces) (reversed_way w))) (all_ways points faces)
+    decided_all (λ w. IsMetOnce (all_edges points faces) w × IsMetOnce (all_edges points faces) (reversed_edge w))
+    (λ w. decided_both (decided_once (all_edges points faces) w) (decided_once (all_edges points faces) (reversed_edge w))) (all_edges points faces)
 
 -- convex, where all faces are flat: each face bounds the body on one of the two sides of its plane
 decided_bounds : (mesh : Mesh) (face : List ℕ) (m : Coefficients) → Decided (IsOuterPlane mesh face m)
 decided_bounds mesh face m =
     decided_by (λ h. record { none_ahead = h.0; some_behind = h.1.0; clockwise = h.1.1 }) (λ h. (h.none_ahead, (h.some_behind, h.clockwise)))
-    (decided_both (decided_all (λ f. All (λ i. value_at mesh.points m i ≤ℤ pos 0) f) (λ f. decided_all (λ i. value_at mesh.points m i ≤ℤ pos 0) (λ i. decided_at_most_ℤ (value_at mesh.points m i) (pos 0)) f) mesh.faces)
+    (decided_both (decided_all (λ f. All (λ i. value_at_point mesh.points m i ≤ℤ pos 0) f) (λ f. decided_all (λ i. value_at_point mesh.points m i ≤ℤ pos 0) (λ i. decided_at_most_ℤ (value_at_point mesh.points m i) (pos 0)) f) mesh.faces)
     (decided_both
-    (decided_any (λ f. Any (λ i. pos 0 <ℤ value_at mesh.points (opposite_of m) i) f) (λ f. decided_any (λ i. pos 0 <ℤ value_at mesh.points (opposite_of m) i) (λ i. decided_less_ℤ (pos 0) (value_at mesh.points (opposite_of m) i)) f) mesh.faces)
-    (decided_all (HasNoneLeft mesh.points face m) (λ w. decided_all (λ i. inner_product m (through (point_at w.from) (point_at w.to) (corner mesh.points i)) ≤ℤ pos 0) (λ i. decided_at_most_ℤ (inner_product m (through (point_at w.from) (point_at w.to) (corner mesh.points i))) (pos 0)) face) (ways_of mesh.points face))))
+    (decided_any (λ f. Any (λ i. pos 0 <ℤ value_at_point mesh.points (opposite_of m) i) f) (λ f. decided_any (λ i. pos 0 <ℤ value_at_point mesh.points (opposite_of m) i) (λ i. decided_less_ℤ (pos 0) (value_at_point mesh.points (opposite_of m) i)) f) mesh.faces)
+    (decided_all (HasNoneLeft mesh.points face m) (λ w. decided_all (λ i. inner_product m (plane_of_points (point_at w.from) (point_at w.to) (mesh_point mesh.points i)) ≤ℤ pos 0) (λ i. decided_at_most_ℤ (inner_product m (plane_of_points (point_at w.from) (point_at w.to) (mesh_point mesh.points i))) (pos 0)) face) (edges_of_mesh_face mesh.points face))))
 
 -- a flat face that bounds the body, or one that makes the mesh not convex
 bounded_or_not : (mesh : Mesh) (face : List ℕ) → IsFlatFace mesh.points face → IsFaceOfBody mesh face ⊎ (HasOuterPlane mesh face → IsOnOnePlane mesh)
@@ -282,10 +283,10 @@ decided_convex_mesh mesh some flat =
 
 abbrev PolyhedronVerdict : LengthUnit → List (List ℤ) → List (List ℕ) → Type 0
 PolyhedronVerdict unit points faces =
-    IsPolyhedron unit points faces ⊎ ((kind : FaultKind) × IsFaultOf (checks unit points faces) faults kind)
+    IsPolyhedron unit points faces ⊎ ((kind : FaultKind) × IsFaultOf (polyhedron_checks unit points faces) polyhedron_faults kind)
 
-fails_at : (unit : LengthUnit) (points : List (List ℤ)) (faces : List (List ℕ)) (n : ℕ) → IsFirstToFail (checks unit points faces) n → PolyhedronVerdict unit points faces
-fails_at unit points faces n h = inr (get_or faults n NotConvex, record { number = n; is = refl; fails = h })
+fails_at : (unit : LengthUnit) (points : List (List ℤ)) (faces : List (List ℕ)) (n : ℕ) → IsFirstToFail (polyhedron_checks unit points faces) n → PolyhedronVerdict unit points faces
+fails_at unit points faces n h = inr (get_or polyhedron_faults n NotConvex, record { number = n; is = refl; fails = h })
 
 some_face : (faces : List (List ℕ)) → HasEnoughCorners faces → 0 < length faces
 some_face faces h = omega (arith, h.faces_least)
@@ -303,11 +304,11 @@ polyhedron_verdict unit points faces =
       surface = record { flat = flat; closed = closed; convex = convex };
     }))
     (λ h. fails_at unit points faces 6 (limits, (corners, (there, (range, (flat, (closed, h)))))))
-    (decided_convex_mesh (mesh_of unit points faces) (some_face faces corners) flat))
+    (decided_convex_mesh (polyhedron_of unit points faces) (some_face faces corners) flat))
     (λ h. fails_at unit points faces 5 (limits, (corners, (there, (range, (flat, h))))))
-    (decided_closed (mesh_of unit points faces).points faces))
+    (decided_closed (polyhedron_of unit points faces).points faces))
     (λ h. fails_at unit points faces 4 (limits, (corners, (there, (range, h)))))
-    (decided_all (IsFlatFace (mesh_of unit points faces).points) (decided_flat (mesh_of unit points faces).points) faces))
+    (decided_all (IsFlatFace (polyhedron_of unit points faces).points) (decided_flat (polyhedron_of unit points faces).points) faces))
     (λ h. fails_at unit points faces 3 (limits, (corners, (there, h))))
     (decided_all (λ p. IsPointInRange (point_at p)) (λ p. decided_point_range (point_at p)) points))
     (λ h. fails_at unit points faces 2 (limits, (corners, h)))

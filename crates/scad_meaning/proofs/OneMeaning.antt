@@ -6,17 +6,17 @@ use Rattle.scad_ast.specs.Terms.{StatementTerm, statements_from}
 use Rattle.scad_scope.specs.Names.{first_bindings}
 use Rattle.scad_func.specs.Meaning.{Outcome, Gives, Faults}
 use Rattle.scad_design.specs.Designs.{DesignTree}
-use Rattle.scad_design.specs.Placing.{PlacingOutcome, placed, unplaced, Places}
+use Rattle.scad_design.specs.Placing.{PlacingOutcome, placing_tree, placing_fault, PlacesDesign}
 use Rattle.scad_meaning.specs.Verdicts.{Judge, IsRightJudge}
 use Rattle.scad_meaning.specs.Meaning.{design_of}
 use Rattle.scad_meaning.specs.Sources.{Meaning, IsMeaning, IsMeaningOf, IsMeaningOfDesign}
 
 abbrev pub OnePlacing : Type 0
-OnePlacing = (design : DesignTree) (known : List Coefficients) (out other : PlacingOutcome) → Places design known out → Places design known other → out ≡ other
+OnePlacing = (design : DesignTree) (known : List Coefficients) (out other : PlacingOutcome) → PlacesDesign design known out → PlacesDesign design known other → out ≡ other
 
 one_of_placed : (out : PlacingOutcome) (m n : Meaning) → IsMeaningOf out m → IsMeaningOf out n → m ≡ n
-one_of_placed (placed tree known) m n h g = h ∙ sym g
-one_of_placed (unplaced kind at) m n h g = h ∙ sym g
+one_of_placed (placing_tree tree known) m n h g = h ∙ sym g
+one_of_placed (placing_fault kind at) m n h g = h ∙ sym g
 
 one_of_design : OnePlacing → (design : Outcome DesignTree) (m n : Meaning) → IsMeaningOfDesign design m → IsMeaningOfDesign design n → m ≡ n
 one_of_design one (Faults kind at) m n h g = h ∙ sym g

@@ -20,19 +20,19 @@ use Rattle.scad_scope.specs.Names.{Pairs, find_in}
 use Rattle.scad_definitions.specs.Arguments.{parameter_names, no_arguments_of}
 use Rattle.scad_definitions.specs.Blocks.{SourceModule, assignments_of, statements_of_body}
 use Rattle.scad_func.specs.Limits.{most_evaluations, most_turns}
-use Rattle.scad_func.specs.Meaning.{Outcome, Gives, Faults, then_with, or_fault, Env, Activation, no_activation, activation, visible_module, activation_in, entered_scope, turn, one_call_fewer, deeper_value, Arguments, each_argument, each_parameter}
+use Rattle.scad_func.specs.Meaning.{Outcome, Gives, Faults, then_with, or_fault, Env, Activation, no_activation, activation, visible_module, activation_in, entered_scope, turn, one_call_fewer, value_at_next_depth, Arguments, each_argument, each_parameter}
 use Rattle.scad_modules.specs.declared.table.BuiltinModule.{BuiltinModule}
-use Rattle.scad_modules.specs.Table.{module_named}
+use Rattle.scad_modules.specs.Table.{builtin_module_of}
 use Rattle.scad_modules.specs.Effects.{EffectCall, a_solid, a_flat, a_move, a_join, a_hull, an_extrusion, no_geometry, some_children, FlatCall, ChosenCall}
 use Rattle.scad_modules.specs.Calls.{effect_of}
-use Rattle.scad_design.specs.Designs.{DesignTree, a_leaf, balanced_join, join_children, moved_by}
-use Rattle.scad_design.specs.Trees.{leaf_count, pieces_in, IsTrim}
+use Rattle.scad_design.specs.Designs.{DesignTree, a_leaf, balanced_join, join_children, moved_design_tree}
+use Rattle.scad_design.specs.Trees.{leaf_count, tree_size, IsTrim}
 use Rattle.scad_meaning.specs.declared.extrusion.Extrusion.{Extrusion}
 use Rattle.scad_meaning.specs.Hulls.{is_nothing, hull_mesh}
 use Rattle.scad_meaning.specs.Verdicts.{Judge, Verdict, solid_mesh, extrusion_mesh}
 use Rattle.scad_meaning.specs.Bodies.{has_root_modifier, has_no_geometry, is_bare}
-use Rattle.scad_meaning.specs.Loops.{items_of}
-use Rattle.scad_meaning.specs.Meaning.{Context, inside_scope, with_bindings, with_calls_left, inside_root, inside_extrusion, setting, InstanceDesign, MemberDesigns, first_root, no_design, no_members, as_member, and_members, joined_members, moved_design, EvaluatesInstance, Evaluator, each_assigned, core_of_instance, each_member, each_in_scope, each_in_body, body_design, turn_after_step, each_step, in_loop, each_iteration, loop_design, leaf_design, unless_refused, with_leaf_of, hull_design, answered_with, module_scope, module_design, arguments_for, children_design, chosen_children, turn_after_call, flat_design, effect_design, built_in_design, call_design, core_design, root_design, instance_design, design_within, evaluator_with, program_context, or_all, design_of, counted_step, instances_chosen, block_members, module_given, most_leaves}
+use Rattle.scad_meaning.specs.Loops.{iterated_values}
+use Rattle.scad_meaning.specs.Meaning.{Context, inside_scope, with_bindings, with_calls_left, inside_root, inside_extrusion, expression_context, InstanceDesign, MemberDesigns, first_root, no_design, no_members, as_member, and_members, joined_members, moved_design, EvaluatesInstance, Evaluator, each_assignment, core_of_instance, each_member, each_in_scope, each_in_body, body_design, turn_after_step, each_step, in_loop, each_iteration, loop_design, leaf_design, unless_refused, with_leaf_of, hull_design, answered_with, module_scope, module_design, arguments_for, children_design, chosen_children, turn_after_call, flat_design, effect_design, built_in_design, call_design, core_design, root_design, instance_design, design_within, evaluator_with, program_context, root_or_union, design_of, counted_step, instances_chosen, block_members, module_with_arguments, most_leaves}
 
 -- what holds of that which an outcome gives
 abbrev Has : {A : Type 0} → (A → Type 0) → Outcome A → Type 0
@@ -178,9 +178,9 @@ IsGood at_next_depth = (here : Context) (i : InstanceTerm) (turns leaves : ℕ) 
 
 module _ (grouped_trim : (op : Op) (designs : List DesignTree) → All IsTrim designs → IsTrim (join_children op designs))
     (grouped_parts : (op : Op) (designs : List DesignTree) → leaf_count (join_children op designs) ≤ sum_by leaf_count designs)
-    (moved_trim : (steps : List Affine) (design : DesignTree) → IsTrim design → IsTrim (moved_by steps design))
-    (moved_parts : (steps : List Affine) (design : DesignTree) → leaf_count (moved_by steps design) ≡ leaf_count design)
-    (pieces : (design : DesignTree) → IsTrim design → pieces_in design ≤ 1 + 2 * leaf_count design)
+    (moved_trim : (steps : List Affine) (design : DesignTree) → IsTrim design → IsTrim (moved_design_tree steps design))
+    (moved_parts : (steps : List Affine) (design : DesignTree) → leaf_count (moved_design_tree steps design) ≡ leaf_count design)
+    (pieces : (design : DesignTree) → IsTrim design → tree_size design ≤ 1 + 2 * leaf_count design)
     (unit : LengthUnit) (judge : Judge) where
   joined_small : (op : Op) (before : ℕ) (ms : MemberDesigns) → AreSmall before ms → IsSmall before (joined_members op ms)
   joined_small op before ms h = record {
@@ -191,7 +191,7 @@ module _ (grouped_trim : (op : Op) (designs : List DesignTree) → All IsTrim de
     root = h.root;
   }
 
-  moved_small : (steps : List Affine) (before : ℕ) (m : InstanceDesign) → IsSmall before m → IsSmall before (moved_design (moved_by steps) m)
+  moved_small : (steps : List Affine) (before : ℕ) (m : InstanceDesign) → IsSmall before m → IsSmall before (moved_design (moved_design_tree steps) m)
   moved_small steps before m h = record {
     grows = h.grows;
     most = h.most;
@@ -215,7 +215,7 @@ module _ (grouped_trim : (op : Op) (designs : List DesignTree) → All IsTrim de
     block_small : (chosen : Option ChosenCall) (here : Context) (statements : StatementTerms) (turns leaves : ℕ)
         → Has (AreSmall leaves) (block_members evaluator chosen statements here turns leaves)
     block_small chosen here statements turns leaves =
-        skip_has (AreSmall leaves) (each_assigned evaluations here (assignments_of statements) turns) _ (λ turns there.
+        skip_has (AreSmall leaves) (each_assignment evaluations here (assignments_of statements) turns) _ (λ turns there.
         members_small there (instances_chosen there.env chosen statements) turns leaves)
 
     scope_small : (here : Context) (statements : StatementTerms) (turns leaves : ℕ) → Has (AreSmall leaves) (each_in_scope evaluator here statements turns leaves)
@@ -246,8 +246,8 @@ module _ (grouped_trim : (op : Op) (designs : List DesignTree) → All IsTrim de
         then_has (IsSmall leaves) (AreSmall leaves) (body_design evaluator Union here body turns leaves) _ (body_small Union here body turns leaves) (λ turns m h.
         as_member_small true leaves m h))
     turns_small at (b ∷ bs) body here turns leaves =
-        skip_has (AreSmall leaves) (deeper_value (setting evaluations here) true b.values turns) _ (λ turns v.
-        option_has (AreSmall leaves) (items_of v) TypeMismatch at _ (λ items.
+        skip_has (AreSmall leaves) (value_at_next_depth (expression_context evaluations here) true b.values turns) _ (λ turns v.
+        option_has (AreSmall leaves) (iterated_values v) TypeMismatch at _ (λ items.
         steps_small at (λ item. each_iteration evaluator at bs body (in_loop here b.name item))
         (λ item turns leaves. turns_small at bs body (in_loop here b.name item) turns leaves) items turns leaves))
 
@@ -300,7 +300,7 @@ module _ (grouped_trim : (op : Op) (designs : List DesignTree) → All IsTrim de
         → Has (IsSmall leaves) (built_in_design evaluator here at name args body found turns leaves)
     built_in_small here at name args body None turns leaves = tt
     built_in_small here at name args body (Some m) turns leaves =
-        skip_has (IsSmall leaves) (arguments_for m (setting evaluations here) (args_from args) turns) _ (λ turns given.
+        skip_has (IsSmall leaves) (arguments_for m (expression_context evaluations here) (args_from args) turns) _ (λ turns given.
         answered_has (IsSmall leaves) (effect_of unit (is_some here.inside) (find_in (given.dynamic ++ here.bindings) (codes "fn")) m given.bound) at _ (λ effect.
         effect_small (with_bindings here (given.dynamic ++ here.bindings)) at effect body turns leaves))
 
@@ -309,8 +309,8 @@ module _ (grouped_trim : (op : Op) (designs : List DesignTree) → All IsTrim de
     module_small here at found given body turns leaves =
         call_has (IsSmall leaves) here.calls_left at _ (λ calls.
         let there = with_calls_left (with_bindings here (given.dynamic ++ here.bindings)) calls in
-        turn_has (IsSmall leaves) at turns (λ turns. module_given evaluator found given body (with_calls_left here calls) turns leaves) (λ turns.
-        skip_has (IsSmall leaves) (each_parameter (setting evaluations (inside_scope there found.1)) found.0.params given.bound turns) _ (λ turns vs.
+        turn_has (IsSmall leaves) at turns (λ turns. module_with_arguments evaluator found given body (with_calls_left here calls) turns leaves) (λ turns.
+        skip_has (IsSmall leaves) (each_parameter (expression_context evaluations (inside_scope there found.1)) found.0.params given.bound turns) _ (λ turns vs.
         let inner = inside_scope there (module_scope found.1 found.0 vs (statements_of_body body) here.env) in
         then_has (AreSmall leaves) (IsSmall leaves) (each_in_scope evaluator inner (statements_of_body found.0.body) turns leaves) _
         (scope_small inner (statements_of_body found.0.body) turns leaves) (λ turns ms h. joined_small Union leaves ms h))))
@@ -318,17 +318,17 @@ module _ (grouped_trim : (op : Op) (designs : List DesignTree) → All IsTrim de
     called_small : (here : Context) (at : Place) (name : List ℕ) (args : List ArgTerm) (body : BodyTerm) (found : Option (SourceModule × Env)) (turns leaves : ℕ)
         → Has (IsSmall leaves) (call_design evaluator here at name args body found turns leaves)
     called_small here at name args body (Some found) turns leaves =
-        skip_has (IsSmall leaves) (each_argument (setting evaluations here) (parameter_names found.0.params) 0 (args_from args) (no_arguments_of (length found.0.params)) turns) _
+        skip_has (IsSmall leaves) (each_argument (expression_context evaluations here) (parameter_names found.0.params) 0 (args_from args) (no_arguments_of (length found.0.params)) turns) _
         (λ turns given. module_small here at found given body turns leaves)
-    called_small here at name args body None turns leaves = built_in_small here at name args body (module_named name) turns leaves
+    called_small here at name args body None turns leaves = built_in_small here at name args body (builtin_module_of name) turns leaves
 
     core_small : (here : Context) (core : CoreTerm) (turns leaves : ℕ) → Has (IsSmall leaves) (core_design evaluator here core turns leaves)
     core_small here (IfTerm at test body) turns leaves =
-        skip_has (IsSmall leaves) (deeper_value (setting evaluations here) true test turns) _ (λ turns v.
+        skip_has (IsSmall leaves) (value_at_next_depth (expression_context evaluations here) true test turns) _ (λ turns v.
         if_has (IsSmall leaves) (truth_of v) (body_design evaluator Union here body turns leaves) (Gives turns (no_design leaves))
         (body_small Union here body turns leaves) (nothing_small leaves))
     core_small here (IfElseTerm at test body other) turns leaves =
-        skip_has (IsSmall leaves) (deeper_value (setting evaluations here) true test turns) _ (λ turns v.
+        skip_has (IsSmall leaves) (value_at_next_depth (expression_context evaluations here) true test turns) _ (λ turns v.
         body_small Union here (if truth_of v then body else other) turns leaves)
     core_small here (ForTerm at binders body) turns leaves = loop_small Union here at binders body turns leaves
     core_small here (IntersectionForTerm at binders body) turns leaves = loop_small Intersection here at binders body turns leaves
@@ -354,19 +354,19 @@ module _ (grouped_trim : (op : Op) (designs : List DesignTree) → All IsTrim de
 
   -- the design of a program
   all_small : (root : Option DesignTree) (designs : List DesignTree) (leaves : ℕ) → IsFew 0 leaves root → 0 + sum_by leaf_count designs ≤ leaves
-      → All IsTrim designs → leaves ≤ most_leaves → pieces_in (or_all root designs) < 2 ^ 32
+      → All IsTrim designs → leaves ≤ most_leaves → tree_size (root_or_union root designs) < 2 ^ 32
   all_small None designs leaves f h trim few =
       let a : leaf_count (balanced_join Union designs) ≤ sum_by leaf_count designs = grouped_parts Union designs in
-      let b : pieces_in (balanced_join Union designs) ≤ 1 + 2 * leaf_count (balanced_join Union designs) = pieces (join_children Union designs) (grouped_trim Union designs trim) in
+      let b : tree_size (balanced_join Union designs) ≤ 1 + 2 * leaf_count (balanced_join Union designs) = pieces (join_children Union designs) (grouped_trim Union designs trim) in
       omega arith
   all_small (Some design) designs leaves f h trim few =
       let a = f.0 in let b = pieces design f.1 in omega arith
 
   pub design_small : (bindings : Pairs Val) (statements : StatementTerms) (turns : ℕ) (design : DesignTree)
-      → design_of unit judge bindings statements ≡ Gives turns design → pieces_in design < 2 ^ 32
+      → design_of unit judge bindings statements ≡ Gives turns design → tree_size design < 2 ^ 32
   unfolding design_of
   design_small bindings statements turns design e =
-      subst (Has (λ d. pieces_in d < 2 ^ 32)) e
-      (then_has (AreSmall 0) (λ d. pieces_in d < 2 ^ 32) (each_in_scope (evaluator_with unit judge most_evaluations) (program_context bindings statements) statements 0 0) _
+      subst (Has (λ d. tree_size d < 2 ^ 32)) e
+      (then_has (AreSmall 0) (λ d. tree_size d < 2 ^ 32) (each_in_scope (evaluator_with unit judge most_evaluations) (program_context bindings statements) statements 0 0) _
       (scope_small most_evaluations (design_within unit judge most_evaluations) (within_small most_evaluations) (program_context bindings statements) statements 0 0)
       (λ turns ms h. all_small ms.root ms.designs ms.leaves h.root h.parts h.trim (h.most (omega arith))))

@@ -10,13 +10,13 @@ use Rattle.plane_predicate.specs.declared.unit.Unit.{Unit as LengthUnit}
 use Rattle.plane_predicate.specs.Space.{Coefficients}
 use Rattle.csg_tree.specs.declared.op.Op.{Op}
 use Rattle.csg_tree.specs.declared.tree.CsgTree.{CsgTree}
-use Rattle.csg_tree.specs.Formulas.{Formula}
+use Rattle.csg_tree.specs.HalfSpaceTrees.{Tree}
 use Rattle.scad_ast.specs.Terms.{StatementTerm, statements_from}
 use Rattle.scad_ast.specs.Places.{places_of_program, HoldsPlace}
 use Rattle.scad_scope.specs.Names.{first_bindings}
 use Rattle.scad_func.specs.Meaning.{Outcome, Gives, Faults}
 use Rattle.scad_design.specs.Designs.{DesignTree, empty, a_leaf, joined_designs}
-use Rattle.scad_design.specs.Placing.{PlacingOutcome, placed, unplaced, joined_placed, PlacesRight, Places}
+use Rattle.scad_design.specs.Placing.{PlacingOutcome, placing_tree, placing_fault, placing_of_join, PlacesRight, PlacesDesign}
 use Rattle.scad_meaning.specs.Verdicts.{Judge, IsRightJudge}
 use Rattle.scad_meaning.specs.Meaning.{design_of}
 use Rattle.scad_meaning.specs.Sources.{Meaning, a_tree, a_fault, IsMeaningOf, IsMeaningOfDesign, IsMeaning, IsMeaningStop, HoldsFault}
@@ -28,24 +28,24 @@ use Rattle.scad_meaning.proofs.InstancePlaces.{LetsThrough, shapes_alone, Design
 module _ (P : Place → Type 0) where
   -- placing
   abbrev PlacedHeld : PlacingOutcome → Type 0
-  PlacedHeld (placed tree known) = Unit {0}
-  PlacedHeld (unplaced kind at) = P at
+  PlacedHeld (placing_tree tree known) = Unit {0}
+  PlacedHeld (placing_fault kind at) = P at
 
-  joined_held : (op : Op) (tree : Formula) (next : PlacingOutcome) → PlacedHeld next → PlacedHeld (joined_placed op tree next)
-  joined_held op tree (placed right known) h = tt
-  joined_held op tree (unplaced kind at) h = h
+  joined_held : (op : Op) (tree : Tree) (next : PlacingOutcome) → PlacedHeld next → PlacedHeld (placing_of_join op tree next)
+  joined_held op tree (placing_tree right known) h = tt
+  joined_held op tree (placing_fault kind at) h = h
 
   right_held : (right : List Coefficients → PlacingOutcome → Type 0) → ((known : List Coefficients) (out : PlacingOutcome) → right known out → PlacedHeld out)
       → (op : Op) (first out : PlacingOutcome) → PlacedHeld first → PlacesRight right op first out → PlacedHeld out
-  right_held right g op (unplaced kind at) out h r = subst PlacedHeld (sym r) h
-  right_held right g op (placed tree known) out h r = subst PlacedHeld (sym r.2) (joined_held op tree r.0 (g known r.0 r.1))
+  right_held right g op (placing_fault kind at) out h r = subst PlacedHeld (sym r) h
+  right_held right g op (placing_tree tree known) out h r = subst PlacedHeld (sym r.2) (joined_held op tree r.0 (g known r.0 r.1))
 
-  places_held : (Q : Mesh → Type 0) (design : DesignTree) (known : List Coefficients) (out : PlacingOutcome) → DesignHeld P Q design → Places design known out → PlacedHeld out
+  places_held : (Q : Mesh → Type 0) (design : DesignTree) (known : List Coefficients) (out : PlacingOutcome) → DesignHeld P Q design → PlacesDesign design known out → PlacedHeld out
   places_held Q empty known out d h = subst PlacedHeld (sym h) tt
-  places_held Q (a_leaf part) known (placed tree now) d h = tt
-  places_held Q (a_leaf part) known (unplaced kind at) d h = subst P (sym h.1) d.0
+  places_held Q (a_leaf part) known (placing_tree tree now) d h = tt
+  places_held Q (a_leaf part) known (placing_fault kind at) d h = subst P (sym h.1) d.0
   places_held Q (joined_designs op left right) known out d h =
-      right_held (Places right) (λ known out r. places_held Q right known out d.1 r) op h.0 out (places_held Q left known h.0 d.0 h.1) h.2
+      right_held (PlacesDesign right) (λ known out r. places_held Q right known out d.1 r) op h.0 out (places_held Q left known h.0 d.0 h.1) h.2
 
   -- meanings
   abbrev MeaningHeld : Meaning → Type 0
@@ -53,8 +53,8 @@ module _ (P : Place → Type 0) where
   MeaningHeld (a_fault kind at) = P at
 
   placed_means : (out : PlacingOutcome) (meaning : Meaning) → PlacedHeld out → IsMeaningOf out meaning → MeaningHeld meaning
-  placed_means (placed tree known) meaning p h = subst MeaningHeld (sym h) tt
-  placed_means (unplaced kind at) meaning p h = subst MeaningHeld (sym h) p
+  placed_means (placing_tree tree known) meaning p h = subst MeaningHeld (sym h) tt
+  placed_means (placing_fault kind at) meaning p h = subst MeaningHeld (sym h) p
 
   design_means : (out : Outcome DesignTree) (meaning : Meaning) → Keeps P (DesignHeld P IsShape) out → IsMeaningOfDesign out meaning → MeaningHeld meaning
   design_means (Faults kind at) meaning k h = subst MeaningHeld (sym h) k

@@ -6,7 +6,7 @@ use Rattle.text_place.specs.declared.fault.FaultKind.TheVariants.{TooDeep, Unkno
 use Rattle.plane_predicate.specs.declared.unit.Unit.TheVariants.{Whole}
 use Rattle.plane_predicate.specs.Space.{point_at}
 use Rattle.csg_tree.specs.declared.op.Op.{Op}
-use Rattle.int_transform.specs.Maps.{map_of, image, coordinates}
+use Rattle.int_transform.specs.Maps.{map_of, image, coordinate_list}
 use Rattle.scad_ast.specs.declared.operator.BinaryOp.TheVariants.{Equal, Greater, Add, Subtract, Divide}
 use Rattle.scad_ast.specs.declared.operator.UnaryOp.TheVariants.{Negate}
 use Rattle.scad_ast.specs.declared.operator.Modifier.TheVariants.{Disable, Highlight, Root}
@@ -37,7 +37,7 @@ pub data Seen : Type 0 where
 
 abbrev pub seen : DesignTree → Seen
 seen empty = nothing_seen
-seen (a_leaf part) = points_seen (map (λ p. coordinates (image (map_of part.steps) (point_at p))) part.mesh.points) part.mesh.faces
+seen (a_leaf part) = points_seen (map (λ p. coordinate_list (image (map_of part.steps) (point_at p))) part.mesh.points) part.mesh.faces
 seen (joined_designs op left right) = both_seen op (seen left) (seen right)
 
 abbrev turns_in : Outcome DesignTree → ℕ

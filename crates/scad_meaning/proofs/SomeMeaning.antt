@@ -9,7 +9,7 @@ use Rattle.scad_ast.specs.Terms.{StatementTerm, statements_from}
 use Rattle.scad_scope.specs.Names.{first_bindings}
 use Rattle.scad_func.specs.Meaning.{Outcome, Gives, Faults}
 use Rattle.scad_design.specs.Designs.{DesignTree, empty, a_leaf, joined_designs}
-use Rattle.scad_design.specs.Placing.{PlacingOutcome, placed, unplaced, Places}
+use Rattle.scad_design.specs.Placing.{PlacingOutcome, placing_tree, placing_fault, PlacesDesign}
 use Rattle.scad_design.specs.Trees.{IsSoundDesign}
 use Rattle.scad_meaning.specs.Verdicts.{Judge, IsRightJudge}
 use Rattle.scad_meaning.specs.Meaning.{design_of}
@@ -30,7 +30,7 @@ same_judge j k right also =
     λ i. record { solid = solid i; flat = flat i; height = height i; hull = hull i }
 
 abbrev pub SomePlacing : Type 0
-SomePlacing = (design : DesignTree) (known : List Coefficients) → IsSoundDesign design → (out : PlacingOutcome) × Places design known out
+SomePlacing = (design : DesignTree) (known : List Coefficients) → IsSoundDesign design → (out : PlacingOutcome) × PlacesDesign design known out
 
 pub sound : (P : Place → Type 0) (design : DesignTree) → DesignHeld P IsShape design → IsSoundDesign design
 sound P empty h = tt
@@ -38,8 +38,8 @@ sound P (a_leaf part) h = h.1
 sound P (joined_designs op left right) h = (sound P left h.0, sound P right h.1)
 
 some_of_placed : (out : PlacingOutcome) → (meaning : Meaning) × IsMeaningOf out meaning
-some_of_placed (placed tree known) = (a_tree tree, refl)
-some_of_placed (unplaced kind at) = (a_fault kind at, refl)
+some_of_placed (placing_tree tree known) = (a_tree tree, refl)
+some_of_placed (placing_fault kind at) = (a_fault kind at, refl)
 
 some_of_design : SomePlacing → (P : Place → Type 0) (design : Outcome DesignTree) → Keeps P (DesignHeld P IsShape) design → (meaning : Meaning) × IsMeaningOfDesign design meaning
 some_of_design some P (Faults kind at) h = (a_fault kind at, refl)

@@ -1,11 +1,10 @@
 -- What a call of a built-in module makes is sound: its shapes are shapes where nothing is wrong with them, and its steps are
 -- not singular.
-use Rattle.std.proofs.Common.{◌≡◌, ⊎_elim, inl, inr, ℕ, zero, suc, Bool, true, false, cond, List, [], ◌∷◌, length, get_or, Option, Some, None, Ok, refl, sym, ◌∙◌, arith, ℤ, pos, negsuc, ◌<ℤ◌, ◌≤ℤ◌, All, Any, nat_eq}
+use Rattle.std.proofs.Common.{◌≡◌, ℕ, zero, suc, Bool, true, false, cond, List, [], ◌∷◌, length, Option, Some, None, Ok, refl, sym, ◌∙◌, arith, ℤ, pos, negsuc, nat_eq}
 use Rattle.std.specs.Prelude.{not, ◌&&◌, ◌||◌, is_some, IfOk, IfSome}
 use Rattle.std.specs.Ordering.{int_eq}
 use Rattle.std.proofs.lemmas.Bool.{eqb-true, false≢true}
 use Rattle.std.proofs.lemmas.Bool.Decides.{Decides-int_eq}
-use Rattle.std.proofs.lemmas.Int.{by_lt_z}
 use Rattle.std.proofs.lemmas.List.Elements.{All-cons, All-nil}
 use Rattle.text_place.specs.declared.fault.FaultKind.{FaultKind}
 use Rattle.text_place.specs.declared.fault.FaultKind.TheVariants.{AssertFailed, BadArgument, NotInProfile, NotQuarter, Singular, TooLarge, WrongDimension}
@@ -17,8 +16,7 @@ use Rattle.int_transform.proofs.Images.{determinant-composition}
 use Rattle.int_transform.proofs.Ranges.{IsRegular}
 use Rattle.int_transform.proofs.Regular.{determinant-diagonal, no_product}
 use Rattle.plane_predicate.specs.Space.{point_at}
-use Rattle.primitives.specs.Shapes.{Mesh, value_at, HasBodyBehind, IsShape}
-use Rattle.primitives.proofs.FacePlanes.{found}
+use Rattle.primitives.specs.Shapes.{IsShape}
 use Rattle.primitives.specs.Sizes.{AreSizes, low_end, high_end}
 use Rattle.primitives.specs.Polygons.{IsFlatShape}
 use Rattle.primitives.proofs.BoxBodies.{cube_is_shape}
@@ -28,22 +26,19 @@ use Rattle.primitives.proofs.PrismBodies.{prism_is_shape}
 use Rattle.primitives.proofs.Rectangles.{square_is_flat}
 use Rattle.round_four.proofs.Circles.{sized_circle_is_flat}
 use Rattle.round_four.proofs.Cylinders.{cylinder_is_shape}
-use Rattle.primitives.specs.Checks.{HasOuterPlane, IsConvex}
-use Rattle.primitives.specs.Polyhedra.{mesh_of, IsPolyhedron}
-use Rattle.primitives.proofs.Solids.{shape_of}
+use Rattle.primitives.proofs.ConvexShapes.{polyhedron_is_shape}
 use Rattle.scad_value.specs.Values.{Val, NumberVal, truth_of}
 use Rattle.scad_value.specs.Operators.{AnswerOrFault}
 use Rattle.scad_modules.specs.Reading.{BoundArguments, bound_argument, number_in_value, truth_in, numbers_in, of_length, sides_in, coordinates_in, angles_in, factors_in, points_in, faces_in, or_default, required_argument, refused_where, of_type}
 use Rattle.scad_modules.specs.declared.table.BuiltinModule.{BuiltinModule}
 use Rattle.scad_modules.specs.declared.table.BuiltinModule.TheVariants.{Cube, Polyhedron, Cylinder, Square, Polygon, Circle, LinearExtrude, Translate, Rotate, Mirror, Scale, Multmatrix, Union, Difference, Intersection, Hull, Color, Render, Echo, Assert, Children}
 use Rattle.scad_modules.specs.Effects.{SolidCall, cube_call, polyhedron_call, cylinder_call, FlatCall, square_call, polygon_call, circle_call, EffectCall, a_solid, a_flat, a_move, a_join, a_hull, an_extrusion, no_geometry, some_children, ChosenCall, all_children}
-use Rattle.scad_modules.specs.Transforms.{component, is_zero, is_past, vector_on_grid, some_component, leaves_plane, is_skew, quarters_of, tilts_plane, quarter_turns, axis_of, for_axis, factors_for, matrix_rows, some_row, is_past_matrix, leaves_plane_by, rows_on_grid, moves_past}
+use Rattle.scad_modules.specs.Transforms.{component, is_zero, is_past_safe_size, vector_on_grid, some_component, leaves_plane, is_skew, quarters_of, tilts_plane, quarter_rotations, axis_of, for_axis, factors_for, matrix_rows, some_row, is_past_matrix, leaves_plane_by, rows_on_grid, moves_past}
 use Rattle.scad_modules.specs.Calls.{chosen_in, effect_of}
 use Rattle.scad_modules.specs.Shapes.{fragments_in, with_four, cylinder_effect}
 use Rattle.scad_design.specs.Trees.{AreRegular}
-use Rattle.scad_design.proofs.Deciding.{all_or_any}
 use Rattle.scad_meaning.specs.declared.extrusion.Extrusion.{Extrusion}
-use Rattle.scad_meaning.specs.Verdicts.{IsSolidVerdict, IsFlatVerdict, solid_mesh, flat_outline, extrusion_mesh}
+use Rattle.scad_meaning.specs.Verdicts.{IsSolidVerdict, IsFlatVerdict, solid_mesh, flat_points, extrusion_mesh}
 
 -- ---- calls with as many sides as their shapes have, and steps that are not singular
 abbrev pub HasSides : SolidCall → Type 0
@@ -247,31 +242,31 @@ extrusion_sound inside false false true (Some v) center = tt
 extrusion_sound inside false false false (Some v) center = extrusion_read inside (number_in_value v) center
 
 translate_read : (unit : LengthUnit) (inside : Bool) (by : Option (List ℤ)) →
-    IfOk (of_type by (λ by. refused_where (leaves_plane inside by) WrongDimension (refused_where (some_component is_past (vector_on_grid unit by)) TooLarge (Ok (a_move (translation (point_at (vector_on_grid unit by)) ∷ [])))))) IsSoundCall
+    IfOk (of_type by (λ by. refused_where (leaves_plane inside by) WrongDimension (refused_where (some_component is_past_safe_size (vector_on_grid unit by)) TooLarge (Ok (a_move (translation (point_at (vector_on_grid unit by)) ∷ [])))))) IsSoundCall
 translate_read unit inside None = tt
 translate_read unit inside (Some by) =
-    refused_sound (leaves_plane inside by) WrongDimension (refused_where (some_component is_past (vector_on_grid unit by)) TooLarge (Ok (a_move (translation (point_at (vector_on_grid unit by)) ∷ [])))) (λ _.
-    refused_sound (some_component is_past (vector_on_grid unit by)) TooLarge (Ok (a_move (translation (point_at (vector_on_grid unit by)) ∷ []))) (λ _.
+    refused_sound (leaves_plane inside by) WrongDimension (refused_where (some_component is_past_safe_size (vector_on_grid unit by)) TooLarge (Ok (a_move (translation (point_at (vector_on_grid unit by)) ∷ [])))) (λ _.
+    refused_sound (some_component is_past_safe_size (vector_on_grid unit by)) TooLarge (Ok (a_move (translation (point_at (vector_on_grid unit by)) ∷ []))) (λ _.
     one_step (translation (point_at (vector_on_grid unit by))) one_is_some))
 
 translate_sound : (unit : LengthUnit) (inside : Bool) (v : Option Val) →
     IfOk (required_argument v (λ v. of_type (coordinates_in (pos 0) v) (λ by. refused_where (leaves_plane inside by) WrongDimension
-    (refused_where (some_component is_past (vector_on_grid unit by)) TooLarge (Ok (a_move (translation (point_at (vector_on_grid unit by)) ∷ []))))))) IsSoundCall
+    (refused_where (some_component is_past_safe_size (vector_on_grid unit by)) TooLarge (Ok (a_move (translation (point_at (vector_on_grid unit by)) ∷ []))))))) IsSoundCall
 translate_sound unit inside None = tt
 translate_sound unit inside (Some v) = translate_read unit inside (coordinates_in (pos 0) v)
 
 rotate_read : (inside left : Bool) (angles : Option (List ℤ)) →
-    IfOk (refused_where left NotInProfile (of_type angles (λ angles. refused_where (some_component is_skew angles) NotQuarter (refused_where (tilts_plane inside angles) WrongDimension (Ok (a_move (quarter_turns angles))))))) IsSoundCall
+    IfOk (refused_where left NotInProfile (of_type angles (λ angles. refused_where (some_component is_skew angles) NotQuarter (refused_where (tilts_plane inside angles) WrongDimension (Ok (a_move (quarter_rotations angles))))))) IsSoundCall
 rotate_read inside true angles = tt
 rotate_read inside false None = tt
 rotate_read inside false (Some angles) =
-    refused_sound (some_component is_skew angles) NotQuarter (refused_where (tilts_plane inside angles) WrongDimension (Ok (a_move (quarter_turns angles)))) (λ _.
-    refused_sound (tilts_plane inside angles) WrongDimension (Ok (a_move (quarter_turns angles))) (λ _.
+    refused_sound (some_component is_skew angles) NotQuarter (refused_where (tilts_plane inside angles) WrongDimension (Ok (a_move (quarter_rotations angles)))) (λ _.
+    refused_sound (tilts_plane inside angles) WrongDimension (Ok (a_move (quarter_rotations angles))) (λ _.
     turns_regular (quarters_of (component angles 0)) (quarters_of (component angles 1)) (quarters_of (component angles 2))))
 
 rotate_sound : (inside left : Bool) (v : Option Val) →
     IfOk (required_argument v (λ v. refused_where left NotInProfile (of_type (angles_in v) (λ angles. refused_where (some_component is_skew angles) NotQuarter
-    (refused_where (tilts_plane inside angles) WrongDimension (Ok (a_move (quarter_turns angles)))))))) IsSoundCall
+    (refused_where (tilts_plane inside angles) WrongDimension (Ok (a_move (quarter_rotations angles)))))))) IsSoundCall
 rotate_sound inside left None = tt
 rotate_sound inside left (Some v) = rotate_read inside left (angles_in v)
 
@@ -362,40 +357,18 @@ effect_sound unit inside fragments Assert bound = assert_sound (bound_argument b
 effect_sound unit inside fragments Children bound = children_sound (or_default all_children chosen_in (bound_argument bound 0))
 
 -- ---- shapes with nothing wrong
-both_most : (v : ℤ) → v ≤ℤ pos 0 → pos 0 ≤ℤ v → v ≡ pos 0
-both_most v h k = omega (arith, sums, h, k)
-
--- a face of a convex mesh has a point of some face strictly behind its plane
-body_behind : (mesh : Mesh) → IsConvex mesh → (face : List ℕ) → HasOuterPlane mesh face → HasBodyBehind mesh face
-body_behind mesh convex face outer =
-    let at : ℕ → ℤ = value_at mesh.points outer.plane in
-    ⊎_elim (λ least. absurd (convex.solid (record {
-      plane = outer.plane;
-      directed = outer.is.directed;
-      on = λ k d lt i e below. both_most _ (outer.is.none_ahead k d lt i e below) (least k d lt i e below);
-    })))
-    (λ some.
-    let f = found (λ i. at i <ℤ pos 0) mesh.faces some in
-    record { plane = outer.plane; is = outer.is; at_face = f.face; at = f.at; at_face_in = f.face_in; at_in = f.at_in; behind = f.holds })
-    (all_or_any (All (λ i. pos 0 ≤ℤ at i)) (Any (λ i. at i <ℤ pos 0))
-    (all_or_any (λ i. pos 0 ≤ℤ at i) (λ i. at i <ℤ pos 0) (λ i. by_lt_z (at i) (pos 0) (λ below. inr below) (λ least. inl least))) mesh.faces)
-
-polyhedron_is_shape : (unit : LengthUnit) (points : List (List ℤ)) (faces : List (List ℕ)) → IsPolyhedron unit points faces → IsShape (mesh_of unit points faces)
-polyhedron_is_shape unit points faces h =
-    shape_of unit points faces h (λ k d lt. body_behind (mesh_of unit points faces) h.surface.convex (get_or faces k d) (h.surface.convex.faces k d lt))
-
 pub solid_is_shape : (unit : LengthUnit) (call : SolidCall) → HasSides call → IsSolidVerdict unit call None → IsShape (solid_mesh unit call)
 solid_is_shape unit (cube_call center size) sides h = cube_is_shape unit center size (omega (arith, sides)) h
 solid_is_shape unit (polyhedron_call points faces) sides h = polyhedron_is_shape unit points faces h
 solid_is_shape unit (cylinder_call center height low high) sides h = cylinder_is_shape unit center height low high h
 
-pub outline_is_flat : (unit : LengthUnit) (call : FlatCall) → HasFlatSides call → IsFlatVerdict unit call None → IsFlatShape (flat_outline unit call)
+pub outline_is_flat : (unit : LengthUnit) (call : FlatCall) → HasFlatSides call → IsFlatVerdict unit call None → IsFlatShape (flat_points unit call)
 outline_is_flat unit (square_call center size) sides h = square_is_flat unit center size (omega (arith, sides)) h
 outline_is_flat unit (polygon_call points) sides h = polygon_is_flat unit points h
 outline_is_flat unit (circle_call radius) sides h = sized_circle_is_flat unit radius h
 
 pub extruded_is_shape : (unit : LengthUnit) (through : Extrusion) (call : FlatCall) → AreSizes unit through.center (through.height ∷ []) → HasFlatSides call → IsFlatVerdict unit call None → IsShape (extrusion_mesh unit through call)
 extruded_is_shape unit through call sizes sides h =
-    prism_is_shape (flat_outline unit call) (low_end unit through.center through.height) (high_end unit through.center through.height)
+    prism_is_shape (flat_points unit call) (low_end unit through.center through.height) (high_end unit through.center through.height)
     (ends_of_side unit through.center through.height (sizes.long 0 (pos 0) (omega arith)) (sizes.safe 0 (pos 0) (omega arith)))
     (outline_is_flat unit call sides h)

@@ -7,10 +7,10 @@ use Rattle.text_place.specs.declared.fault.FaultKind.{FaultKind}
 use Rattle.text_place.specs.declared.fault.FaultKind.TheVariants.{BadSize, NotOnGrid, TooLarge, OutOfRange, LongList, FewPoints, NotConvex, NotInProfile}
 use Rattle.plane_predicate.specs.declared.unit.Unit.{Unit as LengthUnit}
 use Rattle.primitives.specs.Sizes.{AreSizes, IsSizeFault, IsAtLeastOne, IsEven, IsSafe, AreOnGrid, length_in_grid_steps}
-use Rattle.primitives.specs.Polygons.{polygon_of, IsPolygonFault, IsInRange, IsConvex}
+use Rattle.primitives.specs.Polygons.{polygon_of, IsPolygonFault, IsFlatPointInRange, IsConvexPolygon}
 use Rattle.round_four.specs.Circles.{IsCircleFault}
-use Rattle.round_four.specs.Cylinders.{IsCylinderFault, HasBody, IsOnGrid as IsCentredOnGrid, IsInRange as IsCylinderInRange}
-use Rattle.primitives.specs.Polyhedra.{IsPolyhedron, IsFaultOf, IsFirstToFail, checks, faults}
+use Rattle.round_four.specs.Cylinders.{IsCylinderFault, HasBody, IsOnGrid as IsCentredOnGrid, IsCylinderInRange}
+use Rattle.primitives.specs.Polyhedra.{IsPolyhedron, IsFaultOf, IsFirstToFail, polyhedron_checks, polyhedron_faults}
 use Rattle.scad_modules.specs.Effects.{SolidCall, cube_call, polyhedron_call, cylinder_call, FlatCall, square_call, polygon_call, circle_call}
 use Rattle.scad_hull.specs.Hulls.{points_in_order, AreOnOnePlane}
 use Rattle.scad_hull.specs.Refusals.{ArePointsInRange}
@@ -81,7 +81,7 @@ height_verdict unit center height (Some kind) h = size_fault unit center (height
 
 -- written points of a polygon
 abbrev polygon_checks : LengthUnit → List (List ℤ) → List (Type 0)
-polygon_checks unit points = (length points ≤ 64) ∷ (3 ≤ length points) ∷ All IsInRange points ∷ IsConvex (polygon_of unit points) ∷ []
+polygon_checks unit points = (length points ≤ 64) ∷ (3 ≤ length points) ∷ All IsFlatPointInRange points ∷ IsConvexPolygon (polygon_of unit points) ∷ []
 
 abbrev polygon_faults : List FaultKind
 polygon_faults = LongList ∷ FewPoints ∷ OutOfRange ∷ NotConvex ∷ []
@@ -95,7 +95,7 @@ more_than n m h k = omega (arith, h, k)
 polygon_fault : (unit : LengthUnit) (points : List (List ℤ)) (kind : FaultKind) → IsPolygonFault unit points kind → IsFaultOf (polygon_checks unit points) polygon_faults kind
 polygon_fault unit points LongList h = record { number = 0; is = refl; fails = more_than 64 (length points) h }
 polygon_fault unit points FewPoints h = record { number = 1; is = refl; fails = (few_are_no_many (length points) h, more_than (length points) 3 h) }
-polygon_fault unit points OutOfRange h = record { number = 2; is = refl; fails = (h.0, (h.1, disagree (λ p. IsInRange p → ⊥) IsInRange (λ p a b. a b) points h.2)) }
+polygon_fault unit points OutOfRange h = record { number = 2; is = refl; fails = (h.0, (h.1, disagree (λ p. IsFlatPointInRange p → ⊥) IsFlatPointInRange (λ p a b. a b) points h.2)) }
 polygon_fault unit points NotConvex h = record { number = 3; is = refl; fails = (h.0, (h.1, (h.2, h.3))) }
 polygon_fault unit points kind h = absurd h
 
@@ -129,19 +129,19 @@ cylinder_fault unit center height low high OutOfRange h = record { number = 2; i
 cylinder_fault unit center height low high kind h = absurd h
 
 -- points and faces
-polyhedron_holds : (unit : LengthUnit) (points : List (List ℤ)) (faces : List (List ℕ)) → IsPolyhedron unit points faces → AllHold (checks unit points faces)
+polyhedron_holds : (unit : LengthUnit) (points : List (List ℤ)) (faces : List (List ℕ)) → IsPolyhedron unit points faces → AllHold (polyhedron_checks unit points faces)
 polyhedron_holds unit points faces h =
     (h.written.limits, (h.written.corners, (h.written.there, (h.written.range, (h.surface.flat, (h.surface.closed, (h.surface.convex, tt)))))))
 
 -- each call by its checks
 abbrev solid_checks : LengthUnit → SolidCall → List (Type 0)
 solid_checks unit (cube_call center size) = size_checks unit center size
-solid_checks unit (polyhedron_call points faces) = checks unit points faces
+solid_checks unit (polyhedron_call points faces) = polyhedron_checks unit points faces
 solid_checks unit (cylinder_call center height low high) = cylinder_checks unit center height low high
 
 abbrev solid_faults : SolidCall → List FaultKind
 solid_faults (cube_call center size) = size_faults
-solid_faults (polyhedron_call points faces) = faults
+solid_faults (polyhedron_call points faces) = polyhedron_faults
 solid_faults (cylinder_call center height low high) = cylinder_faults
 
 solid_verdict : (unit : LengthUnit) (call : SolidCall) (v : Verdict) → IsSolidVerdict unit call v → IsVerdictOf (solid_checks unit call) (solid_faults call) v

@@ -68,16 +68,16 @@ is_root Highlight = false
 is_root Root = true
 
 -- an instance that is evaluated: one marked `*` or `%` counts as not written
-abbrev pub is_on : InstanceTerm → Bool
-is_on (AnInstance at marks core) = not (list_any (λ mark. switches_off mark.modifier) marks)
+abbrev pub is_switched_on : InstanceTerm → Bool
+is_switched_on (AnInstance at marks core) = not (list_any (λ mark. switches_off mark.modifier) marks)
 
 -- an instance marked `!`
 abbrev pub has_root_modifier : InstanceTerm → Bool
 has_root_modifier (AnInstance at marks core) = list_any (λ mark. is_root mark.modifier) marks
 
 -- the instances of a body that are evaluated
-abbrev pub evaluated_in : StatementTerms → List InstanceTerm
-evaluated_in statements = filter is_on (instances_in statements)
+abbrev pub evaluated_instances : StatementTerms → List InstanceTerm
+evaluated_instances statements = filter is_switched_on (instances_in statements)
 
 -- `echo` and `assert`, where the source defines no module of that name, seen from the scope
 abbrev pub has_no_geometry : Env → CoreTerm → Bool
@@ -91,7 +91,7 @@ is_child env (AnInstance at marks core) = not (has_no_geometry env core)
 
 -- the children of a call with this body, in the body's scope
 abbrev pub children_in : Env → StatementTerms → List InstanceTerm
-children_in env statements = filter (is_child env) (evaluated_in statements)
+children_in env statements = filter (is_child env) (evaluated_instances statements)
 
 -- whether a list has no items
 abbrev pub has_no_items : {A : Type 0} → List A → Bool

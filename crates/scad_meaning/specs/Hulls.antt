@@ -15,13 +15,13 @@ use Rattle.scad_design.specs.Placing.{StaysSafe}
 -- whether a design has no leaf
 abbrev pub is_nothing : DesignTree → Bool
 is_nothing empty = true
-is_nothing (a_leaf part) = false
+is_nothing (a_leaf shape) = false
 is_nothing (joined_designs op left right) = false
 
 -- a design with no join but unions
 abbrev pub is_union : DesignTree → Bool
 is_union empty = true
-is_union (a_leaf part) = true
+is_union (a_leaf shape) = true
 is_union (joined_designs Union left right) = is_union left && is_union right
 is_union (joined_designs Intersection left right) = false
 is_union (joined_designs Difference left right) = false
@@ -29,13 +29,13 @@ is_union (joined_designs Difference left right) = false
 -- the points of all leaves from left to right, each moved by its leaf's steps
 abbrev pub points_of : DesignTree → List (List ℤ)
 points_of empty = []
-points_of (a_leaf part) = (moved_mesh (map_of part.steps) part.mesh).points
+points_of (a_leaf shape) = (moved_mesh (map_of shape.steps) shape.mesh).points
 points_of (joined_designs op left right) = points_of left ++ points_of right
 
 -- the points of each leaf keep within 2^53 - 1 after each step
 abbrev pub StaySafe : DesignTree → Type 0
 StaySafe empty = Unit {0}
-StaySafe (a_leaf part) = StaysSafe part
+StaySafe (a_leaf shape) = StaysSafe shape
 StaySafe (joined_designs op left right) = StaySafe left × StaySafe right
 
 -- the shape of a hull: that of all the points

@@ -24,10 +24,10 @@ number_vals [] = no_vals
 number_vals (number ∷ numbers) = and_val (NumberVal number) (number_vals numbers)
 
 -- the items of a list, or the numbers of a range
-abbrev pub items_of : Val → Option Vals
-items_of (ListVal items) = Some items
-items_of (RangeVal from step upto) = Some (number_vals (numbers_of_range from step upto))
-items_of value = None
+abbrev pub iterated_values : Val → Option Vals
+iterated_values (ListVal items) = Some items
+iterated_values (RangeVal from step upto) = Some (number_vals (numbers_of_range from step upto))
+iterated_values value = None
 
 -- the item of a number, where there is one
 abbrev pub nth_item : {A : Type 0} → List A → ℕ → List A

@@ -14,18 +14,18 @@ use Rattle.scad_scope.specs.Names.{Pairs, find_in}
 use Rattle.scad_definitions.specs.Arguments.{parameter_names, no_arguments_of, destination_of, with_argument}
 use Rattle.scad_definitions.specs.Blocks.{SourceModule, SourceAssignment, assignments_of, statements_of_body}
 use Rattle.scad_func.specs.Limits.{most_calls, most_evaluations}
-use Rattle.scad_func.specs.Meaning.{Outcome, Gives, Faults, then_with, or_fault, Env, Outermost, Within, Activation, no_activation, activation, visible_module, activation_in, functions_standing_in, modules_standing_in, entered_scope, with_value, turn, Setting, deeper_value, one_call_fewer, Arguments, each_argument, each_parameter, with_pairs, value_within}
+use Rattle.scad_func.specs.Meaning.{Outcome, Gives, Faults, then_with, or_fault, Env, NoScope, InnerScope, Activation, no_activation, activation, visible_module, activation_in, functions_standing_in, modules_standing_in, entered_scope, with_value, turn, ExpressionContext, value_at_next_depth, one_call_fewer, Arguments, each_argument, each_parameter, with_pairs, value_within}
 use Rattle.scad_modules.specs.declared.table.BuiltinModule.{BuiltinModule}
 use Rattle.scad_modules.specs.declared.table.BuiltinModule.TheVariants.{Echo}
-use Rattle.scad_modules.specs.Table.{module_named, is_left_out_module, parameters_of}
+use Rattle.scad_modules.specs.Table.{builtin_module_of, is_left_out_module, parameters_of}
 use Rattle.scad_modules.specs.Effects.{EffectCall, a_solid, a_flat, a_move, a_join, a_hull, an_extrusion, no_geometry, some_children, FlatCall, ChosenCall}
 use Rattle.scad_modules.specs.Calls.{effect_of}
-use Rattle.scad_design.specs.Designs.{DesignTree, empty, a_leaf, balanced_join, join_children, moved_by}
+use Rattle.scad_design.specs.Designs.{DesignTree, empty, a_leaf, balanced_join, join_children, moved_design_tree}
 use Rattle.scad_meaning.specs.declared.extrusion.Extrusion.{Extrusion}
 use Rattle.scad_meaning.specs.Hulls.{is_nothing, hull_mesh}
 use Rattle.scad_meaning.specs.Verdicts.{Judge, Verdict, solid_mesh, extrusion_mesh}
-use Rattle.scad_meaning.specs.Bodies.{evaluated_in, children_in, has_root_modifier, has_no_geometry, is_bare}
-use Rattle.scad_meaning.specs.Loops.{items_of, chosen_among}
+use Rattle.scad_meaning.specs.Bodies.{evaluated_instances, children_in, has_root_modifier, has_no_geometry, is_bare}
+use Rattle.scad_meaning.specs.Loops.{iterated_values, chosen_among}
 
 -- the context of an instance: the calls that are left, the scope, the dynamic bindings of special names, the extrusion that
 -- it is inside of, and whether it is inside an instance that is marked `!`
@@ -57,8 +57,8 @@ abbrev pub inside_extrusion : Context → Extrusion → Context
 inside_extrusion here through = record { calls_left = here.calls_left; env = here.env; bindings = here.bindings; inside = Some through; under_root = here.under_root }
 
 -- where an expression of an instance stands, with so many evaluations in one another left
-abbrev pub setting : ℕ → Context → Setting
-setting evaluations here = record { at_next_depth = value_within evaluations; calls_left = here.calls_left; env = here.env; bindings = here.bindings }
+abbrev pub expression_context : ℕ → Context → ExpressionContext
+expression_context evaluations here = record { at_next_depth = value_within evaluations; calls_left = here.calls_left; env = here.env; bindings = here.bindings }
 
 -- What an instance gives: the leaves so far, its design, and the first of the designs in it that is marked `!`
 pub record InstanceDesign : Type 0 where
@@ -120,7 +120,7 @@ pub record Evaluator : Type 0 where
 -- the value of an assignment: its statement is one evaluation deeper, and its expression one more
 abbrev pub assigned_value : ℕ → Context → SourceAssignment → ℕ → Outcome Val
 assigned_value zero here assignment turns = Faults TooDeep assignment.at
-assigned_value (suc evaluations) here assignment turns = deeper_value (setting evaluations here) true assignment.value turns
+assigned_value (suc evaluations) here assignment turns = value_at_next_depth (expression_context evaluations here) true assignment.value turns
 
 -- the context with one more assignment: a special name goes among the dynamic bindings, a variable into the scope
 abbrev pub with_assignment : SourceAssignment → Val → Context → Context
@@ -129,11 +129,11 @@ with_assignment assignment value here =
     else inside_scope here (with_value assignment.name value here.env)
 
 -- the scope with its assignments, from the first on
-abbrev pub each_assigned : ℕ → Context → List SourceAssignment → ℕ → Outcome Context
-each_assigned evaluations here [] turns = Gives turns here
-each_assigned evaluations here (assignment ∷ rest) turns =
+abbrev pub each_assignment : ℕ → Context → List SourceAssignment → ℕ → Outcome Context
+each_assignment evaluations here [] turns = Gives turns here
+each_assignment evaluations here (assignment ∷ rest) turns =
     then_with (assigned_value evaluations here assignment turns) (λ turns value.
-    each_assigned evaluations (with_assignment assignment value here) rest turns)
+    each_assignment evaluations (with_assignment assignment value here) rest turns)
 
 -- an instance without its place and its modifiers
 abbrev pub core_of_instance : InstanceTerm → CoreTerm
@@ -149,13 +149,13 @@ each_member evaluator here (instance ∷ instances) turns leaves =
 
 -- the instances of a block that are evaluated, or the chosen ones of its children
 abbrev pub instances_chosen : Env → Option ChosenCall → StatementTerms → List InstanceTerm
-instances_chosen env None statements = evaluated_in statements
+instances_chosen env None statements = evaluated_instances statements
 instances_chosen env (Some chosen) statements = chosen_among (children_in env statements) chosen
 
 -- a block in its scope: its assignments, then these instances
 abbrev pub block_members : Evaluator → Option ChosenCall → StatementTerms → Context → ℕ → ℕ → Outcome MemberDesigns
 block_members evaluator chosen statements here turns leaves =
-    then_with (each_assigned evaluator.evaluations here (assignments_of statements) turns) (λ turns there.
+    then_with (each_assignment evaluator.evaluations here (assignments_of statements) turns) (λ turns there.
     each_member evaluator there (instances_chosen there.env chosen statements) turns leaves)
 
 -- a body in its scope: its assignments, then the instances that are evaluated
@@ -190,7 +190,7 @@ each_step at step (and_val item items) turns leaves =
 
 -- a variable of a loop, in a scope of its own
 abbrev pub in_loop : Context → List ℕ → Val → Context
-in_loop here name value = inside_scope here (Within ((name, value) ∷ []) [] [] no_activation here.env)
+in_loop here name value = inside_scope here (InnerScope ((name, value) ∷ []) [] [] no_activation here.env)
 
 -- The iterations of a loop: one for each choice of a value for every variable, the first one slowest. Each gives the union of
 -- its body, which stands inside the scopes of the variables
@@ -200,8 +200,8 @@ each_iteration evaluator at [] body here turns leaves =
     then_with (body_design evaluator Union here body turns leaves) (λ turns result.
     Gives turns (as_member true result)))
 each_iteration evaluator at (binder ∷ binders) body here turns leaves =
-    then_with (deeper_value (setting evaluator.evaluations here) true binder.values turns) (λ turns value.
-    or_fault (items_of value) TypeMismatch at (λ items.
+    then_with (value_at_next_depth (expression_context evaluator.evaluations here) true binder.values turns) (λ turns value.
+    or_fault (iterated_values value) TypeMismatch at (λ items.
     each_step at (λ item. each_iteration evaluator at binders body (in_loop here binder.name item)) items turns leaves))
 
 -- the iterations of a loop, joined by an operation
@@ -249,45 +249,45 @@ children_count caller children =
 -- the scope of a module's body
 abbrev pub module_scope : Env → SourceModule → Vals → StatementTerms → Env → Env
 module_scope defining_scope defined values children caller =
-    Within (children_count caller children ∷ with_pairs (parameter_names defined.params) values [])
+    InnerScope (children_count caller children ∷ with_pairs (parameter_names defined.params) values [])
     (functions_standing_in (statements_of_body defined.body)) (modules_standing_in (statements_of_body defined.body))
     (activation children caller) defining_scope
 
 -- what a module's body gives, in its scope, by the values of its parameters
-abbrev pub module_filled : Evaluator → SourceModule × Env → Vals → BodyTerm → Context → ℕ → ℕ → Outcome InstanceDesign
-module_filled evaluator found values body here turns leaves =
+abbrev pub module_with_values : Evaluator → SourceModule × Env → Vals → BodyTerm → Context → ℕ → ℕ → Outcome InstanceDesign
+module_with_values evaluator found values body here turns leaves =
     then_with (each_in_scope evaluator (inside_scope here (module_scope found.1 found.0 values (statements_of_body body) here.env))
     (statements_of_body found.0.body) turns leaves) (λ turns members.
     Gives turns (joined_members Union members))
 
 -- a module with its arguments: its special arguments stand among the dynamic bindings, and its defaults are evaluated in the
 -- scope of its definition
-abbrev pub module_given : Evaluator → SourceModule × Env → Arguments → BodyTerm → Context → ℕ → ℕ → Outcome InstanceDesign
-module_given evaluator found given body here turns leaves =
+abbrev pub module_with_arguments : Evaluator → SourceModule × Env → Arguments → BodyTerm → Context → ℕ → ℕ → Outcome InstanceDesign
+module_with_arguments evaluator found given body here turns leaves =
     let there = with_bindings here (given.dynamic ++ here.bindings) in
-    then_with (each_parameter (setting evaluator.evaluations (inside_scope there found.1)) found.0.params given.bound turns) (λ turns values.
-    module_filled evaluator found values body there turns leaves)
+    then_with (each_parameter (expression_context evaluator.evaluations (inside_scope there found.1)) found.0.params given.bound turns) (λ turns values.
+    module_with_values evaluator found values body there turns leaves)
 
 -- a module of the source, one call deeper: its defaults in the scope of its definition, then its body
 abbrev pub module_design : Evaluator → Context → Place → SourceModule × Env → Arguments → BodyTerm → ℕ → ℕ → Outcome InstanceDesign
 module_design evaluator here at found given body turns leaves =
     one_call_fewer here.calls_left at (λ calls.
     turn at turns (λ turns.
-    module_given evaluator found given body (with_calls_left here calls) turns leaves))
+    module_with_arguments evaluator found given body (with_calls_left here calls) turns leaves))
 
 -- The arguments of `echo`, in order: a name may come twice, a special name may not
-abbrev pub each_echo_argument : Setting → ArgTerms → Arguments → ℕ → Outcome Arguments
+abbrev pub each_echo_argument : ExpressionContext → ArgTerms → Arguments → ℕ → Outcome Arguments
 each_echo_argument here no_args given turns = Gives turns given
 each_echo_argument here (and_named at name expression rest) given turns =
-    then_with (deeper_value here true expression turns) (λ turns value. each_echo_argument here rest given turns)
+    then_with (value_at_next_depth here true expression turns) (λ turns value. each_echo_argument here rest given turns)
 each_echo_argument here (and_special at name expression rest) given turns =
     or_fault (destination_of [] 0 given (SpecialArgTerm at name expression)) BadArgument at (λ target.
-    then_with (deeper_value here true expression turns) (λ turns value. each_echo_argument here rest (with_argument given target value) turns))
+    then_with (value_at_next_depth here true expression turns) (λ turns value. each_echo_argument here rest (with_argument given target value) turns))
 each_echo_argument here (and_positional expression rest) given turns =
-    then_with (deeper_value here true expression turns) (λ turns value. each_echo_argument here rest given turns)
+    then_with (value_at_next_depth here true expression turns) (λ turns value. each_echo_argument here rest given turns)
 
 -- the arguments of a built-in module
-abbrev pub arguments_for : BuiltinModule → Setting → ArgTerms → ℕ → Outcome Arguments
+abbrev pub arguments_for : BuiltinModule → ExpressionContext → ArgTerms → ℕ → Outcome Arguments
 arguments_for Echo here args turns = each_echo_argument here args (no_arguments_of 0) turns
 arguments_for builtin here args turns =
     each_argument here (parameters_of builtin) 0 args (no_arguments_of (length (parameters_of builtin))) turns
@@ -323,16 +323,16 @@ counted_children evaluator at chosen here turns leaves =
 abbrev pub program_context : Pairs Val → StatementTerms → Context
 program_context bindings statements = record {
   calls_left = most_calls;
-  env = entered_scope statements no_activation (Within [] [] [] no_activation Outermost);
+  env = entered_scope statements no_activation (InnerScope [] [] [] no_activation NoScope);
   bindings = bindings;
   inside = None;
   under_root = false;
 }
 
 -- the design of a program: the first one marked `!`, or else all
-abbrev pub or_all : Option DesignTree → List DesignTree → DesignTree
-or_all None designs = balanced_join Union designs
-or_all (Some design) designs = design
+abbrev pub root_or_union : Option DesignTree → List DesignTree → DesignTree
+root_or_union None designs = balanced_join Union designs
+root_or_union (Some design) designs = design
 
 -- a shape in the plane stands inside an extrusion
 abbrev pub flat_design : Evaluator → Option Extrusion → Place → FlatCall → ℕ → ℕ → Outcome InstanceDesign
@@ -340,13 +340,13 @@ flat_design evaluator None at call turns leaves = Faults WrongDimension at
 flat_design evaluator (Some through) at call turns leaves =
     unless_refused (evaluator.judge.flat evaluator.unit call) at (leaf_design at (extrusion_mesh evaluator.unit through call) turns leaves)
 
--- what a call of a built-in module does, with its special arguments among the dynamic bindings
+-- what a call of a built-in module gives, by what its arguments ask for
 abbrev pub effect_design : Evaluator → Context → Place → EffectCall → BodyTerm → ℕ → ℕ → Outcome InstanceDesign
 effect_design evaluator here at (a_solid call) body turns leaves =
     unless_refused (evaluator.judge.solid evaluator.unit call) at (leaf_design at (solid_mesh evaluator.unit call) turns leaves)
 effect_design evaluator here at (a_flat call) body turns leaves = flat_design evaluator here.inside at call turns leaves
 effect_design evaluator here at (a_move steps) body turns leaves =
-    then_with (body_design evaluator Union here body turns leaves) (λ turns result. Gives turns (moved_design (moved_by steps) result))
+    then_with (body_design evaluator Union here body turns leaves) (λ turns result. Gives turns (moved_design (moved_design_tree steps) result))
 effect_design evaluator here at (a_join op) body turns leaves = body_design evaluator op here body turns leaves
 effect_design evaluator here at a_hull body turns leaves =
     then_with (body_design evaluator Union here body turns leaves) (λ turns result. hull_design (evaluator.judge.hull result.design) at result turns)
@@ -358,8 +358,8 @@ effect_design evaluator here at no_geometry body turns leaves =
 effect_design evaluator here at (some_children chosen) body turns leaves = counted_children evaluator at chosen here turns leaves
 
 -- a built-in module with its arguments
-abbrev pub built_in_given : Evaluator → Place → BuiltinModule → Arguments → BodyTerm → Context → ℕ → ℕ → Outcome InstanceDesign
-built_in_given evaluator at builtin given body here turns leaves =
+abbrev pub built_in_with_arguments : Evaluator → Place → BuiltinModule → Arguments → BodyTerm → Context → ℕ → ℕ → Outcome InstanceDesign
+built_in_with_arguments evaluator at builtin given body here turns leaves =
     let there = with_bindings here (given.dynamic ++ here.bindings) in
     answered_with (effect_of evaluator.unit (is_some here.inside) (find_in there.bindings (codes "fn")) builtin given.bound) at (λ effect.
     effect_design evaluator there at effect body turns leaves)
@@ -369,24 +369,24 @@ abbrev pub built_in_design : Evaluator → Context → Place → List ℕ → Li
 built_in_design evaluator here at name args body None turns leaves =
     Faults (if is_left_out_module name then NotInProfile else UnknownModule) at
 built_in_design evaluator here at name args body (Some builtin) turns leaves =
-    then_with (arguments_for builtin (setting evaluator.evaluations here) (args_from args) turns) (λ turns given.
-    built_in_given evaluator at builtin given body here turns leaves)
+    then_with (arguments_for builtin (expression_context evaluator.evaluations here) (args_from args) turns) (λ turns given.
+    built_in_with_arguments evaluator at builtin given body here turns leaves)
 
 -- a call of a module: the source's go before built-in ones
 abbrev pub call_design : Evaluator → Context → Place → List ℕ → List ArgTerm → BodyTerm → Option (SourceModule × Env) → ℕ → ℕ → Outcome InstanceDesign
 call_design evaluator here at name args body (Some found) turns leaves =
-    then_with (each_argument (setting evaluator.evaluations here) (parameter_names found.0.params) 0 (args_from args) (no_arguments_of (length found.0.params)) turns) (λ turns given.
+    then_with (each_argument (expression_context evaluator.evaluations here) (parameter_names found.0.params) 0 (args_from args) (no_arguments_of (length found.0.params)) turns) (λ turns given.
     module_design evaluator here at found given body turns leaves)
 call_design evaluator here at name args body None turns leaves =
-    built_in_design evaluator here at name args body (module_named name) turns leaves
+    built_in_design evaluator here at name args body (builtin_module_of name) turns leaves
 
 -- what an instance without its modifiers gives
 abbrev pub core_design : Evaluator → Context → CoreTerm → ℕ → ℕ → Outcome InstanceDesign
 core_design evaluator here (IfTerm at test body) turns leaves =
-    then_with (deeper_value (setting evaluator.evaluations here) true test turns) (λ turns value.
+    then_with (value_at_next_depth (expression_context evaluator.evaluations here) true test turns) (λ turns value.
     if truth_of value then body_design evaluator Union here body turns leaves else Gives turns (no_design leaves))
 core_design evaluator here (IfElseTerm at test body other) turns leaves =
-    then_with (deeper_value (setting evaluator.evaluations here) true test turns) (λ turns value.
+    then_with (value_at_next_depth (expression_context evaluator.evaluations here) true test turns) (λ turns value.
     body_design evaluator Union here (if truth_of value then body else other) turns leaves)
 core_design evaluator here (ForTerm at binders body) turns leaves =
     loop_design evaluator Union here at binders body turns leaves
@@ -430,4 +430,4 @@ evaluator_with unit judge evaluations =
 unfoldable pub design_of : LengthUnit → Judge → Pairs Val → StatementTerms → Outcome DesignTree
 design_of unit judge bindings statements =
     then_with (each_in_scope (evaluator_with unit judge most_evaluations) (program_context bindings statements) statements 0 0) (λ turns members.
-    Gives turns (or_all members.root members.designs))
+    Gives turns (root_or_union members.root members.designs))

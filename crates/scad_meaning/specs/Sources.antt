@@ -3,7 +3,7 @@ use Rattle.std.specs.Prelude.{◌≡◌, List, []}
 use Rattle.text_place.specs.declared.fault.Place.{Place}
 use Rattle.text_place.specs.declared.fault.FaultKind.{FaultKind}
 use Rattle.plane_predicate.specs.declared.unit.Unit.{Unit as LengthUnit}
-use Rattle.csg_tree.specs.Formulas.{Formula}
+use Rattle.csg_tree.specs.HalfSpaceTrees.{Tree}
 use Rattle.scad_ast.specs.Terms.{StatementTerm, statements_from}
 use Rattle.scad_ast.specs.Places.{HoldsPlace}
 use Rattle.text_place.specs.declared.fault.Stop.{Stop}
@@ -13,22 +13,22 @@ use Rattle.scad_func.specs.Meaning.{Outcome, Gives, Faults}
 use Rattle.scad_design.specs.Designs.{DesignTree}
 use Rattle.scad_meaning.specs.Verdicts.{Judge, IsRightJudge}
 use Rattle.scad_meaning.specs.Meaning.{design_of}
-use Rattle.scad_design.specs.Placing.{PlacingOutcome, placed, unplaced, Places}
+use Rattle.scad_design.specs.Placing.{PlacingOutcome, placing_tree, placing_fault, PlacesDesign}
 
 -- a program means a tree, or has a first fault
 pub data Meaning : Type 0 where
-  a_tree : (tree : Formula) → Meaning
+  a_tree : (tree : Tree) → Meaning
   a_fault : (kind : FaultKind) → (at : Place) → Meaning
 
 -- this is what the placing of a design means
 abbrev pub IsMeaningOf : PlacingOutcome → Meaning → Type 0
-IsMeaningOf (placed tree known) meaning = meaning ≡ a_tree tree
-IsMeaningOf (unplaced kind at) meaning = meaning ≡ a_fault kind at
+IsMeaningOf (placing_tree tree known) meaning = meaning ≡ a_tree tree
+IsMeaningOf (placing_fault kind at) meaning = meaning ≡ a_fault kind at
 
 -- a fault of evaluation comes before those of placing
 abbrev pub IsMeaningOfDesign : Outcome DesignTree → Meaning → Type 0
 IsMeaningOfDesign (Faults kind at) meaning = meaning ≡ a_fault kind at
-IsMeaningOfDesign (Gives turns design) meaning = (out : PlacingOutcome) × Places design [] out × IsMeaningOf out meaning
+IsMeaningOfDesign (Gives turns design) meaning = (out : PlacingOutcome) × PlacesDesign design [] out × IsMeaningOf out meaning
 
 -- the meaning of a program in units, by whatever is right about shapes
 abbrev pub IsMeaning : LengthUnit → List StatementTerm → Meaning → Type 0

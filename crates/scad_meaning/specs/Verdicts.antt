@@ -9,7 +9,7 @@ use Rattle.primitives.specs.Polygons.{square_of, polygon_of, IsWrittenPolygon, I
 use Rattle.primitives.specs.Prisms.{extrusion_of}
 use Rattle.round_four.specs.Circles.{circle_of, IsCircleSize, IsCircleFault}
 use Rattle.round_four.specs.Cylinders.{cylinder_of, AreCylinderSizes, IsCylinderFault}
-use Rattle.primitives.specs.Polyhedra.{mesh_of, IsPolyhedron, IsFaultOf, checks, faults}
+use Rattle.primitives.specs.Polyhedra.{polyhedron_of, IsPolyhedron, IsFaultOf, polyhedron_checks, polyhedron_faults}
 use Rattle.scad_design.specs.Designs.{DesignTree}
 use Rattle.scad_meaning.specs.declared.extrusion.Extrusion.{Extrusion}
 use Rattle.scad_meaning.specs.Hulls.{HasHull, IsHullFault}
@@ -32,7 +32,7 @@ abbrev pub IsSolidVerdict : LengthUnit → SolidCall → Verdict → Type 0
 IsSolidVerdict unit (cube_call center size) None = AreSizes unit center size
 IsSolidVerdict unit (cube_call center size) (Some kind) = IsSizeFault unit center size kind
 IsSolidVerdict unit (polyhedron_call points faces) None = IsPolyhedron unit points faces
-IsSolidVerdict unit (polyhedron_call points faces) (Some kind) = IsFaultOf (checks unit points faces) faults kind
+IsSolidVerdict unit (polyhedron_call points faces) (Some kind) = IsFaultOf (polyhedron_checks unit points faces) polyhedron_faults kind
 IsSolidVerdict unit (cylinder_call center height low high) None = AreCylinderSizes unit center height low high
 IsSolidVerdict unit (cylinder_call center height low high) (Some kind) = IsCylinderFault unit center height low high kind
 
@@ -65,15 +65,15 @@ pub record IsRightJudge (judge : Judge) : Type 0 where
 -- the shape with nothing wrong, in grid steps
 abbrev pub solid_mesh : LengthUnit → SolidCall → Mesh
 solid_mesh unit (cube_call center size) = cube_of unit center size
-solid_mesh unit (polyhedron_call points faces) = mesh_of unit points faces
+solid_mesh unit (polyhedron_call points faces) = polyhedron_of unit points faces
 solid_mesh unit (cylinder_call center height low high) = cylinder_of unit center height low high
 
--- the outline of a flat shape with nothing wrong, in grid steps
-abbrev pub flat_outline : LengthUnit → FlatCall → List (List ℤ)
-flat_outline unit (square_call center size) = square_of unit center size
-flat_outline unit (polygon_call points) = polygon_of unit points
-flat_outline unit (circle_call radius) = circle_of unit radius
+-- the points of a flat shape with nothing wrong, in grid steps
+abbrev pub flat_points : LengthUnit → FlatCall → List (List ℤ)
+flat_points unit (square_call center size) = square_of unit center size
+flat_points unit (polygon_call points) = polygon_of unit points
+flat_points unit (circle_call radius) = circle_of unit radius
 
 -- the extrusion of a flat shape, in grid steps
 abbrev pub extrusion_mesh : LengthUnit → Extrusion → FlatCall → Mesh
-extrusion_mesh unit through call = extrusion_of unit through.center (flat_outline unit call) through.height
+extrusion_mesh unit through call = extrusion_of unit through.center (flat_points unit call) through.height

@@ -6,7 +6,7 @@ ghost use Rattle.text_place.specs.declared.fault.Place.{Place};
 ghost use Rattle.text_place.specs.declared.fault.FaultKind.{FaultKind};
 ghost use Rattle.scad_ast.specs.Terms.{StatementTerm, StatementTerms};
 ghost use Rattle.scad_ast.specs.Places.{HoldsPlace};
-ghost use Rattle.scad_definitions.specs.Blocks.{assigned_in, assignments_of};
+ghost use Rattle.scad_definitions.specs.Blocks.{assignments_in, assignments_of};
 ghost use Rattle.scad_meaning.specs.Bodies.{StandsForAll, HaveDistinctNames, is_named_in};
 ghost use Rattle.plane_predicate.specs.declared.unit.Unit.{Unit as LengthUnit};
 ghost use Rattle.plane_predicate.specs.Space.{Coordinates};
@@ -15,7 +15,7 @@ ghost use Rattle.scad_hull.specs.Combinations.{IsInnerCombination};
 ghost use Rattle.scad_hull.specs.Hulls.{points_in_order};
 ghost use Rattle.scad_meaning.specs.Hulls.{hull_mesh, points_of};
 ghost use Rattle.scad_modules.specs.Effects.{SolidCall, FlatCall};
-ghost use Rattle.csg_tree.specs.Formulas.{Formula};
+ghost use Rattle.csg_tree.specs.HalfSpaceTrees.{Tree};
 ghost use Rattle.csg_tree.specs.ProperTrees.{IsProper};
 ghost use Rattle.scad_design.specs.Designs.{DesignTree};
 ghost use Rattle.scad_meaning.specs.Verdicts.{Verdict, Judge, IsRightJudge, IsSolidVerdict, IsFlatVerdict, IsHeightVerdict, IsHullVerdict};
@@ -29,12 +29,12 @@ use scad_hull::hulls_hold_inner_combinations;
 /// first.
 pub fn last_assignments_count()
     ensures counts { (statements : StatementTerms) →
-        AllByRecursion (StandsForAll (assigned_in statements))
+        AllByRecursion (StandsForAll (assignments_in statements))
         (assignments_of statements) }
     ensures once { (statements : StatementTerms) → HaveDistinctNames (assignments_of statements) }
     ensures all { (statements : StatementTerms) → AllByRecursion
         (λ a. is_named_in (assignments_of statements) a ≡ true)
-        (assigned_in statements) }
+        (assignments_in statements) }
 {}
 
 /// What is wrong with a shape, with the height of an extrusion or with a hull is one thing: some judge is always right, and
@@ -54,7 +54,8 @@ pub fn shapes_have_one_verdict()
 /// Where nothing is wrong with the hull of what children give, a point is strictly behind all of its faces exactly where it is
 /// a combination, with weights above 0, of the points of their leaves, each moved by its leaf's steps.
 pub fn hulls_in_programs_hold_inner_combinations()
-    ensures { (judge : Judge) → IsRightJudge judge → (design : DesignTree) → judge.hull design ≡ None →
+    ensures { (judge : Judge) → IsRightJudge judge → (design : DesignTree) →
+        judge.hull design ≡ None →
         (q : Coordinates) →
         pos 0 <ℤ q.w →
         IsInside (hull_mesh design) q ↔ IsInnerCombination (points_in_order (points_of design)) q }
@@ -69,7 +70,7 @@ pub fn one_meaning()
         IsMeaning unit program m →
         IsMeaning unit program n → m ≡ n }
 {
-    // These bring laws alone: right judges say the same, and a design has one placing at most.
+    // Each call brings a law alone: right judges say the same, and a design has one placing at most.
     shapes_have_one_verdict();
     one_placing();
 }
@@ -79,7 +80,7 @@ pub fn some_meaning()
     ensures { (unit : LengthUnit) (program : List StatementTerm) →
         (meaning : Meaning) × IsMeaning unit program meaning }
 {
-    // These bring laws alone: right judges say the same, and a design has a placing.
+    // Each call brings a law alone: right judges say the same, and a design has a placing.
     shapes_have_one_verdict();
     some_placing();
 }
@@ -87,11 +88,11 @@ pub fn some_meaning()
 /// The tree that a program means is proper: its leaves have planes, which have the numbers of a plane and come in reach, no
 /// join of it has an empty side, and it has fewer than 2^32 subtrees.
 pub fn programs_mean_proper_trees()
-    ensures { (unit : LengthUnit) (program : List StatementTerm) (tree : Formula) →
+    ensures { (unit : LengthUnit) (program : List StatementTerm) (tree : Tree) →
         IsMeaning unit program (a_tree tree) →
         IsProper tree }
 {
-    // These bring laws alone: right judges say the same, designs stay trim, and what is placed of a trim one is proper.
+    // Each call brings a law alone: right judges say the same, designs stay trim, and what is placed of a trim one is proper.
     shapes_have_one_verdict();
     designs_stay_trim();
     placed_trees_are_proper();

@@ -11,7 +11,7 @@ use Rattle.scad_value.specs.Operators.{AnswerOrFault}
 use Rattle.scad_modules.specs.declared.table.BuiltinModule.{BuiltinModule}
 use Rattle.scad_modules.specs.declared.table.BuiltinModule.TheVariants.{Cube, Polyhedron, Cylinder, Square, Polygon, Circle, LinearExtrude, Translate, Rotate, Mirror, Scale, Multmatrix, Union, Hull, Color, Echo, Assert, Children}
 use Rattle.scad_modules.specs.Effects.{EffectCall, a_solid, a_flat, a_move, a_join, a_hull, an_extrusion, no_geometry, some_children, cube_call, polyhedron_call, cylinder_call, square_call, polygon_call, circle_call, all_children, numbered_children, ranged_children}
-use Rattle.scad_modules.specs.Table.{module_named, is_left_out_module}
+use Rattle.scad_modules.specs.Table.{builtin_module_of, is_left_out_module}
 use Rattle.scad_modules.specs.Calls.{effect_of}
 
 abbrev given : ℕ → Option Val
@@ -297,13 +297,13 @@ none_of_them : outside Children (Some UndefVal ∷ []) ≡ Err TypeMismatch
 none_of_them = refl
 
 -- names
-scale_is_known : module_named (codes "scale") ≡ Some Scale
+scale_is_known : builtin_module_of (codes "scale") ≡ Some Scale
 scale_is_known = refl
 
-sphere_is_unknown : module_named (codes "sphere") ≡ None
+sphere_is_unknown : builtin_module_of (codes "sphere") ≡ None
 sphere_is_unknown = refl
 
-hull_is_known : module_named (codes "hull") ≡ Some Hull
+hull_is_known : builtin_module_of (codes "hull") ≡ Some Hull
 hull_is_known = refl
 
 hull_is_not_left_out : is_left_out_module (codes "hull") ≡ false

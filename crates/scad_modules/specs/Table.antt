@@ -5,8 +5,8 @@ use Rattle.scad_modules.specs.declared.table.BuiltinModule.{BuiltinModule}
 use Rattle.scad_modules.specs.declared.table.BuiltinModule.TheVariants.{Cube, Polyhedron, Cylinder, Square, Polygon, Circle, LinearExtrude, Translate, Rotate, Mirror, Scale, Multmatrix, Union, Difference, Intersection, Hull, Color, Render, Echo, Assert, Children}
 
 -- the built-in module of a name
-abbrev pub module_named : List ℕ → Option BuiltinModule
-module_named name = named_in
+abbrev pub builtin_module_of : List ℕ → Option BuiltinModule
+builtin_module_of name = named_in
     ((codes "cube", Cube) ∷ (codes "polyhedron", Polyhedron) ∷ (codes "cylinder", Cylinder) ∷ (codes "square", Square)
     ∷ (codes "polygon", Polygon) ∷ (codes "circle", Circle) ∷ (codes "linear_extrude", LinearExtrude)
     ∷ (codes "translate", Translate) ∷ (codes "rotate", Rotate) ∷ (codes "mirror", Mirror) ∷ (codes "scale", Scale)

@@ -1,9 +1,8 @@
 -- Calls of transforms (OpenSCAD User Manual, "Transformations"). Inside an extrusion a transform must keep the plane.
-use Rattle.std.specs.Prelude.{ℕ, ◌-◌, ◌/◌, ◌%◌, ℤ, pos, ◌*ℤ◌, unsigned_abs, Bool, not, ◌&&◌, ◌||◌, List, [], ◌∷◌, get_or, Option, Some, None, Ok, Err, nat_eq, nat_lt, int_lt, if◌then◌else◌}
+use Rattle.std.specs.Prelude.{ℕ, ◌-◌, ◌/◌, ◌%◌, ℤ, pos, unsigned_abs, Bool, not, ◌&&◌, ◌||◌, List, [], ◌∷◌, get_or, Option, Some, None, Ok, Err, nat_eq, nat_lt, int_lt, if◌then◌else◌}
 use Rattle.std.specs.Ordering.{int_eq}
 use Rattle.text_place.specs.declared.fault.FaultKind.TheVariants.{TooLarge, NotQuarter, NotInProfile, Singular, WrongDimension}
 use Rattle.plane_predicate.specs.declared.unit.Unit.{Unit as LengthUnit}
-use Rattle.plane_predicate.specs.Units.{steps_of}
 use Rattle.plane_predicate.specs.Space.{point_at}
 use Rattle.int_transform.specs.declared.affine.Affine.{Affine}
 use Rattle.int_transform.specs.Maps.{translation, scale_map, reflection, quarter_rotation, power_of, affine_of, determinant_of}
@@ -11,6 +10,7 @@ use Rattle.scad_value.specs.Values.{Val, is_small}
 use Rattle.scad_value.specs.Operators.{AnswerOrFault}
 use Rattle.scad_modules.specs.Reading.{BoundArguments, bound_argument, coordinates_in, angles_in, factors_in, points_in, required_argument, unless_left_out, of_type, refused_where}
 use Rattle.scad_modules.specs.Effects.{EffectCall, a_move}
+use Rattle.primitives.specs.Sizes.{length_in_grid_steps}
 
 -- a number of a vector or a row, by its place from 0
 abbrev pub component : List ℤ → ℕ → ℤ
@@ -21,16 +21,12 @@ abbrev pub is_zero : ℤ → Bool
 is_zero n = int_eq n (pos 0)
 
 -- a number that is past 2^53 - 1 in size
-abbrev pub is_past : ℤ → Bool
-is_past n = not (is_small n)
-
--- a length in units, in grid steps
-abbrev pub length_in_steps : LengthUnit → ℤ → ℤ
-length_in_steps unit length = steps_of unit *ℤ length
+abbrev pub is_past_safe_size : ℤ → Bool
+is_past_safe_size n = not (is_small n)
 
 -- a vector in units, in grid steps
 abbrev pub vector_on_grid : LengthUnit → List ℤ → List ℤ
-vector_on_grid unit by = length_in_steps unit (component by 0) ∷ length_in_steps unit (component by 1) ∷ length_in_steps unit (component by 2) ∷ []
+vector_on_grid unit by = length_in_grid_steps unit (component by 0) ∷ length_in_grid_steps unit (component by 1) ∷ length_in_grid_steps unit (component by 2) ∷ []
 
 -- something is so of one of three numbers
 abbrev pub some_component : (ℤ → Bool) → List ℤ → Bool
@@ -46,7 +42,7 @@ translate_effect unit inside bound =
     required_argument (bound_argument bound 0) (λ v.
     of_type (coordinates_in (pos 0) v) (λ by.
     refused_where (leaves_plane inside by) WrongDimension
-    (refused_where (some_component is_past (vector_on_grid unit by)) TooLarge
+    (refused_where (some_component is_past_safe_size (vector_on_grid unit by)) TooLarge
     (Ok (a_move (translation (point_at (vector_on_grid unit by)) ∷ []))))))
 
 -- an angle that is no number of quarter turns
@@ -60,16 +56,16 @@ quarters_of angle =
     if int_lt angle (pos 0) then (4 - quarters) % 4 else quarters
 
 -- the rotation about an axis by so many quarter turns as an angle is
-abbrev pub quarter_turns_about : ℕ → ℤ → Affine
-quarter_turns_about axis angle = power_of (quarter_rotation axis) (quarters_of angle)
+abbrev pub quarter_rotation_about : ℕ → ℤ → Affine
+quarter_rotation_about axis angle = power_of (quarter_rotation axis) (quarters_of angle)
 
 -- inside an extrusion, a rotation about x or y
 abbrev pub tilts_plane : Bool → List ℤ → Bool
 tilts_plane inside angles = inside && not (is_zero (component angles 0) && is_zero (component angles 1))
 
 -- the rotations about x, y and z, the first done first
-abbrev pub quarter_turns : List ℤ → List Affine
-quarter_turns angles = quarter_turns_about 0 (component angles 0) ∷ quarter_turns_about 1 (component angles 1) ∷ quarter_turns_about 2 (component angles 2) ∷ []
+abbrev pub quarter_rotations : List ℤ → List Affine
+quarter_rotations angles = quarter_rotation_about 0 (component angles 0) ∷ quarter_rotation_about 1 (component angles 1) ∷ quarter_rotation_about 2 (component angles 2) ∷ []
 
 -- rotate(a): about x, then y, then z
 abbrev pub rotate_effect : Bool → BoundArguments → AnswerOrFault EffectCall
@@ -79,18 +75,18 @@ rotate_effect inside bound =
     (of_type (angles_in v) (λ angles.
     refused_where (some_component is_skew angles) NotQuarter
     (refused_where (tilts_plane inside angles) WrongDimension
-    (Ok (a_move (quarter_turns angles)))))))
+    (Ok (a_move (quarter_rotations angles)))))))
 
 -- a number that isn't 0, beside two that are
-abbrev pub is_alone : ℤ → ℤ → ℤ → Bool
-is_alone n m k = not (is_zero n) && (is_zero m && is_zero k)
+abbrev pub is_only_nonzero : ℤ → ℤ → ℤ → Bool
+is_only_nonzero n m k = not (is_zero n) && (is_zero m && is_zero k)
 
 -- the one axis along which a vector goes
 abbrev pub axis_of : List ℤ → Option ℕ
 axis_of by =
-    if is_alone (component by 0) (component by 1) (component by 2) then Some 0
-    else (if is_alone (component by 1) (component by 0) (component by 2) then Some 1
-    else (if is_alone (component by 2) (component by 0) (component by 1) then Some 2 else None))
+    if is_only_nonzero (component by 0) (component by 1) (component by 2) then Some 0
+    else (if is_only_nonzero (component by 1) (component by 0) (component by 2) then Some 1
+    else (if is_only_nonzero (component by 2) (component by 0) (component by 1) then Some 2 else None))
 
 -- goes on with the axis, or leaves out a vector that has none
 abbrev pub for_axis : Option ℕ → (ℕ → AnswerOrFault EffectCall) → AnswerOrFault EffectCall
@@ -167,7 +163,7 @@ leaves_plane_by inside rows = inside && not (keeps_plane rows)
 
 -- a row with its move in grid steps
 abbrev pub row_on_grid : LengthUnit → List ℤ → List ℤ
-row_on_grid unit row = component row 0 ∷ component row 1 ∷ component row 2 ∷ length_in_steps unit (component row 3) ∷ []
+row_on_grid unit row = component row 0 ∷ component row 1 ∷ component row 2 ∷ length_in_grid_steps unit (component row 3) ∷ []
 
 -- the rows with their moves in grid steps
 abbrev pub rows_on_grid : LengthUnit → List (List ℤ) → List (List ℤ)
@@ -176,7 +172,7 @@ rows_on_grid unit rows =
 
 -- whether the move of a row is past 2^53 - 1 grid steps
 abbrev pub moves_past : LengthUnit → List ℤ → Bool
-moves_past unit row = is_past (length_in_steps unit (component row 3))
+moves_past unit row = is_past_safe_size (length_in_grid_steps unit (component row 3))
 
 -- multmatrix(m)
 abbrev pub multmatrix_effect : LengthUnit → Bool → BoundArguments → AnswerOrFault EffectCall

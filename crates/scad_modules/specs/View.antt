@@ -41,23 +41,23 @@ chosen_of (Numbered numbers) = numbered_children numbers.items
 chosen_of (Range from by upto) = ranged_children from by upto
 
 -- what a call does
-abbrev pub call_of : Effect → EffectCall
-call_of (Solid shape) = a_solid (solid_call_of shape)
-call_of (Flat shape) = a_flat (flat_call_of shape)
-call_of (Move steps) = a_move steps.items
-call_of (Join op) = a_join op
-call_of Hull = a_hull
-call_of (Extrusion height center) = an_extrusion center height
-call_of Nothing = no_geometry
-call_of (Children chosen) = some_children (chosen_of chosen)
+abbrev pub effect_call_of : Effect → EffectCall
+effect_call_of (Solid shape) = a_solid (solid_call_of shape)
+effect_call_of (Flat shape) = a_flat (flat_call_of shape)
+effect_call_of (Move steps) = a_move steps.items
+effect_call_of (Join op) = a_join op
+effect_call_of Hull = a_hull
+effect_call_of (Extrusion height center) = an_extrusion center height
+effect_call_of Nothing = no_geometry
+effect_call_of (Children chosen) = some_children (chosen_of chosen)
 
 -- what was given is the effect or the fault, unless memory ran out
 abbrev pub MeetsEffect : Result Effect ValueStop → AnswerOrFault EffectCall → Type 0
-MeetsEffect (Ok effect) answer = answer ≡ Ok (call_of effect)
+MeetsEffect (Ok effect) answer = answer ≡ Ok (effect_call_of effect)
 MeetsEffect (Err (Kind kind)) answer = answer ≡ Err kind
 MeetsEffect (Err NoMemory) answer = Unit {0}
 
 -- the effect that was given has numbers of at most 2^53 - 1 in size
 abbrev pub GivesSafe : Result Effect ValueStop → Type 0
-GivesSafe (Ok effect) = IsSafeCall (call_of effect)
+GivesSafe (Ok effect) = IsSafeCall (effect_call_of effect)
 GivesSafe (Err stop) = Unit {0}

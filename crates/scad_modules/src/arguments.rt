@@ -29,8 +29,10 @@ pub(crate) fn required_argument(
     bound: &[Option<BoundedValue>],
     parameter: usize,
 ) -> Result<&BoundedValue, FaultKind>
-    ensures { MatchResult result (λ v. bound_argument (bound_arguments_in bound.now) parameter ≡ Some (bounded_val v.now))
-        (λ kind. (bound_argument (bound_arguments_in bound.now) parameter ≡ None) × (kind ≡ BadArgument)) }
+    ensures { MatchResult result (λ v. bound_argument (bound_arguments_in bound.now) parameter
+        ≡ Some (bounded_val v.now))
+        (λ kind. (bound_argument (bound_arguments_in bound.now) parameter ≡ None)
+        × (kind ≡ BadArgument)) }
 {
     match bound_argument(bound, parameter) {
         Some(value) => Ok(value),
@@ -51,7 +53,8 @@ pub(crate) fn found_number(
     parameter: usize,
     default: i64,
 ) -> Result<i64, FaultKind>
-    ensures { ReadsArgument result (or_default default number_in_value (bound_argument (bound_arguments_in bound.now) parameter)) }
+    ensures { ReadsArgument result (or_default default number_in_value
+        (bound_argument (bound_arguments_in bound.now) parameter)) }
 {
     match bound_argument(bound, parameter) {
         Some(value) => number(&value.value).ok_or(FaultKind::TypeMismatch),
@@ -65,7 +68,8 @@ pub(crate) fn is_centered(
     bound: &[Option<BoundedValue>],
     parameter: usize,
 ) -> Result<bool, FaultKind>
-    ensures { ReadsArgument result (or_default false truth_in (bound_argument (bound_arguments_in bound.now) parameter)) }
+    ensures { ReadsArgument result (or_default false truth_in (bound_argument
+        (bound_arguments_in bound.now) parameter)) }
 {
     match bound_argument(bound, parameter) {
         Some(value) => truth_value(&value.value).ok_or(FaultKind::TypeMismatch),

@@ -27,7 +27,7 @@ use text_place::FaultKind;
 /// own, as their calls say.
 ///
 /// `inside` says whether the call stands inside an extrusion, `fragments` is the value of `$fn`,
-/// and `slots` has a value or none for each of the module's parameters in order; a missing one is
+/// and `bound` has a value or none for each of the module's parameters in order; a missing one is
 /// none. Numbers of sizes, radii and heights, and those by which children are chosen, are at most
 /// 2^53 - 1 in size.
 pub fn effect(
@@ -99,7 +99,8 @@ fn children(alloc: Global, bound: &[Option<BoundedValue>]) -> Result<Effect, Val
 
 // Which children are wanted: all, where no index is given.
 fn chosen(alloc: Global, bound: &[Option<BoundedValue>]) -> Result<Chosen, ValueStop>
-    ensures { ReadsArgumentAs chosen_of result (or_default all_children chosen_in (bound_argument (bound_arguments_in bound.now) 0)) }
+    ensures { ReadsArgumentAs chosen_of result
+        (or_default all_children chosen_in (bound_argument (bound_arguments_in bound.now) 0)) }
 {
     match bound_argument(bound, 0) {
         Some(value) => chosen_by(alloc, &value.value),

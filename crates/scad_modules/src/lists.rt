@@ -64,7 +64,8 @@ fn face(alloc: Global, value: &Value) -> Result<Corners, ValueStop>
 
 // Each value as a number, or TypeMismatch.
 fn each_number(alloc: Global, values: &[Value]) -> Result<Vec<i64>, ValueStop>
-    ensures { ReadsArgumentAs (λ v. v.items) result (each_in number_in_value (vals_from (vals_in values.now))) }
+    ensures { ReadsArgumentAs (λ v. v.items) result
+        (each_in number_in_value (vals_from (vals_in values.now))) }
 {
     let mut numbers = Vec::new(alloc);
     for value in values {
@@ -78,7 +79,8 @@ fn each_number(alloc: Global, values: &[Value]) -> Result<Vec<i64>, ValueStop>
 
 // Each value as the number of a corner, or TypeMismatch.
 fn each_corner(alloc: Global, values: &[Value]) -> Result<Vec<u32>, ValueStop>
-    ensures { ReadsArgumentAs (λ v. v.items) result (each_in corner_in (vals_from (vals_in values.now))) }
+    ensures { ReadsArgumentAs (λ v. v.items) result
+        (each_in corner_in (vals_from (vals_in values.now))) }
 {
     let mut corners = Vec::new(alloc);
     for value in values {
@@ -92,7 +94,8 @@ fn each_corner(alloc: Global, values: &[Value]) -> Result<Vec<u32>, ValueStop>
 
 // Each value as a point of two numbers, or TypeMismatch.
 fn each_pair(alloc: Global, values: &[Value]) -> Result<Vec<[i64; 2]>, ValueStop>
-    ensures { ReadsArgumentAs (λ v. v.items) result (each_in (vector_in 2) (vals_from (vals_in values.now))) }
+    ensures { ReadsArgumentAs (λ v. v.items) result
+        (each_in (vector_in 2) (vals_from (vals_in values.now))) }
 {
     let mut points = Vec::new(alloc);
     for value in values {
@@ -106,7 +109,8 @@ fn each_pair(alloc: Global, values: &[Value]) -> Result<Vec<[i64; 2]>, ValueStop
 
 // Each value as a point of three numbers, or TypeMismatch.
 fn each_triple(alloc: Global, values: &[Value]) -> Result<Vec<[i64; 3]>, ValueStop>
-    ensures { ReadsArgumentAs (λ v. v.items) result (each_in (vector_in 3) (vals_from (vals_in values.now))) }
+    ensures { ReadsArgumentAs (λ v. v.items) result
+        (each_in (vector_in 3) (vals_from (vals_in values.now))) }
 {
     let mut points = Vec::new(alloc);
     for value in values {
@@ -120,7 +124,8 @@ fn each_triple(alloc: Global, values: &[Value]) -> Result<Vec<[i64; 3]>, ValueSt
 
 // Each value as the corners of a face, or TypeMismatch.
 fn each_face(alloc: Global, values: &[Value]) -> Result<Vec<Corners>, ValueStop>
-    ensures { ReadsArgumentAs (λ v. v.items) result (each_in face_in (vals_from (vals_in values.now))) }
+    ensures { ReadsArgumentAs (λ v. v.items) result
+        (each_in face_in (vals_from (vals_in values.now))) }
 {
     let mut faces = Vec::new(alloc);
     for value in values {

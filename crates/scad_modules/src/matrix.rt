@@ -30,7 +30,8 @@ pub(crate) fn multmatrix(
     inside: bool,
     bound: &[Option<BoundedValue>],
 ) -> Result<Effect, ValueStop>
-    ensures effect { MeetsEffect result (multmatrix_effect unit inside (bound_arguments_in bound.now)) }
+    ensures effect { MeetsEffect result (multmatrix_effect unit inside
+        (bound_arguments_in bound.now)) }
     ensures safe { GivesSafe result }
 {
     let rows = rows(&required_argument(bound, 0)?.value).ok_or(FaultKind::TypeMismatch)?;
@@ -138,9 +139,11 @@ fn keeps_plane(rows: [[i64; 4]; 3]) -> bool
 
 // The rows with their moves in grid steps, or TooLarge where one is past 2^53 - 1 in size.
 fn rows_on_grid(unit: Unit, rows: [[i64; 4]; 3]) -> Result<[[i64; 4]; 3], FaultKind>
-    ensures value { MatchResult result (λ moved. (moved ≡ rows_on_grid unit rows) × (some_row (moves_past unit) rows ≡ false))
+    ensures value { MatchResult result (λ moved. (moved ≡ rows_on_grid unit rows)
+        × (some_row (moves_past unit) rows ≡ false))
         (λ kind. (kind ≡ TooLarge) × (some_row (moves_past unit) rows ≡ true)) }
-    ensures safe { IfOk result (λ moved. (unsigned_abs (component (row_numbered moved 0) 3) ≤ 9007199254740991)
+    ensures safe { IfOk result (λ moved. (unsigned_abs (component (row_numbered moved 0) 3)
+        ≤ 9007199254740991)
         × (unsigned_abs (component (row_numbered moved 1) 3) ≤ 9007199254740991)
         × (unsigned_abs (component (row_numbered moved 2) 3) ≤ 9007199254740991)) }
 {
@@ -152,7 +155,8 @@ fn rows_on_grid(unit: Unit, rows: [[i64; 4]; 3]) -> Result<[[i64; 4]; 3], FaultK
 
 // A row with its move in grid steps, or TooLarge where that is past 2^53 - 1 in size.
 fn row_on_grid(unit: Unit, row: [i64; 4]) -> Result<[i64; 4], FaultKind>
-    ensures value { MatchResult result (λ moved. (moved ≡ row_on_grid unit row) × (moves_past unit row ≡ false))
+    ensures value { MatchResult result (λ moved. (moved ≡ row_on_grid unit row)
+        × (moves_past unit row ≡ false))
         (λ kind. (kind ≡ TooLarge) × (moves_past unit row ≡ true)) }
     ensures safe { IfOk result (λ moved. unsigned_abs (component moved 3) ≤ 9007199254740991) }
 {

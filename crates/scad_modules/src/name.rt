@@ -1,5 +1,5 @@
 ghost use Rattle.std.specs.Prelude.{◌≡◌};
-ghost use Rattle.scad_modules.specs.Table.{module_named, is_left_out_module};
+ghost use Rattle.scad_modules.specs.Table.{builtin_module_of, is_left_out_module};
 
 use crate::table::BuiltinModule;
 use scad_builtin::{is_among, named_in};
@@ -31,7 +31,7 @@ const MODULES: [(&[u8], BuiltinModule); 21] = [
 
 /// The built-in module of a name.
 pub fn builtin_module(name: &[u8]) -> Option<BuiltinModule>
-    ensures { result ≡ module_named name.now }
+    ensures { result ≡ builtin_module_of name.now }
 {
     named_in(&MODULES, name)
 }

@@ -119,7 +119,8 @@ pub(crate) fn cylinder(
     fragments: Option<&Value>,
     bound: &[Option<BoundedValue>],
 ) -> Result<Effect, ValueStop>
-    ensures effect { MeetsEffect result (cylinder_effect inside (fragments_of fragments.entry) (bound_arguments_in bound.now)) }
+    ensures effect { MeetsEffect result (cylinder_effect inside (fragments_of fragments.entry)
+        (bound_arguments_in bound.now)) }
     ensures safe { GivesSafe result }
 {
     if is_given(bound, CYLINDER_DIAMETER)
@@ -191,7 +192,8 @@ pub(crate) fn circle(
     fragments: Option<&Value>,
     bound: &[Option<BoundedValue>],
 ) -> Result<Effect, ValueStop>
-    ensures effect { MeetsEffect result (circle_effect inside (fragments_of fragments.entry) (bound_arguments_in bound.now)) }
+    ensures effect { MeetsEffect result (circle_effect inside (fragments_of fragments.entry)
+        (bound_arguments_in bound.now)) }
     ensures safe { GivesSafe result }
 {
     if is_given(bound, CIRCLE_DIAMETER) {
@@ -262,7 +264,8 @@ fn square_size(bound: &[Option<BoundedValue>]) -> Result<[i64; 2], FaultKind>
 
 // The sizes of a square: 1, where they are missing.
 fn found_square_size(bound: &[Option<BoundedValue>]) -> Result<[i64; 2], FaultKind>
-    ensures { ReadsArgument result (or_default (pos 1 ∷ pos 1 ∷ []) (sides_in 2) (bound_argument (bound_arguments_in bound.now) 0)) }
+    ensures { ReadsArgument result (or_default (pos 1 ∷ pos 1 ∷ []) (sides_in 2)
+        (bound_argument (bound_arguments_in bound.now) 0)) }
 {
     match bound_argument(bound, SIZE) {
         Some(value) => two_sides(&value.value).ok_or(FaultKind::TypeMismatch),
@@ -277,7 +280,8 @@ fn number_or(
     default: i64,
 ) -> Result<i64, FaultKind>
     requires { IsSafe default }
-    ensures value { ReadsArgument result (or_default default number_in_value (bound_argument (bound_arguments_in bound.now) parameter)) }
+    ensures value { ReadsArgument result (or_default default number_in_value
+        (bound_argument (bound_arguments_in bound.now) parameter)) }
     ensures safe { IfOk result IsSafe }
 {
     found_number(bound, parameter, default)

@@ -6,8 +6,9 @@ ghost use Rattle.plane_predicate.specs.Space.{point_at};
 ghost use Rattle.int_transform.specs.Maps.{HasSafeCoordinates};
 ghost use Rattle.scad_modules.specs.ArgumentView.{bound_arguments_in};
 ghost use Rattle.scad_modules.specs.Effects.{a_move};
-ghost use Rattle.scad_modules.specs.Transforms.{is_zero, is_past, length_in_steps, vector_on_grid, some_component, leaves_plane, tilts_plane, translate_effect, is_skew, quarters_of, quarter_turns_about, quarter_turns, rotate_effect, is_alone, axis_of, mirror_effect, factors_for, scale_effect};
+ghost use Rattle.scad_modules.specs.Transforms.{is_zero, is_past_safe_size, vector_on_grid, some_component, leaves_plane, tilts_plane, translate_effect, is_skew, quarters_of, quarter_rotation_about, quarter_rotations, rotate_effect, is_only_nonzero, axis_of, mirror_effect, factors_for, scale_effect};
 ghost use Rattle.scad_modules.specs.View.{MeetsEffect, GivesSafe};
+ghost use Rattle.primitives.specs.Sizes.{length_in_grid_steps};
 
 use crate::effects::Effect;
 use crate::{angles, coordinates, factors, is_given, required_argument};
@@ -25,7 +26,8 @@ pub(crate) fn translate(
     inside: bool,
     bound: &[Option<BoundedValue>],
 ) -> Result<Effect, ValueStop>
-    ensures effect { MeetsEffect result (translate_effect unit inside (bound_arguments_in bound.now)) }
+    ensures effect { MeetsEffect result (translate_effect unit inside
+        (bound_arguments_in bound.now)) }
     ensures safe { GivesSafe result }
 {
     let by = coordinates(&required_argument(bound, 0)?.value, 0).ok_or(FaultKind::TypeMismatch)?;
@@ -107,8 +109,9 @@ pub(crate) fn moved(alloc: Global, step: Step) -> Result<Effect, ValueStop>
 
 /// A length in grid steps, or TooLarge where these are past 2^53 - 1 in size.
 pub(crate) fn length_in_steps(unit: Unit, length: i64) -> Result<i64, FaultKind>
-    ensures value { MatchResult result (λ steps. (steps ≡ length_in_steps unit length) × (is_past (length_in_steps unit length) ≡ false))
-        (λ kind. (kind ≡ TooLarge) × (is_past (length_in_steps unit length) ≡ true)) }
+    ensures value { MatchResult result (λ steps. (steps ≡ length_in_grid_steps unit length)
+        × (is_past_safe_size (length_in_grid_steps unit length) ≡ false))
+        (λ kind. (kind ≡ TooLarge) × (is_past_safe_size (length_in_grid_steps unit length) ≡ true)) }
     ensures safe { IfOk result (λ steps. unsigned_abs steps ≤ 9007199254740991) }
 {
     product_of_two(unit.per(), length)
@@ -117,8 +120,8 @@ pub(crate) fn length_in_steps(unit: Unit, length: i64) -> Result<i64, FaultKind>
 // A vector in grid steps, or TooLarge where a number of it is past 2^53 - 1 in size.
 fn vector_on_grid(unit: Unit, by: [i64; 3]) -> Result<[i64; 3], FaultKind>
     ensures value { MatchResult result (λ vector. (vector ≡ vector_on_grid unit by)
-        × (some_component is_past (vector_on_grid unit by) ≡ false))
-        (λ kind. (kind ≡ TooLarge) × (some_component is_past (vector_on_grid unit by) ≡ true)) }
+        × (some_component is_past_safe_size (vector_on_grid unit by) ≡ false))
+        (λ kind. (kind ≡ TooLarge) × (some_component is_past_safe_size (vector_on_grid unit by) ≡ true)) }
     ensures safe { IfOk result (λ vector. HasSafeCoordinates (point_at vector)) }
 {
     let x = length_in_steps(unit, by[0])?;
@@ -141,21 +144,21 @@ fn tilts_plane(inside: bool, angles: [i64; 3]) -> bool
     inside && !(angles[0] == 0 && angles[1] == 0)
 }
 
-// Whether an angle is no number of quarter turns.
+// Whether an angle is no number of quarter rotations.
 fn is_skew(angle: i64) -> bool
     ensures { result ≡ is_skew angle }
 {
     angle.unsigned_abs() % 90 != 0
 }
 
-// Whether one of three angles is no number of quarter turns.
+// Whether one of three angles is no number of quarter rotations.
 fn are_skew(angles: [i64; 3]) -> bool
     ensures { result ≡ some_component is_skew angles }
 {
     is_skew(angles[0]) || is_skew(angles[1]) || is_skew(angles[2])
 }
 
-// How many quarter turns an angle is, from 0 to 3.
+// How many quarter rotations an angle is, from 0 to 3.
 fn quarters(angle: i64) -> u8
     ensures value { result ≡ quarters_of angle }
     ensures few { result < 4 }
@@ -170,7 +173,7 @@ fn quarters(angle: i64) -> u8
 
 // The rotations about x, then y, then z.
 fn rotation(alloc: Global, by: [i64; 3]) -> Result<Effect, ValueStop>
-    ensures effect { MeetsEffect result (Ok (a_move (quarter_turns by))) }
+    ensures effect { MeetsEffect result (Ok (a_move (quarter_rotations by))) }
     ensures safe { GivesSafe result }
 {
     let steps = vec![in alloc;
@@ -181,10 +184,10 @@ fn rotation(alloc: Global, by: [i64; 3]) -> Result<Effect, ValueStop>
     Ok(Effect::Move(steps))
 }
 
-// The rotation about axis 0, 1 or 2 by so many quarter turns as an angle is.
+// The rotation about axis 0, 1 or 2 by so many quarter rotations as an angle is.
 fn quarter_turns_about(axis: u8, angle: i64) -> Step
     requires { axis < 3 }
-    ensures { result ≡ quarter_turns_about axis angle }
+    ensures { result ≡ quarter_rotation_about axis angle }
 {
     Step::quarter(axis, quarters(angle))
 }
@@ -208,7 +211,7 @@ fn axis_of(by: [i64; 3]) -> Option<u8>
 
 // Whether a number isn't 0 while two others are.
 fn is_alone(n: i64, m: i64, k: i64) -> bool
-    ensures { result ≡ is_alone n m k }
+    ensures { result ≡ is_only_nonzero n m k }
 {
     n != 0 && m == 0 && k == 0
 }

@@ -156,7 +156,8 @@ fn four_numbers(values: &[Value]) -> Option<[i64; 4]>
 
 // The numbers of three values, or of two with one that stands for the missing third.
 fn coordinates_of(values: &[Value], third: i64) -> Option<[i64; 3]>
-    ensures { result ≡ with_third_from third (each_in number_in_value (vals_from (vals_in values.now))) }
+    ensures { result ≡ with_third_from third (each_in number_in_value
+        (vals_from (vals_in values.now))) }
 {
     match values {
         [x, y] => Some([number(x)?, number(y)?, third]),

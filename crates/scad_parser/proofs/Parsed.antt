@@ -7,7 +7,7 @@ use Rattle.text_place.specs.declared.fault.Stop.TheVariants.{Fault, NoMemory}
 use Rattle.scad_lexer.specs.declared.token.Token.{Token}
 use Rattle.scad_ast.specs.declared.program.Program.{Program}
 use Rattle.scad_ast.specs.Terms.{StatementTerm}
-use Rattle.scad_ast.specs.Counts.{begun_by_program}
+use Rattle.scad_ast.specs.Counts.{count_begun_by_program}
 use Rattle.scad_ast.specs.ProgramView.{program_of}
 use Rattle.scad_grammar.specs.declared.SyntaxFault.{SyntaxFault}
 use Rattle.scad_grammar.specs.FirstFault.{IsFirstFault}
@@ -16,7 +16,7 @@ use Rattle.scad_grammar.specs.Reading.{then_read}
 use Rattle.scad_grammar.proofs.Counts.{few_begun}
 use Rattle.scad_grammar.proofs.FirstFaults.{no_fault}
 use Rattle.scad_grammar.proofs.Programs.{complete_at}
-use Rattle.scad_parser.specs.Parsing.{ends_with_end, nothing_behind, whole_read, kind_of, place_of_first, IsSyntaxStop, StandsAtToken, AnswersProgram, AnswersFault, IsRead}
+use Rattle.scad_parser.specs.Parsing.{ends_with_end, nothing_after, whole_read, kind_of, place_of_first, IsSyntaxStop, StandsAtToken, AnswersProgram, AnswersFault, IsRead}
 use Rattle.scad_parser.proofs.Whole.{ReadProgram, verdict, whole_found, only_whole}
 
 module _ (d : ℕ) (ts : List Token) where
@@ -24,22 +24,22 @@ module _ (d : ℕ) (ts : List Token) where
   found (Ok p) h = whole_found d ts (program_of p) h.0 h.1
   found (Err s) h = tt
 
-  pub few : (r : Result Program Stop) → IsRead r (whole_read d ts) → IfOk r (λ p. begun_by_program (program_of p) ≤ length ts)
+  pub few : (r : Result Program Stop) → IsRead r (whole_read d ts) → IfOk r (λ p. count_begun_by_program (program_of p) ≤ length ts)
   few (Ok p) h = few_begun d (program_of p) ts (whole_found d ts (program_of p) h.0 h.1)
   few (Err s) h = tt
 
   -- what fewer than 2^32 tokens write
-  pub few_read : (x : List StatementTerm) (us : List Token) → length ts < 2 ^ 32 → whole_read d ts ≡ Ok (x, us) → begun_by_program x < 2 ^ 32
+  pub few_read : (x : List StatementTerm) (us : List Token) → length ts < 2 ^ 32 → whole_read d ts ≡ Ok (x, us) → count_begun_by_program x < 2 ^ 32
   few_read x us h e = omega (arith, few_begun d x ts (whole_found d ts x us e), h)
 
   pub program : (r : Result Program Stop) → IsRead r (whole_read d ts) → (x : List StatementTerm) → WholeProgram d x ts → AnswersProgram r x
   program (Ok p) h x g =
-      let read = ap (λ (q : ReadProgram). then_read q nothing_behind) (complete_at d x ts g) in
+      let read = ap (λ (q : ReadProgram). then_read q nothing_after) (complete_at d x ts g) in
       let both : ◌≡◌ {A = ReadProgram} (Ok (program_of p, h.0)) (Ok (x, [])) = sym h.1 ∙ read in
       let pair : ◌≡◌ {A = List StatementTerm × List Token} (program_of p, h.0) (x, []) = cc in
       ap (λ (p : List StatementTerm × List Token). p.0) pair
   program (Err (Fault f)) h x g =
-      let read = ap (λ (q : ReadProgram). then_read q nothing_behind) (complete_at d x ts g) in
+      let read = ap (λ (q : ReadProgram). then_read q nothing_after) (complete_at d x ts g) in
       absurd (let both : ◌≡◌ {A = ReadProgram} (Err (h.0, h.1)) (Ok (x, [])) = sym h.2 ∙ read in cc)
   program (Err NoMemory) h x g = tt
 

@@ -9,7 +9,7 @@ use Rattle.scad_grammar.specs.declared.SyntaxFault.{SyntaxFault}
 use Rattle.scad_grammar.specs.declared.SyntaxFault.TheVariants.{Expected, NotInProfile}
 use Rattle.scad_grammar.specs.Classes.{has_class_in}
 use Rattle.scad_grammar.specs.Faults.{fault_of, left_out_classes}
-use Rattle.scad_grammar.specs.FirstFault.{BeginsSome, IsFault, IsFirstFault}
+use Rattle.scad_grammar.specs.FirstFault.{IsProgramPrefix, IsFault, IsFirstFault}
 use Rattle.scad_grammar.specs.Grammar.{WholeProgram}
 use Rattle.scad_grammar.specs.Reading.{Read, then_read, next_is}
 use Rattle.scad_grammar.specs.StatementReads.{program_read}
@@ -18,7 +18,7 @@ use Rattle.scad_grammar.proofs.Programs.{complete_at}
 use Rattle.scad_grammar.proofs.Readers.{Told, SameHead}
 use Rattle.scad_grammar.proofs.Statements.{program_reads}
 use Rattle.scad_grammar.proofs.Wider.{lift, is_outline}
-use Rattle.scad_parser.specs.Parsing.{ends_with_end, nothing_behind, whole_read}
+use Rattle.scad_parser.specs.Parsing.{ends_with_end, nothing_after, whole_read}
 
 abbrev pub ReadProgram : Type 0
 ReadProgram = Read Token SyntaxFault (List StatementTerm)
@@ -59,7 +59,7 @@ complete_over : (d : ℕ) (x : List StatementTerm) (s r : List Token) → WholeP
 complete_over d x s r h = (program_reads d).complete x s r h (never r)
 
 -- so no program goes on behind one
-dead : (d : ℕ) (x : List StatementTerm) (s : List Token) (t : Token) → WholeProgram d x s → BeginsSome (s ++ t ∷ []) → ⊥
+dead : (d : ℕ) (x : List StatementTerm) (s : List Token) (t : Token) → WholeProgram d x s → IsProgramPrefix (s ++ t ∷ []) → ⊥
 dead d x s t h b =
     let w = b.2 in
     let e : d + b.0 ≡ b.0 + d = omega arith in
@@ -108,13 +108,13 @@ Verdict d ts =
 
 of_program : (d : ℕ) (x : List StatementTerm) (s r : List Token) → WholeProgram d x s → Verdict d (s ++ r)
 of_program d x s [] h =
-    inl (x, subst (WholeProgram d x) (sym (append-nil s)) h, ap (λ (q : ReadProgram). then_read q nothing_behind) (complete_over d x s [] h))
+    inl (x, subst (WholeProgram d x) (sym (append-nil s)) h, ap (λ (q : ReadProgram). then_read q nothing_after) (complete_over d x s [] h))
 of_program d x s (t ∷ more) h =
     inr (
       fault_of left_out_classes (Some t),
       t ∷ more,
       behind d x s t more h,
-      ap (λ (q : ReadProgram). then_read q nothing_behind) (complete_over d x s (t ∷ more) h),
+      ap (λ (q : ReadProgram). then_read q nothing_after) (complete_over d x s (t ∷ more) h),
     )
 
 verdict_over : (d : ℕ) (s r : List Token) → ends_once s ≡ true → Verdict d (s ++ r)
@@ -124,7 +124,7 @@ verdict_over d s r n = elim (program_or_fault d s n) [
     f.0,
     f.1 ++ r,
     first_over d s r f.0 f.1 f.2,
-    ap (λ (q : ReadProgram). then_read q nothing_behind) (fault_over d s r f.0 f.1 n f.2),
+    ap (λ (q : ReadProgram). then_read q nothing_after) (fault_over d s r f.0 f.1 n f.2),
   )
 ]
 
@@ -135,7 +135,7 @@ verdict d ts e = let c = cut ts e in subst (Verdict d) (sym c.2) (verdict_over d
 pub whole_found : (d : ℕ) (ts : List Token) (x : List StatementTerm) (rest : List Token) → whole_read d ts ≡ Ok (x, rest) → WholeProgram d x ts
 whole_found d ts x rest e = go (program_read d ts) e ((program_reads d).told ts)
   where
-    go : (q : ReadProgram) → then_read q nothing_behind ≡ Ok (x, rest) → Told (program_read d) (WholeProgram d) (WholeProgram (suc (suc d))) ts q → WholeProgram d x ts
+    go : (q : ReadProgram) → then_read q nothing_after ≡ Ok (x, rest) → Told (program_read d) (WholeProgram d) (WholeProgram (suc (suc d))) ts q → WholeProgram d x ts
     go (Ok (y, [])) e t =
         let g : ◌≡◌ {A = ReadProgram} (Ok (y, [])) (Ok (x, rest)) = e in
         let pair : ◌≡◌ {A = List StatementTerm × List Token} (y, []) (x, rest) = cc in
@@ -155,7 +155,7 @@ looks_ahead d k s t us vs e = go (program_read d (s ++ t ∷ us)) e ((program_re
     same [] e = absurd (cc)
     same (u ∷ ws) e = let pair : ◌≡◌ {A = Token × List Token} (u, ws) (t, us) = cc in ap (λ (p : Token × List Token). p.0) pair
 
-    go : (q : ReadProgram) → then_read q nothing_behind ≡ Err (k, t ∷ us) → Told (program_read d) (WholeProgram d) (WholeProgram (suc (suc d))) (s ++ t ∷ us) q
+    go : (q : ReadProgram) → then_read q nothing_after ≡ Err (k, t ∷ us) → Told (program_read d) (WholeProgram d) (WholeProgram (suc (suc d))) (s ++ t ∷ us) q
         → whole_read d (s ++ t ∷ vs) ≡ Err (k, t ∷ vs)
     go (Ok (y, [])) e h = absurd (cc)
     go (Ok (y, u ∷ ws)) e h =
@@ -164,14 +164,14 @@ looks_ahead d k s t us vs e = go (program_read d (s ++ t ∷ us)) e ((program_re
         let tail : u ∷ ws ≡ t ∷ us = ap (λ (p : SyntaxFault × List Token). p.1) pair in
         let head = same (u ∷ ws) tail in
         ap (λ l. whole_read d (l ++ t ∷ vs)) (sym (front h.0 (u ∷ ws) h.1 tail))
-        ∙ ap (λ (q : ReadProgram). then_read q nothing_behind) (h.3 (t ∷ vs) head)
+        ∙ ap (λ (q : ReadProgram). then_read q nothing_after) (h.3 (t ∷ vs) head)
         ∙ ap (λ k. Err (k, t ∷ vs)) (ap (λ u. fault_of left_out_classes (Some u)) (sym head) ∙ ap (λ (p : SyntaxFault × List Token). p.0) pair)
     go (Err y) e h =
         let g : ◌≡◌ {A = ReadProgram} (Err y) (Err (k, t ∷ us)) = e in
         let pair : ◌≡◌ {A = SyntaxFault × List Token} y (k, t ∷ us) = cc in
         let tail : y.1 ≡ t ∷ us = ap (λ (p : SyntaxFault × List Token). p.1) pair in
         ap (λ l. whole_read d (l ++ t ∷ vs)) (sym (front h.0 y.1 h.1 tail))
-        ∙ ap (λ (q : ReadProgram). then_read q nothing_behind) (h.3 (t ∷ vs) (same y.1 tail))
+        ∙ ap (λ (q : ReadProgram). then_read q nothing_after) (h.3 (t ∷ vs) (same y.1 tail))
         ∙ ap (λ k. Err (k, t ∷ vs)) (ap (λ (p : SyntaxFault × List Token). p.0) pair)
 
 -- an end behind a token ends

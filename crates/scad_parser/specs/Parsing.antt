@@ -62,13 +62,13 @@ ends_with_end (token ∷ []) = is_end token.kind
 ends_with_end (token ∷ next ∷ tokens) = ends_with_end (next ∷ tokens)
 
 -- nothing stands behind what was read
-abbrev pub nothing_behind : {A : Type 0} → A → TokenReader A
-nothing_behind x [] = Ok (x, [])
-nothing_behind x (token ∷ tokens) = Err (fault_of left_out_classes (Some token), token ∷ tokens)
+abbrev pub nothing_after : {A : Type 0} → A → TokenReader A
+nothing_after x [] = Ok (x, [])
+nothing_after x (token ∷ tokens) = Err (fault_of left_out_classes (Some token), token ∷ tokens)
 
 -- a program and its end, and nothing behind it
 abbrev pub whole_read : ℕ → TokenReader (List StatementTerm)
-whole_read depth tokens = then_read (program_read depth tokens) nothing_behind
+whole_read depth tokens = then_read (program_read depth tokens) nothing_after
 
 -- the answer is what a reader of the grammar reads, unless memory ran out
 abbrev pub IsRead : Result Program Stop → Read Token SyntaxFault (List StatementTerm) → Type 0

@@ -13,7 +13,8 @@ use std::alloc::Global;
 
 /// The modifiers that stand here, which may be none.
 pub(crate) fn marks<'a>(alloc: Global, tokens: &'a [Token]) -> Parsed<'a, PlacedModifiers>
-    ensures value { GivesRead (λ p. (modifiers_of p.0, p.1.now)) result (modifiers_read tokens.now) }
+    ensures value { GivesRead (λ p. (modifiers_of p.0, p.1.now)) result
+        (modifiers_read tokens.now) }
 {
     let mut items = Vec::new(alloc);
     let mut rest = tokens;

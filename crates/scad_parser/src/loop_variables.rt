@@ -41,7 +41,8 @@ fn more_binders<'a>(
     depth: u32,
 ) -> Parsed<'a, Binders>
     ensures value { GivesRead (λ p. (binders_of p.0, p.1.now)) result
-        (in_front (map binder_of items.items) (trailing_items (has_class comma_sign) (has_class name_class)
+        (in_front (map binder_of items.items)
+        (trailing_items (has_class comma_sign) (has_class name_class)
         (binder_in depth (expr_read depth)) tokens.now)) }
 {
     let mut rest = tokens;

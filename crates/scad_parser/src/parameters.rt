@@ -53,7 +53,8 @@ fn more_params<'a>(
     depth: u32,
 ) -> Parsed<'a, Params>
     ensures value { GivesRead (λ p. (params_of p.0, p.1.now)) result
-        (in_front (map param_of items.items) (trailing_items (has_class comma_sign) (has_class name_class)
+        (in_front (map param_of items.items) (trailing_items (has_class comma_sign)
+        (has_class name_class)
         (param_in depth (expr_read depth)) tokens.now)) }
 {
     let mut rest = tokens;

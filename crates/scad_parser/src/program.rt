@@ -2,7 +2,7 @@ ghost use Rattle.std.specs.Prelude.{◌≡◌, ◌<◌, ◌≤◌, ◌^◌, List
 ghost use Rattle.scad_lexer.specs.declared.token.Token.{Token};
 ghost use Rattle.scad_lexer.specs.Tokens.{ends_once};
 ghost use Rattle.scad_ast.specs.Terms.{StatementTerm};
-ghost use Rattle.scad_ast.specs.Counts.{begun_by_program};
+ghost use Rattle.scad_ast.specs.Counts.{count_begun_by_program};
 ghost use Rattle.scad_ast.specs.ProgramView.{program_of};
 ghost use Rattle.scad_ast.specs.StatementView.{statements_of};
 ghost use Rattle.scad_grammar.specs.declared.SyntaxFault.{SyntaxFault};
@@ -35,12 +35,13 @@ pub fn parse(alloc: Global, tokens: &[Token]) -> Result<Program, Stop>
     ensures fault { ends_with_end tokens.now ≡ true →
         IfErr result (λ stop. IsSyntaxStop least_too_deep tokens.now stop) }
     // The place of such a fault is that of one of the tokens, which may be the end.
-    ensures place { ends_with_end tokens.now ≡ true → IfErr result (λ stop. StandsAtToken tokens.now stop) }
+    ensures place { ends_with_end tokens.now ≡ true →
+        IfErr result (λ stop. StandsAtToken tokens.now stop) }
     // The tokens' first fault is given, unless memory runs out.
     ensures only { (fault : SyntaxFault) (at : List Token) →
         IsFirstFault least_too_deep tokens.now fault at → AnswersFault result fault at }
     // A program has no more blocks, functions and modules than tokens.
-    ensures few { IfOk result (λ p. begun_by_program (program_of p) ≤ length tokens.now) }
+    ensures few { IfOk result (λ p. count_begun_by_program (program_of p) ≤ length tokens.now) }
 {
     read_program(alloc, tokens)
 }

@@ -1,8 +1,8 @@
 ghost use Rattle.scad_ast.specs.StatementView.{statement_of, statements_of, instance_of, core_of, body_of};
 ghost use Rattle.scad_grammar.specs.Classes.{has_class_in, has_class, else_word};
 ghost use Rattle.scad_grammar.specs.Languages.{second_of};
-ghost use Rattle.scad_grammar.specs.Faults.{one};
-ghost use Rattle.scad_grammar.specs.Reading.{both, many};
+ghost use Rattle.scad_grammar.specs.Faults.{token_read};
+ghost use Rattle.scad_grammar.specs.Reading.{sequence_read, repeated_read};
 ghost use Rattle.scad_grammar.specs.Reads.{expr_read, arg_in};
 ghost use Rattle.scad_grammar.specs.StatementReads.{firsts_of_statement, param_in, binder_in, if_read, loop_read, call_read, core_read, instance_in, braces_read, body_read, body_over, module_read, definition_read, statement_over, statement_read};
 ghost use Rattle.scad_expressions.specs.Views.{GivesRead};
@@ -71,7 +71,7 @@ fn braces<'a>(alloc: Global, tokens: &'a [Token], depth: u32) -> Parsed<'a, Stat
 #[cycle(statement)]
 pub fn statements<'a>(alloc: Global, tokens: &'a [Token], depth: u32) -> Parsed<'a, Statements>
     ensures value { GivesRead (λ p. (statements_of p.0, p.1.now)) result
-        (many (has_class_in firsts_of_statement) (statement_read depth) tokens.now) }
+        (repeated_read (has_class_in firsts_of_statement) (statement_read depth) tokens.now) }
 {
     let mut items = Vec::new(alloc);
     let mut rest = tokens;
@@ -173,7 +173,7 @@ fn branch<'a>(alloc: Global, tokens: &'a [Token], depth: u32) -> Parsed<'a, Core
 #[inline(always)]
 fn otherwise<'a>(alloc: Global, tokens: &'a [Token], depth: u32) -> Parsed<'a, Box<Body>>
     ensures value { GivesRead (λ p. (body_of p.0.value, p.1.now)) result
-        (both second_of (one (has_class else_word)) (body_read depth) tokens.now) }
+        (sequence_read second_of (token_read (has_class else_word)) (body_read depth) tokens.now) }
 {
     let (_, rest) = take(TokenClass::Word(Reserved::Else), tokens)?;
     boxed_body(alloc, rest, depth)

@@ -4,7 +4,7 @@ use Rattle.scad_value.specs.Values.{Val, NumberVal}
 pub use Rattle.scad_definitions.specs.Newest.{Pairs, find_in, oldest_pairs}
 
 -- a scope in the table of scopes: its pairs, and the number of the scope outside it
-pub record Row : Type 0 where
+pub record ScopeRow : Type 0 where
   pub variables : Pairs Val
   pub functions : Pairs ℕ
   pub modules : Pairs ℕ
@@ -16,8 +16,8 @@ pub record Row : Type 0 where
 -- a scope with its number, the activation whose scope it is, and the scopes outside it
 mutual
   pub data NumberedEnv : Type 0 where
-    NumberedOutermost : NumberedEnv
-    NumberedWithin : (number : ℕ) → (row : Row) → (call : NumberedActivation)
+    NoNumberedScope : NumberedEnv
+    NumberedScope : (number : ℕ) → (row : ScopeRow) → (call : NumberedActivation)
         → (outer : NumberedEnv) → NumberedEnv
 
   -- the activation of a call of a module of the source: the number of the block of its children, and the scope of its
@@ -34,20 +34,20 @@ activation_from scope count (Some call) =
     else no_numbered_activation
 
 -- a row behind these scopes, inside one of them or inside none
-abbrev pub env_behind : List NumberedEnv → Row → NumberedEnv
-env_behind before row =
-    NumberedWithin (length before) row (activation_from (λ number.
-    slice_index_or before number NumberedOutermost) (length before) row.call)
-    (slice_index_or before row.outer NumberedOutermost)
+abbrev pub env_of_row : List NumberedEnv → ScopeRow → NumberedEnv
+env_of_row before row =
+    NumberedScope (length before) row (activation_from (λ number.
+    slice_index_or before number NoNumberedScope) (length before) row.call)
+    (slice_index_or before row.outer NoNumberedScope)
 
 -- each scope of a table
-abbrev pub envs_from : List NumberedEnv → List Row → List NumberedEnv
+abbrev pub envs_from : List NumberedEnv → List ScopeRow → List NumberedEnv
 envs_from before [] = before
-envs_from before (row ∷ rows) = envs_from (before ++ env_behind before row ∷ []) rows
+envs_from before (row ∷ rows) = envs_from (before ++ env_of_row before row ∷ []) rows
 
 -- the scope of a number
-unfoldable pub env_of : List Row → ℕ → NumberedEnv
-env_of rows number = slice_index_or (envs_from [] rows) number NumberedOutermost
+unfoldable pub env_of : List ScopeRow → ℕ → NumberedEnv
+env_of rows number = slice_index_or (envs_from [] rows) number NoNumberedScope
 
 -- an activation, or where there is none the one outside it
 abbrev pub or_outer_numbered : NumberedActivation → NumberedActivation → NumberedActivation
@@ -56,8 +56,8 @@ or_outer_numbered (numbered_activation children caller) outer = numbered_activat
 
 -- The activation that encloses a scope: the innermost one whose scope it is or stands in (OpenSCAD User Manual, "Children").
 abbrev pub enclosing_activation : NumberedEnv → NumberedActivation
-enclosing_activation NumberedOutermost = no_numbered_activation
-enclosing_activation (NumberedWithin number row call outer) =
+enclosing_activation NoNumberedScope = no_numbered_activation
+enclosing_activation (NumberedScope number row call outer) =
     or_outer_numbered call (enclosing_activation outer)
 
 -- what was found, or else what is found further out
@@ -67,27 +67,27 @@ or_found_outside None other = other
 
 -- a variable, from the inner scope outward
 abbrev pub variable_in : NumberedEnv → List ℕ → Option Val
-variable_in NumberedOutermost name = None
-variable_in (NumberedWithin number row call outer) name =
+variable_in NoNumberedScope name = None
+variable_in (NumberedScope number row call outer) name =
     or_found_outside (find_in row.variables name) (variable_in outer name)
 
 -- a definition that was found, with the scope that it stands in
-abbrev pub standing_in : NumberedEnv → Option ℕ → Option (NumberedEnv × ℕ)
-standing_in env (Some definition) = Some (env, definition)
-standing_in env None = None
+abbrev pub with_numbered_scope : NumberedEnv → Option ℕ → Option (NumberedEnv × ℕ)
+with_numbered_scope env (Some definition) = Some (env, definition)
+with_numbered_scope env None = None
 
 -- a function with the scope that it stands in, from the inner scope outward
 abbrev pub function_in : NumberedEnv → List ℕ → Option (NumberedEnv × ℕ)
-function_in NumberedOutermost name = None
-function_in (NumberedWithin number row call outer) name =
-    or_found_outside (standing_in (NumberedWithin number row call outer) (find_in row.functions name))
+function_in NoNumberedScope name = None
+function_in (NumberedScope number row call outer) name =
+    or_found_outside (with_numbered_scope (NumberedScope number row call outer) (find_in row.functions name))
     (function_in outer name)
 
 -- a module with the scope that it stands in, from the inner scope outward
 abbrev pub module_in : NumberedEnv → List ℕ → Option (NumberedEnv × ℕ)
-module_in NumberedOutermost name = None
-module_in (NumberedWithin number row call outer) name =
-    or_found_outside (standing_in (NumberedWithin number row call outer) (find_in row.modules name))
+module_in NoNumberedScope name = None
+module_in (NumberedScope number row call outer) name =
+    or_found_outside (with_numbered_scope (NumberedScope number row call outer) (find_in row.modules name))
     (module_in outer name)
 
 -- the number that stands for no scope outside
@@ -95,7 +95,7 @@ abbrev pub nothing_outside : ℕ
 nothing_outside = 2 ^ 32 - 1
 
 -- the outermost scope of a table
-abbrev pub first_row : Row
+abbrev pub first_row : ScopeRow
 first_row = record {
   variables = [];
   functions = [];
@@ -105,32 +105,32 @@ first_row = record {
 }
 
 -- a scope without variables and definitions, inside another one
-abbrev pub empty_row : ℕ → Row
+abbrev pub empty_row : ℕ → ScopeRow
 empty_row outer =
     record { variables = []; functions = []; modules = []; outer = outer; call = None }
 
 -- the scope of a call, by the block of its children and the scope of its caller
-abbrev pub activation_row : ℕ → ℕ → Row → Row
+abbrev pub activation_row : ℕ → ℕ → ScopeRow → ScopeRow
 activation_row children caller row = record row { call = Some (children, caller) }
 
 -- a scope with one more variable
-abbrev pub with_variable : List ℕ → Val → Row → Row
+abbrev pub with_variable : List ℕ → Val → ScopeRow → ScopeRow
 with_variable name value row = record row { variables = (name, value) ∷ row.variables }
 
 -- a table with one more variable in a scope
-abbrev pub bound_in : List Row → ℕ → List ℕ → Val → List Row
-bound_in [] number name value = []
-bound_in (row ∷ rows) zero name value = with_variable name value row ∷ rows
-bound_in (row ∷ rows) (suc number) name value = row ∷ bound_in rows number name value
+abbrev pub rows_with_variable : List ScopeRow → ℕ → List ℕ → Val → List ScopeRow
+rows_with_variable [] number name value = []
+rows_with_variable (row ∷ rows) zero name value = with_variable name value row ∷ rows
+rows_with_variable (row ∷ rows) (suc number) name value = row ∷ rows_with_variable rows number name value
 
 -- a scope with one more variable, inside the same scopes
 abbrev pub with_pair : List ℕ → Val → NumberedEnv → NumberedEnv
-with_pair name value NumberedOutermost = NumberedOutermost
-with_pair name value (NumberedWithin number row call outer) =
-    NumberedWithin number (with_variable name value row) call outer
+with_pair name value NoNumberedScope = NoNumberedScope
+with_pair name value (NumberedScope number row call outer) =
+    NumberedScope number (with_variable name value row) call outer
 
--- The dynamic bindings of special variables (OpenSCAD User Manual, "Special variables"): pairs of a name, without its `$`, and
--- its value, the newest first. It begins with these.
+-- the dynamic bindings with which a program begins: `$fn`, `$fa` and `$fs` without the `$`, each with its value, the newest
+-- first (OpenSCAD User Manual, "Special variables")
 abbrev pub first_bindings : Pairs Val
 first_bindings = (codes "fs", NumberVal (pos 2)) ∷ (codes "fa", NumberVal (pos 12))
     ∷ (codes "fn", NumberVal (pos 0)) ∷ []

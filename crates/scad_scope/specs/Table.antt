@@ -9,11 +9,11 @@ use Rattle.scad_value.specs.View.{val_of}
 use Rattle.scad_scope.specs.declared.scopes.Scopes.{Scopes}
 use Rattle.scad_scope.specs.declared.table.Found.{Found}
 use Rattle.scad_scope.specs.declared.table.ModuleActivation.{ModuleActivation}
-use Rattle.scad_scope.specs.Names.{Pairs, Row, NumberedEnv, NumberedActivation, no_numbered_activation, numbered_activation, env_of}
+use Rattle.scad_scope.specs.Names.{Pairs, ScopeRow, NumberedEnv, NumberedActivation, no_numbered_activation, numbered_activation, env_of}
 use Rattle.scad_scope.specs.View.{variables_of, rows_in}
 
 -- the scopes by number
-abbrev pub rows_of : Scopes → List Row
+abbrev pub rows_of : Scopes → List ScopeRow
 rows_of scopes = rows_in scopes.scopes.items
 
 -- the dynamic bindings of special variables, the newest first
@@ -21,7 +21,7 @@ abbrev pub bindings_of : Scopes → Pairs Val
 bindings_of scopes = variables_of scopes.bindings
 
 -- the number of a scope that is there, and of a definition that stands in it
-pub record IsDefinitionFound (rows : List Row) (wanted : Option (NumberedEnv × ℕ))
+pub record IsDefinitionFound (rows : List ScopeRow) (wanted : Option (NumberedEnv × ℕ))
     (found : Found) : Type 0 where
   pub there : found.scope < length rows
   pub same : wanted ≡ Some (env_of rows found.scope, found.definition)

@@ -14,7 +14,7 @@ use Rattle.scad_scope.specs.declared.table.NameSpace.{NameSpace}
 use Rattle.scad_scope.specs.declared.table.NameSpace.TheVariants.{Functions, Modules}
 use Rattle.scad_scope.specs.Known.{names_known, with_names}
 use Rattle.scad_scope.specs.declared.variables.Variables.{Variables}
-use Rattle.scad_scope.specs.Names.{Pairs, Row, NumberedEnv, function_in, module_in}
+use Rattle.scad_scope.specs.Names.{Pairs, ScopeRow, NumberedEnv, function_in, module_in}
 
 -- variables by what their values are
 abbrev pub variable_seen : List ℕ × BoundedValue → List ℕ × Val
@@ -40,7 +40,7 @@ activation_seen None = None
 activation_seen (Some call) = Some (call.children, call.caller)
 
 -- a scope as its pairs and numbers
-abbrev pub row_of_scope : Scope → Row
+abbrev pub row_of_scope : Scope → ScopeRow
 row_of_scope scope = record {
   variables = variables_bound scope.variables;
   functions = reverse (functions_in (option_map (λ shared. shared.value) scope.definitions));
@@ -50,7 +50,7 @@ row_of_scope scope = record {
 }
 
 -- the scopes of a table in order
-abbrev pub rows_in : List Scope → List Row
+abbrev pub rows_in : List Scope → List ScopeRow
 rows_in scopes = map row_of_scope scopes
 
 -- the functions or the modules of a block, the newest first
@@ -59,7 +59,7 @@ newest_defined Functions definitions = newest_first definitions.functions
 newest_defined Modules definitions = newest_first definitions.modules
 
 -- the functions or the modules of a scope
-abbrev pub pairs_of : NameSpace → Row → Pairs ℕ
+abbrev pub pairs_of : NameSpace → ScopeRow → Pairs ℕ
 pairs_of Functions row = row.functions
 pairs_of Modules row = row.modules
 

@@ -1,7 +1,7 @@
 ghost use Rattle.std.specs.Prelude.{◌≡◌, IfOk, option_map};
 ghost use Rattle.scad_scope.specs.Rows.{row_of_block, local_row};
 ghost use Rattle.scad_scope.specs.Names.{empty_row};
-ghost use Rattle.scad_definitions.specs.Tables.{table_held};
+ghost use Rattle.scad_definitions.specs.Tables.{block_table_in};
 ghost use Rattle.scad_scope.specs.View.{row_of_scope};
 ghost use Rattle.scad_definitions.specs.TextView.{locals_of};
 
@@ -19,7 +19,8 @@ pub(crate) fn scope_of_block(
     blocks: &Blocks<'_>,
     block: u32,
 ) -> Result<Scope, NoMemory>
-    ensures { IfOk result (λ s. row_of_scope s ≡ row_of_block outer (table_held blocks.now) block) }
+    ensures { IfOk result (λ s. row_of_scope s ≡ row_of_block outer
+        (block_table_in blocks.now) block) }
 {
     if block as usize >= blocks.count() {
         return Ok(empty(alloc, outer));

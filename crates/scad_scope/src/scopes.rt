@@ -24,9 +24,9 @@ impl Scopes {
     ghost use Rattle.text_place.specs.declared.fault.FaultKind.TheVariants.{UnknownName, UnknownFunction, UnknownModule};
     ghost use Rattle.scad_value.specs.Values.{Val, is_bounded};
     ghost use Rattle.scad_value.specs.View.{val_of};
-    ghost use Rattle.scad_scope.specs.Names.{Pairs, find_in, env_of, variable_in, function_in, module_in, first_row, empty_row, bound_in, with_pair, NumberedWithin, no_numbered_activation, numbered_activation, enclosing_activation, activation_row, first_bindings, oldest_pairs, Row};
+    ghost use Rattle.scad_scope.specs.Names.{Pairs, find_in, env_of, variable_in, function_in, module_in, first_row, empty_row, rows_with_variable, with_pair, NumberedScope, no_numbered_activation, numbered_activation, enclosing_activation, activation_row, first_bindings, oldest_pairs, ScopeRow};
     ghost use Rattle.scad_scope.specs.Rows.{row_of_block};
-    ghost use Rattle.scad_definitions.specs.Tables.{table_held, functions_held, modules_held};
+    ghost use Rattle.scad_definitions.specs.Tables.{block_table_in, source_functions_in, source_modules_in};
     ghost use Rattle.scad_scope.specs.Numbered.{functions_below, modules_below, StaysBelow, StaysNumbered};
     ghost use Rattle.scad_scope.specs.View.{definition_in, row_of_scope};
     ghost use Rattle.scad_scope.specs.Table.{rows_of, bindings_of, numbered_activation_of, IsDefinitionFound, IsMissing, IsVariable, KeepsScopes};
@@ -60,14 +60,14 @@ impl Scopes {
         requires { outer < length (rows_of self.old) }
         ensures number { IfOk result (λ n. n ≡ length (rows_of self.old)) }
         ensures entered { OnOk result (rows_of self.new ≡
-            rows_of self.old ++ row_of_block outer (table_held blocks.now) block ∷ []) }
+            rows_of self.old ++ row_of_block outer (block_table_in blocks.now) block ∷ []) }
         ensures unchanged { OnErr result (rows_of self.new ≡ rows_of self.old) }
         ensures inside { IfOk result (λ n. env_of (rows_of self.new) n ≡
-            NumberedWithin n (row_of_block outer (table_held blocks.now) block)
+            NumberedScope n (row_of_block outer (block_table_in blocks.now) block)
             no_numbered_activation (env_of (rows_of self.old) outer)) }
         ensures kept { KeepsScopes self.old self.new }
-        ensures numbered { StaysBelow (length (functions_held blocks.now))
-            (length (modules_held blocks.now)) (rows_of self.old) (rows_of self.new) }
+        ensures numbered { StaysBelow (length (source_functions_in blocks.now))
+            (length (source_modules_in blocks.now)) (rows_of self.old) (rows_of self.new) }
     {
         let scope = scope_of_block(alloc, outer, blocks, block)?;
         self.add(scope)
@@ -88,16 +88,16 @@ impl Scopes {
         ensures number { IfOk result (λ n. n ≡ length (rows_of self.old)) }
         ensures entered { OnOk result (rows_of self.new ≡ rows_of self.old ++
             activation_row call.children call.caller
-            (row_of_block outer (table_held blocks.now) block) ∷ []) }
+            (row_of_block outer (block_table_in blocks.now) block) ∷ []) }
         ensures unchanged { OnErr result (rows_of self.new ≡ rows_of self.old) }
-        ensures inside { IfOk result (λ n. env_of (rows_of self.new) n ≡ NumberedWithin n
+        ensures inside { IfOk result (λ n. env_of (rows_of self.new) n ≡ NumberedScope n
             (activation_row call.children call.caller
-            (row_of_block outer (table_held blocks.now) block))
+            (row_of_block outer (block_table_in blocks.now) block))
             (numbered_activation call.children (env_of (rows_of self.old) call.caller))
             (env_of (rows_of self.old) outer)) }
         ensures kept { KeepsScopes self.old self.new }
-        ensures numbered { StaysBelow (length (functions_held blocks.now))
-            (length (modules_held blocks.now)) (rows_of self.old) (rows_of self.new) }
+        ensures numbered { StaysBelow (length (source_functions_in blocks.now))
+            (length (source_modules_in blocks.now)) (rows_of self.old) (rows_of self.new) }
     {
         let entered = scope_of_block(alloc, outer, blocks, block)?;
         self.add(entered.of_activation(call))
@@ -113,7 +113,7 @@ impl Scopes {
             ≡ rows_of self.old ++ empty_row outer ∷ []) }
         ensures unchanged { OnErr result (rows_of self.new ≡ rows_of self.old) }
         ensures inside { IfOk result (λ n. env_of (rows_of self.new) n ≡
-            NumberedWithin n (empty_row outer) no_numbered_activation
+            NumberedScope n (empty_row outer) no_numbered_activation
             (env_of (rows_of self.old) outer)) }
         ensures kept { KeepsScopes self.old self.new }
         ensures numbered { StaysNumbered (rows_of self.old) (rows_of self.new) }
@@ -142,7 +142,7 @@ impl Scopes {
         requires some { 1 ≤ to }
         requires there { to ≤ length (rows_of self.old) }
         ensures rows { rows_of self.new ≡ take to (rows_of self.old) }
-        ensures back { (front behind : List Row) → rows_of self.old ≡ front ++ behind
+        ensures back { (front behind : List ScopeRow) → rows_of self.old ≡ front ++ behind
             → length front ≡ to → rows_of self.new ≡ front }
         ensures kept { (k : ℕ) → k < to → env_of (rows_of self.new) k
             ≡ env_of (rows_of self.old) k }
@@ -192,7 +192,7 @@ impl Scopes {
         requires scope { scope < length (rows_of self.old) }
         requires bounded { IsTrue (is_bounded (val_of value)) }
         ensures bound { OnOk result (rows_of self.new
-            ≡ bound_in (rows_of self.old) scope name.now (val_of value)) }
+            ≡ rows_with_variable (rows_of self.old) scope name.now (val_of value)) }
         ensures unchanged { OnErr result (rows_of self.new ≡ rows_of self.old) }
         ensures here { OnOk result (env_of (rows_of self.new) scope ≡
             with_pair name.now (val_of value) (env_of (rows_of self.old) scope)) }
@@ -214,7 +214,7 @@ impl Scopes {
     ) -> Result<(), NoMemory>
         requires { scope < length (rows_of self.old) }
         ensures bound { OnOk result (rows_of self.new
-            ≡ bound_in (rows_of self.old) scope name.now (val_of value.value)) }
+            ≡ rows_with_variable (rows_of self.old) scope name.now (val_of value.value)) }
         ensures unchanged { OnErr result (rows_of self.new ≡ rows_of self.old) }
         ensures bindings { bindings_of self.new ≡ bindings_of self.old }
     {
@@ -303,7 +303,8 @@ impl Scopes {
     pub fn function(&self, scope: u32, name: &[u8], place: Place) -> Result<Found, Fault>
         requires { scope < length (rows_of self.now) }
         ensures { MatchResult result
-            (IsDefinitionFound (rows_of self.now) (function_in (env_of (rows_of self.now) scope) name.now))
+            (IsDefinitionFound (rows_of self.now)
+            (function_in (env_of (rows_of self.now) scope) name.now))
             (IsMissing UnknownFunction place
             (function_in (env_of (rows_of self.now) scope) name.now)) }
     {
@@ -318,7 +319,8 @@ impl Scopes {
     pub fn module(&self, scope: u32, name: &[u8], place: Place) -> Result<Found, Fault>
         requires { scope < length (rows_of self.now) }
         ensures { MatchResult result
-            (IsDefinitionFound (rows_of self.now) (module_in (env_of (rows_of self.now) scope) name.now))
+            (IsDefinitionFound (rows_of self.now)
+            (module_in (env_of (rows_of self.now) scope) name.now))
             (IsMissing UnknownModule place (module_in (env_of (rows_of self.now) scope) name.now)) }
     {
         match self.definition(NameSpace::Modules, scope, name) {

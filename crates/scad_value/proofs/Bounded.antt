@@ -10,8 +10,8 @@ use Rattle.scad_ast.specs.declared.operator.UnaryOp.{UnaryOp}
 use Rattle.scad_ast.specs.declared.operator.UnaryOp.TheVariants.{Negate, Keep, Not}
 use Rattle.scad_value.specs.declared.value.Value.{Value}
 use Rattle.scad_value.specs.declared.stop.ValueStop.{ValueStop}
-use Rattle.scad_value.specs.Values.{Val, NumberVal, TextVal, ListVal, Vals, no_vals, and_val, vals_from, count_of, parts_of, parts_in, is_too_long_or_deep, is_small, has_small_numbers, have_small_numbers, is_bounded}
-use Rattle.scad_value.specs.Operators.{AnswerOrFault, and_then, number_or_too_large, number_answer, value_or_long_list, list_or_fault, values_in_front, if_equal, by_parts, pairs_by_parts, each_part, each_of_parts, sum_row, difference_row, product_row, unless_zero, whole_quotient, quotient_row, remainder_row, dot_of, dot_row, product_of, quotient_of, remainder_of, order_of, truth_by_order, binary_of, unary_of, item_at, byte_at, index_of}
+use Rattle.scad_value.specs.Values.{Val, NumberVal, TextVal, ListVal, Vals, no_vals, and_val, vals_from, count_of, element_count, element_count_in, is_too_long_or_deep, is_small, has_small_numbers, have_small_numbers, is_bounded}
+use Rattle.scad_value.specs.Operators.{AnswerOrFault, and_then, number_or_too_large, number_answer, value_or_long_list, list_or_fault, values_in_front, if_equal, by_elements, pairs_by_elements, each_element, each_of_elements, sum_row, difference_row, product_row, unless_zero, whole_quotient, quotient_row, remainder_row, dot_of, dot_row, product_of, quotient_of, remainder_of, order_of, truth_by_order, binary_of, unary_of, item_at, byte_at, index_of}
 use Rattle.scad_value.specs.View.{MeetsAnswer, GivesBounded}
 
 abbrev pub IsBoundedAnswer : AnswerOrFault Val → Type 0
@@ -40,8 +40,8 @@ or_first : (x y : Bool) → (x || y) ≡ false → x ≡ false
 or_first true y h = h
 or_first false y h = refl
 
-few_parts : (v : Val) → is_too_long_or_deep v ≡ false → ltb (parts_of v) (2 ^ 20) ≡ true
-few_parts v h = lt-ltb (parts_of v) (2 ^ 20) (omega (arith, ltb-false 4096 (parts_of v) (or_first _ _ h)))
+few_parts : (v : Val) → is_too_long_or_deep v ≡ false → ltb (element_count v) (2 ^ 20) ≡ true
+few_parts v h = lt-ltb (element_count v) (2 ^ 20) (omega (arith, ltb-false 4096 (element_count v) (or_first _ _ h)))
 
 made_bounded : (answer : AnswerOrFault Val) → HasSmall answer → IsBoundedAnswer (value_or_long_list answer)
 made_bounded (Err kind) s = tt
@@ -103,30 +103,30 @@ if_equal_small m n answer s = by_test (eqb m n)
 
 module _ (row : ℤ → ℤ → AnswerOrFault ℤ) (small : (a b : ℤ) → IsSmallAnswer (row a b)) where
   mutual
-    by_parts_small : (v w : Val) → HasSmall (by_parts row v w)
+    by_parts_small : (v w : Val) → HasSmall (by_elements row v w)
     by_parts_small (NumberVal a) (NumberVal b) = number_small (row a b) (small a b)
     by_parts_small (ListVal vs) (ListVal ws) =
-        listed_small _ (if_equal_small (count_of vs) (count_of ws) (pairs_by_parts row vs ws)
+        listed_small _ (if_equal_small (count_of vs) (count_of ws) (pairs_by_elements row vs ws)
         (pairs_small vs ws))
     by_parts_small v w = tt
 
-    pairs_small : (vs ws : Vals) → AllSmall (pairs_by_parts row vs ws)
+    pairs_small : (vs ws : Vals) → AllSmall (pairs_by_elements row vs ws)
     pairs_small (and_val v vs) (and_val w ws) =
-        front_small (by_parts row v w) (pairs_by_parts row vs ws) (by_parts_small v w) (pairs_small vs ws)
+        front_small (by_elements row v w) (pairs_by_elements row vs ws) (by_parts_small v w) (pairs_small vs ws)
     pairs_small no_vals ws = refl
     pairs_small (and_val v vs) no_vals = refl
 
 module _ (row : ℤ → AnswerOrFault ℤ) (small : (a : ℤ) → IsSmallAnswer (row a)) where
   mutual
-    each_part_small : (v : Val) → HasSmall (each_part row v)
+    each_part_small : (v : Val) → HasSmall (each_element row v)
     each_part_small (NumberVal a) = number_small (row a) (small a)
     each_part_small (ListVal vs) = listed_small _ (each_of_small vs)
     each_part_small v = tt
 
-    each_of_small : (vs : Vals) → AllSmall (each_of_parts row vs)
+    each_of_small : (vs : Vals) → AllSmall (each_of_elements row vs)
     each_of_small no_vals = refl
     each_of_small (and_val v vs) =
-        front_small (each_part row v) (each_of_parts row vs) (each_part_small v) (each_of_small vs)
+        front_small (each_element row v) (each_of_elements row vs) (each_part_small v) (each_of_small vs)
 
 dot_small : (answer : AnswerOrFault ℤ) → HasSmall (number_answer (and_then answer number_or_too_large))
 dot_small (Ok n) = number_small (number_or_too_large n) (sized_small n)
@@ -171,19 +171,19 @@ binary_bounded Less v w = tested_bounded _ (order_of v w)
 binary_bounded LessEqual v w = tested_bounded _ (order_of v w)
 binary_bounded Greater v w = tested_bounded _ (order_of v w)
 binary_bounded GreaterEqual v w = tested_bounded _ (order_of v w)
-binary_bounded Add v w = made_bounded (by_parts sum_row v w) (by_parts_small sum_row (λ a b. sized_small
+binary_bounded Add v w = made_bounded (by_elements sum_row v w) (by_parts_small sum_row (λ a b. sized_small
     (a +ℤ b)) v w)
 binary_bounded Subtract v w =
-    made_bounded (by_parts difference_row v w) (by_parts_small difference_row (λ a b. sized_small
+    made_bounded (by_elements difference_row v w) (by_parts_small difference_row (λ a b. sized_small
     (a -ℤ b)) v w)
 binary_bounded Multiply v w = made_bounded (product_of v w) (product_small v w)
 binary_bounded Divide v w = made_bounded (quotient_of v w) (quotient_of_small v w)
 binary_bounded Remainder v w = remainder_bounded v w
 
 pub unary_bounded : (op : UnaryOp) (v : Val) → IsBoundedAnswer (unary_of op v)
-unary_bounded Negate v = made_bounded (each_part (λ n. number_or_too_large (neg_ℤ n)) v) (each_part_small (λ n. number_or_too_large
+unary_bounded Negate v = made_bounded (each_element (λ n. number_or_too_large (neg_ℤ n)) v) (each_part_small (λ n. number_or_too_large
     (neg_ℤ n)) (λ a. sized_small (neg_ℤ a)) v)
-unary_bounded Keep v = made_bounded (each_part number_or_too_large v) (each_part_small number_or_too_large (λ a. sized_small a) v)
+unary_bounded Keep v = made_bounded (each_element number_or_too_large v) (each_part_small number_or_too_large (λ a. sized_small a) v)
 unary_bounded Not v = refl
 
 item_small : (vs : Vals) (n : ℕ) → IsTrue (have_small_numbers vs)
@@ -192,7 +192,7 @@ item_small no_vals n s = refl
 item_small (and_val v vs) zero s = (and_parts _ _ s).0
 item_small (and_val v vs) (suc n) s = item_small vs n (and_parts _ _ s).1
 
-item_parts : (vs : Vals) (n : ℕ) → parts_of (item_at vs n) ≤ suc (parts_in vs)
+item_parts : (vs : Vals) (n : ℕ) → element_count (item_at vs n) ≤ suc (element_count_in vs)
 item_parts no_vals n = omega arith
 item_parts (and_val v vs) zero = omega arith
 item_parts (and_val v vs) (suc n) = omega (arith, item_parts vs n)

@@ -9,9 +9,9 @@ use Rattle.scad_value.specs.declared.stop.ValueStop.TheVariants.{Kind, NoMemory}
 use Rattle.scad_value.specs.declared.value.Value.{Value}
 use Rattle.scad_value.specs.declared.value.Values.{Values}
 use Rattle.scad_value.specs.declared.value.Value.TheFolds.{fold_out-Values}
-use Rattle.scad_value.specs.Values.{Val, NumberVal, TruthVal, TextVal, ListVal, RangeVal, UndefVal, Vals, no_vals, and_val, vals_from, count_of, parts_in, parts_of, truth_of, are_same, all_same, has_small_numbers, have_small_numbers}
+use Rattle.scad_value.specs.Values.{Val, NumberVal, TruthVal, TextVal, ListVal, RangeVal, UndefVal, Vals, no_vals, and_val, vals_from, count_of, element_count_in, element_count, truth_of, are_same, all_same, has_small_numbers, have_small_numbers}
 use Rattle.text_place.specs.declared.fault.FaultKind.TheVariants.{TypeMismatch}
-use Rattle.scad_value.specs.Operators.{AnswerOrFault, values_in_front, if_equal, by_parts, pairs_by_parts, each_part, each_of_parts, and_then, dot_of, product_at, plus_answer, dot_row, number_answer, number_or_too_large, item_at, byte_at}
+use Rattle.scad_value.specs.Operators.{AnswerOrFault, values_in_front, if_equal, by_elements, pairs_by_elements, each_element, each_of_elements, and_then, dot_of, product_at, plus_answer, dot_row, number_answer, number_or_too_large, item_at, byte_at}
 use Rattle.scad_value.specs.View.{val_of, vals_of, vals_in, value_step, values_step, MeetsAnswer, MeetsAnswers}
 
 -- what a list in memory stands for
@@ -81,27 +81,27 @@ front_of_front xs y (Err kind) = refl
 -- one more pair
 pub pairs_more : (row : _) (vs ws items : List Value) (i : ℕ) (v w x : Value) → i < length vs
     → i < length ws → v ≡ get_or vs i v → w ≡ get_or ws i w
-    → by_parts row (val_of v) (val_of w) ≡ Ok (val_of x)
-    → values_in_front (vals_in items) (pairs_by_parts row (vals_from (vals_in (drop i vs))) (vals_from (vals_in
+    → by_elements row (val_of v) (val_of w) ≡ Ok (val_of x)
+    → values_in_front (vals_in items) (pairs_by_elements row (vals_from (vals_in (drop i vs))) (vals_from (vals_in
     (drop i ws))))
-    ≡ values_in_front (vals_in (items ++ x ∷ [])) (pairs_by_parts row (vals_from (vals_in (drop (i + 1) vs)))
+    ≡ values_in_front (vals_in (items ++ x ∷ [])) (pairs_by_elements row (vals_from (vals_in (drop (i + 1) vs)))
     (vals_from (vals_in (drop (i + 1) ws))))
 pairs_more row vs ws items i v w x h k e f g =
-    let tail = pairs_by_parts row (vals_from (vals_in (drop (i + 1) vs))) (vals_from (vals_in (drop
+    let tail = pairs_by_elements row (vals_from (vals_in (drop (i + 1) vs))) (vals_from (vals_in (drop
     (i + 1) ws))) in
-    ap (λ (l : Vals). values_in_front (vals_in items) (pairs_by_parts row l (vals_from (vals_in (drop i ws)))))
+    ap (λ (l : Vals). values_in_front (vals_in items) (pairs_by_elements row l (vals_from (vals_in (drop i ws)))))
     (from_here vs i v h e)
-    ∙ ap (λ (l : Vals). values_in_front (vals_in items) (pairs_by_parts row (and_val (val_of v) (vals_from
+    ∙ ap (λ (l : Vals). values_in_front (vals_in items) (pairs_by_elements row (and_val (val_of v) (vals_from
     (vals_in (drop (i + 1) vs)))) l)) (from_here ws i w k f)
     ∙ ap (λ (a : AnswerOrFault Val). values_in_front (vals_in items) (and_then a (λ y. values_in_front (y ∷ []) tail))) g
     ∙ front_of_front (vals_in items) (val_of x) tail
     ∙ ap (λ l. values_in_front l tail) (sym (map-append val_of items (x ∷ [])))
 
 pub pairs_end : (row : _) (vs items : List Value) (ws : Vals) (i : ℕ) → length vs ≤ i
-    → values_in_front (vals_in items) (pairs_by_parts row (vals_from (vals_in (drop i vs))) ws)
+    → values_in_front (vals_in items) (pairs_by_elements row (vals_from (vals_in (drop i vs))) ws)
     ≡ Ok (vals_in items)
 pairs_end row vs items ws i h =
-    ap (λ (l : Vals). values_in_front (vals_in items) (pairs_by_parts row l ws)) (from_end vs i h)
+    ap (λ (l : Vals). values_in_front (vals_in items) (pairs_by_elements row l ws)) (from_end vs i h)
     ∙ ap (λ l. Ok l) (append-nil (vals_in items))
 
 -- each part of a list: at the start, one more, a fault, and at the end
@@ -110,45 +110,45 @@ none_in_front (Ok vs) = refl
 none_in_front (Err kind) = refl
 
 pub parts_begin : (row : _) (of : Values) (items : List Value) → items ≡ []
-    → each_of_parts row (vals_from (vals_of of))
-    ≡ values_in_front (vals_in items) (each_of_parts row (vals_from (vals_in of.items.items)))
+    → each_of_elements row (vals_from (vals_of of))
+    ≡ values_in_front (vals_in items) (each_of_elements row (vals_from (vals_in of.items.items)))
 parts_begin row of items e =
-    ap (λ xs. each_of_parts row (vals_from xs)) (vals_out of)
-    ∙ none_in_front (each_of_parts row (vals_from (vals_in of.items.items)))
-    ∙ ap (λ (l : List Value). values_in_front (vals_in l) (each_of_parts row (vals_from (vals_in of.items.items)))) (sym e)
+    ap (λ xs. each_of_elements row (vals_from xs)) (vals_out of)
+    ∙ none_in_front (each_of_elements row (vals_from (vals_in of.items.items)))
+    ∙ ap (λ (l : List Value). values_in_front (vals_in l) (each_of_elements row (vals_from (vals_in of.items.items)))) (sym e)
 
 part_here : (row : _) (vs items : List Value) (i : ℕ) (v : Value) (answer : AnswerOrFault Val) → i < length vs
-    → v ≡ get_or vs i v → each_part row (val_of v) ≡ answer
-    → values_in_front (vals_in items) (each_of_parts row (vals_from (vals_in (drop i vs))))
-    ≡ values_in_front (vals_in items) (and_then answer (λ x. values_in_front (x ∷ []) (each_of_parts row (vals_from (vals_in
+    → v ≡ get_or vs i v → each_element row (val_of v) ≡ answer
+    → values_in_front (vals_in items) (each_of_elements row (vals_from (vals_in (drop i vs))))
+    ≡ values_in_front (vals_in items) (and_then answer (λ x. values_in_front (x ∷ []) (each_of_elements row (vals_from (vals_in
     (drop (i + 1) vs))))))
 part_here row vs items i v answer h e g =
-    ap (λ (l : Vals). values_in_front (vals_in items) (each_of_parts row l)) (from_here vs i v h e)
-    ∙ ap (λ (a : AnswerOrFault Val). values_in_front (vals_in items) (and_then a (λ x. values_in_front (x ∷ []) (each_of_parts row
+    ap (λ (l : Vals). values_in_front (vals_in items) (each_of_elements row l)) (from_here vs i v h e)
+    ∙ ap (λ (a : AnswerOrFault Val). values_in_front (vals_in items) (and_then a (λ x. values_in_front (x ∷ []) (each_of_elements row
     (vals_from (vals_in (drop (i + 1) vs))))))) g
 
 pub parts_more : (row : _) (vs items : List Value) (i : ℕ) (v x : Value) → i < length vs
-    → v ≡ get_or vs i v → each_part row (val_of v) ≡ Ok (val_of x)
-    → values_in_front (vals_in items) (each_of_parts row (vals_from (vals_in (drop i vs))))
-    ≡ values_in_front (vals_in (items ++ x ∷ [])) (each_of_parts row (vals_from (vals_in (drop (i + 1) vs))))
+    → v ≡ get_or vs i v → each_element row (val_of v) ≡ Ok (val_of x)
+    → values_in_front (vals_in items) (each_of_elements row (vals_from (vals_in (drop i vs))))
+    ≡ values_in_front (vals_in (items ++ x ∷ [])) (each_of_elements row (vals_from (vals_in (drop (i + 1) vs))))
 parts_more row vs items i v x h e g =
-    let tail = each_of_parts row (vals_from (vals_in (drop (i + 1) vs))) in
+    let tail = each_of_elements row (vals_from (vals_in (drop (i + 1) vs))) in
     part_here row vs items i v (Ok (val_of x)) h e g
     ∙ front_of_front (vals_in items) (val_of x) tail
     ∙ ap (λ l. values_in_front l tail) (sym (map-append val_of items (x ∷ [])))
 
 pub parts_stop : (row : _) (of : Values) (items : List Value) (i : ℕ) (v : Value) (stop : ValueStop)
-    → i < length of.items.items → v ≡ get_or of.items.items i v → MeetsAnswer (Err stop) (each_part row (val_of v))
-    → each_of_parts row (vals_from (vals_of of))
-    ≡ values_in_front (vals_in items) (each_of_parts row (vals_from (vals_in (drop i of.items.items))))
-    → MeetsAnswers (Err stop) (each_of_parts row (vals_from (vals_of of)))
+    → i < length of.items.items → v ≡ get_or of.items.items i v → MeetsAnswer (Err stop) (each_element row (val_of v))
+    → each_of_elements row (vals_from (vals_of of))
+    ≡ values_in_front (vals_in items) (each_of_elements row (vals_from (vals_in (drop i of.items.items))))
+    → MeetsAnswers (Err stop) (each_of_elements row (vals_from (vals_of of)))
 parts_stop row of items i v (Kind kind) h e g told = told ∙ part_here row of.items.items items i v (Err kind) h e g
 parts_stop row of items i v NoMemory h e g told = tt
 
 pub parts_end : (row : _) (vs items : List Value) (i : ℕ) → length vs ≤ i
-    → values_in_front (vals_in items) (each_of_parts row (vals_from (vals_in (drop i vs)))) ≡ Ok (vals_in items)
+    → values_in_front (vals_in items) (each_of_elements row (vals_from (vals_in (drop i vs)))) ≡ Ok (vals_in items)
 parts_end row vs items i h =
-    ap (λ (l : Vals). values_in_front (vals_in items) (each_of_parts row l)) (from_end vs i h)
+    ap (λ (l : Vals). values_in_front (vals_in items) (each_of_elements row l)) (from_end vs i h)
     ∙ ap (λ l. Ok l) (append-nil (vals_in items))
 
 -- lists of one length, and of two
@@ -178,11 +178,11 @@ dot_more vs ws i v w n h k e f g =
     (from_here ws i w k f)
     ∙ ap (λ (a : AnswerOrFault ℤ). and_then a (λ n. plus_answer n tail)) (sym g)
 
-pub length-le_parts : (vs : List Value) → length vs ≤ parts_in (vals_from (vals_in vs))
+pub length-le_parts : (vs : List Value) → length vs ≤ element_count_in (vals_from (vals_in vs))
 length-le_parts [] = omega arith
 length-le_parts (v ∷ vs) = omega (arith, length-le_parts vs, some_part (val_of v))
   where
-    some_part : (v : Val) → 1 ≤ parts_of v
+    some_part : (v : Val) → 1 ≤ element_count v
     some_part (NumberVal n) = omega arith
     some_part (TruthVal b) = omega arith
     some_part (TextVal bytes) = omega arith

@@ -17,12 +17,12 @@ MeetsAnswerAt (Ok v) answer at = answer ≡ Ok (bounded_val v)
 MeetsAnswerAt (Err (Fault fault)) answer at = (answer ≡ Err fault.kind) × (fault.place ≡ at)
 MeetsAnswerAt (Err NoMemory) answer at = Unit {0}
 
--- the value alone, or the stop
-abbrev pub IsAlone : Result BoundedValue Stop → Result Value Stop → Type 0
-IsAlone (Ok bounded) (Ok v) = v ≡ bounded.value
-IsAlone (Ok bounded) (Err stop) = ⊥
-IsAlone (Err fault) (Ok v) = ⊥
-IsAlone (Err fault) (Err stop) = stop ≡ fault
+-- the value without its bound, or the stop
+abbrev pub IsUnboundedAnswer : Result BoundedValue Stop → Result Value Stop → Type 0
+IsUnboundedAnswer (Ok bounded) (Ok v) = v ≡ bounded.value
+IsUnboundedAnswer (Ok bounded) (Err stop) = ⊥
+IsUnboundedAnswer (Err fault) (Ok v) = ⊥
+IsUnboundedAnswer (Err fault) (Err stop) = stop ≡ fault
 
 -- a list with one item more, unless memory ran out or there is none
 abbrev pub IsOneItemLonger : {A : Type 0} → List A → Result A Stop → Result (Vec A Global) Stop → Type 0

@@ -47,38 +47,38 @@ values_in_front vs (Err kind) = Err kind
 abbrev pub if_equal : {A : Type 0} → ℕ → ℕ → AnswerOrFault A → AnswerOrFault A
 if_equal m n answer = if nat_eq m n then answer else Err TypeMismatch
 
--- two numbers, or two lists of one length by parts, from the first on
+-- two numbers, or two lists of one length element by element, from the first on
 abbrev mutual
-  pub by_parts : (ℤ → ℤ → AnswerOrFault ℤ) → Val → Val → AnswerOrFault Val
-  by_parts row (NumberVal a) (NumberVal b) = number_answer (row a b)
-  by_parts row (ListVal vs) (ListVal ws) =
-      list_or_fault (if_equal (count_of vs) (count_of ws) (pairs_by_parts row vs ws))
-  by_parts row v w = Err TypeMismatch
+  pub by_elements : (ℤ → ℤ → AnswerOrFault ℤ) → Val → Val → AnswerOrFault Val
+  by_elements row (NumberVal a) (NumberVal b) = number_answer (row a b)
+  by_elements row (ListVal vs) (ListVal ws) =
+      list_or_fault (if_equal (count_of vs) (count_of ws) (pairs_by_elements row vs ws))
+  by_elements row v w = Err TypeMismatch
 
   -- the values of two lists of one length, pair by pair
-  pub pairs_by_parts : (ℤ → ℤ → AnswerOrFault ℤ) → Vals → Vals → AnswerOrFault (List Val)
-  pairs_by_parts row (and_val v vs) (and_val w ws) =
-      and_then (by_parts row v w) (λ x. values_in_front (x ∷ []) (pairs_by_parts row vs ws))
-  pairs_by_parts row vs ws = Ok []
+  pub pairs_by_elements : (ℤ → ℤ → AnswerOrFault ℤ) → Vals → Vals → AnswerOrFault (List Val)
+  pairs_by_elements row (and_val v vs) (and_val w ws) =
+      and_then (by_elements row v w) (λ x. values_in_front (x ∷ []) (pairs_by_elements row vs ws))
+  pairs_by_elements row vs ws = Ok []
 
--- a number, or each part of a list, from the first on
+-- a number, or each element of a list, from the first on
 abbrev mutual
-  pub each_part : (ℤ → AnswerOrFault ℤ) → Val → AnswerOrFault Val
-  each_part row (NumberVal a) = number_answer (row a)
-  each_part row (ListVal vs) = list_or_fault (each_of_parts row vs)
-  each_part row v = Err TypeMismatch
+  pub each_element : (ℤ → AnswerOrFault ℤ) → Val → AnswerOrFault Val
+  each_element row (NumberVal a) = number_answer (row a)
+  each_element row (ListVal vs) = list_or_fault (each_of_elements row vs)
+  each_element row v = Err TypeMismatch
 
   -- the values of all items, in order
-  pub each_of_parts : (ℤ → AnswerOrFault ℤ) → Vals → AnswerOrFault (List Val)
-  each_of_parts row no_vals = Ok []
-  each_of_parts row (and_val v vs) =
-      and_then (each_part row v) (λ x. values_in_front (x ∷ []) (each_of_parts row vs))
+  pub each_of_elements : (ℤ → AnswerOrFault ℤ) → Vals → AnswerOrFault (List Val)
+  each_of_elements row no_vals = Ok []
+  each_of_elements row (and_val v vs) =
+      and_then (each_element row v) (λ x. values_in_front (x ∷ []) (each_of_elements row vs))
 
--- two numbers
+-- the sum, within the profile
 abbrev pub sum_row : ℤ → ℤ → AnswerOrFault ℤ
 sum_row a b = number_or_too_large (a +ℤ b)
 
--- the first less the second
+-- the first less the second, within the profile
 abbrev pub difference_row : ℤ → ℤ → AnswerOrFault ℤ
 difference_row a b = number_or_too_large (a -ℤ b)
 
@@ -127,17 +127,17 @@ dot_row no_vals ws = Err TypeMismatch
 dot_row (and_val v vs) ws =
     if_equal (count_of (and_val v vs)) (count_of ws) (number_answer (and_then (dot_of (and_val v vs) ws) number_or_too_large))
 
--- two numbers; a number and a list in either order, each part; two lists of numbers
+-- two numbers; a number and a list in either order, each element; two lists of numbers
 abbrev pub product_of : Val → Val → AnswerOrFault Val
 product_of (NumberVal a) (NumberVal b) = number_answer (product_row a b)
-product_of (NumberVal a) (ListVal ws) = each_part (λ b. product_row b a) (ListVal ws)
-product_of (ListVal vs) (NumberVal b) = each_part (λ a. product_row a b) (ListVal vs)
+product_of (NumberVal a) (ListVal ws) = each_element (λ b. product_row b a) (ListVal ws)
+product_of (ListVal vs) (NumberVal b) = each_element (λ a. product_row a b) (ListVal vs)
 product_of (ListVal vs) (ListVal ws) = dot_row vs ws
 product_of v w = Err TypeMismatch
 
--- a number or each part of a list, by a number
+-- a number or each element of a list, by a number
 abbrev pub quotient_of : Val → Val → AnswerOrFault Val
-quotient_of v (NumberVal b) = each_part (λ a. quotient_row a b) v
+quotient_of v (NumberVal b) = each_element (λ a. quotient_row a b) v
 quotient_of v w = Err TypeMismatch
 
 -- of two numbers alone
@@ -165,16 +165,16 @@ binary_of Less v w = truth_by_order is_lt (order_of v w)
 binary_of LessEqual v w = truth_by_order is_le (order_of v w)
 binary_of Greater v w = truth_by_order is_gt (order_of v w)
 binary_of GreaterEqual v w = truth_by_order is_ge (order_of v w)
-binary_of Add v w = value_or_long_list (by_parts sum_row v w)
-binary_of Subtract v w = value_or_long_list (by_parts difference_row v w)
+binary_of Add v w = value_or_long_list (by_elements sum_row v w)
+binary_of Subtract v w = value_or_long_list (by_elements difference_row v w)
 binary_of Multiply v w = value_or_long_list (product_of v w)
 binary_of Divide v w = value_or_long_list (quotient_of v w)
 binary_of Remainder v w = remainder_of v w
 
--- the operators before an operand: of numbers, and of lists by parts; `!` takes any value
+-- the operators before an operand: of numbers, and of lists element by element; `!` takes any value
 abbrev pub unary_of : UnaryOp → Val → AnswerOrFault Val
-unary_of Negate v = value_or_long_list (each_part (λ n. number_or_too_large (neg_ℤ n)) v)
-unary_of Keep v = value_or_long_list (each_part number_or_too_large v)
+unary_of Negate v = value_or_long_list (each_element (λ n. number_or_too_large (neg_ℤ n)) v)
+unary_of Keep v = value_or_long_list (each_element number_or_too_large v)
 unary_of Not v = Ok (TruthVal (not (truth_of v)))
 
 -- the item at a place from 0, or undef

@@ -2,6 +2,7 @@
 use Rattle.std.specs.Prelude.{ℕ, suc, ◌+◌, ◌^◌, max, ℤ, Bool, true, false, not, ◌&&◌, ◌||◌, List, [], ◌∷◌, nat_lt, unsigned_abs}
 use Rattle.std.specs.Ordering.{int_eq}
 use Rattle.std.specs.Str.{bytes_eq}
+use Rattle.text_place.specs.Decimals.{least_too_large}
 
 mutual
   -- a number, a truth, the bytes of a text, a list, a range from one number by a step to another one, or `undef`
@@ -28,16 +29,16 @@ abbrev pub count_of : Vals → ℕ
 count_of no_vals = 0
 count_of (and_val v vs) = suc (count_of vs)
 
--- a value that is no list has 1 part; a list has 1 and those of its items
+-- the value itself and all values in it, in lists within lists too: `[1, 2]` has 3
 abbrev mutual
-  pub parts_of : Val → ℕ
-  parts_of (ListVal items) = suc (parts_in items)
-  parts_of v = 1
+  pub element_count : Val → ℕ
+  element_count (ListVal items) = suc (element_count_in items)
+  element_count v = 1
 
-  -- the parts of all items together
-  pub parts_in : Vals → ℕ
-  parts_in no_vals = 0
-  parts_in (and_val v vs) = parts_of v + parts_in vs
+  -- the elements of all items together
+  pub element_count_in : Vals → ℕ
+  element_count_in no_vals = 0
+  element_count_in (and_val v vs) = element_count v + element_count_in vs
 
 -- how many lists are in one another
 abbrev mutual
@@ -50,21 +51,17 @@ abbrev mutual
   nesting_in no_vals = 0
   nesting_in (and_val v vs) = max (nesting_of v) (nesting_in vs)
 
--- the most parts of a value that an operator, a call or a bracket makes
-abbrev pub most_parts : ℕ
-most_parts = 4096
+-- the most elements of a value that an operator, a call or a bracket makes
+abbrev pub most_elements : ℕ
+most_elements = 4096
 
 -- how deep its lists are in one another at most
 abbrev pub most_nesting : ℕ
 most_nesting = 64
 
--- a list that none of them may make: of more parts, or deeper
+-- a list that none of them may make: of more elements, or deeper
 abbrev pub is_too_long_or_deep : Val → Bool
-is_too_long_or_deep v = nat_lt most_parts (parts_of v) || nat_lt most_nesting (nesting_of v)
-
--- the least size of a number that is too large
-abbrev pub least_too_large : ℕ
-least_too_large = 2 ^ 53
+is_too_long_or_deep v = nat_lt most_elements (element_count v) || nat_lt most_nesting (nesting_of v)
 
 -- a number of the profile: one that isn't too large
 abbrev pub is_small : ℤ → Bool
@@ -83,13 +80,13 @@ abbrev mutual
   have_small_numbers no_vals = true
   have_small_numbers (and_val v vs) = has_small_numbers v && have_small_numbers vs
 
--- the least number of parts that is too many for what an operator is given
-abbrev pub least_too_many_parts : ℕ
-least_too_many_parts = 2 ^ 20
+-- the least number of elements that is too many for what an operator is given
+abbrev pub least_too_many_elements : ℕ
+least_too_many_elements = 2 ^ 20
 
--- numbers of the profile, and not too many parts
+-- numbers of the profile, and not too many elements
 abbrev pub is_bounded : Val → Bool
-is_bounded v = has_small_numbers v && nat_lt (parts_of v) least_too_many_parts
+is_bounded v = has_small_numbers v && nat_lt (element_count v) least_too_many_elements
 
 -- what counts as true: all but false, 0, the empty text, the empty list and undef
 abbrev pub truth_of : Val → Bool
@@ -108,7 +105,7 @@ same_truth true b = b
 same_truth false b = not b
 
 abbrev mutual
-  -- equal kind and parts
+  -- equal kind and elements
   pub are_same : Val → Val → Bool
   are_same (NumberVal a) (NumberVal b) = int_eq a b
   are_same (TruthVal a) (TruthVal b) = same_truth a b

@@ -1,6 +1,6 @@
 ghost use Rattle.std.specs.Prelude.{◌≡◌, ◌<◌, ◌≤◌, ◌^◌, ◌*ℤ◌, length, IsTrue, IfOk, unsigned_abs};
-ghost use Rattle.scad_value.specs.Values.{count_of, parts_in, vals_from, is_small, has_small_numbers, have_small_numbers};
-ghost use Rattle.scad_value.specs.Operators.{number_or_too_large, by_parts, pairs_by_parts, if_equal, each_part, each_of_parts, dot_of, product_at, product_row, remainder_row, quotient_row};
+ghost use Rattle.scad_value.specs.Values.{count_of, element_count_in, vals_from, is_small, has_small_numbers, have_small_numbers};
+ghost use Rattle.scad_value.specs.Operators.{number_or_too_large, by_elements, pairs_by_elements, if_equal, each_element, each_of_elements, dot_of, product_at, product_row, remainder_row, quotient_row};
 ghost use Rattle.scad_value.specs.View.{val_of, vals_of, MeetsAnswer, MeetsAnswers};
 ghost use Rattle.scad_value.specs.Rows.{pair_row, part_row};
 
@@ -89,7 +89,7 @@ pub(crate) fn remainder(left: i64, right: i64) -> Result<i64, FaultKind>
     number_or_too_large(left as i128 % right as i128)
 }
 
-/// Two numbers, or two lists of one length by parts.
+/// Two numbers, or two lists of one length by elements.
 #[cycle(pairs)]
 pub(crate) fn by_parts(
     alloc: Global,
@@ -97,7 +97,7 @@ pub(crate) fn by_parts(
     left: &Value,
     right: &Value,
 ) -> Result<Value, ValueStop>
-    ensures { MeetsAnswer result (by_parts (pair_row row) (val_of left.now) (val_of right.now)) }
+    ensures { MeetsAnswer result (by_elements (pair_row row) (val_of left.now) (val_of right.now)) }
 {
     match (left, right) {
         (Value::Number(a), Value::Number(b)) => Ok(Value::Number(pair(row, *a, *b)?)),
@@ -106,7 +106,7 @@ pub(crate) fn by_parts(
     }
 }
 
-// Two lists by parts, or TypeMismatch where one is longer.
+// Two lists by elements, or TypeMismatch where one is longer.
 #[cycle(pairs)]
 fn equal_lists(
     alloc: Global,
@@ -114,8 +114,10 @@ fn equal_lists(
     left: &Values,
     right: &Values,
 ) -> Result<Values, ValueStop>
-    ensures { MeetsAnswers result (if_equal (count_of (vals_from (vals_of left.now))) (count_of (vals_from (vals_of right.now)))
-        (pairs_by_parts (pair_row row) (vals_from (vals_of left.now)) (vals_from (vals_of right.now)))) }
+    ensures { MeetsAnswers result (if_equal (count_of (vals_from (vals_of left.now)))
+        (count_of (vals_from (vals_of right.now)))
+        (pairs_by_elements (pair_row row) (vals_from (vals_of left.now))
+        (vals_from (vals_of right.now)))) }
 {
     if left.items.len() != right.items.len() {
         return Err(ValueStop::Kind(FaultKind::TypeMismatch));
@@ -132,7 +134,8 @@ fn each_pair(
     right: &Values,
 ) -> Result<Values, ValueStop>
     requires { length left.now.items.items ≡ length right.now.items.items }
-    ensures { MeetsAnswers result (pairs_by_parts (pair_row row) (vals_from (vals_of left.now)) (vals_from (vals_of right.now))) }
+    ensures { MeetsAnswers result (pairs_by_elements (pair_row row) (vals_from (vals_of left.now))
+        (vals_from (vals_of right.now))) }
 {
     let mut items = Vec::new(alloc);
     for (i, value) in left.items.iter().enumerate() {
@@ -141,10 +144,10 @@ fn each_pair(
     Ok(Values { items })
 }
 
-/// A number, or each part of a list.
+/// A number, or each element of a list.
 #[cycle(parts)]
 pub(crate) fn each_part(alloc: Global, row: PartRow, of: &Value) -> Result<Value, ValueStop>
-    ensures { MeetsAnswer result (each_part (part_row row) (val_of of.now)) }
+    ensures { MeetsAnswer result (each_element (part_row row) (val_of of.now)) }
 {
     match of {
         Value::Number(n) => Ok(Value::Number(part(row, *n)?)),
@@ -156,7 +159,7 @@ pub(crate) fn each_part(alloc: Global, row: PartRow, of: &Value) -> Result<Value
 // The values of all items of a list in order, up to the first fault.
 #[cycle(parts)]
 fn each_of(alloc: Global, row: PartRow, of: &Values) -> Result<Values, ValueStop>
-    ensures { MeetsAnswers result (each_of_parts (part_row row) (vals_from (vals_of of.now))) }
+    ensures { MeetsAnswers result (each_of_elements (part_row row) (vals_from (vals_of of.now))) }
 {
     let mut items = Vec::new(alloc);
     for value in &of.items {
@@ -169,7 +172,7 @@ fn each_of(alloc: Global, row: PartRow, of: &Values) -> Result<Values, ValueStop
 pub(crate) fn dot(left: &Values, right: &Values) -> Result<i128, FaultKind>
     requires left { IsTrue (have_small_numbers (vals_from (vals_of left.now))) }
     requires right { IsTrue (have_small_numbers (vals_from (vals_of right.now))) }
-    requires few { parts_in (vals_from (vals_of left.now)) < 2 ^ 20 }
+    requires few { element_count_in (vals_from (vals_of left.now)) < 2 ^ 20 }
     requires equal { length left.now.items.items ≡ length right.now.items.items }
     ensures { result ≡ dot_of (vals_from (vals_of left.now)) (vals_from (vals_of right.now)) }
 {

@@ -4,7 +4,7 @@ ghost use Rattle.scad_value.specs.View.{val_of, vals_of};
 
 use crate::value::{Value, Values};
 
-/// Whether two values have equal kind and parts.
+/// Whether two values have equal kind and elements.
 #[cycle(same)]
 pub(crate) fn same(left: &Value, right: &Value) -> bool
     ensures { result ≡ are_same (val_of left.now) (val_of right.now) }

@@ -2,7 +2,7 @@
 //! and not in each function that holds something.
 
 ghost use Rattle.std.specs.Prelude.{◌≡◌, Ok, Err, IfOk, IfErr};
-ghost use Rattle.scad_value.specs.AnswerView.{IsOneItemLonger, IsAlone};
+ghost use Rattle.scad_value.specs.AnswerView.{IsOneItemLonger, IsUnboundedAnswer};
 
 use crate::{BoundedValue, Value};
 use text_place::Stop;
@@ -36,7 +36,7 @@ pub fn with_next<T: Drop>(items: Vec<T>, next: Result<T, Stop>) -> Result<Vec<T>
 
 /// The value without the type that keeps it bounded, where there is one.
 pub fn value_alone(given: Result<BoundedValue, Stop>) -> Result<Value, Stop>
-    ensures { IsAlone given result }
+    ensures { IsUnboundedAnswer given result }
 {
     match given {
         Ok(bounded) => Ok(bounded.value),

@@ -1,5 +1,5 @@
 ghost use Rattle.std.specs.Prelude.{◌≡◌, ◌<◌, ◌^◌, IsTrue, IfOk, Ok, length};
-ghost use Rattle.scad_value.specs.Values.{Val, is_bounded, vals_from, has_small_numbers, have_small_numbers, parts_in, NumberVal, TextVal, ListVal, UndefVal};
+ghost use Rattle.scad_value.specs.Values.{Val, is_bounded, vals_from, has_small_numbers, have_small_numbers, element_count_in, NumberVal, TextVal, ListVal, UndefVal};
 ghost use Rattle.scad_value.specs.Operators.{AnswerOrFault, binary_of, unary_of, index_of, value_or_long_list, product_of, quotient_of, remainder_of, dot_row, dot_of, and_then, number_or_too_large, number_answer, order_of, item_at, byte_at};
 ghost use Rattle.scad_value.specs.View.{val_of, vals_of, GivesAnswer, MeetsAnswer, GivesBounded};
 
@@ -16,7 +16,7 @@ use std::cmp::Ordering;
 use text_place::{Bytes, FaultKind, NoMemory};
 
 /// The value of an operator of two sides, or its first fault: of the types of the sides, then of
-/// their parts in order, then LongList. Of `&&` and `||` both sides are given here.
+/// their elements in order, then LongList. Of `&&` and `||` both sides are given here.
 pub fn binary(alloc: Global, op: BinaryOp, left: &Value, right: &Value) -> Result<Value, ValueStop>
     requires left { IsTrue (is_bounded (val_of left.now)) }
     requires right { IsTrue (is_bounded (val_of right.now)) }
@@ -93,7 +93,8 @@ fn part(alloc: Global, of: &Value, at: &Value) -> Result<Value, ValueStop>
 
 // A copy of an item, or undef where the list has none of this number.
 fn item(alloc: Global, values: &Values, n: i64) -> Result<Value, ValueStop>
-    ensures { MeetsAnswer result (index_of (ListVal (vals_from (vals_of values.now))) (NumberVal n)) }
+    ensures { MeetsAnswer result (index_of (ListVal (vals_from (vals_of values.now)))
+        (NumberVal n)) }
 {
     if n < 0 {
         return Ok(Value::Undef);
@@ -147,10 +148,11 @@ fn text(bytes: Vec<u8>) -> Value
 }
 
 /// A value that an operator, a function or a bracket makes, unless it is LongList: it has more than
-/// 4,096 parts, or lists that are more than 64 deep in one another.
+/// 4,096 elements, or lists that are more than 64 deep in one another.
 pub fn value_or_long_list(value: Value) -> Result<Value, FaultKind>
     ensures value { GivesAnswer result (value_or_long_list (Ok (val_of value))) }
-    ensures bounded { IsTrue (has_small_numbers (val_of value)) → IfOk result (λ v. IsTrue (is_bounded (val_of v))) }
+    ensures bounded { IsTrue (has_small_numbers (val_of value)) →
+        IfOk result (λ v. IsTrue (is_bounded (val_of v))) }
 {
     if value.parts() > MOST_PARTS || value.nesting() > MOST_NESTING {
         return Err(FaultKind::LongList);
@@ -160,7 +162,8 @@ pub fn value_or_long_list(value: Value) -> Result<Value, FaultKind>
 
 // The value that was given, unless it is LongList, or why none was.
 fn made_of(given: Result<Value, ValueStop>) -> Result<Value, ValueStop>
-    ensures { (answer : AnswerOrFault Val) → MeetsAnswer given answer → MeetsAnswer result (value_or_long_list answer) }
+    ensures { (answer : AnswerOrFault Val) → MeetsAnswer given answer →
+        MeetsAnswer result (value_or_long_list answer) }
 {
     Ok(value_or_long_list(given?)?)
 }
@@ -175,7 +178,7 @@ fn order(left: &Value, right: &Value) -> Result<Ordering, FaultKind>
     }
 }
 
-// Two numbers, a number and each part of a list, or the dot product of two lists.
+// Two numbers, a number and each element of a list, or the dot product of two lists.
 fn product(alloc: Global, left: &Value, right: &Value) -> Result<Value, ValueStop>
     requires left { IsTrue (is_bounded (val_of left.now)) }
     requires right { IsTrue (is_bounded (val_of right.now)) }
@@ -194,8 +197,9 @@ fn product(alloc: Global, left: &Value, right: &Value) -> Result<Value, ValueSto
 fn dot_product(left: &Values, right: &Values) -> Result<Value, ValueStop>
     requires left { IsTrue (have_small_numbers (vals_from (vals_of left.now))) }
     requires right { IsTrue (have_small_numbers (vals_from (vals_of right.now))) }
-    requires few { parts_in (vals_from (vals_of left.now)) < 2 ^ 20 }
-    ensures { MeetsAnswer result (dot_row (vals_from (vals_of left.now)) (vals_from (vals_of right.now))) }
+    requires few { element_count_in (vals_from (vals_of left.now)) < 2 ^ 20 }
+    ensures { MeetsAnswer result (dot_row (vals_from (vals_of left.now))
+        (vals_from (vals_of right.now))) }
 {
     if left.items.len() == 0 {
         return Err(ValueStop::Kind(FaultKind::TypeMismatch));
@@ -210,9 +214,10 @@ fn dot_product(left: &Values, right: &Values) -> Result<Value, ValueStop>
 fn sized_dot(left: &Values, right: &Values) -> Result<i64, FaultKind>
     requires left { IsTrue (have_small_numbers (vals_from (vals_of left.now))) }
     requires right { IsTrue (have_small_numbers (vals_from (vals_of right.now))) }
-    requires few { parts_in (vals_from (vals_of left.now)) < 2 ^ 20 }
+    requires few { element_count_in (vals_from (vals_of left.now)) < 2 ^ 20 }
     requires equal { length left.now.items.items ≡ length right.now.items.items }
-    ensures { result ≡ and_then (dot_of (vals_from (vals_of left.now)) (vals_from (vals_of right.now))) number_or_too_large }
+    ensures { result ≡ and_then (dot_of (vals_from (vals_of left.now))
+        (vals_from (vals_of right.now))) number_or_too_large }
 {
     number_or_too_large(dot(left, right)?)
 }
@@ -224,7 +229,7 @@ fn number(answer: Result<i64, FaultKind>) -> Result<Value, ValueStop>
     Ok(Value::Number(answer?))
 }
 
-// A number or each part of a list, divided by a number.
+// A number or each element of a list, divided by a number.
 fn quotient(alloc: Global, left: &Value, right: &Value) -> Result<Value, ValueStop>
     ensures { MeetsAnswer result (quotient_of (val_of left.now) (val_of right.now)) }
 {

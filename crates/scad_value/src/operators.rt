@@ -17,7 +17,8 @@ use text_place::{Place, Stop};
 /// An operator's answer, with its faults at a place.
 pub fn answer_placed(answer: Result<Value, ValueStop>, place: Place) -> Result<BoundedValue, Stop>
     requires { GivesBounded answer }
-    ensures { (wanted : AnswerOrFault Val) → MeetsAnswer answer wanted → MeetsAnswerAt result wanted place }
+    ensures { (wanted : AnswerOrFault Val) → MeetsAnswer answer wanted →
+        MeetsAnswerAt result wanted place }
 {
     match answer {
         Ok(value) => Ok(BoundedValue { value }),
@@ -48,7 +49,8 @@ fn binary_of_lent(
     right: &BoundedValue,
     place: Place,
 ) -> Result<BoundedValue, Stop>
-    ensures { MeetsAnswerAt result (binary_of op (bounded_val left.now) (bounded_val right.now)) place }
+    ensures { MeetsAnswerAt result (binary_of op (bounded_val left.now)
+        (bounded_val right.now)) place }
 {
     answer_placed(binary(alloc, op, &left.value, &right.value), place)
 }

@@ -50,7 +50,8 @@ pub fn stepped_range_value(
     upto: BoundedValue,
     place: Place,
 ) -> Result<BoundedValue, Stop>
-    ensures { MeetsAnswerAt result (stepped_range_of (bounded_val from) (bounded_val by) (bounded_val upto)) place }
+    ensures { MeetsAnswerAt result (stepped_range_of (bounded_val from) (bounded_val by)
+        (bounded_val upto)) place }
 {
     range_by_steps(&from, &by, &upto, place)
 }
@@ -62,7 +63,8 @@ fn range_by_steps(
     upto: &BoundedValue,
     place: Place,
 ) -> Result<BoundedValue, Stop>
-    ensures { MeetsAnswerAt result (stepped_range_of (bounded_val from.now) (bounded_val by.now) (bounded_val upto.now)) place }
+    ensures { MeetsAnswerAt result (stepped_range_of (bounded_val from.now) (bounded_val by.now)
+        (bounded_val upto.now)) place }
 {
     match (&from.value, &by.value, &upto.value) {
         (Value::Number(a), Value::Number(s), Value::Number(b)) => {

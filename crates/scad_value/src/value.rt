@@ -1,5 +1,5 @@
 ghost use Rattle.std.specs.Prelude.{◌≡◌, ◌-◌, ◌^◌, min, IfOk};
-ghost use Rattle.scad_value.specs.Values.{parts_of, parts_in, nesting_of, nesting_in, truth_of, vals_from, ListVal, is_small, is_bounded, has_small_numbers, have_small_numbers};
+ghost use Rattle.scad_value.specs.Values.{element_count, element_count_in, nesting_of, nesting_in, truth_of, vals_from, ListVal, is_small, is_bounded, has_small_numbers, have_small_numbers};
 ghost use Rattle.scad_value.specs.View.{val_of, vals_of, vals_in};
 
 use crate::limits::{TOO_LARGE, TOO_MANY_PARTS};
@@ -68,10 +68,10 @@ impl Values {
         Ok(Values { items })
     }
 
-    // The parts of all items together, up to 2^64 - 1.
+    // The elements of all items together, up to 2^64 - 1.
     #[cycle(parts)]
     fn parts(&self) -> u64
-        ensures { result ≡ min (parts_in (vals_from (vals_of self.now))) (2 ^ 64 - 1) }
+        ensures { result ≡ min (element_count_in (vals_from (vals_of self.now))) (2 ^ 64 - 1) }
     {
         let mut count: u64 = 0;
         for value in &self.items {
@@ -107,7 +107,7 @@ impl Values {
 }
 
 impl Value {
-    /// Whether its numbers are at most 2^53 - 1 in size and it has fewer than 2^20 parts, as the
+    /// Whether its numbers are at most 2^53 - 1 in size and it has fewer than 2^20 elements, as the
     /// operators want it.
     pub fn is_bounded(&self) -> bool
         ensures { result ≡ is_bounded (val_of self.now) }
@@ -147,10 +147,10 @@ impl Value {
         }
     }
 
-    /// The number of parts: 1, and for a list those of its items besides. It stops at 2^64 - 1.
+    /// The number of elements: 1 for itself, and for a list those of its items besides. It stops at 2^64 - 1.
     #[cycle(parts)]
     pub fn parts(&self) -> u64
-        ensures { result ≡ min (parts_of (val_of self.now)) (2 ^ 64 - 1) }
+        ensures { result ≡ min (element_count (val_of self.now)) (2 ^ 64 - 1) }
     {
         match self {
             Value::List(values) => values.parts().saturating_add(1),

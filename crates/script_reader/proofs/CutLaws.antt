@@ -4,9 +4,9 @@ use Rattle.std.specs.Prelude.{All, Option, Some, None, IfNone}
 use Rattle.std.specs.Int.{IsInRange}
 use Rattle.std.proofs.lemmas.Str.Parse.{digit_at}
 use Rattle.std.proofs.lemmas.List.Elements.{All-head, All-tail, All-weaker, All-from_get_or}
-use Rattle.text_place.specs.Decimals.{IsShortNumeral}
-use Rattle.script_reader.specs.Lines.{space}
-use Rattle.script_reader.specs.Spelling.{IsNameByte, IsName, IsTail, WritesNumber, BeginsWithName}
+use Rattle.text_place.specs.Decimals.{IsShortNumeral, IsNumeralOf}
+use Rattle.text_place.specs.Separators.{space}
+use Rattle.script_reader.specs.Spelling.{IsNameByte, IsName, IsTail, BeginsWithName}
 use Rattle.script_reader.specs.Reading.{IsCutAtSpace, IsEditOf, IsRange}
 
 -- a list has one cut at the first place of an item
@@ -59,7 +59,7 @@ name_plain name named = All-weaker IsNameByte (λ b. b ≢ 32) name_byte_plain n
 digit_plain : (b : ℕ) → IsInRange 48 57 b → b ≢ 32
 digit_plain b h e = absurd (omega (arith, h))
 
-pub digits_plain : (digits : List ℕ) (n : ℕ) → WritesNumber digits n → All (λ b. b ≢ 32) digits
+pub digits_plain : (digits : List ℕ) (n : ℕ) → IsNumeralOf digits n → All (λ b. b ≢ 32) digits
 digits_plain digits n w = All-from_get_or (λ b. b ≢ 32) digits 0 (λ i below. digit_plain (get_or digits i 0) (digit_at digits i w.0.digits below))
 
 pub tail_ends : (tail text : List ℕ) → IsTail tail text → Ends tail
@@ -73,7 +73,7 @@ name_is line front behind name tail cut h =
 pub no_name : (line front behind : List ℕ) → IsCutAtSpace line front behind → (IsName front → ⊥) → (name tail : List ℕ) → BeginsWithName line name tail → ⊥
 no_name line front behind cut none name tail h = none (subst IsName (name_is line front behind name tail cut h).0 h.named)
 
-pub edit_is : (bytes front behind digits tail text : List ℕ) (line : ℕ) → IsCutAtSpace bytes front behind → bytes ≡ digits ++ tail → WritesNumber digits line → IsTail tail text → (digits ≡ front) × (tail ≡ behind)
+pub edit_is : (bytes front behind digits tail text : List ℕ) (line : ℕ) → IsCutAtSpace bytes front behind → bytes ≡ digits ++ tail → IsNumeralOf digits line → IsTail tail text → (digits ≡ front) × (tail ≡ behind)
 edit_is bytes front behind digits tail text line cut e w t =
     one_space digits front tail behind (digits_plain digits line w) cut.plain (tail_ends tail text t) cut.ended (sym e ∙ cut.spelled)
 
@@ -81,7 +81,7 @@ pub no_edit : (bytes front behind : List ℕ) → IsCutAtSpace bytes front behin
 no_edit bytes front behind cut none line text h =
     none (subst IsShortNumeral (edit_is bytes front behind h.0 h.1 text line cut h.2 h.3 h.4).0 h.3.0)
 
-pub range_is : (bytes front behind digits digits' : List ℕ) (from : ℕ) → IsCutAtSpace bytes front behind → bytes ≡ digits ++ space ++ digits' → WritesNumber digits from → (digits ≡ front) × (space ++ digits' ≡ behind)
+pub range_is : (bytes front behind digits digits' : List ℕ) (from : ℕ) → IsCutAtSpace bytes front behind → bytes ≡ digits ++ space ++ digits' → IsNumeralOf digits from → (digits ≡ front) × (space ++ digits' ≡ behind)
 range_is bytes front behind digits digits' from cut e w =
     one_space digits front (space ++ digits') behind (digits_plain digits from w) cut.plain (inr (digits', refl)) cut.ended
     (sym (append_assoc digits space digits') ∙ sym e ∙ cut.spelled)

@@ -7,7 +7,7 @@ use Rattle.std.proofs.lemmas.Bool.{false≢true}
 use Rattle.script_reader.specs.declared.script.Command.{Command}
 use Rattle.script_reader.specs.declared.script.ClientScript.{ClientScript}
 use Rattle.script_reader.specs.Scripts.{ClientLine, commands_of, clients_of, has_client}
-use Rattle.script_reader.specs.Reading.{with_command, with_entry, place_in, commands_in}
+use Rattle.script_reader.specs.Reading.{with_command, with_client_line, place_in, commands_in}
 
 abbrev others : List ℕ → ClientScript → Bool
 others name client = not (bytes_eq name client.name)
@@ -48,35 +48,35 @@ drop_step name c d cs ds same h t =
     ap (λ (b : Bool). cond (not b) (d ∷ filter (others name) ds) (filter (others name) ds)) t' ∙ h ∙ sym (ap (λ (b : Bool). cond (not b) (c ∷ filter (others name) cs) (filter (others name) cs)) t)
 
 -- a line of a client leaves the others as they are
-drop_same : (name : List ℕ) (x : ClientLine) → x.name ≡ name → (cs : List ClientScript) → filter (others name) (with_entry cs x) ≡ filter (others name) cs
+drop_same : (name : List ℕ) (x : ClientLine) → x.name ≡ name → (cs : List ClientScript) → filter (others name) (with_client_line cs x) ≡ filter (others name) cs
 drop_same name x e [] = ap (λ (b : Bool). cond (not b) (record { name = x.name; commands = x.command ∷ [] } ∷ []) []) (same_names name x.name (sym e))
 drop_same name x e (c ∷ cs) =
     ⊎_elim
-    (λ yes. ap (λ (b : Bool). filter (others name) (cond b (with_command c x.command ∷ cs) (c ∷ with_entry cs x))) yes.0
+    (λ yes. ap (λ (b : Bool). filter (others name) (cond b (with_command c x.command ∷ cs) (c ∷ with_client_line cs x))) yes.0
     ∙ drop_step name c (with_command c x.command) cs cs refl refl (same_names name c.name (sym e ∙ yes.1)))
-    (λ no. ap (λ (b : Bool). filter (others name) (cond b (with_command c x.command ∷ cs) (c ∷ with_entry cs x))) no.0
+    (λ no. ap (λ (b : Bool). filter (others name) (cond b (with_command c x.command ∷ cs) (c ∷ with_client_line cs x))) no.0
     ∙ ap (λ (l : List ClientScript). cond (others name c) (c ∷ l) l) (drop_same name x e cs))
     (name_cases x.name c.name)
 
 -- among the other clients a line of one of them acts as among all
-keep_others : (name : List ℕ) (x : ClientLine) → x.name ≢ name → (cs : List ClientScript) → filter (others name) (with_entry cs x) ≡ with_entry (filter (others name) cs) x
+keep_others : (name : List ℕ) (x : ClientLine) → x.name ≢ name → (cs : List ClientScript) → filter (others name) (with_client_line cs x) ≡ with_client_line (filter (others name) cs) x
 keep_others name x n [] = ap (λ (b : Bool). cond (not b) (record { name = x.name; commands = x.command ∷ [] } ∷ []) []) (other_names name x.name (λ e. n (sym e)))
 keep_others name x n (c ∷ cs) =
     ⊎_elim
     (λ yes. (let f : bytes_eq name c.name ≡ false = other_names name c.name (λ e. n (yes.1 ∙ sym e)) in
-    ap (λ (b : Bool). filter (others name) (cond b (with_command c x.command ∷ cs) (c ∷ with_entry cs x))) yes.0
+    ap (λ (b : Bool). filter (others name) (cond b (with_command c x.command ∷ cs) (c ∷ with_client_line cs x))) yes.0
     ∙ ap (λ (b : Bool). cond (not b) (with_command c x.command ∷ filter (others name) cs) (filter (others name) cs)) f
-    ∙ sym (ap (λ (b : Bool). cond b (with_command c x.command ∷ filter (others name) cs) (c ∷ with_entry (filter (others name) cs) x)) yes.0)
-    ∙ sym (ap (λ (b : Bool). with_entry (cond (not b) (c ∷ filter (others name) cs) (filter (others name) cs)) x) f)))
-    (λ no. ap (λ (b : Bool). filter (others name) (cond b (with_command c x.command ∷ cs) (c ∷ with_entry cs x))) no.0
+    ∙ sym (ap (λ (b : Bool). cond b (with_command c x.command ∷ filter (others name) cs) (c ∷ with_client_line (filter (others name) cs) x)) yes.0)
+    ∙ sym (ap (λ (b : Bool). with_client_line (cond (not b) (c ∷ filter (others name) cs) (filter (others name) cs)) x) f)))
+    (λ no. ap (λ (b : Bool). filter (others name) (cond b (with_command c x.command ∷ cs) (c ∷ with_client_line cs x))) no.0
     ∙ ⊎_elim
-    (λ t. ap (λ (b : Bool). cond (not b) (c ∷ filter (others name) (with_entry cs x)) (filter (others name) (with_entry cs x))) t
+    (λ t. ap (λ (b : Bool). cond (not b) (c ∷ filter (others name) (with_client_line cs x)) (filter (others name) (with_client_line cs x))) t
     ∙ keep_others name x n cs
-    ∙ sym (ap (λ (b : Bool). with_entry (cond (not b) (c ∷ filter (others name) cs) (filter (others name) cs)) x) t))
-    (λ f. ap (λ (b : Bool). cond (not b) (c ∷ filter (others name) (with_entry cs x)) (filter (others name) (with_entry cs x))) f
+    ∙ sym (ap (λ (b : Bool). with_client_line (cond (not b) (c ∷ filter (others name) cs) (filter (others name) cs)) x) t))
+    (λ f. ap (λ (b : Bool). cond (not b) (c ∷ filter (others name) (with_client_line cs x)) (filter (others name) (with_client_line cs x))) f
     ∙ ap (λ (l : List ClientScript). c ∷ l) (keep_others name x n cs)
-    ∙ sym (ap (λ (b : Bool). cond b (with_command c x.command ∷ filter (others name) cs) (c ∷ with_entry (filter (others name) cs) x)) no.0)
-    ∙ sym (ap (λ (b : Bool). with_entry (cond (not b) (c ∷ filter (others name) cs) (filter (others name) cs)) x) f))
+    ∙ sym (ap (λ (b : Bool). cond b (with_command c x.command ∷ filter (others name) cs) (c ∷ with_client_line (filter (others name) cs) x)) no.0)
+    ∙ sym (ap (λ (b : Bool). with_client_line (cond (not b) (c ∷ filter (others name) cs) (filter (others name) cs)) x) f))
     (bool_cases (bytes_eq name c.name)))
     (name_cases x.name c.name)
 
@@ -84,19 +84,19 @@ abbrev client_of : List ℕ → List Command → ClientScript
 client_of name commands = record { name = name; commands = commands }
 
 -- the clients of all lines are those of the lines before, with the last line
-pub clients_more : (es : List ClientLine) (x : ClientLine) → clients_of (es ++ x ∷ []) ≡ with_entry (clients_of es) x
+pub clients_more : (es : List ClientLine) (x : ClientLine) → clients_of (es ++ x ∷ []) ≡ with_client_line (clients_of es) x
 clients_more [] x = refl
 clients_more (e ∷ es) x =
     ap (λ (l : List ClientScript). client_of e.name (e.command ∷ commands_of e.name (es ++ x ∷ [])) ∷ filter (others e.name) l) (clients_more es x)
-    ∙ ap (λ (l : List Command). client_of e.name (e.command ∷ l) ∷ filter (others e.name) (with_entry (clients_of es) x)) (commands_append e.name es (x ∷ []))
+    ∙ ap (λ (l : List Command). client_of e.name (e.command ∷ l) ∷ filter (others e.name) (with_client_line (clients_of es) x)) (commands_append e.name es (x ∷ []))
     ∙ ⊎_elim
-    (λ yes. ap (λ (l : List Command). client_of e.name (e.command ∷ (commands_of e.name es ++ l)) ∷ filter (others e.name) (with_entry (clients_of es) x)) (one_command e.name x true (same_names e.name x.name (sym yes.1)))
+    (λ yes. ap (λ (l : List Command). client_of e.name (e.command ∷ (commands_of e.name es ++ l)) ∷ filter (others e.name) (with_client_line (clients_of es) x)) (one_command e.name x true (same_names e.name x.name (sym yes.1)))
     ∙ ap (λ (l : List ClientScript). client_of e.name (e.command ∷ (commands_of e.name es ++ x.command ∷ [])) ∷ l) (drop_same e.name x yes.1 (clients_of es))
-    ∙ sym (ap (λ (b : Bool). cond b (with_command (client_of e.name (e.command ∷ commands_of e.name es)) x.command ∷ filter (others e.name) (clients_of es)) (client_of e.name (e.command ∷ commands_of e.name es) ∷ with_entry (filter (others e.name) (clients_of es)) x)) yes.0))
-    (λ no. ap (λ (l : List Command). client_of e.name (e.command ∷ (commands_of e.name es ++ l)) ∷ filter (others e.name) (with_entry (clients_of es) x)) (one_command e.name x false (other_names e.name x.name (λ h. no.1 (sym h))))
-    ∙ ap (λ (l : List Command). client_of e.name (e.command ∷ l) ∷ filter (others e.name) (with_entry (clients_of es) x)) (append-nil (commands_of e.name es))
+    ∙ sym (ap (λ (b : Bool). cond b (with_command (client_of e.name (e.command ∷ commands_of e.name es)) x.command ∷ filter (others e.name) (clients_of es)) (client_of e.name (e.command ∷ commands_of e.name es) ∷ with_client_line (filter (others e.name) (clients_of es)) x)) yes.0))
+    (λ no. ap (λ (l : List Command). client_of e.name (e.command ∷ (commands_of e.name es ++ l)) ∷ filter (others e.name) (with_client_line (clients_of es) x)) (one_command e.name x false (other_names e.name x.name (λ h. no.1 (sym h))))
+    ∙ ap (λ (l : List Command). client_of e.name (e.command ∷ l) ∷ filter (others e.name) (with_client_line (clients_of es) x)) (append-nil (commands_of e.name es))
     ∙ ap (λ (l : List ClientScript). client_of e.name (e.command ∷ commands_of e.name es) ∷ l) (keep_others e.name x no.1 (clients_of es))
-    ∙ sym (ap (λ (b : Bool). cond b (with_command (client_of e.name (e.command ∷ commands_of e.name es)) x.command ∷ filter (others e.name) (clients_of es)) (client_of e.name (e.command ∷ commands_of e.name es) ∷ with_entry (filter (others e.name) (clients_of es)) x)) no.0))
+    ∙ sym (ap (λ (b : Bool). cond b (with_command (client_of e.name (e.command ∷ commands_of e.name es)) x.command ∷ filter (others e.name) (clients_of es)) (client_of e.name (e.command ∷ commands_of e.name es) ∷ with_client_line (filter (others e.name) (clients_of es)) x)) no.0))
     (name_cases x.name e.name)
 
 in_others : (name other : List ℕ) → name ≢ other → (cs : List ClientScript) → commands_in name (filter (others other) cs) ≡ commands_in name cs

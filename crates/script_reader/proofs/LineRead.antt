@@ -7,7 +7,7 @@ use Rattle.script_reader.specs.declared.script.ClientScript.{ClientScript}
 use Rattle.script_reader.specs.declared.script.ScriptFault.TheVariants.{TooManyCommands}
 use Rattle.script_reader.specs.Spelling.{BeginsWithName, IsCommand}
 use Rattle.script_reader.specs.Scripts.{ClientLine}
-use Rattle.script_reader.specs.Reading.{with_command, place_in, commands_in, AtPlace, AddsLine, IsFaultBehind}
+use Rattle.script_reader.specs.Reading.{with_command, place_in, commands_in, AddsCommandAtPlace, AddsLine, IsFaultAfter}
 use Rattle.script_reader.proofs.Places.{known_entry, new_entry, known_commands, no_commands, position_found, position_none}
 
 commands_are : (clients : List ClientScript) (name : List ℕ) (i : ℕ) (client : ClientScript) → position (λ (c : ClientScript). bytes_eq name c.name) clients ≡ Some i →
@@ -18,12 +18,12 @@ commands_are clients name i client e read =
 
 pub too_many_commands : (clients : List ClientScript) (line name tail : List ℕ) (number i : ℕ) (client : ClientScript) → length line ≤ 1024 → BeginsWithName line name tail →
     position (λ (c : ClientScript). bytes_eq name c.name) clients ≡ Some i → client ≡ get_or clients i client → 8192 ≤ length client.commands →
-    IsFaultBehind clients line number (TooManyCommands number)
+    IsFaultAfter clients line number (TooManyCommands number)
 too_many_commands clients line name tail number i client short named e read many =
     (refl, short, name, tail, named, omega (arith, ap length (commands_are clients name i client e read)))
 
 pub adds_known : (old new : List ClientScript) (line name tail : List ℕ) (command : Command) (i : ℕ) (client : ClientScript) → length line ≤ 1024 → BeginsWithName line name tail → IsCommand tail command →
-    position (λ (c : ClientScript). bytes_eq name c.name) old ≡ Some i → client ≡ get_or old i client → length client.commands < 8192 → AtPlace old i command new → AddsLine old line new
+    position (λ (c : ClientScript). bytes_eq name c.name) old ≡ Some i → client ≡ get_or old i client → length client.commands < 8192 → AddsCommandAtPlace old i command new → AddsLine old line new
 adds_known old new line name tail command i client short named spelled e read few h =
     let at = position_found name old i e in
     let entry : ClientLine = record { name = name; command = command } in (

@@ -6,10 +6,12 @@ use Rattle.std.proofs.lemmas.List.{append_cancel_left, append_cancel_right}
 use Rattle.std.proofs.lemmas.List.Elements.{All-same}
 use Rattle.script_reader.specs.declared.script.Command.{Command}
 use Rattle.script_reader.specs.declared.script.Command.TheVariants.{Put, Set, Cut, Show, Export, Bad}
-use Rattle.script_reader.specs.Lines.{space, newline, IsTrimmed, IsFirstLine}
-use Rattle.script_reader.specs.Spelling.{IsTail, WritesNumber, IsEditWords, IsKnownCommand, IsCommand, BeginsWithName}
-use Rattle.script_reader.specs.Scripts.{ClientLine, IsEntry}
+use Rattle.script_reader.specs.Lines.{IsTrimmed, IsFirstLine}
+use Rattle.script_reader.specs.Spelling.{IsTail, IsEditWords, IsKnownCommand, IsCommand, BeginsWithName}
+use Rattle.script_reader.specs.Scripts.{ClientLine, IsClientLine}
 use Rattle.script_reader.proofs.CutLaws.{one_cut, no_cut, one_space, name_plain, digits_plain, tail_ends}
+use Rattle.text_place.specs.Decimals.{IsNumeralOf}
+use Rattle.text_place.specs.Separators.{space, newline}
 
 some_bytes : (bytes rest : List ℕ) → bytes ≢ [] → rest ≡ [] → length rest < length bytes
 some_bytes [] rest some e = absurd (some refl)
@@ -66,7 +68,7 @@ one_text tail text text' h g =
     (λ e. ⊎_elim (λ f. (let both : 32 ∷ text' ≡ [] = sym f ∙ e.0 in cc)) (λ f. e.1 ∙ sym f.1) g)
     h
 
-same_value : (digits digits' : List ℕ) (m n : ℕ) → digits ≡ digits' → WritesNumber digits m → WritesNumber digits' n → m ≡ n
+same_value : (digits digits' : List ℕ) (m n : ℕ) → digits ≡ digits' → IsNumeralOf digits m → IsNumeralOf digits' n → m ≡ n
 same_value digits digits' m n e h g = h.1 ∙ ap (digits_value 10) e ∙ sym g.1
 
 one_edit : (word words : List ℕ) (m n : ℕ) (text text' : List ℕ) → IsEditWords word words m text → IsEditWords word words n text' → (m ≡ n) × (text ≡ text')
@@ -155,7 +157,7 @@ one_command tail c d h g =
     g)
     h
 
-pub one_entry : (line : List ℕ) (e f : ClientLine) → IsEntry line e → IsEntry line f → e ≡ f
+pub one_entry : (line : List ℕ) (e f : ClientLine) → IsClientLine line e → IsClientLine line f → e ≡ f
 one_entry line e f h g =
     let names = one_name line e.name f.name h.0 g.0 h.1 g.1 in
     ap₂ (λ (name : List ℕ) (command : Command). let made : ClientLine = record { name = name; command = command } in made) names.0

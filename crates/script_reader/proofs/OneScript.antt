@@ -4,8 +4,8 @@ use Rattle.std.proofs.lemmas.Bool.{cases_lt, false≢true}
 use Rattle.script_reader.specs.declared.script.Script.{Script}
 use Rattle.script_reader.specs.declared.script.ScriptFault.{ScriptFault}
 use Rattle.script_reader.specs.declared.script.ScriptFault.TheVariants.{TooLarge, TooLong, NoName, TooManyClients, TooManyCommands, NoMemory}
-use Rattle.script_reader.specs.Lines.{IsFirstLine, BeginsWith}
-use Rattle.script_reader.specs.Scripts.{ClientLine, IsEntry, clients_of, commands_of, has_client, IsSoundLine, AreSound, IsLineFault, HasFirstLineFault, IsScript, IsScriptFault}
+use Rattle.script_reader.specs.Lines.{IsFirstLine, StartsWithLines}
+use Rattle.script_reader.specs.Scripts.{ClientLine, IsClientLine, clients_of, commands_of, has_client, IsSoundLine, AreSound, IsLineFault, HasFirstLineFault, IsScript, IsScriptFault}
 use Rattle.script_reader.specs.Reading.{place_in}
 use Rattle.script_reader.proofs.Places.{no_commands}
 use Rattle.script_reader.proofs.Grouping.{commands_among, is_among}
@@ -74,7 +74,7 @@ one_line_fault before line number (TooManyCommands at) (TooManyCommands at') h k
 
 -- the lines of a reading, and the clients' lines that they give
 abbrev Reads : List ClientLine → List ℕ → List (List ℕ) → List ClientLine → List ℕ → Type 0
-Reads before bytes lines all rest = BeginsWith bytes lines rest × AreSound before lines all
+Reads before bytes lines all rest = StartsWithLines bytes lines rest × AreSound before lines all
 
 -- two readings of the same bytes go along until the shorter one ends
 along : (before : List ClientLine) (bytes : List ℕ) (line : List ℕ) (lines : List (List ℕ)) (all : List ClientLine) (rest line' : List ℕ) (lines' : List (List ℕ)) (all' : List ClientLine) (rest' : List ℕ) →
@@ -82,11 +82,11 @@ along : (before : List ClientLine) (bytes : List ℕ) (line : List ℕ) (lines :
     (e : ClientLine) × (more : List ℕ) × Reads (before ++ e ∷ []) more lines all rest × Reads (before ++ e ∷ []) more lines' all' rest'
 along before bytes line lines all rest line' lines' all' rest' h g =
     let first = one_first bytes line line' h.0.0 g.0.0 h.0.1 g.0.1 in
-    let same : h.1.0 ≡ g.1.0 = one_entry line' h.1.0 g.1.0 (subst (λ (l : List ℕ). IsEntry l h.1.0) first.0 h.1.1.entry) g.1.1.entry in (
+    let same : h.1.0 ≡ g.1.0 = one_entry line' h.1.0 g.1.0 (subst (λ (l : List ℕ). IsClientLine l h.1.0) first.0 h.1.1.entry) g.1.1.entry in (
       g.1.0,
       g.0.0,
       (
-        subst (λ (m : List ℕ). BeginsWith m lines rest) first.1 h.0.2,
+        subst (λ (m : List ℕ). StartsWithLines m lines rest) first.1 h.0.2,
         subst (λ (e : ClientLine). AreSound (before ++ e ∷ []) lines all) same h.1.2,
       ),
       (g.0.2, g.1.2),

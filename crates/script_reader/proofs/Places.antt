@@ -8,7 +8,7 @@ use Rattle.std.proofs.lemmas.List.{length-map, map_push}
 use Rattle.script_reader.specs.declared.script.Command.{Command}
 use Rattle.script_reader.specs.declared.script.ClientScript.{ClientScript}
 use Rattle.script_reader.specs.Scripts.{ClientLine}
-use Rattle.script_reader.specs.Reading.{with_command, with_entry, place_in, commands_in}
+use Rattle.script_reader.specs.Reading.{with_command, with_client_line, place_in, commands_in}
 
 prefix_len-map : {X Y : Type 0} (p : Y → Bool) (f : X → Y) (xs : List X) → prefix_len (λ x. p (f x)) xs ≡ prefix_len p (map f xs)
 prefix_len-map p f [] = refl
@@ -29,25 +29,25 @@ one_plus : (n : ℕ) → 1 + n ≡ suc n
 one_plus n = omega arith
 
 known_step : (c : ClientScript) (cs : List ClientScript) (e : ClientLine) (d : ClientScript) (n : ℕ) (b : Bool) →
-    (n < length cs → with_entry cs e ≡ set cs n (with_command (get_or cs n d) e.command)) → cond (not b) (1 + n) 0 < suc (length cs) →
-    cond b (with_command c e.command ∷ cs) (c ∷ with_entry cs e) ≡ set (c ∷ cs) (cond (not b) (1 + n) 0) (with_command (get_or (c ∷ cs) (cond (not b) (1 + n) 0) d) e.command)
+    (n < length cs → with_client_line cs e ≡ set cs n (with_command (get_or cs n d) e.command)) → cond (not b) (1 + n) 0 < suc (length cs) →
+    cond b (with_command c e.command ∷ cs) (c ∷ with_client_line cs e) ≡ set (c ∷ cs) (cond (not b) (1 + n) 0) (with_command (get_or (c ∷ cs) (cond (not b) (1 + n) 0) d) e.command)
 known_step c cs e d n true more h = refl
 known_step c cs e d n false more h = rw one_plus (ap (λ (l : List ClientScript). c ∷ l) (more (omega arith)))
 
 -- a line of a known client
 pub known_entry : (cs : List ClientScript) (e : ClientLine) (d : ClientScript) → place_in e.name cs < length cs →
-    with_entry cs e ≡ set cs (place_in e.name cs) (with_command (get_or cs (place_in e.name cs) d) e.command)
+    with_client_line cs e ≡ set cs (place_in e.name cs) (with_command (get_or cs (place_in e.name cs) d) e.command)
 known_entry [] e d h = absurd (omega arith)
 known_entry (c ∷ cs) e d h = known_step c cs e d (place_in e.name cs) (bytes_eq e.name c.name) (known_entry cs e d) h
 
 new_step : (c : ClientScript) (cs : List ClientScript) (e : ClientLine) (n : ℕ) (b : Bool) →
-    (length cs ≤ n → with_entry cs e ≡ cs ++ record { name = e.name; commands = e.command ∷ [] } ∷ []) → suc (length cs) ≤ cond (not b) (1 + n) 0 →
-    cond b (with_command c e.command ∷ cs) (c ∷ with_entry cs e) ≡ c ∷ (cs ++ record { name = e.name; commands = e.command ∷ [] } ∷ [])
+    (length cs ≤ n → with_client_line cs e ≡ cs ++ record { name = e.name; commands = e.command ∷ [] } ∷ []) → suc (length cs) ≤ cond (not b) (1 + n) 0 →
+    cond b (with_command c e.command ∷ cs) (c ∷ with_client_line cs e) ≡ c ∷ (cs ++ record { name = e.name; commands = e.command ∷ [] } ∷ [])
 new_step c cs e n true more h = absurd (omega arith)
 new_step c cs e n false more h = ap (λ (l : List ClientScript). c ∷ l) (more (omega arith))
 
 -- a line of a new client
-pub new_entry : (cs : List ClientScript) (e : ClientLine) → length cs ≤ place_in e.name cs → with_entry cs e ≡ cs ++ record { name = e.name; commands = e.command ∷ [] } ∷ []
+pub new_entry : (cs : List ClientScript) (e : ClientLine) → length cs ≤ place_in e.name cs → with_client_line cs e ≡ cs ++ record { name = e.name; commands = e.command ∷ [] } ∷ []
 new_entry [] e h = refl
 new_entry (c ∷ cs) e h = new_step c cs e (place_in e.name cs) (bytes_eq e.name c.name) (new_entry cs e) h
 

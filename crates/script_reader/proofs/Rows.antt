@@ -6,12 +6,14 @@ use Rattle.std.proofs.lemmas.List.Elements.{All-nil, All-cons}
 use Rattle.script_reader.specs.declared.script.Command.{Command}
 use Rattle.script_reader.specs.declared.script.Command.TheVariants.{Put, Set, Cut, Show, Export, Bad}
 use Rattle.script_reader.specs.declared.script.ScriptFault.TheVariants.{NoName}
-use Rattle.script_reader.specs.Lines.{space, AreLines}
-use Rattle.script_reader.specs.Spelling.{IsNameByte, IsName, WritesNumber, IsKnownCommand, IsCommand, BeginsWithName}
+use Rattle.script_reader.specs.Lines.{AreLines}
+use Rattle.script_reader.specs.Spelling.{IsNameByte, IsName, IsKnownCommand, IsCommand, BeginsWithName}
 use Rattle.script_reader.specs.Scripts.{ClientLine, IsSoundLine, IsScript, IsScriptFault}
 use Rattle.script_reader.specs.Reading.{IsEditOf}
 use Rattle.script_reader.proofs.CutLaws.{no_cut, one_space, digits_plain, tail_ends}
 use Rattle.script_reader.proofs.KnownCommands.{put_known}
+use Rattle.text_place.specs.Decimals.{IsNumeralOf}
+use Rattle.text_place.specs.Separators.{space}
 
 -- ---- lines
 -- none of the bytes is this one
@@ -47,14 +49,14 @@ lines_are = (
 )
 
 -- ---- commands
-one : WritesNumber (codes "1") 1
+one : IsNumeralOf (codes "1") 1
 one = (record { some = omega arith; short = omega arith; digits = (omega arith, tt) }, refl)
 
-two : WritesNumber (codes "2") 2
+two : IsNumeralOf (codes "2") 2
 two = (record { some = omega arith; short = omega arith; digits = (omega arith, tt) }, refl)
 
 -- leading zeros are allowed
-seven : WritesNumber (codes "0000007") 7
+seven : IsNumeralOf (codes "0000007") 7
 seven = (record { some = omega arith; short = omega arith; digits = (omega arith, (omega arith, (omega arith, (omega arith, (omega arith, (omega arith, (omega arith, tt))))))) }, refl)
 
 puts : IsCommand (codes " put 1 cube(1);") (Put 1 (codes "cube(1);"))

@@ -6,7 +6,7 @@ use Rattle.script_reader.specs.declared.script.ScriptFault.{ScriptFault}
 use Rattle.script_reader.specs.declared.script.ScriptFault.TheVariants.{TooLarge, TooLong, NoName, TooManyClients, TooManyCommands, NoMemory}
 use Rattle.script_reader.specs.Lines.{IsFirstLine}
 use Rattle.script_reader.specs.Scripts.{ClientLine, clients_of, IsSoundLine, IsLineFault, EndsScript, HasFirstLineFault}
-use Rattle.script_reader.specs.Reading.{AddsLine, IsFaultBehind}
+use Rattle.script_reader.specs.Reading.{AddsLine, IsFaultAfter}
 use Rattle.script_reader.proofs.Grouping.{clients_more, commands_among, is_among, is_not_among}
 
 -- the lines read so far gave these clients, and what the rest of the bytes gives behind them is what all bytes give
@@ -60,7 +60,7 @@ told_more bytes number rest line more clients new told first adds =
 pub told_all : (bytes : List ℕ) (number : ℕ) (rest : List ℕ) (clients : List ClientScript) → Told bytes number rest clients → rest ≡ [] → EndsScript [] bytes (record { clients = clients })
 told_all bytes number rest clients told e = told.script (record { clients = clients }) ([], told.before, e, refl, ap (λ (l : List ClientScript). let s : Script = record { clients = l } in s) told.known)
 
-fault_behind : (before : List ClientLine) (line : List ℕ) (number : ℕ) (f : ScriptFault) → IsFaultBehind (clients_of before) line number f → (f ≡ NoMemory) ⊎ IsLineFault before line number f
+fault_behind : (before : List ClientLine) (line : List ℕ) (number : ℕ) (f : ScriptFault) → IsFaultAfter (clients_of before) line number f → (f ≡ NoMemory) ⊎ IsLineFault before line number f
 fault_behind before line number TooLarge h = absurd h
 fault_behind before line number (TooLong at) h = inr h
 fault_behind before line number (NoName at) h = inr h
@@ -69,9 +69,9 @@ fault_behind before line number (TooManyCommands at) h = inr (h.0, h.1, h.2, h.3
 fault_behind before line number NoMemory h = inl refl
 
 pub told_fault : (bytes : List ℕ) (number : ℕ) (rest line more : List ℕ) (clients : List ClientScript) (f : ScriptFault) → Told bytes number rest clients → IsFirstLine rest line more →
-    IsFaultBehind clients line (number + 1) f → (f ≡ NoMemory) ⊎ HasFirstLineFault [] 0 bytes f
+    IsFaultAfter clients line (number + 1) f → (f ≡ NoMemory) ⊎ HasFirstLineFault [] 0 bytes f
 told_fault bytes number rest line more clients f told first h =
     ⊎_elim
     (λ e. inl e)
     (λ g. inr (told.fault f ([], told.before, line, rest, more, refl, refl, first, subst (λ (n : ℕ). IsLineFault told.before line n f) (let same : number + 1 ≡ number + 0 + 1 = omega arith in same) g)))
-    (fault_behind told.before line (number + 1) f (subst (λ (l : List ClientScript). IsFaultBehind l line (number + 1) f) told.known h))
+    (fault_behind told.before line (number + 1) f (subst (λ (l : List ClientScript). IsFaultAfter l line (number + 1) f) told.known h))

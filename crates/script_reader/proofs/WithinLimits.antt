@@ -7,12 +7,13 @@ use Rattle.std.proofs.lemmas.List.Elements.{All-head, All-tail, All-same, All-ni
 use Rattle.script_reader.specs.declared.script.Command.{Command}
 use Rattle.script_reader.specs.declared.script.Command.TheVariants.{Put, Set, Cut, Show, Export, Bad}
 use Rattle.script_reader.specs.declared.script.ClientScript.{ClientScript}
-use Rattle.script_reader.specs.Lines.{space, IsFirstLine}
+use Rattle.script_reader.specs.Lines.{IsFirstLine}
 use Rattle.script_reader.specs.Spelling.{IsTail, IsEditWords, IsKnownCommand}
-use Rattle.script_reader.specs.Scripts.{ClientLine, IsEntry}
+use Rattle.script_reader.specs.Scripts.{ClientLine, IsClientLine}
 use Rattle.script_reader.specs.Limits.{IsText, HasText, IsClientWithin, AreClientsWithin}
-use Rattle.script_reader.specs.Reading.{with_command, with_entry, place_in, commands_in, AddsLine}
+use Rattle.script_reader.specs.Reading.{with_command, with_client_line, place_in, commands_in, AddsLine}
 use Rattle.script_reader.proofs.Places.{known_entry, new_entry, known_commands}
+use Rattle.text_place.specs.Separators.{space}
 
 behind_plain : (a b : List ℕ) → All (λ c. c ≢ 10) (a ++ b) → All (λ c. c ≢ 10) b
 behind_plain [] b h = h
@@ -46,7 +47,7 @@ known_text words Show k h = tt
 known_text words Export k h = tt
 known_text words Bad k h = tt
 
-entry_text : (line : List ℕ) (e : ClientLine) → IsEntry line e → IsText line → HasText e.command
+entry_text : (line : List ℕ) (e : ClientLine) → IsClientLine line e → IsText line → HasText e.command
 entry_text line e k h =
     let tail : IsText k.0 = end_text line e.name k.0 k.1.spelled h in
     ⊎_elim
@@ -73,7 +74,7 @@ some_client = record { name = []; commands = [] }
 one_line : (name : List ℕ) (command : Command) → HasText command → IsClientWithin (record { name = name; commands = command ∷ [] })
 one_line name command text = record { few = omega arith; texts = All-cons HasText command [] text (All-nil HasText) }
 
-entry_within : (old : List ClientScript) (e : ClientLine) → AreClientsWithin old → (place_in e.name old < length old) ⊎ (length old < 16) → length (commands_in e.name old) < 8192 → HasText e.command → AreClientsWithin (with_entry old e)
+entry_within : (old : List ClientScript) (e : ClientLine) → AreClientsWithin old → (place_in e.name old < length old) ⊎ (length old < 16) → length (commands_in e.name old) < 8192 → HasText e.command → AreClientsWithin (with_client_line old e)
 entry_within old e h place count text =
     ⊎_elim
     (λ known. (let at : ℕ = place_in e.name old in

@@ -1,13 +1,6 @@
 -- The lines of a script.
 use Rattle.std.specs.Prelude.{◌≡◌, ◌≢◌, ℕ, List, [], ◌∷◌, ◌++◌, All, ◌⊎◌}
-
--- the byte of a space
-abbrev pub space : List ℕ
-space = 32 ∷ []
-
--- the byte of a line's end
-abbrev pub newline : List ℕ
-newline = 10 ∷ []
+use Rattle.text_place.specs.Separators.{newline}
 
 -- any bytes but newlines
 abbrev pub IsPlain : List ℕ → Type 0
@@ -26,10 +19,10 @@ pub record IsFirstLine (bytes line rest : List ℕ) : Type 0 where
   pub trimmed : IsTrimmed raw line
 
 -- the bytes begin with these lines, and then go on with the rest
-abbrev pub BeginsWith : List ℕ → List (List ℕ) → List ℕ → Type 0
-BeginsWith bytes [] rest = bytes ≡ rest
-BeginsWith bytes (line ∷ lines) rest = (more : List ℕ) × IsFirstLine bytes line more × BeginsWith more lines rest
+abbrev pub StartsWithLines : List ℕ → List (List ℕ) → List ℕ → Type 0
+StartsWithLines bytes [] rest = bytes ≡ rest
+StartsWithLines bytes (line ∷ lines) rest = (more : List ℕ) × IsFirstLine bytes line more × StartsWithLines more lines rest
 
 -- the bytes are these lines
 abbrev pub AreLines : List ℕ → List (List ℕ) → Type 0
-AreLines bytes lines = BeginsWith bytes lines []
+AreLines bytes lines = StartsWithLines bytes lines []

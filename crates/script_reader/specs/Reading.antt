@@ -7,9 +7,10 @@ use Rattle.script_reader.specs.declared.script.ScriptFault.TheVariants.{TooLarge
 use Rattle.script_reader.specs.declared.script.Command.{Command}
 use Rattle.script_reader.specs.declared.script.Command.TheVariants.{Put, Set, Cut, Show, Export, Bad}
 use Rattle.script_reader.specs.declared.script.ClientScript.{ClientScript}
-use Rattle.script_reader.specs.Lines.{space}
-use Rattle.script_reader.specs.Spelling.{WritesNumber, IsTail, IsKnownCommand, BeginsWithName}
-use Rattle.script_reader.specs.Scripts.{ClientLine, IsEntry}
+use Rattle.text_place.specs.Separators.{space}
+use Rattle.script_reader.specs.Spelling.{IsTail, IsKnownCommand, BeginsWithName}
+use Rattle.script_reader.specs.Scripts.{ClientLine, IsClientLine}
+use Rattle.text_place.specs.Decimals.{IsNumeralOf}
 
 -- the bytes are cut before their first space, or at their end where they have none
 pub record IsCutAtSpace (bytes front tail : List ℕ) : Type 0 where
@@ -19,11 +20,11 @@ pub record IsCutAtSpace (bytes front tail : List ℕ) : Type 0 where
 
 -- a number and a text
 abbrev pub IsEditOf : List ℕ → ℕ → List ℕ → Type 0
-IsEditOf bytes line text = (digits : List ℕ) × (tail : List ℕ) × (bytes ≡ digits ++ tail) × WritesNumber digits line × IsTail tail text
+IsEditOf bytes line text = (digits : List ℕ) × (tail : List ℕ) × (bytes ≡ digits ++ tail) × IsNumeralOf digits line × IsTail tail text
 
 -- two numbers
 abbrev pub IsRange : List ℕ → ℕ → ℕ → Type 0
-IsRange bytes from upto = (digits : List ℕ) × (digits' : List ℕ) × (bytes ≡ digits ++ space ++ digits') × WritesNumber digits from × WritesNumber digits' upto
+IsRange bytes from upto = (digits : List ℕ) × (digits' : List ℕ) × (bytes ≡ digits ++ space ++ digits') × IsNumeralOf digits from × IsNumeralOf digits' upto
 
 abbrev pub IsPutOrBad : List ℕ → Command → Type 0
 IsPutOrBad bytes command =
@@ -55,10 +56,10 @@ abbrev pub with_command : ClientScript → Command → ClientScript
 with_command client command = record client { commands = client.commands ++ command ∷ [] }
 
 -- the clients once one more line was read
-abbrev pub with_entry : List ClientScript → ClientLine → List ClientScript
-with_entry [] e = record { name = e.name; commands = e.command ∷ [] } ∷ []
-with_entry (client ∷ clients) e =
-    if bytes_eq e.name client.name then with_command client e.command ∷ clients else client ∷ with_entry clients e
+abbrev pub with_client_line : List ClientScript → ClientLine → List ClientScript
+with_client_line [] e = record { name = e.name; commands = e.command ∷ [] } ∷ []
+with_client_line (client ∷ clients) e =
+    if bytes_eq e.name client.name then with_command client e.command ∷ clients else client ∷ with_client_line clients e
 
 -- the place of the client with this name, or how many there are
 abbrev pub place_in : List ℕ → List ClientScript → ℕ
@@ -75,25 +76,25 @@ pub record HasRoomForLine (name : List ℕ) (clients : List ClientScript) : Type
   pub count : length (commands_in name clients) < 8192
 
 -- the fault of a line behind these clients
-abbrev pub IsFaultBehind : List ClientScript → List ℕ → ℕ → ScriptFault → Type 0
-IsFaultBehind clients line number (TooLong at) = (at ≡ number) × (1024 < length line)
-IsFaultBehind clients line number (NoName at) =
+abbrev pub IsFaultAfter : List ClientScript → List ℕ → ℕ → ScriptFault → Type 0
+IsFaultAfter clients line number (TooLong at) = (at ≡ number) × (1024 < length line)
+IsFaultAfter clients line number (NoName at) =
     (at ≡ number) × (length line ≤ 1024) × ((name tail : List ℕ) → BeginsWithName line name tail → ⊥)
-IsFaultBehind clients line number (TooManyClients at) =
+IsFaultAfter clients line number (TooManyClients at) =
     (at ≡ number) × (length line ≤ 1024)
     × (name : List ℕ) × (tail : List ℕ) × BeginsWithName line name tail
     × (length clients ≤ place_in name clients) × (16 ≤ length clients)
-IsFaultBehind clients line number (TooManyCommands at) =
+IsFaultAfter clients line number (TooManyCommands at) =
     (at ≡ number) × (length line ≤ 1024)
     × (name : List ℕ) × (tail : List ℕ) × BeginsWithName line name tail × (8192 ≤ length (commands_in name clients))
-IsFaultBehind clients line number TooLarge = ⊥
-IsFaultBehind clients line number NoMemory = Unit {0}
+IsFaultAfter clients line number TooLarge = ⊥
+IsFaultAfter clients line number NoMemory = Unit {0}
 
 -- a line without a fault was read, and its client has one command more
 abbrev pub AddsLine : List ClientScript → List ℕ → List ClientScript → Type 0
 AddsLine old line new =
-    (e : ClientLine) × (length line ≤ 1024) × IsEntry line e × HasRoomForLine e.name old × (new ≡ with_entry old e)
+    (e : ClientLine) × (length line ≤ 1024) × IsClientLine line e × HasRoomForLine e.name old × (new ≡ with_client_line old e)
 
 -- the client at this place has one command more
-abbrev pub AtPlace : List ClientScript → ℕ → Command → List ClientScript → Type 0
-AtPlace old at command new = (client : ClientScript) × (client ≡ slice_index_or old at client) × (new ≡ slice_set old at (with_command client command))
+abbrev pub AddsCommandAtPlace : List ClientScript → ℕ → Command → List ClientScript → Type 0
+AddsCommandAtPlace old at command new = (client : ClientScript) × (client ≡ slice_index_or old at client) × (new ≡ slice_set old at (with_command client command))

@@ -7,7 +7,7 @@ use Rattle.script_reader.specs.declared.script.ClientScript.{ClientScript}
 use Rattle.script_reader.specs.declared.script.Script.{Script}
 use Rattle.script_reader.specs.declared.script.ScriptFault.{ScriptFault}
 use Rattle.script_reader.specs.declared.script.ScriptFault.TheVariants.{TooLarge, TooLong, NoName, TooManyClients, TooManyCommands, NoMemory}
-use Rattle.script_reader.specs.Lines.{IsFirstLine, BeginsWith, AreLines}
+use Rattle.script_reader.specs.Lines.{IsFirstLine, StartsWithLines, AreLines}
 use Rattle.script_reader.specs.Spelling.{BeginsWithName, IsCommand}
 
 -- a line of a client
@@ -33,13 +33,13 @@ has_client name [] = false
 has_client name (client ∷ clients) = bytes_eq name client.name || has_client name clients
 
 -- the line is one of a client
-abbrev pub IsEntry : List ℕ → ClientLine → Type 0
-IsEntry line e = (tail : List ℕ) × BeginsWithName line e.name tail × IsCommand tail e.command
+abbrev pub IsClientLine : List ℕ → ClientLine → Type 0
+IsClientLine line e = (tail : List ℕ) × BeginsWithName line e.name tail × IsCommand tail e.command
 
 -- a line without a fault behind these lines of clients
 pub record IsSoundLine (before : List ClientLine) (line : List ℕ) (e : ClientLine) : Type 0 where
   pub short : length line ≤ 1024
-  pub entry : IsEntry line e
+  pub entry : IsClientLine line e
   pub clients : IsTrue (has_client e.name (clients_of before)) ⊎ (length (clients_of before) < 16)
   pub commands : length (commands_of e.name before) < 8192
 
@@ -73,7 +73,7 @@ EndsScript before bytes script =
 abbrev pub HasFirstLineFault : List ClientLine → ℕ → List ℕ → ScriptFault → Type 0
 HasFirstLineFault before number bytes fault =
     (lines : List (List ℕ)) × (all : List ClientLine) × (line : List ℕ) × (at : List ℕ) × (rest : List ℕ)
-    × BeginsWith bytes lines at × AreSound before lines all × IsFirstLine at line rest
+    × StartsWithLines bytes lines at × AreSound before lines all × IsFirstLine at line rest
     × IsLineFault all line (number + length lines + 1) fault
 
 -- the bytes are this script

@@ -1,10 +1,9 @@
 -- How the lines of a script are spelled.
 use Rattle.std.specs.Prelude.{◌≡◌, ℕ, ◌≤◌, List, [], ◌++◌, length, All, codes, ◌⊎◌}
-use Rattle.std.specs.Str.Parse.{digits_value}
-use Rattle.text_place.specs.Decimals.{IsShortNumeral}
+use Rattle.text_place.specs.Decimals.{IsNumeralOf}
 use Rattle.script_reader.specs.declared.script.Command.{Command}
 use Rattle.script_reader.specs.declared.script.Command.TheVariants.{Put, Set, Cut, Show, Export, Bad}
-use Rattle.script_reader.specs.Lines.{space}
+use Rattle.text_place.specs.Separators.{space}
 
 -- `a` to `z` and `0` to `9`
 abbrev pub IsNameByte : ℕ → Type 0
@@ -20,14 +19,10 @@ pub record IsName (name : List ℕ) : Type 0 where
 abbrev pub IsTail : List ℕ → List ℕ → Type 0
 IsTail tail text = (tail ≡ space ++ text) ⊎ ((tail ≡ []) × (text ≡ []))
 
--- 1 to 7 digits that write this number
-abbrev pub WritesNumber : List ℕ → ℕ → Type 0
-WritesNumber digits n = IsShortNumeral digits × (n ≡ digits_value 10 digits)
-
 -- `WORD N` with a tail
 abbrev pub IsEditWords : List ℕ → List ℕ → ℕ → List ℕ → Type 0
 IsEditWords word words line text =
-    (digits : List ℕ) × (tail : List ℕ) × (words ≡ word ++ digits ++ tail) × WritesNumber digits line × IsTail tail text
+    (digits : List ℕ) × (tail : List ℕ) × (words ≡ word ++ digits ++ tail) × IsNumeralOf digits line × IsTail tail text
 
 -- what stands behind a name and its space, where it is one of the five commands
 abbrev pub IsKnownCommand : List ℕ → Command → Type 0
@@ -35,7 +30,7 @@ IsKnownCommand words (Put line text) = IsEditWords (codes "put ") words line tex
 IsKnownCommand words (Set line text) = IsEditWords (codes "set ") words line text
 IsKnownCommand words (Cut from upto) =
     (digits : List ℕ) × (digits' : List ℕ)
-    × (words ≡ codes "cut " ++ digits ++ space ++ digits') × WritesNumber digits from × WritesNumber digits' upto
+    × (words ≡ codes "cut " ++ digits ++ space ++ digits') × IsNumeralOf digits from × IsNumeralOf digits' upto
 IsKnownCommand words Show = words ≡ codes "show"
 IsKnownCommand words Export = words ≡ codes "export"
 IsKnownCommand words Bad = ⊥

@@ -3,7 +3,7 @@
 ghost use Rattle.std.specs.Prelude.{◌≡◌, ◌<◌, ◌++◌, ◌∷◌, [], ℕ, List, map, length, None, OnOk, IfErr};
 ghost use Rattle.std.specs.List.{position};
 ghost use Rattle.std.specs.Str.{bytes_eq};
-ghost use Rattle.script_reader.specs.Reading.{with_entry, AtPlace, AddsLine, IsFaultBehind};
+ghost use Rattle.script_reader.specs.Reading.{with_client_line, AddsCommandAtPlace, AddsLine, IsFaultAfter};
 
 use crate::cuts::{command_of, split_name};
 use crate::script::{ClientScript, Command, Commands, ScriptFault};
@@ -43,7 +43,7 @@ fn push_command(
     command: Command,
 ) -> Result<(), NoMemory>
     requires { number < length scripts.old.items }
-    ensures { OnOk result (AtPlace scripts.old.items number command scripts.new.items) }
+    ensures { OnOk result (AddsCommandAtPlace scripts.old.items number command scripts.new.items) }
 {
     let script = &mut scripts[number];
     script.commands.push(command)
@@ -87,9 +87,10 @@ pub fn read_line(
     ensures known { OnOk result
         (map (λ k. k.items) clients.new.numbers.keys
         ≡ map (λ c. c.name) clients.new.scripts.items) }
-    ensures ok { OnOk result (AddsLine clients.old.scripts.items line.now clients.new.scripts.items) }
+    ensures ok { OnOk result (AddsLine clients.old.scripts.items line.now
+        clients.new.scripts.items) }
     ensures err { IfErr result (λ fault.
-        IsFaultBehind clients.old.scripts.items line.now number fault) }
+        IsFaultAfter clients.old.scripts.items line.now number fault) }
 {
     if line.len() > LINE_BYTES {
         return Err(ScriptFault::TooLong(number));

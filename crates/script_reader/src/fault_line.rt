@@ -1,14 +1,14 @@
 //! The line that tells a script's fault.
 
 ghost use Rattle.std.specs.Prelude.{◌≡◌, ◌++◌, IfOk, OnOk};
-ghost use Rattle.script_reader.specs.FaultLines.{fault_word, fault_number, fault_line};
+ghost use Rattle.script_reader.specs.FaultLines.{script_fault_word, script_fault_number, script_fault_line};
 
 use crate::script::ScriptFault;
 use std::alloc::Global;
 use text_place::{NoMemory, push_decimal};
 
 fn word_of(fault: ScriptFault) -> &'static [u8]
-    ensures { result.now ≡ fault_word fault }
+    ensures { result.now ≡ script_fault_word fault }
 {
     match fault {
         ScriptFault::TooLarge => b"TooLarge",
@@ -21,7 +21,7 @@ fn word_of(fault: ScriptFault) -> &'static [u8]
 }
 
 fn push_number(alloc: Global, out: &mut Vec<u8>, fault: ScriptFault) -> Result<(), NoMemory>
-    ensures { OnOk result (out.new.items ≡ out.old.items ++ fault_number fault) }
+    ensures { OnOk result (out.new.items ≡ out.old.items ++ script_fault_number fault) }
 {
     match fault {
         ScriptFault::TooLong(line)
@@ -39,7 +39,7 @@ fn push_number(alloc: Global, out: &mut Vec<u8>, fault: ScriptFault) -> Result<(
 /// The line that tells a fault, with its newline: `script`, the number of the line that has it, where it is a
 /// line's, and the fault's name.
 pub fn write_fault(alloc: Global, fault: ScriptFault) -> Result<Vec<u8>, NoMemory>
-    ensures { IfOk result (λ line. line.items ≡ fault_line fault) }
+    ensures { IfOk result (λ line. line.items ≡ script_fault_line fault) }
 {
     let mut line = Vec::from_slice(alloc, b"script ")?;
     push_number(alloc, &mut line, fault)?;

@@ -21,7 +21,8 @@ fn read_lines(alloc: Global, bytes: &[u8]) -> Result<Vec<ClientScript>, ScriptFa
     ensures found { IfOk result (λ clients.
         EndsScript [] bytes.now (record { clients = clients.items })) }
     ensures within { IfOk result (λ clients. AreClientsWithin clients.items) }
-    ensures fault { IfErr result (λ fault. (fault ≡ NoMemory) ⊎ HasFirstLineFault [] 0 bytes.now fault) }
+    ensures fault { IfErr result (λ fault. (fault ≡ NoMemory)
+        ⊎ HasFirstLineFault [] 0 bytes.now fault) }
 {
     let mut clients = Clients {
         numbers: IndexSet::new(alloc),

@@ -8,6 +8,7 @@ use Rattle.edit_session.specs.Sessions.{State, start_state}
 use Rattle.reply_text.specs.declared.reply.PassedLimit.TheVariants as limit
 use Rattle.reply_text.specs.declared.reply.Reply.{Reply}
 use Rattle.reply_text.specs.declared.reply.Reply.TheVariants as reply
+use Rattle.script_run.specs.Asking.{MayExport}
 use Rattle.script_run.specs.Moves.{MovesAlong, AllMove}
 
 abbrev IsCounted : List ℕ → Reply → ℕ → ℕ → Type 0
@@ -43,3 +44,15 @@ all_move = (
   (0, refl, (0, refl, (1, inl refl, (1, refl, (1, refl, (2, inl refl, refl)))))),
   ((1, refl, (1, refl, (2, inl refl, (2, refl, (2, refl, (3, inl refl, refl)))))), refl),
 )
+
+-- what is exported are the lines behind the edits before
+exports_its_line : MayExport start_state (Put 1 (codes "x") ∷ Export ∷ []) (codes "x\n")
+exports_its_line = inr (inr (inl (refl, refl, refl)))
+
+-- or those without an edit for which memory ran out
+exports_without_it : MayExport start_state (Put 1 (codes "x") ∷ Export ∷ []) []
+exports_without_it = inr (inl (refl, inl (refl, refl, refl)))
+
+-- a refused edit changes nothing
+exports_nothing_of_it : MayExport start_state (Put 2 (codes "x") ∷ Export ∷ []) []
+exports_nothing_of_it = inr (inr (inl (refl, refl, refl)))

@@ -1,5 +1,5 @@
 -- Clients that wait for an exporter each, and clients that were served.
-use Rattle.std.proofs.Common.{◌≡◌, ℕ, ◌≤◌, List, [], ◌∷◌, ◌++◌, take, drop, length, All, ap, refl, sym, subst, ◌∙◌, arith}
+use Rattle.std.proofs.Common.{◌≡◌, ℕ, zero, suc, ◌≤◌, List, [], ◌∷◌, ◌++◌, take, drop, length, All, ap, refl, sym, subst, ◌∙◌, arith}
 use Rattle.std.proofs.Math.Seq.{take-append_seam}
 use Rattle.std.proofs.lemmas.List.Elements.{All-head, All-tail, All-nil, All-cons}
 use Rattle.script_reader.specs.declared.script.ClientScript.{ClientScript}
@@ -9,6 +9,7 @@ use Rattle.reply_text.specs.Answers.{Fits, AllFit}
 use Rattle.edit_session.specs.Sessions.{start_state}
 use Rattle.pair_work.specs.Pairs.{EachReady, EachWorked}
 use Rattle.script_run.specs.declared.served.ServedClient.{ServedClient}
+use Rattle.script_run.specs.Asking.{MayServe, AreFresh}
 use Rattle.script_run.specs.Moves.{MovesAlong, AllMove}
 use Rattle.script_run.specs.Serving.{HasRoomForReplies, IsServed, AreWaiting, replies_of}
 
@@ -19,14 +20,11 @@ waiting_many (client ∷ clients) (served ∷ all) w = omega (arith, waiting_man
 waiting_many [] (served ∷ all) w = absurd w
 waiting_many (client ∷ clients) [] w = absurd w
 
--- an exporter that was asked for nothing yet, and has what it needs
-abbrev pub IsFresh : {E : Type 0} → (E → ℕ) → (E → Type 0) → E → Type 0
-IsFresh asked CanExport e = (asked e ≡ 0) × CanExport e
-
-module _ {E : Type 0} (Fresh : E → Type 0) where
+module _ {E : Type 0} (asked : E → ℕ) (Can : List ℕ → E → Type 0) where
   -- each of them may be served by such an exporter
   pub waiting_ready : (clients : List ClientScript) (all : List ServedClient) (es : List E) → AreWaiting clients all → All IsClientWithin clients →
-      All Fresh es → length es ≡ length all → EachReady (λ (s : ServedClient) (e : E). HasRoomForReplies s × Fresh e) all es
+      AreFresh asked Can clients es → length es ≡ length all →
+      EachReady (λ (s : ServedClient) (e : E). HasRoomForReplies s × (asked e ≡ 0) × MayServe (λ source. Can source e) start_state s.commands.now) all es
   waiting_ready [] [] [] w within fresh same = tt
   waiting_ready (client ∷ clients) (served ∷ all) (e ∷ es) w within fresh same =
       let limits = All-head IsClientWithin client clients within in
@@ -39,13 +37,20 @@ module _ {E : Type 0} (Fresh : E → Type 0) where
         few = omega (arith, ap length own, few);
         texts = rw own limits.texts;
       } in (
-        (ready, All-head Fresh e es fresh),
-        waiting_ready clients all es w.3 (All-tail IsClientWithin client clients within) (All-tail Fresh e es fresh) (omega (arith, same)),
+        (ready, fresh.0, subst (λ cs. MayServe (λ source. Can source e) start_state cs) (sym own) fresh.1),
+        waiting_ready clients all es w.3 (All-tail IsClientWithin client clients within) fresh.2 (omega (arith, same)),
       )
   waiting_ready [] [] (e ∷ es) w within fresh same = absurd (omega (arith, same))
   waiting_ready (client ∷ clients) (served ∷ all) [] w within fresh same = absurd (omega (arith, same))
   waiting_ready [] (served ∷ all) es w within fresh same = absurd w
   waiting_ready (client ∷ clients) [] es w within fresh same = absurd w
+
+  -- the first exporters, one for each client
+  pub fresh_front : (clients : List ClientScript) (es : List E) (n : ℕ) → n ≡ length clients → AreFresh asked Can clients es → AreFresh asked Can clients (take n es)
+  fresh_front [] es n same fresh = tt
+  fresh_front (client ∷ clients) es zero same fresh = absurd (omega (arith, same))
+  fresh_front (client ∷ clients) [] (suc n) same fresh = absurd fresh
+  fresh_front (client ∷ clients) (e ∷ es) (suc n) same fresh = (fresh.0, fresh.1, fresh_front clients es n (omega (arith, same)) fresh.2)
 
 -- the replies of clients that were all written over
 pub replies_left : (n : ℕ) (new old : List ServedClient) → n ≡ length new → replies_of (take n (new ++ drop (length new) old)) ≡ replies_of new

@@ -1,3 +1,4 @@
 pub mod Steps
 pub mod Serving
 pub mod Moves
+pub mod Asking

@@ -9,9 +9,10 @@ use Rattle.reply_text.specs.declared.reply.Reply.{Reply}
 use Rattle.reply_text.specs.declared.reply.Reply.TheVariants as reply
 use Rattle.reply_text.specs.Answers.{state_after}
 
--- an exporter was asked once more at most, and can export as before
-abbrev pub GoesOn : {E : Type 0} → (E → ℕ) → (E → Type 0) → E → E → Type 0
-GoesOn asked can_export old new = (asked new ≤ asked old + 1) × can_export new
+-- an exporter was asked once more at most, and can export what it could before
+pub record GoesOn {E : Type 0} (asked : E → ℕ) (can_export : List ℕ → E → Type 0) (old new : E) : Type 0 where
+  pub asked_once : asked new ≤ asked old + 1
+  pub keeps : (source : List ℕ) → can_export source old → can_export source new
 
 -- the reply that tells what came of an export
 abbrev pub reply_or_want : Result Reply NoMemory → Reply

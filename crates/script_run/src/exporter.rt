@@ -1,10 +1,10 @@
 //! What exports a source.
 
-ghost use Rattle.std.specs.Prelude.{ℕ, ◌≢◌, ◌+◌, ◌<◌, ◌≤◌, List, length, IfOk};
+ghost use Rattle.std.specs.Prelude.{ℕ, ◌≢◌, ◌<◌, ◌≤◌, List, length, IfOk};
 ghost use Rattle.plane_predicate.specs.declared.unit.Unit.{Unit as LengthUnit};
 ghost use Rattle.reply_text.specs.declared.reply.Reply.{Reply};
 ghost use Rattle.reply_text.specs.declared.reply.Reply.TheVariants as replies;
-ghost use Rattle.script_run.specs.Moves.{reply_or_want};
+ghost use Rattle.script_run.specs.Moves.{GoesOn, reply_or_want};
 
 use plane_predicate::Unit;
 use reply_text::{Exporting, Reply};
@@ -16,8 +16,8 @@ pub trait Exporter: Exporting {
     // A count of its exports: each raises it by at most 1.
     ghost asked: { Self → ℕ };
 
-    // What it needs to export, and keeps.
-    ghost can_export: { Self → Type 0 };
+    // What it needs to export a source in a unit, and keeps.
+    ghost can_export: { LengthUnit → List ℕ → Self → Type 0 };
 
     // What an export of a source in a unit that is answered so makes of it, also where memory ran out.
     ghost moves: { LengthUnit → List ℕ → Reply → Self → Self → Type 0 };
@@ -27,10 +27,9 @@ pub trait Exporter: Exporting {
     fn export(&mut self, alloc: Global, unit: Unit, source: &[u8]) -> Result<Reply, NoMemory>
         requires short { length source.now ≤ 4198400 }
         requires few { asked self.old < 8192 }
-        requires can_export { can_export self.old }
+        requires can_export { can_export unit source.now self.old }
         ensures reply { IfOk result (Self.exports unit source.now) }
         ensures has_memory { IfOk result (λ reply. reply ≢ replies.NoMem) }
         ensures moved { moves unit source.now (reply_or_want result) self.old self.new }
-        ensures asked { asked self.new ≤ asked self.old + 1 }
-        ensures can_export { can_export self.new };
+        ensures goes_on { GoesOn asked (can_export unit) self.old self.new };
 }

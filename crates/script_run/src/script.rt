@@ -3,6 +3,7 @@
 ghost use Rattle.std.specs.Prelude.{◌≡◌, ◌≤◌, [], length, All, IfOk, vec_capacity};
 ghost use Rattle.script_reader.specs.Limits.{AreClientsWithin};
 ghost use Rattle.reply_text.specs.Answers.{AllFit};
+ghost use Rattle.script_run.specs.Asking.{AreFresh};
 ghost use Rattle.script_run.specs.Moves.{AllMove};
 ghost use Rattle.script_run.specs.Serving.{AreWaiting, replies_of};
 
@@ -45,7 +46,7 @@ fn taken(clients: Vec<ServedClient<'_>>, room: Vec<Replies>) -> Vec<Replies>
 
 /// The replies to the commands of each client, in the clients' order, with the lengths of sources in a unit. Each client is
 /// served by an exporter of its own, in a thread of its own where one can be started: the first exporters, in order, and the
-/// others stay as they are. The room for one reply a command is taken before any command is done: so a command for which memory
+/// others stay as they are. An exporter is asked for no source that its client's own commands may not export. The room for one reply a command is taken before any command is done: so a command for which memory
 /// runs out is answered so, and its session stays as it was.
 pub fn run_script<E: Exporter + Send, R: Threads + Sync>(
     rt: &R,
@@ -56,7 +57,7 @@ pub fn run_script<E: Exporter + Send, R: Threads + Sync>(
 ) -> Result<Vec<Replies>, NoMemory>
     requires within { AreClientsWithin script.now.clients }
     requires many { length script.now.clients ≤ length exporters.old }
-    requires fresh { All (λ e. (E.asked e ≡ 0) × E.can_export e) exporters.old }
+    requires fresh { AreFresh E.asked (E.can_export unit) script.now.clients exporters.old }
     ensures fits { IfOk result (λ replies.
         AllFit (E.exports unit) script.now.clients replies.items) }
     ensures few { IfOk result (λ replies. All (λ rs. length rs ≤ 8192) replies.items) }

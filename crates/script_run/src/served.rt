@@ -1,6 +1,8 @@
 //! The clients of a script with their replies, and the serving of one.
 
 ghost use Rattle.std.specs.Prelude.{◌≡◌};
+ghost use Rattle.edit_session.specs.Sessions.{start_state};
+ghost use Rattle.script_run.specs.Asking.{MayServe};
 ghost use Rattle.script_run.specs.Serving.{HasRoomForReplies, IsServed};
 
 use crate::client::serve_client;
@@ -27,7 +29,9 @@ pub struct ClientService {
 
 impl<'a, E: Exporter> PairWork<ServedClient<'a>, E> for ClientService {
     ghost ready = { λ w client exporter.
-        HasRoomForReplies client × ((E.asked exporter ≡ 0) × E.can_export exporter) };
+        HasRoomForReplies client × (E.asked exporter ≡ 0)
+        × MayServe (λ source. E.can_export w.unit source exporter) start_state
+        client.commands.now };
 
     ghost worked = { λ w old before new after.
         IsServed (E.exports w.unit) (E.moves w.unit) old before new after };

@@ -5,30 +5,30 @@ use Rattle.std.proofs.lemmas.List.{length-map, map-append}
 use Rattle.std.proofs.lemmas.List.Elements.{All-head, All-tail, All-nil, All-cons, All-append}
 use Rattle.std.proofs.lemmas.List.Sums.{sum_by-cons}
 use Rattle.std.proofs.Math.Seq.{take-append_seam}
-use Rattle.csg_tree.specs.Formulas.{Formula}
+use Rattle.csg_tree.specs.HalfSpaceTrees.{Tree}
 use Rattle.bsp_tree.specs.Shapes.{SolidParts}
 use Rattle.std.specs.List.{AllByRecursion}
 use Rattle.bsp_tree.specs.Shapes.{tree_of}
 use Rattle.bsp_tree.specs.Trees.{size}
 use Rattle.bsp_boolean.specs.Solids.{solid_of}
-use Rattle.memo_core.specs.Memo.{Entry, Item, Mark, Answer, Probe_answer, Fill_answer, itself, owner_weight}
-use Rattle.memo_core.specs.Views.{MaySay, mark_in, marks}
-use Rattle.subtree_memo.specs.Shares.{View, fresh_share, opened_shares, parts_each, offered_of}
+use Rattle.memo_core.specs.Memo.{Entry, JournalRecord, EntryHeader, Answer, ProbeAnswer, FillAnswer, header_itself, owner_weight}
+use Rattle.memo_core.specs.Views.{MaySay, header_in, headers_in}
+use Rattle.subtree_memo.specs.Shares.{ShareView, fresh_share, opened_shares, parts_each, offers_of}
 use Rattle.flight_memo.specs.Shares.{FlightView, opened_flights}
 use Rattle.script_server.specs.Books.{weights_of, OffersSize, OfferSizes}
 
 -- what an owner's entries weigh, by their marks alone
-owned_marks : (owner : ℕ) (es : List (Entry Formula SolidParts)) → owner_weight itself owner (marks es) ≡ owner_weight mark_in owner es
+owned_marks : (owner : ℕ) (es : List (Entry Tree SolidParts)) → owner_weight header_itself owner (headers_in es) ≡ owner_weight header_in owner es
 owned_marks owner [] = refl
 owned_marks owner (e ∷ es) =
-    sum_by-cons (λ (m : Mark Formula). cond (nat_eq m.owner owner) m.weight 0) e.mark (marks es)
-    ∙ ap (λ n. cond (nat_eq e.mark.owner owner) e.mark.weight 0 + n) (owned_marks owner es)
-    ∙ sym (sum_by-cons (λ (x : Entry Formula SolidParts). cond (nat_eq x.mark.owner owner) x.mark.weight 0) e es)
+    sum_by-cons (λ (m : EntryHeader Tree). cond (nat_eq m.owner owner) m.weight 0) e.header (headers_in es)
+    ∙ ap (λ n. cond (nat_eq e.header.owner owner) e.header.weight 0 + n) (owned_marks owner es)
+    ∙ sym (sum_by-cons (λ (x : Entry Tree SolidParts). cond (nat_eq x.header.owner owner) x.header.weight 0) e es)
 
-pub one_weight_more : (n weight : ℕ) (es : List (Entry Formula SolidParts)) (weights : List ℕ) → weights ≡ weights_of n (marks es) → weight ≡ owner_weight mark_in n es →
-    weights ++ weight ∷ [] ≡ weights_of (n + 1) (marks es)
+pub one_weight_more : (n weight : ℕ) (es : List (Entry Tree SolidParts)) (weights : List ℕ) → weights ≡ weights_of n (headers_in es) → weight ≡ owner_weight header_in n es →
+    weights ++ weight ∷ [] ≡ weights_of (n + 1) (headers_in es)
 one_weight_more n weight es weights before next =
-    rw add-one (ap (λ ws. ws ++ weight ∷ []) before ∙ ap (λ w. weights_of n (marks es) ++ w ∷ []) (next ∙ sym (owned_marks n es)))
+    rw add-one (ap (λ ws. ws ++ weight ∷ []) before ∙ ap (λ w. weights_of n (headers_in es) ++ w ∷ []) (next ∙ sym (owned_marks n es)))
 
 -- shares with all parts that a caller is given
 pub parts_in_all : (shares : List FlightView) → All (λ s. s.share.parts ≡ parts_each) shares → sum_by (λ s. s.share.parts) shares ≡ parts_each * length shares
@@ -39,10 +39,10 @@ parts_in_all (s ∷ ss) whole =
     omega (arith, sum_by-cons (λ (x : FlightView). x.share.parts) s ss, rest, own)
 
 -- what a memo gives its callers at first
-pub all_opened : (n : ℕ) → All (λ s. (s.parts ≡ parts_each) × (offered_of s ≡ 0)) (opened_shares n)
-all_opened zero = All-nil (λ s. (s.parts ≡ parts_each) × (offered_of s ≡ 0))
+pub all_opened : (n : ℕ) → All (λ s. (s.parts ≡ parts_each) × (offers_of s ≡ 0)) (opened_shares n)
+all_opened zero = All-nil (λ s. (s.parts ≡ parts_each) × (offers_of s ≡ 0))
 all_opened (suc n) =
-    let P : View → Type 0 = λ s. (s.parts ≡ parts_each) × (offered_of s ≡ 0) in
+    let P : ShareView → Type 0 = λ s. (s.parts ≡ parts_each) × (offers_of s ≡ 0) in
     All-append P (opened_shares n) (fresh_share n parts_each ∷ []) (all_opened n) (All-cons P (fresh_share n parts_each) [] (refl, refl) (All-nil P))
 
 pub opened_many : (n : ℕ) → length (opened_shares n) ≡ n
@@ -50,11 +50,11 @@ opened_many zero = refl
 opened_many (suc n) = omega (arith, length-append (opened_shares n) (fresh_share n parts_each ∷ []), opened_many n)
 
 -- the memo's part of shares that are opened with their claims
-memo_shares_of : (shares : List View) → map (λ (s : FlightView). s.share) (opened_flights shares) ≡ shares
+memo_shares_of : (shares : List ShareView) → map (λ (s : FlightView). s.share) (opened_flights shares) ≡ shares
 memo_shares_of [] = refl
 memo_shares_of (s ∷ ss) = ap (λ rest. s ∷ rest) (memo_shares_of ss)
 
-pub memo_opened : (n : ℕ) (shares : List View) (flights : List FlightView) → shares ≡ opened_shares n → flights ≡ opened_flights shares →
+pub memo_opened : (n : ℕ) (shares : List ShareView) (flights : List FlightView) → shares ≡ opened_shares n → flights ≡ opened_flights shares →
     map (λ (s : FlightView). s.share) flights ≡ opened_shares n
 memo_opened n shares flights first all = ap (map (λ (s : FlightView). s.share)) all ∙ memo_shares_of shares ∙ first
 
@@ -103,18 +103,18 @@ of_given {T} {E} P r x is h = subst (λ (q : Result T E). IfOk q P) is h
 
 -- ---- what fills offered
 -- a fill that offers the weight of a solid of its tree offers the size of its solid
-size_offered : (tree : Formula) (said : Answer) → MaySay (λ (t : Formula) (solid : SolidParts). tree_of solid ≡ solid_of t) (λ solid. size (tree_of solid)) tree said → OffersSize tree said
-size_offered tree (Probe_answer hit) may = tt
-size_offered tree (Fill_answer weight kept evicted) (solid, fits, weighs) = weighs ∙ ap size fits
+size_offered : (tree : Tree) (said : Answer) → MaySay (λ (t : Tree) (solid : SolidParts). tree_of solid ≡ solid_of t) (λ solid. size (tree_of solid)) tree said → OffersSize tree said
+size_offered tree (ProbeAnswer hit) may = tt
+size_offered tree (FillAnswer weight kept evicted) (solid, fits, weighs) = weighs ∙ ap size fits
 
-pub sizes_offered : (items : List (Item Formula)) → AllByRecursion (λ i. MaySay (λ (t : Formula) (solid : SolidParts). tree_of solid ≡ solid_of t) (λ solid. size (tree_of solid)) i.key i.answer) items → OfferSizes items
+pub sizes_offered : (items : List (JournalRecord Tree)) → AllByRecursion (λ i. MaySay (λ (t : Tree) (solid : SolidParts). tree_of solid ≡ solid_of t) (λ solid. size (tree_of solid)) i.key i.answer) items → OfferSizes items
 sizes_offered [] all = tt
 sizes_offered (i ∷ is) all = (size_offered i.key i.answer all.0, sizes_offered is all.1)
 
 -- there are as many weights as callers
-pub weights_many : (n : ℕ) (ms : List (Mark Formula)) → length (weights_of n ms) ≡ n
+pub weights_many : (n : ℕ) (ms : List (EntryHeader Tree)) → length (weights_of n ms) ≡ n
 weights_many zero ms = refl
-weights_many (suc n) ms = omega (arith, weights_many n ms, length-append (weights_of n ms) (owner_weight itself n ms ∷ []))
+weights_many (suc n) ms = omega (arith, weights_many n ms, length-append (weights_of n ms) (owner_weight header_itself n ms ∷ []))
 
 -- what holds of the answer that was given holds of an answer where it is given
 pub given_of : {T E : Type 0} (P : T → Type 0) (r : Result T E) (x : T) → r ≡ Ok x → P x → IfOk r P

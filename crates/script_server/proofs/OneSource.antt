@@ -11,7 +11,7 @@ use Rattle.scad_grammar.specs.declared.SyntaxFault.{SyntaxFault}
 use Rattle.scad_grammar.specs.FirstFault.{IsFirstFault}
 use Rattle.scad_parser.specs.Parsing.{kind_of, place_of_first, HasSyntaxFault}
 use Rattle.plane_predicate.specs.declared.unit.Unit.{Unit as LengthUnit}
-use Rattle.csg_tree.specs.Formulas.{Formula}
+use Rattle.csg_tree.specs.HalfSpaceTrees.{Tree}
 use Rattle.scad_meaning.specs.Sources.{Meaning, a_tree, a_fault, IsMeaning}
 use Rattle.scad_parser.specs.Sources.{WritesProgram, HasTextFault}
 use Rattle.script_server.specs.Meaning.Sources.{Means, HasSourceFault}
@@ -76,11 +76,11 @@ module _ (text : OneText) where
   one_of_source one unit source x y m n w v h g =
       one unit x m n h (subst (λ (p : List StatementTerm). IsMeaning unit p n) (sym (one_program source x y w v)) g)
 
-  pub one_tree : OneMeaning → (unit : LengthUnit) (source : List ℕ) (f g : Formula) → Means unit source f → Means unit source g → f ≡ g
+  pub one_tree : OneMeaning → (unit : LengthUnit) (source : List ℕ) (f g : Tree) → Means unit source f → Means unit source g → f ≡ g
   one_tree one unit source f g h i =
       let both : a_tree f ≡ a_tree g = one_of_source one unit source h.0 i.0 (a_tree f) (a_tree g) h.1 i.1 h.2 i.2 in cc
 
-  pub not_both : OneMeaning → (unit : LengthUnit) (source : List ℕ) (f : Formula) (fault : Fault) → Means unit source f → HasSourceFault unit source fault → ⊥
+  pub not_both : OneMeaning → (unit : LengthUnit) (source : List ℕ) (f : Tree) (fault : Fault) → Means unit source f → HasSourceFault unit source fault → ⊥
   not_both one unit source f fault h (inl i) = no_program source fault h.0 i h.1
   not_both one unit source f fault h (inr i) =
       let both : a_tree f ≡ a_fault fault.kind fault.place =

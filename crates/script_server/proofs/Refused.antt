@@ -3,9 +3,9 @@ use Rattle.std.proofs.Common.{◌≡◌, ◌+◌, ◌≤◌, ◌⊎◌, inl, inr
 use Rattle.text_place.specs.declared.fault.Fault.{Fault}
 use Rattle.text_place.specs.declared.memory.NoMemory.{NoMemory}
 use Rattle.plane_predicate.specs.declared.unit.Unit.{Unit as LengthUnit}
-use Rattle.csg_tree.specs.Formulas.{Formula}
+use Rattle.csg_tree.specs.HalfSpaceTrees.{Tree}
 use Rattle.csg_tree.specs.Numberings.{nodes_of}
-use Rattle.bsp_boolean.specs.TreeSolids.{joins}
+use Rattle.bsp_boolean.specs.TreeSolids.{join_count}
 use Rattle.reply_text.specs.declared.reply.Reply.TheVariants as reply
 use Rattle.script_server.specs.Books.{HasJoins}
 use Rattle.script_server.specs.Meaning.Sources.{Means, HasSourceFault}
@@ -23,7 +23,7 @@ fault_answered unit source fault books h = record {
 
 -- each source has a number of joins
 pub some_joins : (unit : LengthUnit) (source : List ℕ) → MeansSome unit source → (n : ℕ) × HasJoins unit source n
-some_joins unit source (inl (tree, means)) = (joins (nodes_of tree), inr (tree, means, refl))
+some_joins unit source (inl (tree, means)) = (join_count (nodes_of tree), inr (tree, means, refl))
 some_joins unit source (inr (fault, has)) = (0, inl (fault, has, refl))
 
 -- also one for whose tree there was no memory
@@ -35,12 +35,3 @@ want_answered some unit source none books =
       probed = (n, has, unasked n books.share);
       asked = omega arith;
     }
-
--- or for whose solid there was no memory
-pub tree_wanted : (unit : LengthUnit) (source : List ℕ) (tree : Formula) (none : NoMemory) (old new : ClientBooks) → Means unit source tree
-    → AreProbed ⊥ (joins (nodes_of tree)) old.share new.share → new.asked ≤ old.asked + 1 → ExportsFor unit source (Err none) old new
-tree_wanted unit source tree none old new means probed asked = record {
-  reply = tt;
-  probed = (joins (nodes_of tree), inr (tree, means, refl), probed);
-  asked = asked;
-}

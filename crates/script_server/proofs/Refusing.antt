@@ -9,13 +9,13 @@ use Rattle.scad_parser.specs.Sources.{WritesProgram, RefusesText}
 use Rattle.plane_predicate.specs.declared.unit.Unit.{Unit as LengthUnit}
 use Rattle.csg_tree.specs.declared.tree.CsgTree.{CsgTree}
 use Rattle.csg_tree.specs.ProperTrees.{IsProper}
-use Rattle.csg_tree.specs.Trees.{formula_of}
+use Rattle.csg_tree.specs.Trees.{plain_tree_of}
 use Rattle.script_server.specs.Meaning.Sources.{Means, RefusesSource, GivesTree}
 
 -- what a source's tree is, or why it has none
 pub record GivesTreeOf (unit : LengthUnit) (source : List ℕ) (r : Result CsgTree Stop) : Type 0 where
-  pub tree : IfOk r (λ tree. Means unit source (formula_of tree))
-  pub proper : IfOk r (λ tree. IsProper (formula_of tree))
+  pub tree : IfOk r (λ tree. Means unit source (plain_tree_of tree))
+  pub proper : IfOk r (λ tree. IsProper (plain_tree_of tree))
   pub fault : IfErr r (RefusesSource unit source)
 
 program_gives : (unit : LengthUnit) (source : List ℕ) (program : List StatementTerm) (r : Result CsgTree Stop) → WritesProgram source program

@@ -4,8 +4,9 @@ use Rattle.text_place.specs.declared.fault.Place.{Place}
 use Rattle.text_place.specs.declared.fault.Fault.{Fault}
 use Rattle.text_place.specs.declared.fault.FaultKind.{FaultKind}
 use Rattle.plane_predicate.specs.declared.unit.Unit.{Unit as LengthUnit}
-use Rattle.csg_tree.specs.Formulas.{Formula}
+use Rattle.csg_tree.specs.HalfSpaceTrees.{Tree}
 use Rattle.csg_tree.specs.ProperTrees.{IsProper}
+use Rattle.off_text.specs.Bounding.{IsBoundary}
 use Rattle.scad_lexer.specs.declared.token.Token.{Token}
 use Rattle.scad_lexer.specs.Tokens.{Lexes, GivesTokens, FaultAt, ends_once}
 use Rattle.scad_ast.specs.Terms.{StatementTerm}
@@ -21,7 +22,7 @@ use Rattle.tree_export.specs.declared.export.TreeExport.TheVariants as exported
 use Rattle.tree_export.specs.Exports.{IsExported, IsBoundaryText}
 use Rattle.scad_parser.specs.Sources.{WritesProgram}
 use Rattle.script_server.specs.Meaning.Sources.{Means, HasSourceFault}
-use Rattle.script_server.specs.Meaning.Exports.{export_reply, IsBoundaryOfSource, AnswersExport}
+use Rattle.script_server.specs.Meaning.Exports.{export_reply, IsWatertightBoundary, IsBoundaryOfSource, AnswersExport}
 
 -- what is known of the texts, the programs and the trees of sources
 pub record SomeText : Type 0 where
@@ -30,7 +31,7 @@ pub record SomeText : Type 0 where
   pub meaning : (unit : LengthUnit) (program : List StatementTerm) → (m : Meaning) × IsMeaning unit program m
 
 abbrev pub MeansSome : LengthUnit → List ℕ → Type 0
-MeansSome unit source = ((tree : Formula) × Means unit source tree) ⊎ ((fault : Fault) × HasSourceFault unit source fault)
+MeansSome unit source = ((tree : Tree) × Means unit source tree) ⊎ ((fault : Fault) × HasSourceFault unit source fault)
 
 of_program : (unit : LengthUnit) (source : List ℕ) (program : List StatementTerm) (m : Meaning) → WritesProgram source program → IsMeaning unit program m → MeansSome unit source
 of_program unit source program (a_tree tree) writes means = inl (tree, (program, writes, means))
@@ -47,19 +48,23 @@ some_meaning text unit source = go (text.outcome source)
     go (inl (tokens, lexes, ends)) = with_tokens tokens lexes (text.program 65 tokens ends)
     go (inr (kind, at, lexes)) = inr (record { kind = kind; place = at }, inl (inl lexes))
 
+-- a text that bounds the tree of its source is watertight
+abbrev pub WatertightTexts : Type 0
+WatertightTexts = (unit : LengthUnit) (source : List ℕ) (tree : Tree) (bytes : List ℕ) → Means unit source tree → IsBoundary unit bytes tree → IsWatertightBoundary unit bytes tree
+
 -- the reply of what the export of a tree gives
-tree_bounded : (unit : LengthUnit) (source : List ℕ) (tree : Formula) (out : TreeExport) → Means unit source tree → IsBoundaryText unit tree out → IsBoundaryOfSource unit source (export_reply out)
-tree_bounded unit source tree (exported.Text bytes) means bounds = (tree, means, bounds)
-tree_bounded unit source tree (exported.PassedLimit passed) means bounds = tt
+pub tree_bounded : WatertightTexts → (unit : LengthUnit) (source : List ℕ) (tree : Tree) (out : TreeExport) → Means unit source tree → IsBoundaryText unit tree out → IsBoundaryOfSource unit source (export_reply out)
+tree_bounded watertight unit source tree (exported.Text bytes) means bounds = (tree, means, watertight unit source tree bytes means bounds)
+tree_bounded watertight unit source tree (exported.PassedLimit passed) means bounds = tt
 
 abbrev pub SomeExport : Type 0
-SomeExport = (unit : LengthUnit) (tree : Formula) → IsProper tree → (out : TreeExport) × IsExported unit tree out × IsBoundaryText unit tree out
+SomeExport = (unit : LengthUnit) (tree : Tree) → IsProper tree → (out : TreeExport) × IsExported unit tree out × IsBoundaryText unit tree out
 
 abbrev pub ProperTrees : Type 0
-ProperTrees = (unit : LengthUnit) (program : List StatementTerm) (tree : Formula) → IsMeaning unit program (a_tree tree) → IsProper tree
+ProperTrees = (unit : LengthUnit) (program : List StatementTerm) (tree : Tree) → IsMeaning unit program (a_tree tree) → IsProper tree
 
-pub some_answer : SomeExport → ProperTrees → (unit : LengthUnit) (source : List ℕ) → MeansSome unit source → (r : Reply) × AnswersExport unit source r
-some_answer some proper unit source (inl (tree, means)) =
+pub some_answer : WatertightTexts → SomeExport → ProperTrees → (unit : LengthUnit) (source : List ℕ) → MeansSome unit source → (r : Reply) × AnswersExport unit source r
+some_answer watertight some proper unit source (inl (tree, means)) =
     let (out, is, bounds) = some unit tree (proper unit means.0 tree means.2) in
-    (export_reply out, (inr (tree, means, (out, is, refl)), tree_bounded unit source tree out means bounds))
-some_answer some proper unit source (inr (fault, has)) = (reply.Faulted fault, (inl (fault, has, refl), tt))
+    (export_reply out, (inr (tree, means, (out, is, refl)), tree_bounded watertight unit source tree out means bounds))
+some_answer watertight some proper unit source (inr (fault, has)) = (reply.Faulted fault, (inl (fault, has, refl), tt))

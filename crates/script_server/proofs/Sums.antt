@@ -5,28 +5,28 @@ use Rattle.std.proofs.Math.Nat.{min-le_left}
 use Rattle.std.proofs.lemmas.List.Sums.{sum_by-cons, sum_by_push}
 use Rattle.std.proofs.lemmas.List.Elements.{All-head, All-tail}
 use Rattle.plane_predicate.specs.declared.unit.Unit.{Unit as LengthUnit}
-use Rattle.memo_core.specs.Memo.{Item, count_in, hit_by, missed_by, kept_by, not_kept_by}
+use Rattle.memo_core.specs.Memo.{JournalRecord, count_in, hit_count_of, miss_count_of, kept_count_of, not_kept_count_of}
 use Rattle.subtree_memo.specs.declared.tally.Tally.{Tally}
 use Rattle.subtree_memo.specs.Tallies.{tally_of, AreSums}
-use Rattle.subtree_memo.specs.Shares.{View, fresh_share, opened_shares, parts_each, dropped_max, probes_of, offered_of}
+use Rattle.subtree_memo.specs.Shares.{ShareView, fresh_share, opened_shares, parts_each, dropped_max, probes_of, offers_of}
 use Rattle.script_reader.specs.declared.script.Command.{Command}
 use Rattle.script_reader.specs.declared.script.Command.TheVariants.{Put, Set, Cut, Show, Export, Bad}
 use Rattle.script_reader.specs.declared.script.ClientScript.{ClientScript}
 use Rattle.edit_session.specs.declared.fault.SessionFault.{SessionFault}
 use Rattle.edit_session.specs.declared.fault.SessionFault.TheVariants.{TooManyExports}
-use Rattle.edit_session.specs.Sessions.{State, start_state, source_of, refusal, after_accepted, state_after_command}
+use Rattle.edit_session.specs.Sessions.{State, start_state, source_of, refusal, state_after_accepted, state_after_command}
 use Rattle.reply_text.specs.declared.reply.PassedLimit.{PassedLimit}
 use Rattle.reply_text.specs.declared.reply.PassedLimit.TheVariants as limit
 use Rattle.reply_text.specs.declared.reply.Reply.{Reply}
 use Rattle.reply_text.specs.declared.reply.Reply.TheVariants as reply
 use Rattle.reply_text.specs.Answers.{state_after}
-use Rattle.reply_text.specs.Sums.{IsSizeLimit, LacksNoSolid, LackNoSolid, AllLackNoSolid, ComesTo, SumTo, AllSumTo}
+use Rattle.reply_text.specs.Sums.{IsSizeLimit, IsSolvedReply, AreSolvedReplies, AllAreSolved, ComesTo, SumTo, AllSumTo}
 use Rattle.script_run.specs.Moves.{MovesAlong, AllMove}
 use Rattle.script_server.specs.Books.{HasJoins, HasJoinsAsked, HasJoinsSolved, TallyAddsUp}
 use Rattle.script_server.specs.Clients.{ClientBooks, Probes}
 
 -- an export that lacks no solid is followed by the state that its command gives
-next_state : (s : State) (r : Reply) → LacksNoSolid r → state_after s Export r ≡ state_after_command s Export
+next_state : (s : State) (r : Reply) → IsSolvedReply r → state_after s Export r ≡ state_after_command s Export
 next_state s (reply.Lines count) has = refl
 next_state s (reply.Refused why) has = refl
 next_state s (reply.Faulted at) has = refl
@@ -54,7 +54,7 @@ of_size limit.Corners = inl (λ no. no)
 of_size limit.Vertices = inl (λ no. no)
 
 -- an export lacks its solid or not
-lacks_or_not : (r : Reply) → LacksNoSolid r ⊎ (LacksNoSolid r → ⊥)
+lacks_or_not : (r : Reply) → IsSolvedReply r ⊎ (IsSolvedReply r → ⊥)
 lacks_or_not (reply.Lines count) = inl tt
 lacks_or_not (reply.Refused why) = inl tt
 lacks_or_not (reply.Faulted at) = inl tt
@@ -81,10 +81,10 @@ kept_if None s t e = e
 kept_if (Some why) s t e = refl
 
 next_kept : (s : State) (c : Command) → c ≢ Export → (state_after_command s c).exports ≡ s.exports
-next_kept s (Put line text) other = kept_if (refusal s (Put line text)) s (after_accepted s (Put line text)) refl
-next_kept s (Set line text) other = kept_if (refusal s (Set line text)) s (after_accepted s (Set line text)) refl
-next_kept s (Cut from upto) other = kept_if (refusal s (Cut from upto)) s (after_accepted s (Cut from upto)) refl
-next_kept s Show other = kept_if (refusal s Show) s (after_accepted s Show) refl
+next_kept s (Put line text) other = kept_if (refusal s (Put line text)) s (state_after_accepted s (Put line text)) refl
+next_kept s (Set line text) other = kept_if (refusal s (Set line text)) s (state_after_accepted s (Set line text)) refl
+next_kept s (Cut from upto) other = kept_if (refusal s (Cut from upto)) s (state_after_accepted s (Cut from upto)) refl
+next_kept s Show other = kept_if (refusal s Show) s (state_after_accepted s Show) refl
 next_kept s Export other = absurd (other refl)
 next_kept s Bad other = refl
 
@@ -100,12 +100,12 @@ exports_kept s c (reply.Solid bytes) other = next_kept s c other
 
 -- What was probed and offered on one share: at least and at most so many probes, where the exports that lack no solid have at most
 -- 2^32 each. Where none lacks its solid, both numbers are one, and as many fills were offered as there were misses.
-record IsAdded (solved : Type 0) (least most before : ℕ) (old new : View) : Type 0 where
+record IsAdded (solved : Type 0) (least most before : ℕ) (old new : ShareView) : Type 0 where
   pub low : probes_of old + least ≤ probes_of new
   pub high : probes_of new ≤ probes_of old + most
   pub few : least + before * 2 ^ 32 ≤ 16 * 2 ^ 32
   pub one : solved → least ≡ most
-  pub offered : solved → offered_of new + old.misses ≡ offered_of old + new.misses
+  pub offered : solved → offers_of new + old.misses ≡ offers_of old + new.misses
 
 -- `every` source has a number of joins
 module _ {X : Type 0} (books : X → ClientBooks) (unit : LengthUnit) (every : (source : List ℕ) → (n : ℕ) × HasJoins unit source n) where
@@ -115,11 +115,11 @@ module _ {X : Type 0} (books : X → ClientBooks) (unit : LengthUnit) (every : (
   abbrev HasSum : State → List Command → List Reply → X → X → Type 0
   HasSum s cs rs x y =
       (least : ℕ) × (most : ℕ) × SumTo (HasJoinsSolved unit) s cs rs least × SumTo (HasJoinsAsked unit) s cs rs most
-      × IsAdded (LackNoSolid cs rs) least most s.exports (books x).share (books y).share
+      × IsAdded (AreSolvedReplies cs rs) least most s.exports (books x).share (books y).share
 
   -- a command that asks for nothing
   quiet : (s t : State) (c : Command) (r : Reply) (cs : List Command) (rs : List Reply) (x z y : X) → ComesTo (HasJoinsSolved unit) s c r 0 → ComesTo (HasJoinsAsked unit) s c r 0 →
-      z ≡ x → state_after s c r ≡ t → t.exports ≡ s.exports → (LackNoSolid (c ∷ cs) (r ∷ rs) → LackNoSolid cs rs) → HasSum t cs rs z y → HasSum s (c ∷ cs) (r ∷ rs) x y
+      z ≡ x → state_after s c r ≡ t → t.exports ≡ s.exports → (AreSolvedReplies (c ∷ cs) (r ∷ rs) → AreSolvedReplies cs rs) → HasSum t cs rs z y → HasSum s (c ∷ cs) (r ∷ rs) x y
   quiet s t c r cs rs x z y none_solved none_asked same after exports rest (least, most, solved, asked, added) = (
     least,
     most,
@@ -130,16 +130,16 @@ module _ {X : Type 0} (books : X → ClientBooks) (unit : LengthUnit) (every : (
       high = subst (λ w. probes_of (books y).share ≤ probes_of (books w).share + most) same added.high;
       few = let few = added.few in omega (arith, exports, few);
       one = λ all. added.one (rest all);
-      offered = λ all. subst (λ w. offered_of (books y).share + (books w).share.misses ≡ offered_of (books w).share + (books y).share.misses) same (added.offered (rest all));
+      offered = λ all. subst (λ w. offers_of (books y).share + (books w).share.misses ≡ offers_of (books w).share + (books y).share.misses) same (added.offered (rest all));
     },
   )
 
   -- an export that the session doesn't refuse, and that lacks no solid
-  solved_sum : (s : State) (r : Reply) (cs : List Command) (rs : List Reply) (x z y : X) → refusal s Export ≡ None → LacksNoSolid r →
-      Probes unit (source_of s) r (books x) (books z) → HasSum (after_accepted s Export) cs rs z y → HasSum s (Export ∷ cs) (r ∷ rs) x y
+  solved_sum : (s : State) (r : Reply) (cs : List Command) (rs : List Reply) (x z y : X) → refusal s Export ≡ None → IsSolvedReply r →
+      Probes unit (source_of s) r (books x) (books z) → HasSum (state_after_accepted s Export) cs rs z y → HasSum s (Export ∷ cs) (r ∷ rs) x y
   solved_sum s r cs rs x z y allowed has (n, joins, probed) (least, most, solved, asked, added) =
       let own = probed.all has in
-      let after : state_after s Export r ≡ after_accepted s Export = next_state s r has ∙ rw allowed refl in
+      let after : state_after s Export r ≡ state_after_accepted s Export = next_state s r has ∙ rw allowed refl in
       let probes = own.probes in let few = own.few in
       let low = added.low in let high = added.high in let left = added.few in (
         n + least,
@@ -168,7 +168,7 @@ module _ {X : Type 0} (books : X → ClientBooks) (unit : LengthUnit) (every : (
       )
 
   -- an export that the session doesn't refuse, and that lacks its solid
-  lacking_sum : (s t : State) (r : Reply) (cs : List Command) (rs : List Reply) (x z y : X) → refusal s Export ≡ None → (LacksNoSolid r → ⊥) → state_after s Export r ≡ t → s.exports ≤ t.exports →
+  lacking_sum : (s t : State) (r : Reply) (cs : List Command) (rs : List Reply) (x z y : X) → refusal s Export ≡ None → (IsSolvedReply r → ⊥) → state_after s Export r ≡ t → s.exports ≤ t.exports →
       Probes unit (source_of s) r (books x) (books z) → HasSum t cs rs z y → HasSum s (Export ∷ cs) (r ∷ rs) x y
   lacking_sum s t r cs rs x z y allowed lacks after later (n, joins, probed) (least, most, solved, asked, added) =
       let from_low = probed.least in let from_high = probed.most in
@@ -203,7 +203,7 @@ module _ {X : Type 0} (books : X → ClientBooks) (unit : LengthUnit) (every : (
   probes_none source r x z e same =
       let (n, joins) = every source in
       let still : probes_of (books z).share ≡ probes_of (books x).share = rw same refl in
-      (n, joins, record { least = omega (arith, still); most = omega (arith, still); all = λ has. absurd (subst LacksNoSolid e has) })
+      (n, joins, record { caller = ap (λ w. (books w).share.caller) same; least = omega (arith, still); most = omega (arith, still); all = λ has. absurd (subst IsSolvedReply e has) })
 
   -- where the session is, once an export was answered that it doesn't refuse
   after_export : (s : State) (r : Reply) → refusal s Export ≡ None → s.exports < 16 →
@@ -211,7 +211,7 @@ module _ {X : Type 0} (books : X → ClientBooks) (unit : LengthUnit) (every : (
   after_export s r allowed left =
       ⊎_elim
       (λ (e : state_after s Export r ≡ s). (let same : (state_after s Export r).exports ≡ s.exports = ap (λ (t : State). t.exports) e in (omega (arith, same), omega (arith, same, left))))
-      (λ (e : state_after s Export r ≡ state_after_command s Export). (let grown : state_after s Export r ≡ after_accepted s Export = e ∙ rw allowed refl in
+      (λ (e : state_after s Export r ≡ state_after_command s Export). (let grown : state_after s Export r ≡ state_after_accepted s Export = e ∙ rw allowed refl in
       let more : (state_after s Export r).exports ≡ s.exports + 1 = ap (λ (t : State). t.exports) grown in (omega (arith, more), omega (arith, more, left))))
       (same_or_next s r)
 
@@ -221,8 +221,8 @@ module _ {X : Type 0} (books : X → ClientBooks) (unit : LengthUnit) (every : (
   allowed_sum s r cs rs x z y allowed most probed later =
       let left = may_export s.exports most allowed in
       ⊎_elim
-      (λ (has : LacksNoSolid r). solved_sum s r cs rs x z y allowed has probed (later (after_accepted s Export) (next_state s r has ∙ rw allowed refl) (omega (arith, left))))
-      (λ (lacks : LacksNoSolid r → ⊥). (let grown = after_export s r allowed left in
+      (λ (has : IsSolvedReply r). solved_sum s r cs rs x z y allowed has probed (later (state_after_accepted s Export) (next_state s r has ∙ rw allowed refl) (omega (arith, left))))
+      (λ (lacks : IsSolvedReply r → ⊥). (let grown = after_export s r allowed left in
       lacking_sum s (state_after s Export r) r cs rs x z y allowed lacks refl grown.0 probed (later (state_after s Export r) refl grown.1)))
       (lacks_or_not r)
 
@@ -283,20 +283,20 @@ module _ {X : Type 0} (books : X → ClientBooks) (unit : LengthUnit) (every : (
       (client_sum (state_after s Bad r) cs rs z y (omega (arith, most, exports)) more)
 
   -- what was probed and offered on the shares of all clients
-  abbrev pub shares_of : List X → List View
+  abbrev pub shares_of : List X → List ShareView
   shares_of xs = map (λ x. (books x).share) xs
 
-  pub record AreAdded (solved : Type 0) (least most clients : ℕ) (olds news : List View) : Type 0 where
+  pub record AreAdded (solved : Type 0) (least most clients : ℕ) (olds news : List ShareView) : Type 0 where
     pub low : sum_by probes_of olds + least ≤ sum_by probes_of news
     pub high : sum_by probes_of news ≤ sum_by probes_of olds + most
     pub few : least ≤ clients * (16 * 2 ^ 32)
     pub one : solved → least ≡ most
-    pub offered : solved → sum_by offered_of news + sum_by (λ v. v.misses) olds ≡ sum_by offered_of olds + sum_by (λ v. v.misses) news
+    pub offered : solved → sum_by offers_of news + sum_by (λ v. v.misses) olds ≡ sum_by offers_of olds + sum_by (λ v. v.misses) news
 
   abbrev pub HaveSums : List ClientScript → List (List Reply) → List X → List X → Type 0
   HaveSums clients replies xs ys =
       (least : ℕ) × (most : ℕ) × AllSumTo (HasJoinsSolved unit) clients replies least × AllSumTo (HasJoinsAsked unit) clients replies most
-      × AreAdded (AllLackNoSolid clients replies) least most (length clients) (shares_of xs) (shares_of ys)
+      × AreAdded (AllAreSolved clients replies) least most (length clients) (shares_of xs) (shares_of ys)
 
   pub all_sum : (clients : List ClientScript) (replies : List (List Reply)) (xs ys : List X) → AllMove MovesBooks clients replies xs ys → HaveSums clients replies xs ys
   all_sum [] [] xs ys same = (
@@ -335,10 +335,10 @@ module _ {X : Type 0} (books : X → ClientBooks) (unit : LengthUnit) (every : (
             arith,
             here,
             there,
-            sum_by-cons offered_of share (shares_of xs),
-            sum_by-cons offered_of share' (shares_of ys),
-            sum_by-cons (λ (v : View). v.misses) share (shares_of xs),
-            sum_by-cons (λ (v : View). v.misses) share' (shares_of ys),
+            sum_by-cons offers_of share (shares_of xs),
+            sum_by-cons offers_of share' (shares_of ys),
+            sum_by-cons (λ (v : ShareView). v.misses) share (shares_of xs),
+            sum_by-cons (λ (v : ShareView). v.misses) share' (shares_of ys),
           ));
         },
       )
@@ -353,28 +353,28 @@ none_probed : (n : ℕ) → sum_by probes_of (opened_shares n) ≡ 0
 none_probed zero = refl
 none_probed (suc n) = sum_by_push probes_of (opened_shares n) (fresh_share n parts_each) ∙ omega (arith, none_probed n)
 
-none_offered : (n : ℕ) → sum_by offered_of (opened_shares n) ≡ 0
+none_offered : (n : ℕ) → sum_by offers_of (opened_shares n) ≡ 0
 none_offered zero = refl
-none_offered (suc n) = sum_by_push offered_of (opened_shares n) (fresh_share n parts_each) ∙ omega (arith, none_offered n)
+none_offered (suc n) = sum_by_push offers_of (opened_shares n) (fresh_share n parts_each) ∙ omega (arith, none_offered n)
 
 none_missed : (n : ℕ) → sum_by (λ v. v.misses) (opened_shares n) ≡ 0
 none_missed zero = refl
-none_missed (suc n) = sum_by_push (λ (v : View). v.misses) (opened_shares n) (fresh_share n parts_each) ∙ omega (arith, none_missed n)
+none_missed (suc n) = sum_by_push (λ (v : ShareView). v.misses) (opened_shares n) (fresh_share n parts_each) ∙ omega (arith, none_missed n)
 
-probes_in_all : (shares : List View) → sum_by probes_of shares ≡ sum_by (λ v. v.hits) shares + sum_by (λ v. v.misses) shares
+probes_in_all : (shares : List ShareView) → sum_by probes_of shares ≡ sum_by (λ v. v.hits) shares + sum_by (λ v. v.misses) shares
 probes_in_all [] = refl
 probes_in_all (v ∷ vs) =
     let rest = probes_in_all vs in
-    omega (arith, rest, sum_by-cons probes_of v vs, sum_by-cons (λ (w : View). w.hits) v vs, sum_by-cons (λ (w : View). w.misses) v vs)
+    omega (arith, rest, sum_by-cons probes_of v vs, sum_by-cons (λ (w : ShareView). w.hits) v vs, sum_by-cons (λ (w : ShareView). w.misses) v vs)
 
-offered_in_all : (shares : List View) → sum_by offered_of shares ≡ sum_by (λ v. v.kept) shares + sum_by (λ v. v.heavy) shares + sum_by (λ v. v.dropped) shares
+offered_in_all : (shares : List ShareView) → sum_by offers_of shares ≡ sum_by (λ v. v.kept) shares + sum_by (λ v. v.heavy) shares + sum_by (λ v. v.dropped) shares
 offered_in_all [] = refl
 offered_in_all (v ∷ vs) =
     let rest = offered_in_all vs in
-    omega (arith, rest, sum_by-cons offered_of v vs, sum_by-cons (λ (w : View). w.kept) v vs, sum_by-cons (λ (w : View). w.heavy) v vs, sum_by-cons (λ (w : View). w.dropped) v vs)
+    omega (arith, rest, sum_by-cons offers_of v vs, sum_by-cons (λ (w : ShareView). w.kept) v vs, sum_by-cons (λ (w : ShareView). w.heavy) v vs, sum_by-cons (λ (w : ShareView). w.dropped) v vs)
 
 -- a tally is the sums of these shares
-pub record IsTallyOf (shares : List View) (tally : Tally) : Type 0 where
+pub record IsTallyOf (shares : List ShareView) (tally : Tally) : Type 0 where
   pub probes : tally.probes ≡ tally.hits + tally.misses
   pub offered : tally.offered ≡ tally.kept + tally.heavy + tally.dropped
   pub hits : tally.hits ≡ sum_by (λ v. v.hits) shares
@@ -384,42 +384,42 @@ pub record IsTallyOf (shares : List View) (tally : Tally) : Type 0 where
   pub dropped : tally.dropped ≡ min (sum_by (λ v. v.dropped) shares) dropped_max
 
 -- what a memo tells when it is closed
-module _ {K : Type 0} (items : List (Item K)) (shares news : List View) (tally : Tally) where
+module _ {K : Type 0} (items : List (JournalRecord K)) (shares news : List ShareView) (tally : Tally) where
   pub tally_of_shares : shares ≡ news → tally ≡ tally_of items tally.dropped → AreSums shares tally → IsTallyOf news tally
   tally_of_shares same e sums =
-      let probes_are : tally.probes ≡ count_in hit_by items + count_in missed_by items = ap (λ (t : Tally). t.probes) e in
-      let hits_are : tally.hits ≡ count_in hit_by items = ap (λ (t : Tally). t.hits) e in
-      let misses_are : tally.misses ≡ count_in missed_by items = ap (λ (t : Tally). t.misses) e in
-      let offered_are : tally.offered ≡ count_in kept_by items + count_in not_kept_by items + tally.dropped = ap (λ (t : Tally). t.offered) e in
-      let kept_are : tally.kept ≡ count_in kept_by items = ap (λ (t : Tally). t.kept) e in
-      let heavy_are : tally.heavy ≡ count_in not_kept_by items = ap (λ (t : Tally). t.heavy) e in record {
+      let probes_are : tally.probes ≡ count_in hit_count_of items + count_in miss_count_of items = ap (λ (t : Tally). t.probes) e in
+      let hits_are : tally.hits ≡ count_in hit_count_of items = ap (λ (t : Tally). t.hits) e in
+      let misses_are : tally.misses ≡ count_in miss_count_of items = ap (λ (t : Tally). t.misses) e in
+      let offered_are : tally.offered ≡ count_in kept_count_of items + count_in not_kept_count_of items + tally.dropped = ap (λ (t : Tally). t.offered) e in
+      let kept_are : tally.kept ≡ count_in kept_count_of items = ap (λ (t : Tally). t.kept) e in
+      let heavy_are : tally.heavy ≡ count_in not_kept_count_of items = ap (λ (t : Tally). t.heavy) e in record {
         probes = omega (arith, probes_are, hits_are, misses_are);
         offered = omega (arith, offered_are, kept_are, heavy_are);
-        hits = sums.hits ∙ ap (sum_by (λ (s : View). s.hits)) same;
-        misses = sums.misses ∙ ap (sum_by (λ (s : View). s.misses)) same;
-        kept = sums.kept ∙ ap (sum_by (λ (s : View). s.kept)) same;
-        heavy = sums.heavy ∙ ap (sum_by (λ (s : View). s.heavy)) same;
-        dropped = sums.dropped ∙ ap (λ ss. min (sum_by (λ (s : View). s.dropped) ss) dropped_max) same;
+        hits = sums.hits ∙ ap (sum_by (λ (s : ShareView). s.hits)) same;
+        misses = sums.misses ∙ ap (sum_by (λ (s : ShareView). s.misses)) same;
+        kept = sums.kept ∙ ap (sum_by (λ (s : ShareView). s.kept)) same;
+        heavy = sums.heavy ∙ ap (sum_by (λ (s : ShareView). s.heavy)) same;
+        dropped = sums.dropped ∙ ap (λ ss. min (sum_by (λ (s : ShareView). s.dropped) ss) dropped_max) same;
       }
 
 -- where no share has more offered fills than misses, the tally has not
-misses_most : (shares : List View) → All (λ s. offered_of s ≤ s.misses) shares → sum_by offered_of shares ≤ sum_by (λ s. s.misses) shares
+misses_most : (shares : List ShareView) → All (λ s. offers_of s ≤ s.misses) shares → sum_by offers_of shares ≤ sum_by (λ s. s.misses) shares
 misses_most [] all = omega arith
 misses_most (s ∷ ss) all =
-    let own : offered_of s ≤ s.misses = All-head (λ x. offered_of x ≤ x.misses) s ss all in
-    let rest = misses_most ss (All-tail (λ x. offered_of x ≤ x.misses) s ss all) in
-    omega (arith, sum_by-cons offered_of s ss, sum_by-cons (λ (v : View). v.misses) s ss, own, rest)
+    let own : offers_of s ≤ s.misses = All-head (λ x. offers_of x ≤ x.misses) s ss all in
+    let rest = misses_most ss (All-tail (λ x. offers_of x ≤ x.misses) s ss all) in
+    omega (arith, sum_by-cons offers_of s ss, sum_by-cons (λ (v : ShareView). v.misses) s ss, own, rest)
 
-pub offered_most : {K : Type 0} (shares : List View) (tally : Tally) (items : List (Item K)) → tally ≡ tally_of items tally.dropped → AreSums shares tally →
-    All (λ s. offered_of s ≤ s.misses) shares → tally.offered ≤ tally.misses
+pub offered_most : {K : Type 0} (shares : List ShareView) (tally : Tally) (items : List (JournalRecord K)) → tally ≡ tally_of items tally.dropped → AreSums shares tally →
+    All (λ s. offers_of s ≤ s.misses) shares → tally.offered ≤ tally.misses
 offered_most shares tally items e sums all =
-    let offered_are : tally.offered ≡ count_in kept_by items + count_in not_kept_by items + tally.dropped = ap (λ (t : Tally). t.offered) e in
-    let kept_are : tally.kept ≡ count_in kept_by items = ap (λ (t : Tally). t.kept) e in
-    let heavy_are : tally.heavy ≡ count_in not_kept_by items = ap (λ (t : Tally). t.heavy) e in
+    let offered_are : tally.offered ≡ count_in kept_count_of items + count_in not_kept_count_of items + tally.dropped = ap (λ (t : Tally). t.offered) e in
+    let kept_are : tally.kept ≡ count_in kept_count_of items = ap (λ (t : Tally). t.kept) e in
+    let heavy_are : tally.heavy ≡ count_in not_kept_count_of items = ap (λ (t : Tally). t.heavy) e in
     let most = misses_most shares all in
     let parted = offered_in_all shares in
     let m = sums.misses in let k = sums.kept in let h = sums.heavy in let d = sums.dropped in
-    omega (arith, offered_are, kept_are, heavy_are, most, parted, m, k, h, d, min-le_left (sum_by (λ (v : View). v.dropped) shares) dropped_max)
+    omega (arith, offered_are, kept_are, heavy_are, most, parted, m, k, h, d, min-le_left (sum_by (λ (v : ShareView). v.dropped) shares) dropped_max)
 
 pub adds_up : {X : Type 0} (books : X → ClientBooks) (unit : LengthUnit) → ((source : List ℕ) → (n : ℕ) × HasJoins unit source n) →
     (clients : List ClientScript) (replies : List (List Reply)) (xs ys : List X) (callers : ℕ) (tally : Tally) →
@@ -429,8 +429,8 @@ adds_up books unit every clients replies xs ys callers tally few fresh moved is 
     let (least, most, solved, asked, added) = all_sum books unit every clients replies xs ys moved in
     let news = map (λ x. (books x).share) ys in
     let first_probes = ap (sum_by probes_of) fresh ∙ none_probed callers in
-    let first_offered = ap (sum_by offered_of) fresh ∙ none_offered callers in
-    let first_missed = ap (sum_by (λ (v : View). v.misses)) fresh ∙ none_missed callers in
+    let first_offered = ap (sum_by offers_of) fresh ∙ none_offered callers in
+    let first_missed = ap (sum_by (λ (v : ShareView). v.misses)) fresh ∙ none_missed callers in
     let low = added.low in let high = added.high in let all_few = added.few in
     let all_probes = probes_in_all news in let all_offered = offered_in_all news in
     let p = is.probes in let o = is.offered in let h = is.hits in let m = is.misses in let k = is.kept in let e = is.heavy in let d = is.dropped in

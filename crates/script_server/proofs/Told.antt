@@ -4,65 +4,65 @@ use Rattle.std.specs.Prelude.{Option, Some, None, IfSome}
 use Rattle.std.specs.Io.KnownBytes.{Appends, Consumes, IsAtEnd}
 use Rattle.outside_io.specs.Counts.{CountRose}
 use Rattle.outside_io.specs.Moves.{AppendsProperPrefix}
-use Rattle.csg_tree.specs.Formulas.{Formula}
+use Rattle.csg_tree.specs.HalfSpaceTrees.{Tree}
 use Rattle.csg_tree.specs.Numberings.{is_same_tree}
 use Rattle.csg_tree.specs.TreeKeys.{name_of}
 use Rattle.bsp_tree.specs.declared.Solid.{Solid}
 use Rattle.memo_core.specs.Memo.{replay, IsLegal}
-use Rattle.memo_core.specs.Views.{MemoView, marks}
+use Rattle.memo_core.specs.Views.{MemoView, headers_in}
 use Rattle.run_words.specs.declared.settings.Settings.{Settings}
 use Rattle.run_words.specs.declared.settings.Settings.TheVariants.{Run, Demo}
 use Rattle.run_words.specs.declared.settings.WordsFault.{WordsFault}
 use Rattle.run_words.specs.declared.settings.WordsFault.TheVariants as words_fault
-use Rattle.run_words.specs.Words.{Chooses, AreSettingsInRange, AreOutside}
+use Rattle.run_words.specs.Words.{Chooses, AreSettingsInRange, AreOutsideGrammar}
 use Rattle.subtree_memo.specs.declared.tally.Tally.{Tally}
 use Rattle.script_reader.specs.declared.script.ClientScript.{ClientScript}
 use Rattle.script_reader.specs.declared.script.Script.{Script}
 use Rattle.script_reader.specs.declared.script.ScriptFault.{ScriptFault}
 use Rattle.script_reader.specs.Scripts.{IsScript, IsScriptFault}
-use Rattle.script_reader.specs.FaultLines.{fault_line}
+use Rattle.script_reader.specs.FaultLines.{script_fault_line}
 use Rattle.reply_text.specs.declared.reply.Reply.{Reply}
 use Rattle.script_service.specs.declared.input.InputEnd.{InputEnd}
 use Rattle.script_service.specs.declared.input.InputEnd.TheVariants as input_end
 use Rattle.script_service.specs.declared.status.Status.{Status}
 use Rattle.script_service.specs.declared.status.Status.TheVariants.{Done, BadWords, BadScript, ReadFault, WriteFault, NoMemory}
 use Rattle.script_service.specs.Statuses.{status_number}
-use Rattle.script_service.specs.Streams.{Stream, Streams}
+use Rattle.script_service.specs.Streams.{StreamChange, StreamChanges}
 use Rattle.script_service.specs.Units.{unit_of, memo_of, share_of}
 use Rattle.script_service.specs.Serving.{usage_line, IsRun, AreTooMany, IsInput, IsWholeInput, GivesScript, LacksScript, printed_text}
 use Rattle.script_service.specs.Outcomes.{AppendsPart, WritesTextOrNothing, PrintsReplies, HasStatusCause, RefusesWords, RefusesInput}
 use Rattle.std.specs.Prelude.{IsErrOf, Result, Ok, Err, IfOk, IfErr}
-use Rattle.flight_memo.specs.Claims.{View as ClaimsView}
+use Rattle.flight_memo.specs.Claims.{ClaimsView}
 use Rattle.script_server.proofs.Books.{sizes_offered, weights_many}
-use Rattle.script_server.specs.Books.{IsRunOf, AreBooks, weights_of}
-use Rattle.script_server.specs.Serving.{IsOutputFor, WritesOutput, IsOutput, ChoosesAlone, StatusTells, AreCaused, ExitTells, ExitRefuses, AskForRun, AskForNoInput, IsScriptOf, IsNoScript}
+use Rattle.script_server.specs.Books.{IsRunOf, HaveLegalJournal, weights_of}
+use Rattle.script_server.specs.Serving.{IsOutputFor, WritesOutput, IsOutput, ChoosesAlone, StatusTells, HaveStatusCauses, ExitTells, ExitRefuses, AskForRun, AskForNoInput, IsSomeScript, IsNoScript}
 
 -- a status tells what an equal one tells
-as_told : (words : List (List ℕ)) (s : Streams) (status other : Status) → status ≡ other → StatusTells words s other → StatusTells words s status
+as_told : (words : List (List ℕ)) (s : StreamChanges) (status other : Status) → status ≡ other → StatusTells words s other → StatusTells words s status
 as_told words s status other e h = subst (λ (t : Status). StatusTells words s t) (sym e) h
 
 -- ---- the words choose nothing
-pub words_refused : (words : List (List ℕ)) (s : Streams) (fault : WordsFault) (status : Status) → (fault ≡ words_fault.BadWords → AreOutside words) → RefusesWords fault s.sink status → StatusTells words s status
+pub words_refused : (words : List (List ℕ)) (s : StreamChanges) (fault : WordsFault) (status : Status) → (fault ≡ words_fault.BadWords → AreOutsideGrammar words) → RefusesWords fault s.sink status → StatusTells words s status
 words_refused words s words_fault.BadWords status outside (inl (e, whole)) = as_told words s status BadWords e (outside refl, whole)
 words_refused words s words_fault.BadWords status outside (inr (e, rose, cut)) = as_told words s status WriteFault e (rose, inl (outside refl, cut))
 words_refused words s words_fault.NoMemory status outside (e, same) = as_told words s status NoMemory e (inl same)
 
 -- ---- there is no script
-pub input_refused : (words : List (List ℕ)) (settings : Settings) (s : Streams) (end : InputEnd) (status : Status) → ChoosesAlone words settings → LacksScript settings s.source end → RefusesInput end s.sink status → StatusTells words s status
+pub input_refused : (words : List (List ℕ)) (settings : Settings) (s : StreamChanges) (end : InputEnd) (status : Status) → ChoosesAlone words settings → LacksScript settings s.source end → RefusesInput end s.sink status → StatusTells words s status
 input_refused words settings s (input_end.BadScript fault) status alone (run, bytes, input, is) (inl (e, whole)) =
     as_told words s status BadScript e (settings, alone, run, (bytes, fault, input, is, whole))
 input_refused words settings s (input_end.BadScript fault) status alone (run, bytes, input, is) (inr (inl (e, rose, cut))) =
-    as_told words s status WriteFault e (rose, inr (settings, alone, (bytes, fault_line fault, input, inr (fault, is, refl), cut)))
+    as_told words s status WriteFault e (rose, inr (settings, alone, (bytes, script_fault_line fault, input, inr (fault, is, refl), cut)))
 input_refused words settings s (input_end.BadScript fault) status alone lacks (inr (inr (e, same))) = as_told words s status NoMemory e (inl same)
 input_refused words settings s input_end.Failed status alone (run, rose, few) (e, same) = as_told words s status ReadFault e (settings, alone, run, rose, few, same)
 input_refused words settings s input_end.NoMemory status alone lacks (e, same) = as_told words s status NoMemory e (inl same)
 
 -- ---- a script was served
-part_of_input : (settings : Settings) (source : Stream) (bytes : List ℕ) → IsWholeInput settings source bytes → IsInput settings source bytes
+part_of_input : (settings : Settings) (source : StreamChange) (bytes : List ℕ) → IsWholeInput settings source bytes → IsInput settings source bytes
 part_of_input (Run workers memo share half tally) source bytes (read, end) = (read, inl end)
 part_of_input (Demo n) source bytes same = same
 
-pub script_served : (words : List (List ℕ)) (settings : Settings) (s : Streams) (script : Script) (status : Status) → ChoosesAlone words settings → GivesScript settings s.source script
+pub script_served : (words : List (List ℕ)) (settings : Settings) (s : StreamChanges) (script : Script) (status : Status) → ChoosesAlone words settings → GivesScript settings s.source script
     → WritesOutput settings script.clients s.sink status → StatusTells words s status
 script_served words settings s script status alone (bytes, input, is) (inl (out, fits, inl (inl (e, whole)))) =
     as_told words s status Done e (settings, alone, (bytes, out, input, (script, is, fits), whole))
@@ -74,8 +74,8 @@ script_served words settings s script status alone (bytes, input, is) (inl (out,
 script_served words settings s script status alone gives (inr (e, same)) = as_told words s status NoMemory e (inl same)
 
 -- ---- what is written for a run
-pub output_of_run : (settings : Settings) (clients : List ClientScript) (replies : List (List Reply)) (tally : Tally) (core : MemoView Formula Solid) (closed : ClaimsView Formula) (owned : List ℕ) (callers : ℕ) →
-    IsRunOf (unit_of settings) clients (memo_of settings) (share_of settings) name_of replies tally core closed → owned ≡ weights_of callers (marks core.entries) → length owned ≡ callers → callers ≡ length clients →
+pub output_of_run : (settings : Settings) (clients : List ClientScript) (replies : List (List Reply)) (tally : Tally) (core : MemoView Tree Solid) (closed : ClaimsView Tree) (owned : List ℕ) (callers : ℕ) →
+    IsRunOf (unit_of settings) clients (memo_of settings) (share_of settings) name_of replies tally core closed → owned ≡ weights_of callers (headers_in core.entries) → length owned ≡ callers → callers ≡ length clients →
     IsOutputFor settings clients (printed_text settings clients replies tally owned)
 output_of_run settings clients replies tally core closed owned callers ran weights many same =
     let limits = ran.limits in
@@ -90,9 +90,9 @@ output_of_run settings clients replies tally core closed owned callers ran weigh
         core.journal,
         legal,
         ran.counted,
-        weights ∙ ap (λ n. weights_of n (marks core.entries)) (sym many) ∙ ap (λ ms. weights_of (length owned) ms) replayed,
+        weights ∙ ap (λ n. weights_of n (headers_in core.entries)) (sym many) ∙ ap (λ ms. weights_of (length owned) ms) replayed,
         ran.sums,
-        ran.callers,
+        ran.keys,
         ran.offered,
         sizes_offered core.journal sound.offers,
       ),
@@ -101,16 +101,16 @@ output_of_run settings clients replies tally core closed owned callers ran weigh
     )
 
 -- what is written for a run whose weights are printed where they are asked for
-pub run_written : (settings : Settings) (clients : List ClientScript) (replies : List (List Reply)) (tally : Tally) (core : MemoView Formula Solid) (closed : ClaimsView Formula) (callers : ℕ) (sink : Stream) (status : Status) →
+pub run_written : (settings : Settings) (clients : List ClientScript) (replies : List (List Reply)) (tally : Tally) (core : MemoView Tree Solid) (closed : ClaimsView Tree) (callers : ℕ) (sink : StreamChange) (status : Status) →
     IsRunOf (unit_of settings) clients (memo_of settings) (share_of settings) name_of replies tally core closed → callers ≡ length clients →
-    PrintsReplies settings sink (printed_text settings clients replies tally (weights_of callers (marks core.entries))) status → WritesOutput settings clients sink status
+    PrintsReplies settings sink (printed_text settings clients replies tally (weights_of callers (headers_in core.entries))) status → WritesOutput settings clients sink status
 run_written settings clients replies tally core closed callers sink status ran same prints =
-    let weights = weights_of callers (marks core.entries) in
-    inl (printed_text settings clients replies tally weights, output_of_run settings clients replies tally core closed weights callers ran refl (weights_many callers (marks core.entries)) same, prints)
+    let weights = weights_of callers (headers_in core.entries) in
+    inl (printed_text settings clients replies tally weights, output_of_run settings clients replies tally core closed weights callers ran refl (weights_many callers (headers_in core.entries)) same, prints)
 
 -- ---- what counts of faults say
 -- why there is no script is told as what it is
-pub input_caused : {T : Type 0} (before now : ℕ) (end : InputEnd) (sink : Stream) (status : Status) → IsErrOf {T = T} (Err end) input_end.Failed ⊎ (now ≡ before) → RefusesInput end sink status →
+pub input_caused : {T : Type 0} (before now : ℕ) (end : InputEnd) (sink : StreamChange) (status : Status) → IsErrOf {T = T} (Err end) input_end.Failed ⊎ (now ≡ before) → RefusesInput end sink status →
     (status ≡ ReadFault) ⊎ (now ≡ before)
 input_caused before now (input_end.BadScript fault) sink status (inl e) refuses = absurd (cc e)
 input_caused before now (input_end.BadScript fault) sink status (inr same) refuses = inr same
@@ -123,7 +123,7 @@ pub in_range : (words : List (List ℕ)) (settings : Settings) → Chooses words
 in_range [] settings chosen = absurd chosen
 in_range (first ∷ rest) settings chosen = chosen.0
 
-pub completes : (words : List (List ℕ)) (s : Streams) (status : Status) → StatusTells words s status → (settings : Settings) → Chooses words settings
+pub completes : (words : List (List ℕ)) (s : StreamChanges) (status : Status) → StatusTells words s status → (settings : Settings) → Chooses words settings
     → (CountRose s.source.before s.source.now → ⊥) → (CountRose s.sink.before s.sink.now → ⊥) → (status ≡ Done) ⊎ (status ≡ BadScript) ⊎ (status ≡ NoMemory)
 completes words s Done told settings chosen read write = inl refl
 completes words s BadWords told settings chosen read write = absurd (told.0 settings chosen)
@@ -146,7 +146,7 @@ all_read bytes more front e none = e ∙ ap (λ (l : List ℕ). front ++ l) none
 
 -- bytes of which a front with a fault was read are no script
 no_script_left : NeverBoth → (left left' : Option (List ℕ)) (front : List ℕ) (fault : ScriptFault) → Consumes left left' front → IsAtEnd left' ⊎ AreTooMany front
-    → IsScriptFault front fault → IfSome left (λ bytes. IsScriptOf bytes → ⊥)
+    → IsScriptFault front fault → IfSome left (λ bytes. IsSomeScript bytes → ⊥)
 no_script_left never None left' front fault read end is = tt
 no_script_left never (Some all) None front fault read end is = absurd read
 no_script_left never (Some all) (Some more) front fault read (inl end) is =
@@ -162,20 +162,20 @@ script_left never (Some all) None front script read end is = absurd read
 script_left never (Some all) (Some more) front script read end is =
     λ none. never front script none.0 is (subst (λ (l : List ℕ). IsScriptFault l none.0) (all_read all more front read end) none.1)
 
-input_of_run : (settings : Settings) (source : Stream) (bytes : List ℕ) → IsRun settings → IsInput settings source bytes → Consumes source.old source.new bytes × (IsAtEnd source.new ⊎ AreTooMany bytes)
+input_of_run : (settings : Settings) (source : StreamChange) (bytes : List ℕ) → IsRun settings → IsInput settings source bytes → Consumes source.old source.new bytes × (IsAtEnd source.new ⊎ AreTooMany bytes)
 input_of_run (Run workers memo share half tally) source bytes run h = h
 input_of_run (Demo n) source bytes run h = absurd run
 
-whole_input_of_run : (settings : Settings) (source : Stream) (bytes : List ℕ) → IsRun settings → IsWholeInput settings source bytes → Consumes source.old source.new bytes × IsAtEnd source.new
+whole_input_of_run : (settings : Settings) (source : StreamChange) (bytes : List ℕ) → IsRun settings → IsWholeInput settings source bytes → Consumes source.old source.new bytes × IsAtEnd source.new
 whole_input_of_run (Run workers memo share half tally) source bytes run h = h
 whole_input_of_run (Demo n) source bytes run h = absurd run
 
-refuses_no_script : NeverBoth → (words : List (List ℕ)) (s : Streams) → StatusTells words s BadScript → IfSome s.source.old (λ bytes. IsScriptOf bytes → ⊥)
+refuses_no_script : NeverBoth → (words : List (List ℕ)) (s : StreamChanges) → StatusTells words s BadScript → IfSome s.source.old (λ bytes. IsSomeScript bytes → ⊥)
 refuses_no_script never words s (settings, alone, run, (bytes, fault, input, is, told)) =
     let read = input_of_run settings s.source bytes run input in
     no_script_left never s.source.old s.source.new bytes fault read.0 read.1 is
 
-serves_a_script : NeverBoth → (words : List (List ℕ)) (s : Streams) → AskForRun words → StatusTells words s Done → IfSome s.source.old (λ bytes. IsNoScript bytes → ⊥)
+serves_a_script : NeverBoth → (words : List (List ℕ)) (s : StreamChanges) → AskForRun words → StatusTells words s Done → IfSome s.source.old (λ bytes. IsNoScript bytes → ⊥)
 serves_a_script never words s (other, chosen, run) (settings, alone, (bytes, out, input, (script, is, fits), told)) =
     let read = whole_input_of_run settings s.source bytes (subst IsRun (alone.1 other chosen) run) input in
     script_left never s.source.old s.source.new bytes script read.0 read.1 is
@@ -184,24 +184,24 @@ unless : (left : Option (List ℕ)) (P : List ℕ → Type 0) (Q : Type 0) → (
 unless None P Q h = tt
 unless (Some bytes) P Q h = λ p q. h q p
 
-pub script_kept : NeverBoth → (words : List (List ℕ)) (s : Streams) (status : Status) → StatusTells words s status → IfSome s.source.old (λ bytes. IsScriptOf bytes → status ≢ BadScript)
+pub script_kept : NeverBoth → (words : List (List ℕ)) (s : StreamChanges) (status : Status) → StatusTells words s status → IfSome s.source.old (λ bytes. IsSomeScript bytes → status ≢ BadScript)
 script_kept never words s status told =
-    unless s.source.old IsScriptOf (status ≡ BadScript) (λ e. refuses_no_script never words s (subst (λ (t : Status). StatusTells words s t) e told))
+    unless s.source.old IsSomeScript (status ≡ BadScript) (λ e. refuses_no_script never words s (subst (λ (t : Status). StatusTells words s t) e told))
 
-pub fault_told : NeverBoth → (words : List (List ℕ)) (s : Streams) (status : Status) → StatusTells words s status → AskForRun words → IfSome s.source.old (λ bytes. IsNoScript bytes → status ≢ Done)
+pub fault_told : NeverBoth → (words : List (List ℕ)) (s : StreamChanges) (status : Status) → StatusTells words s status → AskForRun words → IfSome s.source.old (λ bytes. IsNoScript bytes → status ≢ Done)
 fault_told never words s status told run =
     unless s.source.old IsNoScript (status ≡ Done) (λ e. serves_a_script never words s run (subst (λ (t : Status). StatusTells words s t) e told))
 
 -- ---- a failed source and a failed sink
 -- what counts of faults say where nothing was read
-pub caused_unread : (s : Streams) (status : Status) → s.source.now ≡ s.source.before → HasStatusCause WriteFault s.sink.before s.sink.now status → AreCaused s status
+pub caused_unread : (s : StreamChanges) (status : Status) → s.source.now ≡ s.source.before → HasStatusCause WriteFault s.sink.before s.sink.now status → HaveStatusCauses s status
 caused_unread s status same written = record { read = record { later = omega (arith, same); quiet = inr same }; written = written }
 
 -- where nothing was written
-pub caused_unwritten : (s : Streams) (status : Status) → HasStatusCause ReadFault s.source.before s.source.now status → s.sink.now ≡ s.sink.before → AreCaused s status
+pub caused_unwritten : (s : StreamChanges) (status : Status) → HasStatusCause ReadFault s.source.before s.source.now status → s.sink.now ≡ s.sink.before → HaveStatusCauses s status
 caused_unwritten s status read same = record { read = read; written = record { later = omega (arith, same); quiet = inr same } }
 
-pub caused : (s : Streams) (status : Status) → HasStatusCause ReadFault s.source.before s.source.now status → HasStatusCause WriteFault s.sink.before s.sink.now status → AreCaused s status
+pub caused : (s : StreamChanges) (status : Status) → HasStatusCause ReadFault s.source.before s.source.now status → HasStatusCause WriteFault s.sink.before s.sink.now status → HaveStatusCauses s status
 caused s status read written = record { read = read; written = written }
 
 -- an input that was read
@@ -210,12 +210,12 @@ read_caused before now script status later (inl never) = absurd (cc never)
 read_caused before now script status later (inr same) = record { later = later; quiet = inr same }
 
 -- ---- the number with which the program ends
-pub exit_told : {A E : Type 0} (r : Result A E) (words : A → List (List ℕ)) (s : Streams) (status : Status) (code : ℕ) → code ≡ status_number status →
-    IfOk r (λ w. StatusTells (words w) s status) → IfOk r (λ w. AreCaused s status) → IfOk r (λ w. ExitTells (words w) s code)
+pub exit_told : {A E : Type 0} (r : Result A E) (words : A → List (List ℕ)) (s : StreamChanges) (status : Status) (code : ℕ) → code ≡ status_number status →
+    IfOk r (λ w. StatusTells (words w) s status) → IfOk r (λ w. HaveStatusCauses s status) → IfOk r (λ w. ExitTells (words w) s code)
 exit_told (Ok w) words s status code e told causes = (status, e, told, causes)
 exit_told (Err fault) words s status code e told causes = tt
 
-pub exit_refused : {A : Type 0} (r : Result A WordsFault) (sink : Stream) (status : Status) (code : ℕ) → code ≡ status_number status →
-    IfErr r (λ fault. RefusesWords fault sink status) → IfErr r (λ fault. ExitRefuses fault sink code)
-exit_refused (Ok w) sink status code e told = tt
-exit_refused (Err fault) sink status code e told = (status, e, told)
+pub exit_refused : {A : Type 0} (r : Result A WordsFault) (sink : StreamChange) (status : Status) (code : ℕ) → code ≡ status_number status →
+    IfErr r (λ fault. RefusesWords fault sink status) → IfErr r (λ fault. HasStatusCause WriteFault sink.before sink.now status) → IfErr r (λ fault. ExitRefuses fault sink code)
+exit_refused (Ok w) sink status code e told cause = tt
+exit_refused (Err fault) sink status code e told cause = (status, e, told, cause)

@@ -6,24 +6,24 @@ use Rattle.outside_io.specs.Moves.{ConsumesAtMost, AppendsProperPrefix}
 use Rattle.run_words.specs.declared.settings.Settings.{Settings}
 use Rattle.run_words.specs.declared.settings.Settings.TheVariants.{Run, Demo}
 use Rattle.run_words.specs.declared.settings.WordsFault.{WordsFault}
-use Rattle.run_words.specs.Words.{Chooses, AreOutside}
+use Rattle.run_words.specs.Words.{Chooses, AreOutsideGrammar}
 use Rattle.subtree_memo.specs.declared.tally.Tally.{Tally}
 use Rattle.script_reader.specs.declared.script.ClientScript.{ClientScript}
 use Rattle.script_reader.specs.declared.script.Script.{Script}
 use Rattle.script_reader.specs.declared.script.ScriptFault.{ScriptFault}
 use Rattle.script_reader.specs.Scripts.{IsScript, IsScriptFault}
-use Rattle.script_reader.specs.FaultLines.{fault_line}
+use Rattle.script_reader.specs.FaultLines.{script_fault_line}
 use Rattle.reply_text.specs.declared.reply.Reply.{Reply}
 use Rattle.reply_text.specs.Answers.{AllFit}
 use Rattle.script_service.specs.declared.status.Status.{Status}
 use Rattle.script_service.specs.declared.status.Status.TheVariants.{Done, BadWords, BadScript, ReadFault, WriteFault, NoMemory}
-use Rattle.script_service.specs.Streams.{Stream, Streams}
+use Rattle.script_service.specs.Streams.{StreamChange, StreamChanges}
 use Rattle.script_service.specs.Units.{unit_of, memo_of, share_of}
 use Rattle.script_service.specs.Serving.{usage_line, IsRun, IsInput, IsWholeInput, IsReadInLimit, printed_text}
 use Rattle.script_service.specs.Statuses.{status_number}
 use Rattle.script_service.specs.Outcomes.{AppendsPart, PrintsReplies, HasStatusCause, RefusesWords}
 use Rattle.script_server.specs.Meaning.Exports.{AnswersExport}
-use Rattle.script_server.specs.Books.{AreBooks}
+use Rattle.script_server.specs.Books.{HaveLegalJournal}
 
 -- what is written for the clients of a script: their replies, which their own commands define, and what the memo of the
 -- settings' budget and share counts and holds of each client
@@ -31,12 +31,12 @@ abbrev pub IsOutputFor : Settings → List ClientScript → List ℕ → Type 0
 IsOutputFor settings clients out =
     (replies : List (List Reply)) × (counts : Tally) × (owned : List ℕ)
     × AllFit (AnswersExport (unit_of settings)) clients replies
-    × AreBooks (unit_of settings) clients replies (memo_of settings) (share_of settings) counts owned
+    × HaveLegalJournal (unit_of settings) clients replies (memo_of settings) (share_of settings) counts owned
     × (length owned ≡ length clients)
     × (out ≡ printed_text settings clients replies counts owned)
 
 -- that was written, or memory ran out before anything was written
-abbrev pub WritesOutput : Settings → List ClientScript → Stream → Status → Type 0
+abbrev pub WritesOutput : Settings → List ClientScript → StreamChange → Status → Type 0
 WritesOutput settings clients sink status =
     ((out : List ℕ) × IsOutputFor settings clients out × PrintsReplies settings sink out status) ⊎ ((status ≡ NoMemory) × sink.same)
 
@@ -51,44 +51,44 @@ abbrev pub IsOutput : Settings → List ℕ → List ℕ → Type 0
 IsOutput settings bytes out = (script : Script) × IsScript bytes script × IsOutputFor settings script.clients out
 
 -- what is written for bytes: the output of a script, or the line of the first fault
-abbrev pub IsAnswer : Settings → List ℕ → List ℕ → Type 0
-IsAnswer settings bytes out =
-    IsOutput settings bytes out ⊎ ((fault : ScriptFault) × IsScriptFault bytes fault × (out ≡ fault_line fault))
+abbrev pub IsOutputOrFaultLine : Settings → List ℕ → List ℕ → Type 0
+IsOutputOrFaultLine settings bytes out =
+    IsOutput settings bytes out ⊎ ((fault : ScriptFault) × IsScriptFault bytes fault × (out ≡ script_fault_line fault))
 
 -- the whole input was served, and its output was appended to the sink
-abbrev pub Serves : Settings → Streams → Type 0
+abbrev pub Serves : Settings → StreamChanges → Type 0
 Serves settings s =
     (bytes : List ℕ) × (out : List ℕ)
     × IsWholeInput settings s.source bytes × IsOutput settings bytes out × Appends s.sink.old s.sink.new out
 
 -- part of what is to be written was appended, and not the whole
-abbrev pub BreaksOff : Settings → Streams → Type 0
+abbrev pub BreaksOff : Settings → StreamChanges → Type 0
 BreaksOff settings s =
     (bytes : List ℕ) × (out : List ℕ)
-    × IsInput settings s.source bytes × IsAnswer settings bytes out × AppendsProperPrefix s.sink.old s.sink.new out
+    × IsInput settings s.source bytes × IsOutputOrFaultLine settings bytes out × AppendsProperPrefix s.sink.old s.sink.new out
 
 -- the whole input was read, and something of its output was appended, and not the whole
-abbrev pub Begins : Settings → Streams → Type 0
-Begins settings s =
+abbrev pub WritesPartOfOutput : Settings → StreamChanges → Type 0
+WritesPartOfOutput settings s =
     (bytes : List ℕ) × (out : List ℕ)
     × IsWholeInput settings s.source bytes × IsOutput settings bytes out × AppendsPart s.sink.old s.sink.new out
 
 -- the input is no script, and its first fault was told
-abbrev pub RefusesScript : Settings → Streams → Type 0
+abbrev pub RefusesScript : Settings → StreamChanges → Type 0
 RefusesScript settings s =
     (bytes : List ℕ) × (fault : ScriptFault)
-    × IsInput settings s.source bytes × IsScriptFault bytes fault × Appends s.sink.old s.sink.new (fault_line fault)
+    × IsInput settings s.source bytes × IsScriptFault bytes fault × Appends s.sink.old s.sink.new (script_fault_line fault)
 
 -- the words choose these settings and no others
 abbrev pub ChoosesAlone : List (List ℕ) → Settings → Type 0
 ChoosesAlone words settings = Chooses words settings × ((other : Settings) → Chooses words other → other ≡ settings)
 
 -- What a status tells of the words, the source and the sink.
-abbrev pub StatusTells : List (List ℕ) → Streams → Status → Type 0
+abbrev pub StatusTells : List (List ℕ) → StreamChanges → Status → Type 0
 -- The words choose settings, and what they ask for was served whole.
 StatusTells words s Done = (settings : Settings) × ChoosesAlone words settings × Serves settings s
 -- The words are outside the grammar, and the usage line was written.
-StatusTells words s BadWords = AreOutside words × Appends s.sink.old s.sink.new usage_line
+StatusTells words s BadWords = AreOutsideGrammar words × Appends s.sink.old s.sink.new usage_line
 -- The script of the source has a fault, and its line was written.
 StatusTells words s BadScript = (settings : Settings) × ChoosesAlone words settings × IsRun settings × RefusesScript settings s
 -- The source failed, of which no more bytes were read than a script may have, and nothing was written.
@@ -98,25 +98,27 @@ StatusTells words s ReadFault =
 -- The sink failed, and a prefix of what was to be written was written, and not the whole.
 StatusTells words s WriteFault =
     CountRose s.sink.before s.sink.now
-    × ((AreOutside words × AppendsProperPrefix s.sink.old s.sink.new usage_line)
+    × ((AreOutsideGrammar words × AppendsProperPrefix s.sink.old s.sink.new usage_line)
     ⊎ ((settings : Settings) × ChoosesAlone words settings × BreaksOff settings s))
 -- Nothing was written, or something of the output of a script, and not the whole.
 StatusTells words s NoMemory =
-    s.sink.same ⊎ ((settings : Settings) × ChoosesAlone words settings × IsRun settings × Begins settings s)
+    s.sink.same ⊎ ((settings : Settings) × ChoosesAlone words settings × IsRun settings × WritesPartOfOutput settings s)
 
--- A source that failed ends a call as a read fault, and a sink that failed as a write fault: at another status no count of faults
--- rose. So want of memory is never told for either.
-pub record AreCaused (s : Streams) (status : Status) : Type 0 where
+-- A source that failed ends a call as a read fault, and a sink that failed as a write fault: at another status no count of
+-- faults rose. So want of memory is never told for either.
+pub record HaveStatusCauses (s : StreamChanges) (status : Status) : Type 0 where
   pub read : HasStatusCause ReadFault s.source.before s.source.now status
   pub written : HasStatusCause WriteFault s.sink.before s.sink.now status
 
 -- What the number tells with which the program ends: it is that of one status, which tells what it does.
-abbrev pub ExitTells : List (List ℕ) → Streams → ℕ → Type 0
-ExitTells words s code = (status : Status) × (code ≡ status_number status) × StatusTells words s status × AreCaused s status
+abbrev pub ExitTells : List (List ℕ) → StreamChanges → ℕ → Type 0
+ExitTells words s code = (status : Status) × (code ≡ status_number status) × StatusTells words s status × HaveStatusCauses s status
 
--- the same where there were no words to be read
-abbrev pub ExitRefuses : WordsFault → Stream → ℕ → Type 0
-ExitRefuses fault sink code = (status : Status) × (code ≡ status_number status) × RefusesWords fault sink status
+-- The same where there were no words to be read. A sink that failed ends it as a write fault.
+abbrev pub ExitRefuses : WordsFault → StreamChange → ℕ → Type 0
+ExitRefuses fault sink code =
+    (status : Status) × (code ≡ status_number status) × RefusesWords fault sink status
+    × HasStatusCause WriteFault sink.before sink.now status
 
 -- the words choose to serve a script
 abbrev pub AskForRun : List (List ℕ) → Type 0
@@ -124,17 +126,17 @@ AskForRun words = (settings : Settings) × Chooses words settings × IsRun setti
 
 -- the words are outside the grammar, or choose the demonstration: nothing is to be read
 abbrev pub AskForNoInput : List (List ℕ) → Type 0
-AskForNoInput words = AreOutside words ⊎ ((settings : Settings) × Chooses words settings × (IsRun settings → ⊥))
+AskForNoInput words = AreOutsideGrammar words ⊎ ((settings : Settings) × Chooses words settings × (IsRun settings → ⊥))
 
--- Words that ask for no input have nothing read; whatever they ask for, no more bytes are read than a script may have, and those
--- of one read more.
-pub record ReadsAsAsked (words : List (List ℕ)) (source : Stream) : Type 0 where
+-- Words that ask for no input have nothing read; whatever they ask for, no more bytes are read than a script may have, and
+-- those of one read more.
+pub record ReadsAsAsked (words : List (List ℕ)) (source : StreamChange) : Type 0 where
   pub unread : AskForNoInput words → source.same
   pub limit : IsReadInLimit source
 
 -- the bytes are some script
-abbrev pub IsScriptOf : List ℕ → Type 0
-IsScriptOf bytes = (script : Script) × IsScript bytes script
+abbrev pub IsSomeScript : List ℕ → Type 0
+IsSomeScript bytes = (script : Script) × IsScript bytes script
 
 -- the bytes have a first fault
 abbrev pub IsNoScript : List ℕ → Type 0

@@ -2,7 +2,7 @@
 
 ghost use Rattle.std.specs.Prelude.{◌≡◌, ◌-◌, ◌^◌, ◌<◌, IfOk, IfErr, length};
 ghost use Rattle.csg_tree.specs.ProperTrees.{IsProper};
-ghost use Rattle.csg_tree.specs.Trees.{formula_of};
+ghost use Rattle.csg_tree.specs.Trees.{plain_tree_of};
 ghost use Rattle.scad_ast.specs.ProgramView.{program_of};
 ghost use Rattle.script_server.specs.Meaning.Sources.{Means, RefusesSource, GivesTree};
 ghost use Rattle.script_server.specs.Meaning.Exports.{export_reply};
@@ -20,8 +20,8 @@ use tree_export::TreeExport;
 /// The tree that a source means in a unit, or its first fault.
 pub fn tree_of(alloc: Global, unit: Unit, source: &[u8]) -> Result<CsgTree, Stop>
     requires { length source.now < 2 ^ 32 - 1 }
-    ensures tree { IfOk result (λ tree. Means unit source.now (formula_of tree)) }
-    ensures proper { IfOk result (λ tree. IsProper (formula_of tree)) }
+    ensures tree { IfOk result (λ tree. Means unit source.now (plain_tree_of tree)) }
+    ensures proper { IfOk result (λ tree. IsProper (plain_tree_of tree)) }
     ensures fault { IfErr result (RefusesSource unit source.now) }
 {
     // The program is lent, since a crate proves the drop of each type that it drops.

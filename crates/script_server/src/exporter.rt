@@ -2,23 +2,24 @@
 
 ghost use Rattle.std.specs.Prelude.{◌≡◌, ◌+◌, ◌^◌, ◌<◌, ◌≤◌, ℕ, List, All, length, IfOk, IfErr, IsOk, OnOk};
 ghost use Rattle.std.specs.Arc.{arc_value};
-ghost use Rattle.csg_tree.specs.Formulas.{Formula};
+ghost use Rattle.csg_tree.specs.HalfSpaceTrees.{Tree};
 ghost use Rattle.csg_tree.specs.ProperTrees.{IsProper};
 ghost use Rattle.csg_tree.specs.Numberings.{nodes_of, tree_numbered};
-ghost use Rattle.csg_tree.specs.Trees.{formula_of};
+ghost use Rattle.csg_tree.specs.Trees.{plain_tree_of};
 ghost use Rattle.bsp_tree.specs.Shapes as shapes;
 ghost use Rattle.bsp_boolean.specs.Solids as solids;
-ghost use Rattle.bsp_boolean.specs.TreeSolids.{joins, AreWithinSizeLimits, IsTreeStop};
-ghost use Rattle.subtree_memo.specs.Shares.{parts_each, offered_of};
+ghost use Rattle.bsp_boolean.specs.TreeSolids.{join_count, AreWithinSizeLimits, IsTreeStop};
+ghost use Rattle.subtree_memo.specs.Shares.{parts_each, offers_of};
 ghost use Rattle.tree_export.specs.Exports.{IsExported, IsBoundaryText};
 ghost use Rattle.plane_predicate.specs.declared.unit.Unit.{Unit as LengthUnit};
 ghost use Rattle.script_server.specs.Meaning.Sources.{RefusesSource};
 ghost use Rattle.script_server.specs.Meaning.Exports.{export_reply};
-ghost use Rattle.script_server.specs.Clients.{ClientBooks, AreProbed, IsSolved, ExportsFor};
+ghost use Rattle.parallel_eval.specs.Joins.{MayAskJoins};
+ghost use Rattle.script_server.specs.Clients.{ClientBooks, AreProbed, MayAskFor, IsSolved, ExportsFor};
 
 use crate::export::{reply, tree_of};
 use crate::kept_export::{KeptExport, export_kept};
-use crate::meaning::some_meaning;
+use crate::meaning::{some_meaning, texts_of_sources_are_watertight};
 use crate::under_way::{UnderWay, Workers};
 use bsp_boolean::PlainBuilder;
 use bsp_tree::Solid;
@@ -34,7 +35,7 @@ use std::marker::Model;
 use std::sync::ledger::Ledger;
 use std::sync::{Arc, Wait};
 use std::thread::Threads;
-use subtree_memo::MemoLedger;
+use subtree_memo::{AskPolicy, MemoLedger};
 use text_place::{NoMemory, Stop};
 use tree_export::{TreeExport, export_made, last_nodes_are_trees, nodes_of_tree, solid_of_nothing};
 
@@ -51,7 +52,7 @@ pub struct Client<B: FlightBooks> {
 
 impl<B: FlightBooks> Model for Client<B> {
     ghost use Rattle.std.specs.Prelude.{◌≡◌, ◌*◌, ◌^◌, ◌≤◌};
-    ghost use Rattle.subtree_memo.specs.Shares.{parts_each, offered_of};
+    ghost use Rattle.subtree_memo.specs.Shares.{parts_each, offers_of};
     ghost use Rattle.script_server.specs.Clients.{ClientBooks};
 
     ghost Value = { ClientBooks };
@@ -60,16 +61,21 @@ impl<B: FlightBooks> Model for Client<B> {
 
     ghost invariant = { λ c.
         (c.share.share.parts ≡ parts_each) × (c.share.share.dropped ≤ c.asked * 2 ^ 32)
-        × (offered_of c.share.share ≤ c.share.share.misses) };
+        × (offers_of c.share.share ≤ c.share.share.misses) };
 }
 
 /// What counts how often a solid was asked for, and has a share of a memo's books.
 pub trait Booking {
     ghost books: { Self → ClientBooks };
+
+    // Which keys a caller of the memo may ask for.
+    ghost may_ask: { ℕ → Tree → Type 0 };
 }
 
-impl<B: FlightBooks> Booking for Client<B> {
+impl<B: FlightBooks + AskPolicy<TreeKey>> Booking for Client<B> {
     ghost books = { λ client. client };
+
+    ghost may_ask = { B.may_ask };
 }
 
 // So many builders, which have built nothing.
@@ -87,7 +93,7 @@ fn builders(alloc: Global, count: u64) -> Result<Vec<PlainBuilder>, NoMemory>
 impl<B: FlightBooks> Client<B> {
     /// A client for which no solid was asked yet, with so many workers and a share on which no fill is booked.
     pub fn new(share: FlightShare<B>, workers: Workers) -> Self
-        requires share { (share.share.parts ≡ parts_each) × (offered_of share.share ≡ 0) }
+        requires share { (share.share.parts ≡ parts_each) × (offers_of share.share ≡ 0) }
         ensures { result ≡ record { asked = 0; share = share.share } }
     {
         Client {
@@ -110,7 +116,7 @@ impl<B: FlightBooks> Client<B> {
     pub fn into_share(self) -> FlightShare<B>
         ensures share { result.share ≡ self.share }
         ensures whole { result.share.parts ≡ parts_each }
-        ensures offered { offered_of result.share ≤ result.share.misses }
+        ensures offered { offers_of result.share ≤ result.share.misses }
     {
         let Client { share, .. } = self;
         share
@@ -136,8 +142,9 @@ fn known<R: Threads + Sync>(
 // The key of the tree of which a store has the nodes. `NoMemory` is a store that cannot be shared once more.
 fn key_of(store: &KnownStore) -> Result<TreeKey, NoMemory>
     requires { 0 < length store.now }
-    ensures { (tree : Formula) → store.now ≡ nodes_of tree → IfOk result (λ key. key ≡ tree) }
+    ensures { (tree : Tree) → store.now ≡ nodes_of tree → IfOk result (λ key. key ≡ tree) }
 {
+    // Brings a law alone: a tree's last node is the tree.
     last_nodes_are_trees();
     store.key(store.store().len())
 }
@@ -147,7 +154,7 @@ fn key_of(store: &KnownStore) -> Result<TreeKey, NoMemory>
 fn solid_for<
     'a,
     N: Namer<TreeKey> + Send + Sync,
-    H: MemoLedger + Send + Sync,
+    H: MemoLedger + AskPolicy<TreeKey> + Send + Sync,
     M: Ledger + Send + Sync,
     K: Ledger + Send + Sync,
     E: Ledger + Send + Sync,
@@ -163,11 +170,12 @@ fn solid_for<
 ) -> Result<Arc<Solid>, EvalStop>
     requires some { 0 < length store }
     requires few { client.old.asked < 8192 }
+    requires allowed { MayAskJoins (H.may_ask client.old.share.caller) store }
     ensures solid { IfOk result (λ s.
         shapes.tree_of (arc_value s) ≡ solids.solid_of (tree_numbered store (length store))) }
     ensures within { OnOk result (AreWithinSizeLimits store) }
     ensures stop { IfErr result (IsTreeStop store) }
-    ensures probed { AreProbed (IsOk result) (joins store) client.old.share client.new.share }
+    ensures probed { AreProbed (IsOk result) (join_count store) client.old.share client.new.share }
     ensures asked { client.new.asked ≤ client.old.asked + 1 }
 {
     let mut builders = builders(builds.alloc, workers.count)?;
@@ -182,7 +190,7 @@ fn solid_for<
 fn exported<
     'a,
     N: Namer<TreeKey> + Send + Sync,
-    H: MemoLedger + Send + Sync,
+    H: MemoLedger + AskPolicy<TreeKey> + Send + Sync,
     M: Ledger + Send + Sync,
     K: Ledger + Send + Sync,
     E: Ledger + Send + Sync,
@@ -197,14 +205,17 @@ fn exported<
     unit: Unit,
     tree: &CsgTree,
 ) -> Result<TreeExport, NoMemory>
-    requires proper { IsProper (formula_of tree.now) }
+    requires proper { IsProper (plain_tree_of tree.now) }
     requires few { client.old.asked < 8192 }
-    ensures exported { IfOk result (IsExported unit (formula_of tree.now)) }
-    ensures boundary { IfOk result (IsBoundaryText unit (formula_of tree.now)) }
-    ensures probed { AreProbed (IsSolved result) (joins (nodes_of (formula_of tree.now)))
+    requires allowed { MayAskJoins (H.may_ask client.old.share.caller)
+        (nodes_of (plain_tree_of tree.now)) }
+    ensures exported { IfOk result (IsExported unit (plain_tree_of tree.now)) }
+    ensures boundary { IfOk result (IsBoundaryText unit (plain_tree_of tree.now)) }
+    ensures probed { AreProbed (IsSolved result) (join_count (nodes_of (plain_tree_of tree.now)))
         client.old.share client.new.share }
     ensures asked { client.new.asked ≤ client.old.asked + 1 }
 {
+    // Brings a law alone: a tree's last node is the tree, and a tree without nodes has the empty solid.
     last_nodes_are_trees();
     let store = nodes_of_tree(builds.alloc, tree)?;
     if store.len() == 0 {
@@ -231,7 +242,7 @@ fn refused(stop: Stop) -> Result<Reply, NoMemory>
     ensures { (unit : LengthUnit) (source : List ℕ) (books : ClientBooks)
         → RefusesSource unit source stop → ExportsFor unit source result books books }
 {
-    // A source for whose tree there was no memory has a number of joins, too.
+    // Brings a law alone: each source has a number of joins, also where there was no memory for its tree.
     some_meaning();
     match stop {
         Stop::Fault(fault) => Ok(Reply::Faulted(fault)),
@@ -243,7 +254,7 @@ fn refused(stop: Stop) -> Result<Reply, NoMemory>
 fn answer<
     'a,
     N: Namer<TreeKey> + Send + Sync,
-    H: MemoLedger + Send + Sync,
+    H: MemoLedger + AskPolicy<TreeKey> + Send + Sync,
     M: Ledger + Send + Sync,
     K: Ledger + Send + Sync,
     E: Ledger + Send + Sync,
@@ -260,8 +271,11 @@ fn answer<
 ) -> Result<Reply, NoMemory>
     requires short { length source.now ≤ 4198400 }
     requires few { client.old.asked < 8192 }
+    requires allowed { MayAskFor unit (H.may_ask client.old.share.caller) source.now }
     ensures { ExportsFor unit source.now result client.old client.new }
 {
+    // Brings a law alone: the text that bounds the tree of a source is watertight.
+    texts_of_sources_are_watertight();
     match tree_of(builds.alloc, unit, source) {
         Ok(tree) => Ok(reply(exported(builds, client, workers, unit, &tree)?)),
         Err(stop) => refused(stop),
@@ -272,7 +286,7 @@ fn answer<
 pub fn export_source<
     'a,
     N: Namer<TreeKey> + Send + Sync,
-    H: MemoLedger + Send + Sync,
+    H: MemoLedger + AskPolicy<TreeKey> + Send + Sync,
     M: Ledger + Send + Sync,
     K: Ledger + Send + Sync,
     E: Ledger + Send + Sync,
@@ -289,6 +303,7 @@ pub fn export_source<
 ) -> Result<Reply, NoMemory>
     requires short { length source.now ≤ 4198400 }
     requires few { client.old.asked < 8192 }
+    requires allowed { MayAskFor unit (H.may_ask client.old.share.caller) source.now }
     ensures { ExportsFor unit source.now result client.old client.new }
 {
     let workers = under_way.begin(client.workers);
@@ -314,19 +329,22 @@ impl<C, F> Exporting for ClientExporter<C, F> {
 impl<C: Booking, F: Fn(&mut C, Unit, &[u8]) -> Result<Reply, NoMemory>> Exporter
     for ClientExporter<C, F> {
     ghost use Rattle.std.specs.Prelude.{◌<◌, ◌≤◌, length};
-    ghost use Rattle.script_server.specs.Clients.{Probes, ExportsFor};
+    ghost use Rattle.script_server.specs.Clients.{Probes, MayAskFor, ExportsFor};
 
     ghost asked = { λ e. (C.books e.client).asked };
 
     ghost moves = { λ unit source reply old new.
         Probes unit source reply (C.books old.client) (C.books new.client) };
 
-    ghost can_export = { λ e.
+    ghost can_export = { λ unit source e.
         ((client : _) (unit : _) (source : _) → (C.books client.now).asked < 8192
-        → length source.now ≤ 4198400 → F.pre e.export client unit source)
+        → length source.now ≤ 4198400
+        → MayAskFor unit (C.may_ask (C.books client.now).share.caller) source.now
+        → F.pre e.export client unit source)
         × ((client : _) (unit : _) (source : _) (r : _) (after : _)
         → F.post e.export client unit source r after
-        → ExportsFor unit source.now r (C.books client.now) (C.books after.now)) };
+        → ExportsFor unit source.now r (C.books client.now) (C.books after.now))
+        × MayAskFor unit (C.may_ask (C.books e.client).share.caller) source };
 
     fn export(&mut self, _alloc: Global, unit: Unit, source: &[u8]) -> Result<Reply, NoMemory> {
         (self.export)(&mut self.client, unit, source)

@@ -22,7 +22,7 @@ use tree_export::{TreeExport, export_made};
 // of 48 bytes, and 200,000 corners; most have far fewer.
 const MOST_KEPT: usize = 4 << 20;
 
-/// The text that the export of a tree in a unit gave, which contracts see as the tree.
+/// The text that the export of a tree in a unit gave, of at most 4 MiB, which contracts see as the tree.
 #[derive(Drop)]
 pub struct KeptExport {
     key: TreeKey,
@@ -31,20 +31,21 @@ pub struct KeptExport {
 }
 
 impl Model for KeptExport {
-    ghost use Rattle.csg_tree.specs.Formulas.{Formula};
-    ghost use Rattle.csg_tree.specs.Codes.{coded_formula};
+    ghost use Rattle.csg_tree.specs.HalfSpaceTrees.{Tree};
+    ghost use Rattle.csg_tree.specs.Codes.{coded_tree};
 
-    ghost Value = { Formula };
+    ghost Value = { Tree };
 
-    ghost coded = { coded_formula };
+    ghost coded = { coded_tree };
 
+    ghost use Rattle.std.specs.Prelude.{◌≤◌, length};
     ghost use Rattle.tree_export.specs.declared.export.TreeExport.TheVariants as exported;
     ghost use Rattle.tree_export.specs.Exports.{IsExported, IsBoundaryText};
 
     ghost view = { λ k. k.key };
 
     ghost invariant = { λ k. IsExported k.unit k.key (exported.Text k.text)
-        × IsBoundaryText k.unit k.key (exported.Text k.text) };
+        × IsBoundaryText k.unit k.key (exported.Text k.text) × (length k.text ≤ 4194304) };
 }
 
 impl KeptExport {

@@ -9,7 +9,7 @@ ghost use Rattle.script_reader.specs.declared.script.ClientScript.{ClientScript}
 ghost use Rattle.script_reader.specs.declared.script.Script.{Script};
 ghost use Rattle.run_words.specs.declared.settings.Settings.{Settings};
 ghost use Rattle.subtree_memo.specs.declared.tally.Tally.{Tally};
-ghost use Rattle.csg_tree.specs.Formulas.{Formula};
+ghost use Rattle.csg_tree.specs.HalfSpaceTrees.{Tree};
 ghost use Rattle.off_text.specs.Bounding.{IsBoundary};
 ghost use Rattle.edit_session.specs.Sessions.{State};
 ghost use Rattle.reply_text.specs.declared.reply.Reply.{Reply};
@@ -20,7 +20,7 @@ ghost use Rattle.tree_export.specs.Exports.{PassesNoLimit};
 ghost use Rattle.script_server.specs.Meaning.Sources.{Means, HasSourceFault};
 ghost use Rattle.script_service.specs.Units.{unit_of};
 ghost use Rattle.script_service.specs.Serving.{IsRun, printed_text};
-ghost use Rattle.script_server.specs.Meaning.Exports.{Exports, AnswersExport, IsWatertightBoundary};
+ghost use Rattle.script_server.specs.Meaning.Exports.{AnswersSource, AnswersExport, IsWatertightBoundary};
 ghost use Rattle.script_server.specs.Serving.{TellsAlike};
 
 use reply_text::Exporting;
@@ -43,13 +43,15 @@ impl Exporting for ServerExports {
 
 /// In each unit a source means at most one tree, or has at most one first fault, and not both.
 pub fn one_meaning()
-    ensures trees { (unit : LengthUnit) (source : List ℕ) (f g : Formula) → Means unit source f
+    ensures trees { (unit : LengthUnit) (source : List ℕ) (f g : Tree) → Means unit source f
         → Means unit source g → f ≡ g }
-    ensures faults { (unit : LengthUnit) (source : List ℕ) (f g : Fault) → HasSourceFault unit source f
+    ensures faults { (unit : LengthUnit) (source : List ℕ) (f g : Fault) →
+        HasSourceFault unit source f
         → HasSourceFault unit source g → f ≡ g }
-    ensures either { (unit : LengthUnit) (source : List ℕ) (f : Formula) (fault : Fault)
+    ensures either { (unit : LengthUnit) (source : List ℕ) (f : Tree) (fault : Fault)
         → Means unit source f → HasSourceFault unit source fault → ⊥ }
 {
+    // Each call brings a law alone.
     one_outcome();
     one_program_each();
     no_program_has_a_fault();
@@ -60,9 +62,10 @@ pub fn one_meaning()
 /// In each unit a source means a tree, or has a first fault.
 pub fn some_meaning()
     ensures { (unit : LengthUnit) (source : List ℕ)
-        → ((tree : Formula) × Means unit source tree)
+        → ((tree : Tree) × Means unit source tree)
         ⊎ ((fault : Fault) × HasSourceFault unit source fault) }
 {
+    // Each call brings a law alone.
     some_outcome();
     program_or_fault();
     scad_meaning::some_meaning();
@@ -70,28 +73,31 @@ pub fn some_meaning()
 
 /// An export is answered by a solid exactly where its source means a tree that passes no limit.
 pub fn solids_pass_no_limit()
-    ensures { (unit : LengthUnit) (source : List ℕ) (r : Reply) → Exports unit source r →
-        ((bytes : List ℕ) × (r ≡ reply.Solid bytes)) ↔ ((f : Formula) × Means unit source f × PassesNoLimit unit f) }
+    ensures { (unit : LengthUnit) (source : List ℕ) (r : Reply) → AnswersSource unit source r →
+        ((bytes : List ℕ) × (r ≡ reply.Solid bytes))
+        ↔ ((f : Tree) × Means unit source f × PassesNoLimit unit f) }
 {
+    // Each call brings a law alone.
     one_meaning();
     texts_pass_no_limit();
 }
 
 /// A source has at most one reply to its export.
 pub fn one_reply()
-    ensures { (unit : LengthUnit) (source : List ℕ) (r q : Reply) → Exports unit source r
-        → Exports unit source q → r ≡ q }
+    ensures { (unit : LengthUnit) (source : List ℕ) (r q : Reply) → AnswersSource unit source r
+        → AnswersSource unit source q → r ≡ q }
 {
+    // Each call brings a law alone.
     one_meaning();
     one_export();
 }
 
-/// The text of the tree that a source means is its watertight boundary, with no vertex beyond 4,095 grid steps along an axis. So is
-/// each solid that an export is answered, by its boundary of the tree that the source means.
+/// Each text that bounds the tree which a source means is watertight, with no vertex beyond 4,095 grid steps along an axis.
 pub fn texts_of_sources_are_watertight()
-    ensures { (unit : LengthUnit) (source : List ℕ) (tree : Formula) (bytes : List ℕ) →
+    ensures { (unit : LengthUnit) (source : List ℕ) (tree : Tree) (bytes : List ℕ) →
         Means unit source tree → IsBoundary unit bytes tree → IsWatertightBoundary unit bytes tree }
 {
+    // Each call brings a law alone.
     programs_mean_proper_trees();
     programs_keep_within_reach();
     texts_keep_within_reach();
@@ -101,34 +107,40 @@ pub fn texts_of_sources_are_watertight()
 pub fn some_reply()
     ensures { (unit : LengthUnit) (source : List ℕ) → (r : Reply) × AnswersExport unit source r }
 {
+    // Each call brings a law alone.
     some_meaning();
     programs_mean_proper_trees();
+    texts_of_sources_are_watertight();
     some_export();
 }
 
 /// A client's own commands define its replies: only the places at which memory ran out are open.
 pub fn own_replies()
     ensures { (unit : LengthUnit) (s : State) (cs : List Command) (rs qs : List Reply) →
-        Fits (AnswersExport unit) s cs rs → Fits (AnswersExport unit) s cs qs → SameWants rs qs → rs ≡ qs }
+        Fits (AnswersExport unit) s cs rs → Fits (AnswersExport unit) s cs qs → SameWants rs qs →
+        rs ≡ qs }
 {
+    // Each call brings a law alone.
     one_reply();
     reply_text::own_replies::<ServerExports>();
 }
 
-/// For one script, replies that its clients' own commands define and that print the same bytes are
-/// equal: so the printed output tells at which places memory ran out. The whole output of a run tells also
-/// the tally, where it is printed, and then with a share above 0 what each client's entries weigh.
+/// For one script, replies that its clients' own commands define and that print the same bytes are equal. The whole output
+/// tells also a printed tally, and then with a share above 0 what each client's entries weigh.
 pub fn one_output()
     ensures replies { (unit : LengthUnit) (script : Script) (rs qs : List (List Reply)) →
-        AllFit (AnswersExport unit) script.clients rs → AllFit (AnswersExport unit) script.clients qs →
+        AllFit (AnswersExport unit) script.clients rs →
+        AllFit (AnswersExport unit) script.clients qs →
         output script.clients rs ≡ output script.clients qs → rs ≡ qs }
     ensures whole { (settings : Settings) (clients : List ClientScript) (rs qs : List (List Reply))
         (s t : Tally) (v w : List ℕ) → IsRun settings →
-        AllFit (AnswersExport (unit_of settings)) clients rs → AllFit (AnswersExport (unit_of settings)) clients qs →
+        AllFit (AnswersExport (unit_of settings)) clients rs →
+        AllFit (AnswersExport (unit_of settings)) clients qs →
         length v ≡ length clients → length w ≡ length clients →
         printed_text settings clients rs s v ≡ printed_text settings clients qs t w
         → (rs ≡ qs) × TellsAlike settings s t v w }
 {
+    // Each call brings a law alone.
     one_reply();
     reply_text::one_output::<ServerExports>();
     one_ending();

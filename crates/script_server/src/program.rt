@@ -2,9 +2,10 @@
 
 ghost use Rattle.std.specs.Prelude.{◌≡◌, map, string_bytes, IfOk, IfErr};
 ghost use Rattle.std.specs.Process.{exit_status};
-ghost use Rattle.script_service.specs.Streams.{stream, streams};
-ghost use Rattle.script_service.specs.Outcomes.{RefusesWords};
-ghost use Rattle.script_server.specs.Serving.{StatusTells, AreCaused, ExitTells, ExitRefuses};
+ghost use Rattle.script_service.specs.Streams.{stream_change, stream_changes};
+ghost use Rattle.script_service.specs.declared.status.Status.TheVariants as Status;
+ghost use Rattle.script_service.specs.Outcomes.{HasStatusCause, RefusesWords};
+ghost use Rattle.script_server.specs.Serving.{StatusTells, HaveStatusCauses, ReadsAsAsked, ExitTells, ExitRefuses};
 
 use crate::server::serve;
 use outside_io::{ReadSource, Sink, Source, WriteSink};
@@ -43,11 +44,17 @@ fn serve_words<S: Source, K: Sink, R: Threads + Wait + Sync>(
     sink: &mut K,
 ) -> Status
     ensures told { IfOk words (λ words. StatusTells (map string_bytes words.items)
-        (streams S.left S.faults K.held K.faults source.old source.new sink.old sink.new) result) }
-    ensures causes { IfOk words (λ words. AreCaused
-        (streams S.left S.faults K.held K.faults source.old source.new sink.old sink.new) result) }
+        (stream_changes S.left S.faults K.held K.faults source.old source.new sink.old sink.new)
+        result) }
+    ensures causes { IfOk words (λ words. HaveStatusCauses
+        (stream_changes S.left S.faults K.held K.faults source.old source.new sink.old sink.new)
+        result) }
+    ensures reads { IfOk words (λ words. ReadsAsAsked (map string_bytes words.items)
+        (stream_change S.left S.faults source.old source.new)) }
     ensures refused { IfErr words (λ fault.
-        RefusesWords fault (stream K.held K.faults sink.old sink.new) result) }
+        RefusesWords fault (stream_change K.held K.faults sink.old sink.new) result) }
+    ensures cause { IfErr words (λ fault. HasStatusCause Status.WriteFault (K.faults sink.old)
+        (K.faults sink.new) result) }
     ensures unread { IfErr words (λ fault. source.new ≡ source.old) }
 {
     match words {
@@ -66,9 +73,12 @@ pub fn serve_to_exit<S: Source, K: Sink, R: Threads + Wait + Sync>(
     sink: &mut K,
 ) -> ExitCode
     ensures told { IfOk words (λ words. ExitTells (map string_bytes words.items)
-        (streams S.left S.faults K.held K.faults source.old source.new sink.old sink.new) (exit_status result)) }
+        (stream_changes S.left S.faults K.held K.faults source.old source.new sink.old sink.new)
+        (exit_status result)) }
+    ensures reads { IfOk words (λ words. ReadsAsAsked (map string_bytes words.items)
+        (stream_change S.left S.faults source.old source.new)) }
     ensures refused { IfErr words (λ fault.
-        ExitRefuses fault (stream K.held K.faults sink.old sink.new) (exit_status result)) }
+        ExitRefuses fault (stream_change K.held K.faults sink.old sink.new) (exit_status result)) }
     ensures unread { IfErr words (λ fault. source.new ≡ source.old) }
 {
     let status = serve_words(rt, alloc, words, source, sink);

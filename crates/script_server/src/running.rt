@@ -1,13 +1,14 @@
 //! The clients of a script over one memo that they share, whose missing keys they claim.
 
-ghost use Rattle.std.specs.Prelude.{◌≡◌, ◌<◌, ◌≤◌, max, [], All, length, map, vec_capacity, IfOk, IsOk};
+ghost use Rattle.std.specs.Prelude.{◌≡◌, ◌↔◌, ◌<◌, ◌≤◌, ℕ, max, [], All, length, map, vec_capacity, IfOk, IsOk};
+ghost use Rattle.csg_tree.specs.HalfSpaceTrees.{Tree};
 ghost use Rattle.csg_tree.specs.TreeKeys.{name_of};
-ghost use Rattle.memo_core.specs.Views.{marks};
-ghost use Rattle.subtree_memo.specs.Shares.{IsOf, opened_shares, offered_of, parts_each};
+ghost use Rattle.memo_core.specs.Views.{headers_in};
+ghost use Rattle.subtree_memo.specs.Shares.{IsBlankLedger, opened_shares, offers_of, parts_each};
 ghost use Rattle.script_reader.specs.Limits.{AreClientsWithin};
 ghost use Rattle.script_service.specs.Serving.{PrintsWeights};
-ghost use Rattle.script_server.specs.Books.{IsRunOf, weights_of};
-ghost use Rattle.script_server.specs.Clients.{ExportsFor};
+ghost use Rattle.script_server.specs.Books.{IsAskedBy, IsRunOf, weights_of};
+ghost use Rattle.script_server.specs.Clients.{MayAskFor, ExportsFor};
 
 use crate::exporter::{Client, ClientExporter, export_source};
 use crate::meaning::some_meaning;
@@ -25,7 +26,7 @@ use std::marker::Brand;
 use std::sync::Wait;
 use std::sync::ledger::Ledger;
 use std::thread::Threads;
-use subtree_memo::{Blanks, Memo, MemoLedger, Tally};
+use subtree_memo::{AskPolicy, Blanks, Memo, MemoLedger, Tally};
 use text_place::NoMemory;
 
 /// What came of a script: the replies to the commands of each client, in the clients' order, and the memo at the end with
@@ -44,7 +45,8 @@ fn weights(
     core: &MemoCore<SolidFit, ShaNamer>,
     callers: u32,
 ) -> Result<Vec<u64>, NoMemory>
-    ensures weights { IfOk result (λ v. v.items ≡ weights_of callers (marks core.now.entries)) }
+    ensures weights { IfOk result (λ v. v.items ≡ weights_of callers
+        (headers_in core.now.entries)) }
     ensures many { IfOk result (λ v. length v.items ≡ callers) }
 {
     let mut weights = Vec::new(alloc);
@@ -63,7 +65,7 @@ pub fn printed_weights(
     callers: u32,
 ) -> Result<Vec<u64>, NoMemory>
     ensures weights { IfOk result (λ v. PrintsWeights settings
-        → v.items ≡ weights_of callers (marks core.now.entries)) }
+        → v.items ≡ weights_of callers (headers_in core.now.entries)) }
     ensures spares { (PrintsWeights settings → ⊥) → IsOk result }
 {
     let Settings::Run { tally, share, .. } = settings else {
@@ -83,7 +85,7 @@ fn exporters_of<B: FlightBooks, F: Copy + Drop>(
     export: F,
     room: Vec<ClientExporter<Client<B>, F>>,
 ) -> Vec<ClientExporter<Client<B>, F>>
-    requires fresh { All (λ s. (s.share.parts ≡ parts_each) × (offered_of s.share ≡ 0))
+    requires fresh { All (λ s. (s.share.parts ≡ parts_each) × (offers_of s.share ≡ 0))
         shares.items }
     requires order { map (λ s. s.share) shares.items ≡ opened_shares (length shares.items) }
     requires empty { room.items ≡ [] }
@@ -109,7 +111,7 @@ fn shares_of<B: FlightBooks, F: Drop>(
     requires empty { room.items ≡ [] }
     requires room { length exporters.items ≤ vec_capacity room }
     ensures shares { map (λ s. s.share) result.items ≡ map (λ e. e.client.share) exporters.items }
-    ensures whole { All (λ s. (s.share.parts ≡ parts_each) × (offered_of s.share ≤ s.share.misses))
+    ensures whole { All (λ s. (s.share.parts ≡ parts_each) × (offers_of s.share ≤ s.share.misses))
         result.items }
 {
     let mut shares = room;
@@ -124,7 +126,7 @@ fn shares_of<B: FlightBooks, F: Drop>(
 fn run_over<
     'run,
     N: Namer<TreeKey> + Send + Sync,
-    H: MemoLedger + Send + Sync,
+    H: MemoLedger + AskPolicy<TreeKey> + Send + Sync,
     M: Ledger + Send + Sync,
     K: Ledger + Send + Sync,
     E: Ledger + Send + Sync,
@@ -149,13 +151,15 @@ fn run_over<
     requires empty { core.journal ≡ [] }
     requires limits { (core.budget ≡ H.budget) × (core.share ≡ H.share)
         × (blanks.callers ≡ H.callers) }
-    requires ledgers { IsOf H.name H.parts blanks.hits × IsOf M.name M.parts blanks.misses
-        × IsOf K.name K.parts blanks.kept × IsOf E.name E.parts blanks.heavy }
-    requires claims { IsOf S.name S.parts claims.begun × IsOf T.name T.parts claims.ended }
+    requires ledgers { IsBlankLedger H.name H.parts blanks.hits × IsBlankLedger M.name M.parts blanks.misses
+        × IsBlankLedger K.name K.parts blanks.kept × IsBlankLedger E.name E.parts blanks.heavy }
+    requires claims { IsBlankLedger S.name S.parts claims.begun × IsBlankLedger T.name T.parts claims.ended }
+    requires policy { (caller : ℕ) (key : Tree) →
+        H.may_ask caller key ↔ IsAskedBy unit script.now.clients caller key }
     ensures { IfOk result (λ ran. IsRunOf unit script.now.clients core.budget core.share N.name_of
         ran.replies.items ran.tally ran.core ran.claims) }
 {
-    // An export counts in the sum of all also where memory ran out before its tree was known: each source has a number of joins.
+    // Brings a law alone: each source has a number of joins. So an export counts where no memory was left for its tree, too.
     some_meaning();
     // All room is taken before the memo opens, and nothing can fail between the claims' opening and their closing: so no way
     // out of this function drops an open memo, whose many types it would prove the drop of.
@@ -177,7 +181,8 @@ fn run_over<
     let export = |client: &mut Client<
         FlightLedgers<H, M, K, E, S, T>,
     >, unit: Unit, source: &[u8],| -> Result<Reply, NoMemory>
-        requires { (length source.now ≤ 4198400) × (client.now.asked < 8192) }
+        requires { (length source.now ≤ 4198400) × (client.now.asked < 8192)
+            × MayAskFor unit (H.may_ask client.now.share.caller) source.now }
         ensures { ExportsFor unit source.now result client.entry.now client.exit.now }
     { export_source(lent, beside, client, unit, source) };
     let mut exporters = exporters_of(workers, shares, export, waiting);

@@ -7,11 +7,11 @@ ghost use Rattle.run_words.specs.declared.settings.Settings.{Settings};
 ghost use Rattle.run_words.specs.Words.{Chooses, AreSettingsInRange};
 ghost use Rattle.script_reader.specs.Limits.{AreClientsWithin};
 ghost use Rattle.script_service.specs.declared.status.Status.TheVariants as Status;
-ghost use Rattle.script_service.specs.Streams.{stream, streams};
+ghost use Rattle.script_service.specs.Streams.{stream_change, stream_changes};
 ghost use Rattle.script_service.specs.Units.{unit_of, memo_of, share_of};
 ghost use Rattle.script_server.specs.Books.{IsRunOf};
 ghost use Rattle.script_service.specs.Outcomes.{HasStatusCause};
-ghost use Rattle.script_server.specs.Serving.{StatusTells, AreCaused, WritesOutput, AskForRun, ReadsAsAsked, IsScriptOf, IsNoScript};
+ghost use Rattle.script_server.specs.Serving.{StatusTells, HaveStatusCauses, WritesOutput, AskForRun, ReadsAsAsked, IsSomeScript, IsNoScript};
 
 use crate::running::{RunResult, printed_weights, run_script};
 use outside_io::{Sink, Source};
@@ -65,7 +65,7 @@ fn write_ran<K: Sink>(
         name_of ran.now.replies.items ran.now.tally ran.now.core ran.now.claims }
     requires few { length clients.now ≤ 16 }
     ensures told { WritesOutput settings clients.now
-        (stream K.held K.faults sink.old sink.new) result }
+        (stream_change K.held K.faults sink.old sink.new) result }
     ensures cause { HasStatusCause Status.WriteFault (K.faults sink.old)
         (K.faults sink.new) result }
 {
@@ -93,26 +93,30 @@ pub fn serve<S: Source, K: Sink, R: Threads + Wait + Sync>(
     sink: &mut K,
 ) -> Status
     // What each status tells. Where it is `Done`, whatever was read, each client's replies are those that its own commands
-    // define, and each solid is the boundary of what the client's source means, in the unit of the run.
+    // define, and each solid is the watertight boundary of what the client's source means, in the unit of the run.
     ensures told { StatusTells (map string_bytes words.now)
-        (streams S.left S.faults K.held K.faults source.old source.new sink.old sink.new) result }
+        (stream_changes S.left S.faults K.held K.faults source.old source.new sink.old sink.new)
+        result }
     // At words outside the grammar, and for the demonstration, nothing is read, and else no more than a script may have, and one
     // read more.
     ensures reads { ReadsAsAsked (map string_bytes words.now)
-        (stream S.left S.faults source.old source.new) }
+        (stream_change S.left S.faults source.old source.new) }
     // A source that failed is told as that, and so is a sink. The counts of their faults never fall.
-    ensures causes { AreCaused
-        (streams S.left S.faults K.held K.faults source.old source.new sink.old sink.new) result }
+    ensures causes { HaveStatusCauses
+        (stream_changes S.left S.faults K.held K.faults source.old source.new sink.old sink.new)
+        result }
 
     // Where no count of faults rose, a script is served and other bytes are refused, unless memory ran out.
     ensures complete { (settings : Settings) → Chooses (map string_bytes words.now) settings
-        → (CountRose (S.faults source.old) (S.faults source.new) → ⊥) → (CountRose (K.faults sink.old) (K.faults sink.new) → ⊥)
+        → (CountRose (S.faults source.old) (S.faults source.new) → ⊥) →
+        (CountRose (K.faults sink.old) (K.faults sink.new) → ⊥)
         → (result ≡ Status.Done) ⊎ (result ≡ Status.BadScript) ⊎ (result ≡ Status.NoMemory) }
     ensures script { IfSome (S.left source.old)
-        (λ bytes. IsScriptOf bytes → result ≢ Status.BadScript) }
+        (λ bytes. IsSomeScript bytes → result ≢ Status.BadScript) }
     ensures no_script { AskForRun (map string_bytes words.now)
         → IfSome (S.left source.old) (λ bytes. IsNoScript bytes → result ≢ Status.Done) }
 {
+    // Brings a law alone: bytes are one script, or none.
     bytes_are_one_script();
     let settings = match read_words(alloc, words) {
         Ok(settings) => settings,

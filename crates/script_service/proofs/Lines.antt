@@ -6,7 +6,7 @@ use Rattle.std.proofs.lemmas.Bool.Decides.{nat_tests}
 use Rattle.script_reader.specs.declared.script.ClientScript.{ClientScript}
 use Rattle.reply_text.specs.declared.reply.Reply.{Reply}
 use Rattle.script_service.specs.Endings.{share_lines}
-use Rattle.script_service.specs.Demos.{bytes_before, bytes_behind, export_words, last_words, demo_text}
+use Rattle.script_service.specs.Demos.{bytes_before, bytes_after, export_words, last_words, demo_text}
 
 same_byte : (n : ℕ) → (n == n) ≡ true
 same_byte n = grind (arith, nat_tests)
@@ -19,7 +19,7 @@ before_cut at [] rest h = rw (same_byte at) refl
 before_cut at (b ∷ front) rest h =
     rw (other_byte b at (All-head (λ x. x ≢ at) b front h)) (ap (λ (l : List ℕ). b ∷ l) (before_cut at front rest (All-tail (λ x. x ≢ at) b front h)))
 
-pub behind_cut : (at : ℕ) (front rest : List ℕ) → All (λ b. b ≢ at) front → bytes_behind at (front ++ at ∷ rest) ≡ rest
+pub behind_cut : (at : ℕ) (front rest : List ℕ) → All (λ b. b ≢ at) front → bytes_after at (front ++ at ∷ rest) ≡ rest
 behind_cut at [] rest h = rw (same_byte at) refl
 behind_cut at (b ∷ front) rest h =
     rw (other_byte b at (All-head (λ x. x ≢ at) b front h)) (behind_cut at front rest (All-tail (λ x. x ≢ at) b front h))
@@ -29,7 +29,7 @@ before_all at [] h = refl
 before_all at (b ∷ bytes) h =
     rw (other_byte b at (All-head (λ x. x ≢ at) b bytes h)) (ap (λ (l : List ℕ). b ∷ l) (before_all at bytes (All-tail (λ x. x ≢ at) b bytes h)))
 
-pub behind_all : (at : ℕ) (bytes : List ℕ) → All (λ b. b ≢ at) bytes → bytes_behind at bytes ≡ []
+pub behind_all : (at : ℕ) (bytes : List ℕ) → All (λ b. b ≢ at) bytes → bytes_after at bytes ≡ []
 behind_all at [] h = refl
 behind_all at (b ∷ bytes) h =
     rw (other_byte b at (All-head (λ x. x ≢ at) b bytes h)) (behind_all at bytes (All-tail (λ x. x ≢ at) b bytes h))

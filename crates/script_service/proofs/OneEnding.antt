@@ -6,7 +6,7 @@ use Rattle.std.proofs.lemmas.List.{append_cancel_left}
 use Rattle.text_place.specs.Decimals.{numeral, begins_with_digit}
 use Rattle.subtree_memo.specs.declared.tally.Tally.{Tally}
 use Rattle.script_reader.specs.declared.script.ClientScript.{ClientScript}
-use Rattle.script_reader.specs.Lines.{newline}
+use Rattle.text_place.specs.Separators.{newline}
 use Rattle.script_service.specs.Endings.{probe_words, fill_words, tally_line, share_line, share_lines, ending}
 
 abbrev pub OneNumeral : Type 0

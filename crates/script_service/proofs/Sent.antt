@@ -1,6 +1,6 @@
 -- What was written in several steps.
 use Rattle.std.proofs.Common.{◌≡◌, ◌⊎◌, ⊎_elim, inl, inr, ℕ, ◌<◌, ◌≤◌, List, [], ◌∷◌, ◌++◌, length, sym, ap, ◌∙◌, subst, arith, append-nil, append_assoc, length-append, refl, suc, ◌+◌, drop, get_or, drop-cons, add-one, codes}
-use Rattle.script_reader.specs.Lines.{newline}
+use Rattle.text_place.specs.Separators.{newline}
 use Rattle.std.proofs.KnownBytes.{Appends-trans}
 use Rattle.std.specs.Prelude.{Option, Some, None, Result, Ok, Err, IfErr, OnOk, All}
 use Rattle.std.specs.Io.KnownBytes.{Appends}

@@ -3,7 +3,7 @@ use Rattle.std.specs.Prelude.{ℕ, ◌==◌, Bool, true, false, if◌then◌else
 use Rattle.sha2.specs.Sha256.{sha256}
 use Rattle.hex.specs.Hex.{encode_lower}
 use Rattle.script_reader.specs.declared.script.ClientScript.{ClientScript}
-use Rattle.script_reader.specs.Lines.{newline}
+use Rattle.text_place.specs.Separators.{newline}
 use Rattle.reply_text.specs.declared.reply.Reply.{Reply}
 use Rattle.reply_text.specs.declared.reply.Reply.TheVariants as reply
 use Rattle.reply_text.specs.Parts.{first_words}
@@ -14,18 +14,18 @@ bytes_before at [] = []
 bytes_before at (b ∷ bs) = if b == at then [] else b ∷ bytes_before at bs
 
 -- the bytes behind the first one that is this
-abbrev pub bytes_behind : ℕ → List ℕ → List ℕ
-bytes_behind at [] = []
-bytes_behind at (b ∷ bs) = if b == at then bs else bytes_behind at bs
+abbrev pub bytes_after : ℕ → List ℕ → List ℕ
+bytes_after at [] = []
+bytes_after at (b ∷ bs) = if b == at then bs else bytes_after at bs
 
 -- how many vertices a 4OFF text says that it has: its second line begins with that number, a space, the number of faces and a
 -- space
 abbrev pub vertex_count : List ℕ → List ℕ
-vertex_count text = bytes_before 32 (bytes_behind 10 text)
+vertex_count text = bytes_before 32 (bytes_after 10 text)
 
 -- how many faces it says that it has
 abbrev pub face_count : List ℕ → List ℕ
-face_count text = bytes_before 32 (bytes_behind 32 (bytes_behind 10 text))
+face_count text = bytes_before 32 (bytes_after 32 (bytes_after 10 text))
 
 -- the counts of a text and its digest
 abbrev pub solid_words : List ℕ → List ℕ

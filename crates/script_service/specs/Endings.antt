@@ -3,7 +3,7 @@ use Rattle.std.specs.Prelude.{ℕ, Bool, nat_lt, if◌then◌else◌, List, [], 
 use Rattle.text_place.specs.Decimals.{numeral}
 use Rattle.subtree_memo.specs.declared.tally.Tally.{Tally}
 use Rattle.script_reader.specs.declared.script.ClientScript.{ClientScript}
-use Rattle.script_reader.specs.Lines.{newline}
+use Rattle.text_place.specs.Separators.{newline}
 
 -- the numbers of probes of a tally
 abbrev pub probe_words : Tally → List ℕ

@@ -11,13 +11,13 @@ use Rattle.big_input.specs.DemoScript.{demo_script}
 use Rattle.script_reader.specs.declared.script.ClientScript.{ClientScript}
 use Rattle.script_reader.specs.declared.script.Script.{Script}
 use Rattle.script_reader.specs.declared.script.ScriptFault.{ScriptFault}
-use Rattle.script_reader.specs.Lines.{newline}
+use Rattle.text_place.specs.Separators.{newline}
 use Rattle.script_reader.specs.Scripts.{IsScript, IsScriptFault}
 use Rattle.reply_text.specs.declared.reply.Reply.{Reply}
 use Rattle.reply_text.specs.Texts.{output}
 use Rattle.script_service.specs.declared.input.InputEnd.{InputEnd}
 use Rattle.script_service.specs.declared.input.InputEnd.TheVariants as end
-use Rattle.script_service.specs.Streams.{Stream}
+use Rattle.script_service.specs.Streams.{StreamChange}
 use Rattle.script_service.specs.Endings.{ending}
 use Rattle.script_service.specs.Demos.{demo_text}
 
@@ -37,13 +37,13 @@ pub record AreTooMany (bytes : List ℕ) : Type 0 where
 
 -- the bytes are what is served: of a run those that were read from the source, all of them or more than a script may have;
 -- of the demonstration its script
-abbrev pub IsInput : Settings → Stream → List ℕ → Type 0
+abbrev pub IsInput : Settings → StreamChange → List ℕ → Type 0
 IsInput (Run workers memo share half tally) source bytes =
     Consumes source.old source.new bytes × (IsAtEnd source.new ⊎ AreTooMany bytes)
 IsInput (Demo n) source bytes = bytes ≡ demo_script n
 
 -- the same, and the source of a run was read to its end
-abbrev pub IsWholeInput : Settings → Stream → List ℕ → Type 0
+abbrev pub IsWholeInput : Settings → StreamChange → List ℕ → Type 0
 IsWholeInput (Run workers memo share half tally) source bytes = Consumes source.old source.new bytes × IsAtEnd source.new
 IsWholeInput (Demo n) source bytes = bytes ≡ demo_script n
 
@@ -54,19 +54,19 @@ AreNoScript bytes end.Failed = ⊥
 AreNoScript bytes end.NoMemory = Unit {0}
 
 -- the whole input is this script
-abbrev pub GivesScript : Settings → Stream → Script → Type 0
+abbrev pub GivesScript : Settings → StreamChange → Script → Type 0
 GivesScript settings source script = (bytes : List ℕ) × IsWholeInput settings source bytes × IsScript bytes script
 
 -- why there is no script: the input has a first fault, or the source failed before more than a script's most bytes were read,
 -- or memory ran out. The demonstration's script has no fault and reads no source
-abbrev pub LacksScript : Settings → Stream → InputEnd → Type 0
+abbrev pub LacksScript : Settings → StreamChange → InputEnd → Type 0
 LacksScript settings source (end.BadScript fault) =
     IsRun settings × (bytes : List ℕ) × IsInput settings source bytes × IsScriptFault bytes fault
 LacksScript settings source end.Failed = IsRun settings × CountRose source.before source.now × ConsumesAtMost source.old source.new 1048576
 LacksScript settings source end.NoMemory = Unit {0}
 
 -- no more bytes were read of a source than a script may have, and those of one read more
-abbrev pub IsReadInLimit : Stream → Type 0
+abbrev pub IsReadInLimit : StreamChange → Type 0
 IsReadInLimit source = ConsumesAtMost source.old source.new (1048576 + 4096)
 
 -- the count of a source's faults did not fall, and it is as before where the source is not told to have failed

@@ -1,7 +1,7 @@
 //! The lines of the demonstration.
 
 ghost use Rattle.std.specs.Prelude.{◌≡◌, ◌++◌, IfOk, OnOk};
-ghost use Rattle.script_service.specs.Demos.{bytes_before, bytes_behind, solid_words, export_words, wants_memory, last_words, demo_line, demo_text, vertex_count, face_count};
+ghost use Rattle.script_service.specs.Demos.{bytes_before, bytes_after, solid_words, export_words, wants_memory, last_words, demo_line, demo_text, vertex_count, face_count};
 ghost use Rattle.sha2.specs.Sha256.{sha256};
 ghost use Rattle.hex.specs.Hex.{encode_lower};
 
@@ -15,7 +15,7 @@ use text_place::NoMemory;
 // The bytes before the first one that is `at`, and those behind it.
 fn cut(bytes: &[u8], at: u8) -> (&[u8], &[u8])
     ensures { (result.0.now ≡ bytes_before at bytes.now)
-        × (result.1.now ≡ bytes_behind at bytes.now) }
+        × (result.1.now ≡ bytes_after at bytes.now) }
 {
     match split_at_byte(bytes, at) {
         Some(parts) => parts,

@@ -5,7 +5,7 @@ ghost use Rattle.run_words.specs.Words.{AreSettingsInRange};
 ghost use Rattle.big_input.specs.DemoScript.{demo_script};
 ghost use Rattle.script_reader.specs.Limits.{AreClientsWithin};
 ghost use Rattle.script_reader.specs.Scripts.{IsScript};
-ghost use Rattle.script_service.specs.Streams.{stream};
+ghost use Rattle.script_service.specs.Streams.{stream_change};
 ghost use Rattle.script_service.specs.Serving.{IsRun, AreNoScript, GivesScript, LacksScript, IsReadInLimit, HasInputCause};
 
 use big_input::{demo_scripts_have_no_fault, make_script};
@@ -59,11 +59,13 @@ fn read_run<S: Source>(
     source: &mut S,
 ) -> Result<Script, InputEnd>
     requires { IsRun settings }
-    ensures script { IfOk result (GivesScript settings (stream S.left S.faults source.old source.new)) }
+    ensures script { IfOk result (GivesScript settings
+        (stream_change S.left S.faults source.old source.new)) }
     ensures within { IfOk result (λ script. AreClientsWithin script.clients) }
-    ensures lacks { IfErr result (LacksScript settings (stream S.left S.faults source.old source.new)) }
+    ensures lacks { IfErr result (LacksScript settings
+        (stream_change S.left S.faults source.old source.new)) }
     ensures cause { HasInputCause (S.faults source.old) (S.faults source.new) result }
-    ensures limit { IsReadInLimit (stream S.left S.faults source.old source.new) }
+    ensures limit { IsReadInLimit (stream_change S.left S.faults source.old source.new) }
 {
     match read_to_end(alloc, source, SCRIPT_BYTES) {
         Ok(bytes) => parse(alloc, bytes.as_slice()),
@@ -79,6 +81,7 @@ fn make_demo(alloc: Global, parts: u64) -> Result<Script, NoMemory>
     ensures script { IfOk result (IsScript (demo_script parts)) }
     ensures within { IfOk result (λ script. AreClientsWithin script.clients) }
 {
+    // Brings a law alone: the script of a demonstration has no fault.
     demo_scripts_have_no_fault();
     let bytes = make_script(alloc, parts as u32)?;
     match read_script(alloc, bytes.as_slice()) {
@@ -99,11 +102,13 @@ pub fn read_input<S: Source>(
     source: &mut S,
 ) -> Result<Script, InputEnd>
     requires { AreSettingsInRange settings }
-    ensures script { IfOk result (GivesScript settings (stream S.left S.faults source.old source.new)) }
+    ensures script { IfOk result (GivesScript settings
+        (stream_change S.left S.faults source.old source.new)) }
     ensures within { IfOk result (λ script. AreClientsWithin script.clients) }
-    ensures lacks { IfErr result (LacksScript settings (stream S.left S.faults source.old source.new)) }
+    ensures lacks { IfErr result (LacksScript settings
+        (stream_change S.left S.faults source.old source.new)) }
     ensures cause { HasInputCause (S.faults source.old) (S.faults source.new) result }
-    ensures limit { IsReadInLimit (stream S.left S.faults source.old source.new) }
+    ensures limit { IsReadInLimit (stream_change S.left S.faults source.old source.new) }
     ensures unread { (IsRun settings → ⊥) → source.new ≡ source.old }
 {
     match settings {

@@ -17,5 +17,6 @@ pub fn one_ending()
         length v ≡ length clients → length w ≡ length clients →
         ending true share clients s v ≡ ending true share clients t w → v ≡ w }
 {
+    // Brings a law alone: a numeral has one number.
     one_numeral();
 }

@@ -1,11 +1,11 @@
 //! Writes what came of a call: the usage line, why there is no script, or the replies to its clients.
 
 ghost use Rattle.std.specs.Prelude.{◌≡◌, ◌≤◌, ◌⊎◌, ◌++◌, ℕ, List, length, All};
-ghost use Rattle.script_reader.specs.FaultLines.{fault_line};
+ghost use Rattle.script_reader.specs.FaultLines.{script_fault_line};
 ghost use Rattle.reply_text.specs.Texts.{output};
 ghost use Rattle.script_service.specs.Endings.{ending};
 ghost use Rattle.script_service.specs.Demos.{demo_text};
-ghost use Rattle.script_service.specs.Streams.{stream};
+ghost use Rattle.script_service.specs.Streams.{stream_change};
 ghost use Rattle.script_service.specs.Serving.{PrintsWeights, printed_text};
 ghost use Rattle.script_service.specs.Outcomes.{Writes, WritesTextOrNothing, AppendsPart, PrintsReplies, HasStatusCause, RefusesWords, RefusesInput};
 
@@ -27,7 +27,8 @@ const USAGE: &[u8] =
 
 // Writes all of a text, and ends with the status unless the sink fails.
 fn finish<K: Sink>(sink: &mut K, text: &[u8], status: Status) -> Status
-    ensures writes { Writes status (stream K.held K.faults sink.old sink.new) text.now result }
+    ensures writes { Writes status (stream_change K.held K.faults sink.old sink.new) text.now
+        result }
     ensures cause { HasStatusCause Status.WriteFault (K.faults sink.old)
         (K.faults sink.new) result }
 {
@@ -39,8 +40,9 @@ fn finish<K: Sink>(sink: &mut K, text: &[u8], status: Status) -> Status
 
 // Writes the line of a script's fault.
 fn write_script_fault<K: Sink>(alloc: Global, fault: ScriptFault, sink: &mut K) -> Status
-    ensures ends { WritesTextOrNothing Status.BadScript (stream K.held K.faults sink.old sink.new)
-        (fault_line fault) result }
+    ensures ends { WritesTextOrNothing Status.BadScript
+        (stream_change K.held K.faults sink.old sink.new)
+        (script_fault_line fault) result }
     ensures cause { HasStatusCause Status.WriteFault (K.faults sink.old)
         (K.faults sink.new) result }
 {
@@ -52,7 +54,7 @@ fn write_script_fault<K: Sink>(alloc: Global, fault: ScriptFault, sink: &mut K) 
 
 /// Tells why words choose no settings: the usage line, which takes no memory, and nothing where memory ran out at the words.
 pub fn refuse_words<K: Sink>(fault: WordsFault, sink: &mut K) -> Status
-    ensures told { RefusesWords fault (stream K.held K.faults sink.old sink.new) result }
+    ensures told { RefusesWords fault (stream_change K.held K.faults sink.old sink.new) result }
     ensures cause { HasStatusCause Status.WriteFault (K.faults sink.old)
         (K.faults sink.new) result }
 {
@@ -64,7 +66,7 @@ pub fn refuse_words<K: Sink>(fault: WordsFault, sink: &mut K) -> Status
 
 /// Tells why there is no script to serve: the line of its fault, and nothing where the source failed or memory ran out.
 pub fn refuse_input<K: Sink>(alloc: Global, end: InputEnd, sink: &mut K) -> Status
-    ensures told { RefusesInput end (stream K.held K.faults sink.old sink.new) result }
+    ensures told { RefusesInput end (stream_change K.held K.faults sink.old sink.new) result }
     ensures cause { HasStatusCause Status.WriteFault (K.faults sink.old)
         (K.faults sink.new) result }
 {
@@ -84,9 +86,10 @@ fn write_replies<K: Sink>(
     sink: &mut K,
 ) -> Status
     requires { All (λ rs. length rs ≤ 8192) replies.now }
-    ensures told { WritesTextOrNothing Status.Done (stream K.held K.faults sink.old sink.new)
+    ensures told { WritesTextOrNothing Status.Done (stream_change K.held K.faults sink.old sink.new)
         (output clients.now replies.now ++ ending.now) result
-        ⊎ ((result ≡ Status.NoMemory) × AppendsPart (K.held sink.old) (K.held sink.new) (output clients.now replies.now ++ ending.now)) }
+        ⊎ ((result ≡ Status.NoMemory) × AppendsPart (K.held sink.old) (K.held sink.new)
+        (output clients.now replies.now ++ ending.now)) }
     ensures cause { HasStatusCause Status.WriteFault (K.faults sink.old)
         (K.faults sink.new) result }
 {
@@ -108,7 +111,7 @@ fn write_printed<K: Sink>(
     sink: &mut K,
 ) -> Status
     requires { All (λ rs. length rs ≤ 8192) replies.now }
-    ensures told { PrintsReplies settings (stream K.held K.faults sink.old sink.new)
+    ensures told { PrintsReplies settings (stream_change K.held K.faults sink.old sink.new)
         (printed_text settings clients.now replies.now counts owned.now) result }
     ensures cause { HasStatusCause Status.WriteFault (K.faults sink.old)
         (K.faults sink.new) result }
@@ -143,7 +146,8 @@ pub fn write_outcome<K: Sink>(
 ) -> Status
     requires { All (λ rs. length rs ≤ 8192) replies.now }
     ensures told { (weights : List ℕ) → (PrintsWeights settings → owned.now ≡ weights) →
-        PrintsReplies settings (stream K.held K.faults sink.old sink.new) (printed_text settings clients.now replies.now counts weights) result }
+        PrintsReplies settings (stream_change K.held K.faults sink.old sink.new)
+        (printed_text settings clients.now replies.now counts weights) result }
     ensures cause { HasStatusCause Status.WriteFault (K.faults sink.old)
         (K.faults sink.new) result }
 {

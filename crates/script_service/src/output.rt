@@ -3,7 +3,7 @@
 ghost use Rattle.std.specs.Prelude.{◌≡◌, ◌<◌, ◌≤◌, ◌⊎◌, ◌++◌, ℕ, List, [], length, All, IfErr, OnOk, OnErr, IsErrOf, codes};
 ghost use Rattle.std.specs.Io.KnownBytes.{Appends};
 ghost use Rattle.text_place.specs.Decimals.{numeral};
-ghost use Rattle.script_reader.specs.Lines.{newline};
+ghost use Rattle.text_place.specs.Separators.{newline};
 ghost use Rattle.outside_io.specs.Counts.{CountRose};
 ghost use Rattle.outside_io.specs.Moves.{AppendsProperPrefix};
 ghost use Rattle.reply_text.specs.Texts.{reply_body, replies_text, client_text, output};

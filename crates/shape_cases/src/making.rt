@@ -14,7 +14,7 @@ use text_place::FaultKind;
 
 /// The unit of lengths, and whether what is made is centred.
 #[derive(Clone, Copy)]
-pub struct Way {
+pub struct DirectedEdge {
     pub unit: Unit,
     pub center: bool,
 }
@@ -108,7 +108,7 @@ pub fn face_of(alloc: Global, numbers: &[i64]) -> Result<Corners, CaseStop> {
 
 pub fn make_flat(
     alloc: Global,
-    way: Way,
+    way: DirectedEdge,
     kind: FlatKind,
     numbers: &[i64],
 ) -> Result<Result<Flat, FaultKind>, CaseStop> {
@@ -136,7 +136,7 @@ pub struct Given {
 
 pub fn make_shape(
     alloc: Global,
-    way: Way,
+    way: DirectedEdge,
     kind: ShapeKind,
     numbers: &[i64],
     given: &Given,

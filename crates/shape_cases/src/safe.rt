@@ -38,7 +38,7 @@ pub fn axis(number: i64) -> Result<u8, CaseStop>
     }
 }
 
-/// A number of quarter turns.
+/// A number of quarter rotations.
 pub fn quarters(number: i64) -> Result<u8, CaseStop>
     ensures { IfOk result (λ n. n < 4) }
 {

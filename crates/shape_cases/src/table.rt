@@ -1,7 +1,8 @@
 //! What the phrases of a case make, and what they write.
 
 use crate::making::{
-    Given, Way, face_of, flat_kind_of, made, make_flat, make_shape, points_of, shape_kind_of,
+    DirectedEdge, Given, face_of, flat_kind_of, made, make_flat, make_shape, points_of,
+    shape_kind_of,
 };
 use crate::put::{put_corners, put_counts, put_faces, put_points};
 use crate::steps::{add_step, kind_of, put_images};
@@ -15,7 +16,7 @@ use text_place::{FaultKind, word};
 /// What was made up to a phrase.
 #[derive(Drop)]
 pub struct Table {
-    way: Way,
+    way: DirectedEdge,
     steps: Vec<Step>,
     given: Given,
     shape: Option<Shape>,
@@ -92,7 +93,7 @@ fn put_asked(
 impl Table {
     pub fn new(alloc: Global) -> Table {
         Table {
-            way: Way {
+            way: DirectedEdge {
                 unit: Unit::Whole,
                 center: false,
             },

@@ -4,12 +4,12 @@ use Rattle.plane_predicate.specs.declared.unit.Unit.{Unit as LengthUnit}
 use Rattle.plane_predicate.specs.Space.{Coefficients, Coordinates, value}
 use Rattle.plane_predicate.proofs.IntegerRing.{sums}
 use Rattle.primitives.specs.Boxes.{box_faces, box_of, box_points, cube_of}
-use Rattle.primitives.specs.Shapes.{corner, IsInside, IsShape}
+use Rattle.primitives.specs.Shapes.{mesh_point, IsInside, IsShape}
 use Rattle.primitives.specs.Sizes.{AreSizes}
 use Rattle.primitives.proofs.BoxBodies.{cube_is_shape}
 use Rattle.primitives.proofs.EndFaces.{ends_of_side}
 use Rattle.scad_hull.proofs.Turns.{Bounds}
-use Rattle.shape_hulls.specs.OwnHulls.{IsCornerOf, IsHullOfItsPoints}
+use Rattle.shape_hulls.specs.OwnHulls.{IsFaceCorner, IsHullOfItsPoints}
 use Rattle.shape_hulls.proofs.Axes.{bounds_nothing, nothing_at, past_high, past_low, scaled, BoundsCorners, IsWithin}
 use Rattle.shape_hulls.proofs.Insides.{hull_by, none_below}
 
@@ -74,7 +74,7 @@ in_box a b c d e f s q h =
     }
 
 -- ---- the corners
-box_corner : (i : ℕ) → i < 8 → IsCornerOf box_faces i
+box_corner : (i : ℕ) → i < 8 → IsFaceCorner box_faces i
 box_corner zero lt = record { face = 0; at = 0; face_in = omega arith; at_in = omega arith; is = refl }
 box_corner (suc zero) lt = record { face = 1; at = 0; face_in = omega arith; at_in = omega arith; is = refl }
 box_corner (suc (suc zero)) lt = record { face = 0; at = 1; face_in = omega arith; at_in = omega arith; is = refl }
@@ -85,7 +85,7 @@ box_corner (suc (suc (suc (suc (suc (suc zero)))))) lt = record { face = 0; at =
 box_corner (suc (suc (suc (suc (suc (suc (suc zero))))))) lt = record { face = 1; at = 2; face_in = omega arith; at_in = omega arith; is = refl }
 box_corner (suc (suc (suc (suc (suc (suc (suc (suc n)))))))) lt = absurd (omega (arith, lt))
 
-corners_bounded : (a b c d e f : ℤ) (q : Coordinates) → pos 0 <ℤ q.w → (m : Coefficients) → Bounds (corner (box_points a b c d e f)) 8 q m → BoundsCorners m.a m.b m.c m.d (a *ℤ q.w) (b *ℤ q.w) (c *ℤ q.w) (d *ℤ q.w) (e *ℤ q.w) (f *ℤ q.w) q.w
+corners_bounded : (a b c d e f : ℤ) (q : Coordinates) → pos 0 <ℤ q.w → (m : Coefficients) → Bounds (mesh_point (box_points a b c d e f)) 8 q m → BoundsCorners m.a m.b m.c m.d (a *ℤ q.w) (b *ℤ q.w) (c *ℤ q.w) (d *ℤ q.w) (e *ℤ q.w) (f *ℤ q.w) q.w
 corners_bounded a b c d e f q hw m h = record {
   lll = scaled m.a m.b m.c m.d a c e q.w hw (h.most 0 (omega arith));
   hll = scaled m.a m.b m.c m.d b c e q.w hw (h.most 1 (omega arith));
@@ -105,7 +105,7 @@ box_is_hull a b c d e f s is =
     hull_by (box_of a b c d e f) is box_corner
     (λ q hw inside m h.
     (let none = bounds_nothing m.a m.b m.c m.d (a *ℤ q.w) (b *ℤ q.w) (c *ℤ q.w) (d *ℤ q.w) (e *ℤ q.w) (f *ℤ q.w) q.x q.y q.z q.w hw (corners_bounded a b c d e f q hw m h) (in_box a b c d e f s q inside) (other_sum (m.a *ℤ q.x) (m.b *ℤ q.y) (m.c *ℤ q.z) (m.d *ℤ q.w) h.at) in
-    let p = corner (box_points a b c d e f) h.far in
+    let p = mesh_point (box_points a b c d e f) h.far in
     none_below (value m p) (nothing_at m.a m.b m.c m.d p.x p.y p.z p.w none) h.behind))
 
 pub cube_is_hull : (unit : LengthUnit) (center : Bool) (x y z : ℤ) → AreSizes unit center (x ∷ y ∷ z ∷ []) → IsHullOfItsPoints (cube_of unit center (x ∷ y ∷ z ∷ []))

@@ -5,7 +5,7 @@ use Rattle.std.proofs.lemmas.Bool.Decides.{Decides-int_eq}
 use Rattle.plane_predicate.specs.declared.unit.Unit.{Unit as LengthUnit}
 use Rattle.plane_predicate.specs.Space.{Coefficients, Coordinates, value}
 use Rattle.plane_predicate.proofs.IntegerRing.{sums}
-use Rattle.primitives.specs.Shapes.{Mesh, corner, IsInside, IsShape}
+use Rattle.primitives.specs.Shapes.{Mesh, mesh_point, IsInside, IsShape}
 use Rattle.primitives.specs.Sizes.{length_in_grid_steps, high_end, low_end}
 use Rattle.round_four.specs.Cylinders.{cylinder_between, cylinder_of, faces_from_apex, faces_of_two, faces_to_apex, AreCylinderSizes}
 use Rattle.round_four.proofs.Cylinders.{by_apexes, cylinder_is_shape}
@@ -13,7 +13,7 @@ use Rattle.round_four.proofs.FromApex.{from_apex}
 use Rattle.round_four.proofs.Radii.{no_steps, steps_above, steps_least}
 use Rattle.round_four.proofs.ToApex.{to_apex}
 use Rattle.round_four.proofs.TwoCircles.{two}
-use Rattle.shape_hulls.specs.OwnHulls.{IsCornerOf, IsHullOfItsPoints}
+use Rattle.shape_hulls.specs.OwnHulls.{IsFaceCorner, IsHullOfItsPoints}
 use Rattle.shape_hulls.proofs.Axes.{nothing_at}
 use Rattle.shape_hulls.proofs.Frustums.{back_bounded, bounds_nothing, front_bounded, front_value, left_bounded, left_value, level_end, nearer_down, nearer_up, over_apex, over_low, right_bounded, slant_left_back, slant_left_front, slant_right_back, slant_right_front, under_apex, under_high, IsBeside}
 use Rattle.shape_hulls.proofs.Insides.{hull_by, none_below}
@@ -46,7 +46,7 @@ inside_two a b l h ha hb lt q inside =
           (slant_right_front p.a p.b p.c p.d a b l h ha (v.is.on 1 0 (omega arith)) (v.is.on 0 0 (omega arith)) (v.is.on 2 0 (omega arith)) (v.is.none_ahead 4 [] (omega arith) 2 0 (omega arith))) (front p q v.behind);
     }
 
-two_corner : (i : ℕ) → i < 8 → IsCornerOf faces_of_two i
+two_corner : (i : ℕ) → i < 8 → IsFaceCorner faces_of_two i
 two_corner zero lt = record { face = 4; at = 0; face_in = omega arith; at_in = omega arith; is = refl }
 two_corner (suc zero) lt = record { face = 4; at = 1; face_in = omega arith; at_in = omega arith; is = refl }
 two_corner (suc (suc zero)) lt = record { face = 4; at = 2; face_in = omega arith; at_in = omega arith; is = refl }
@@ -67,7 +67,7 @@ two_is_hull a b l h ha hb lt is =
     (record { low = back_bounded m.a m.b m.c m.d a l (k.most 1 (omega arith)); high = back_bounded m.a m.b m.c m.d b h (k.most 5 (omega arith)) })
     (record { low = front_bounded m.a m.b m.c m.d a l (k.most 3 (omega arith)); high = front_bounded m.a m.b m.c m.d b h (k.most 7 (omega arith)) })
     k.at in
-    let p = corner (two a b l h).points k.far in
+    let p = mesh_point (two a b l h).points k.far in
     none_below (value m p) (nothing_at m.a m.b m.c m.d p.x p.y p.z p.w none) k.behind))
 
 -- ---- up to an apex
@@ -90,7 +90,7 @@ inside_to_apex a l h ha lt q inside =
           (slant_right_front p.a p.b p.c p.d a (pos 0) l h ha (v.is.on 1 0 (omega arith)) (v.is.on 0 0 (omega arith)) (v.is.on 2 0 (omega arith)) (v.is.none_ahead 4 [] (omega arith) 2 0 (omega arith))) (front p q v.behind);
     }
 
-to_corner : (i : ℕ) → i < 5 → IsCornerOf faces_to_apex i
+to_corner : (i : ℕ) → i < 5 → IsFaceCorner faces_to_apex i
 to_corner zero lt = record { face = 4; at = 0; face_in = omega arith; at_in = omega arith; is = refl }
 to_corner (suc zero) lt = record { face = 4; at = 1; face_in = omega arith; at_in = omega arith; is = refl }
 to_corner (suc (suc zero)) lt = record { face = 4; at = 2; face_in = omega arith; at_in = omega arith; is = refl }
@@ -108,7 +108,7 @@ to_apex_is_hull a l h ha lt is =
     (record { low = back_bounded m.a m.b m.c m.d a l (k.most 1 (omega arith)); high = back_bounded m.a m.b m.c m.d (pos 0) h (k.most 4 (omega arith)) })
     (record { low = front_bounded m.a m.b m.c m.d a l (k.most 3 (omega arith)); high = front_bounded m.a m.b m.c m.d (pos 0) h (k.most 4 (omega arith)) })
     k.at in
-    let p = corner (to_apex a l h).points k.far in
+    let p = mesh_point (to_apex a l h).points k.far in
     none_below (value m p) (nothing_at m.a m.b m.c m.d p.x p.y p.z p.w none) k.behind))
 
 -- ---- up from an apex
@@ -131,7 +131,7 @@ inside_from_apex b l h hb lt q inside =
           (slant_right_front p.a p.b p.c p.d b (pos 0) h l hb (v.is.on 1 0 (omega arith)) (v.is.on 2 0 (omega arith)) (v.is.on 0 0 (omega arith)) (v.is.none_ahead 4 [] (omega arith) 2 0 (omega arith))) (front p q v.behind);
     }
 
-from_corner : (i : ℕ) → i < 5 → IsCornerOf faces_from_apex i
+from_corner : (i : ℕ) → i < 5 → IsFaceCorner faces_from_apex i
 from_corner zero lt = record { face = 0; at = 0; face_in = omega arith; at_in = omega arith; is = refl }
 from_corner (suc zero) lt = record { face = 4; at = 0; face_in = omega arith; at_in = omega arith; is = refl }
 from_corner (suc (suc zero)) lt = record { face = 4; at = 1; face_in = omega arith; at_in = omega arith; is = refl }
@@ -149,7 +149,7 @@ from_apex_is_hull b l h hb lt is =
     (record { low = back_bounded m.a m.b m.c m.d (pos 0) l (k.most 0 (omega arith)); high = back_bounded m.a m.b m.c m.d b h (k.most 2 (omega arith)) })
     (record { low = front_bounded m.a m.b m.c m.d (pos 0) l (k.most 0 (omega arith)); high = front_bounded m.a m.b m.c m.d b h (k.most 4 (omega arith)) })
     k.at in
-    let p = corner (from_apex b l h).points k.far in
+    let p = mesh_point (from_apex b l h).points k.far in
     none_below (value m p) (nothing_at m.a m.b m.c m.d p.x p.y p.z p.w none) k.behind))
 
 -- ---- all kinds

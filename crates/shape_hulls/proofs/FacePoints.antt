@@ -1,5 +1,5 @@
 -- The points of faces: what holds of all of them holds at each corner of each face, and the other way round.
-use Rattle.std.proofs.Common.{◌≡◌, ◌⊎◌, inl, inr, ℕ, zero, suc, ◌+◌, ◌<◌, List, [], ◌∷◌, ◌++◌, length, get_or, map, take, flat_map, refl, sym, ap, ◌∙◌, subst, arith, ℤ, pos, All}
+use Rattle.std.proofs.Common.{◌≡◌, ℕ, zero, ◌+◌, ◌<◌, List, [], ◌∷◌, ◌++◌, length, get_or, map, take, flat_map, refl, sym, ap, ◌∙◌, subst, arith, ℤ, pos, All}
 use Rattle.std.specs.List.{AllByRecursion}
 use Rattle.std.proofs.lemmas.List.{get_or-map, length-map}
 use Rattle.std.proofs.lemmas.List.Concat.{get_or-flat_map}
@@ -7,7 +7,7 @@ use Rattle.std.proofs.lemmas.List.Elements.{recursion_from_All, All-from_recursi
 use Rattle.std.proofs.lemmas.List.Folds.{length-flat_map-take}
 use Rattle.primitives.specs.Shapes.{Mesh}
 use Rattle.scad_hull.proofs.Members.{all_flat, all_map, all_weaker}
-use Rattle.shape_hulls.specs.OwnHulls.{face_points}
+use Rattle.shape_hulls.specs.OwnHulls.{corner_points}
 
 -- the corners of a face, as points
 abbrev pub corners_of : List (List ℤ) → List ℕ → List (List ℤ)
@@ -17,7 +17,7 @@ corners_of points face = map (λ i. get_or points i []) face
 abbrev pub AtCorners : Mesh → (List ℤ → Type 0) → Type 0
 AtCorners mesh P = All (λ f. All (λ i. P (get_or mesh.points i [])) f) mesh.faces
 
-pub each_point : (mesh : Mesh) (P : List ℤ → Type 0) → AtCorners mesh P → AllByRecursion P (face_points mesh)
+pub each_point : (mesh : Mesh) (P : List ℤ → Type 0) → AtCorners mesh P → AllByRecursion P (corner_points mesh)
 each_point mesh P h =
     all_flat P (corners_of mesh.points) mesh.faces
     (all_weaker (λ f. All (λ i. P (get_or mesh.points i [])) f) (λ f. AllByRecursion P (corners_of mesh.points f))
@@ -40,7 +40,7 @@ images_of : {X A : Type 0} (P : A → Type 0) (f : X → A) (xs : List X) → Al
 images_of P f [] h = tt
 images_of P f (x ∷ xs) h = (h.0, images_of P f xs h.1)
 
-pub at_corners : (mesh : Mesh) (P : List ℤ → Type 0) → AllByRecursion P (face_points mesh) → AtCorners mesh P
+pub at_corners : (mesh : Mesh) (P : List ℤ → Type 0) → AllByRecursion P (corner_points mesh) → AtCorners mesh P
 at_corners mesh P h =
     All-from_recursion (λ f. All (λ i. P (get_or mesh.points i [])) f) mesh.faces
     (all_weaker (λ f. AllByRecursion P (corners_of mesh.points f)) (λ f. All (λ i. P (get_or mesh.points i [])) f)
@@ -51,24 +51,13 @@ at_corners mesh P h =
 abbrev pub place_of : Mesh → ℕ → ℕ → ℕ
 place_of mesh f i = length (flat_map (corners_of mesh.points) (take f mesh.faces)) + i
 
-pub place_in : (mesh : Mesh) (f i : ℕ) → f < length mesh.faces → i < length (get_or mesh.faces f []) → place_of mesh f i < length (face_points mesh)
+pub place_in : (mesh : Mesh) (f i : ℕ) → f < length mesh.faces → i < length (get_or mesh.faces f []) → place_of mesh f i < length (corner_points mesh)
 place_in mesh f i hf hi = omega (arith, hi, length-flat_map-take (corners_of mesh.points) mesh.faces f [] hf, length-map (get_or mesh.faces f []) (λ (j : ℕ). get_or mesh.points j []))
 
-pub place_is : (mesh : Mesh) (f i : ℕ) → f < length mesh.faces → i < length (get_or mesh.faces f []) → get_or (face_points mesh) (place_of mesh f i) [] ≡ get_or mesh.points (get_or (get_or mesh.faces f []) i 0) []
+pub place_is : (mesh : Mesh) (f i : ℕ) → f < length mesh.faces → i < length (get_or mesh.faces f []) → get_or (corner_points mesh) (place_of mesh f i) [] ≡ get_or mesh.points (get_or (get_or mesh.faces f []) i 0) []
 place_is mesh f i hf hi =
     get_or-flat_map (corners_of mesh.points) mesh.faces f i [] [] hf (omega (arith, hi, length-map (get_or mesh.faces f []) (λ (j : ℕ). get_or mesh.points j [])))
     ∙ get_or-map (λ j. get_or mesh.points j []) (get_or mesh.faces f []) i 0 [] hi
-
--- ---- finding an item
-pub some_or_all : {X : Type 0} (P Q : X → Type 0) (d : X) → ((x : X) → P x ⊎ Q x) → (xs : List X) → AllByRecursion P xs ⊎ ((k : ℕ) × (k < length xs) × Q (get_or xs k d))
-some_or_all P Q d test [] = inl tt
-some_or_all P Q d test (x ∷ xs) = elim (test x) [
-  | inr q ↦ inr (0, omega arith, q)
-  | inl p ↦ elim (some_or_all P Q d test xs) [
-    | inl rest ↦ inl (p, rest)
-    | inr some ↦ inr (suc some.0, omega (arith, some.1), some.2)
-  ]
-]
 
 -- what holds of each item from some number on holds of all from some number on
 pub bounded : {X : Type 0} (P : ℕ → X → Type 0) (xs : List X) → AllByRecursion (λ x. (b : ℕ) × ((k : ℕ) → b < k → P k x)) xs → (b : ℕ) × ((k : ℕ) → b < k → AllByRecursion (P k) xs)

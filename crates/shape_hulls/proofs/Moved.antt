@@ -11,14 +11,14 @@ use Rattle.plane_predicate.proofs.Signs.{signs, neg_cancel, pos_neg, pos_pos, ze
 use Rattle.plane_predicate.proofs.Vectors.{Place, determinantP, form, minorP, of_plane, of_point, place, valueP}
 use Rattle.int_transform.specs.declared.affine.Affine.{Affine}
 use Rattle.int_transform.specs.declared.affine.Row.{Row}
-use Rattle.int_transform.specs.Maps.{coordinates, determinant_of, image, row_at}
+use Rattle.int_transform.specs.Maps.{coordinate_list, determinant_of, image, row_at}
 use Rattle.int_transform.proofs.Images.{imageP, of_map}
 use Rattle.primitives.specs.Placing.{moved_mesh}
 use Rattle.primitives.specs.Shapes.{Mesh, IsInside, IsShape}
 use Rattle.primitives.proofs.Moves.{cancelled}
 use Rattle.primitives.proofs.Transforms.{inside-moved_mesh}
 use Rattle.scad_hull.specs.Combinations.{sum_of_weights, weighted_sum, IsInnerCombination}
-use Rattle.shape_hulls.specs.OwnHulls.{face_points, IsHullOfItsFaces, IsHullOfItsPoints}
+use Rattle.shape_hulls.specs.OwnHulls.{corner_points, IsHullOfItsCorners, IsHullOfItsPoints}
 use Rattle.shape_hulls.proofs.Axes.{less_by, no_times}
 
 -- ---- the same point by other numbers
@@ -127,7 +127,7 @@ abbrev zs : List (List ℤ) → List ℤ
 zs points = map (λ p. (point_at p).z) points
 
 abbrev moved : Affine → List (List ℤ) → List (List ℤ)
-moved f points = map (λ p. coordinates (image f (point_at p))) points
+moved f points = map (λ p. coordinate_list (image f (point_at p))) points
 
 one_more : (l a b c d x y z u v w t : ℤ) → l *ℤ (a *ℤ x +ℤ b *ℤ y +ℤ c *ℤ z +ℤ d *ℤ pos 1) +ℤ (a *ℤ u +ℤ b *ℤ v +ℤ c *ℤ w +ℤ d *ℤ t) ≡ a *ℤ (l *ℤ x +ℤ u) +ℤ b *ℤ (l *ℤ y +ℤ v) +ℤ c *ℤ (l *ℤ z +ℤ w) +ℤ d *ℤ (l +ℤ t)
 one_more l a b c d x y z u v w t =
@@ -200,7 +200,7 @@ combined_moved : (f : Affine) (points : List (List ℤ)) (p : Coordinates) → I
 combined_moved f points p c =
     let n = sum_of_weights c.weights in
     let sum = λ (r : Row). row_forth n p.w r.a r.b r.c r.d p.x p.y p.z (weighted_sum c.weights (xs points)) (weighted_sum c.weights (ys points)) (weighted_sum c.weights (zs points)) c.x c.y c.z ∙ ap (λ (t : ℤ). p.w *ℤ t) (sym (weighted_row r c.weights points c.one_each)) in
-    let g = λ (q : List ℤ). coordinates (image f (point_at q)) in
+    let g = λ (q : List ℤ). coordinate_list (image f (point_at q)) in
     record {
       weights = c.weights;
       one_each = c.one_each ∙ sym (length-map points g);
@@ -214,7 +214,7 @@ combined_moved f points p c =
 combined_before : (f : Affine) (points : List (List ℤ)) (p : Coordinates) → (determinant_of f ≡ pos 0 → ⊥) → IsInnerCombination (moved f points) (image f p) → IsInnerCombination points p
 combined_before f points p regular c =
     let n = sum_of_weights c.weights in
-    let g = λ (q : List ℤ). coordinates (image f (point_at q)) in
+    let g = λ (q : List ℤ). coordinate_list (image f (point_at q)) in
     let each = c.one_each ∙ length-map points g in
     let back = λ (r : Row) (e : n *ℤ row_at r p ≡ p.w *ℤ weighted_sum c.weights (map (λ q. row_at r (point_at q)) points)). row_back n p.w r.a r.b r.c r.d p.x p.y p.z (weighted_sum c.weights (xs points)) (weighted_sum c.weights (ys points)) (weighted_sum c.weights (zs points)) (e ∙ ap (λ (t : ℤ). p.w *ℤ t) (weighted_row r c.weights points each)) in
     let none = no_kernel f.x.a f.x.b f.x.c f.y.a f.y.b f.y.c f.z.a f.z.b f.z.c _ _ _ regular
@@ -243,21 +243,21 @@ moved_is_hull mesh f shape regular hull = record { inside = moved_inside mesh f 
 -- ---- the points of the faces
 moved_face : (f : Affine) (points : List (List ℤ)) (face : List ℕ) → AllByRecursion (λ i. i < length points) face → map (λ i. get_or (moved f points) i []) face ≡ moved f (map (λ i. get_or points i []) face)
 moved_face f points [] h = refl
-moved_face f points (i ∷ face) h = ap₂ ◌∷◌ (get_or-map (λ p. coordinates (image f (point_at p))) points i [] [] h.0) (moved_face f points face h.1)
+moved_face f points (i ∷ face) h = ap₂ ◌∷◌ (get_or-map (λ p. coordinate_list (image f (point_at p))) points i [] [] h.0) (moved_face f points face h.1)
 
 moved_parts : (f : Affine) (points : List (List ℤ)) (faces : List (List ℕ)) → AllByRecursion (λ face. All (λ i. i < length points) face) faces → flat_map (λ face. map (λ i. get_or (moved f points) i []) face) faces ≡ moved f (flat_map (λ face. map (λ i. get_or points i []) face) faces)
 moved_parts f points [] h = refl
 moved_parts f points (face ∷ faces) h =
     ap₂ ◌++◌ (moved_face f points face (recursion_from_All (λ i. i < length points) face h.0)) (moved_parts f points faces h.1)
-    ∙ sym (map-append (λ p. coordinates (image f (point_at p))) (map (λ i. get_or points i []) face) (flat_map (λ g. map (λ i. get_or points i []) g) faces))
+    ∙ sym (map-append (λ p. coordinate_list (image f (point_at p))) (map (λ i. get_or points i []) face) (flat_map (λ g. map (λ i. get_or points i []) g) faces))
 
 there : (mesh : Mesh) → IsShape mesh → All (λ face. All (λ i. i < length mesh.points) face) mesh.faces
 there mesh shape = λ k d lt. (shape.faces k d lt).there
 
-pub moved_face_points : (mesh : Mesh) (f : Affine) → IsShape mesh → face_points (moved_mesh f mesh) ≡ moved f (face_points mesh)
+pub moved_face_points : (mesh : Mesh) (f : Affine) → IsShape mesh → corner_points (moved_mesh f mesh) ≡ moved f (corner_points mesh)
 moved_face_points mesh f shape = moved_parts f mesh.points mesh.faces (recursion_from_All (λ face. All (λ i. i < length mesh.points) face) mesh.faces (there mesh shape))
 
-pub moved_is_hull_of_faces : (mesh : Mesh) (f : Affine) → IsShape mesh → (determinant_of f ≡ pos 0 → ⊥) → IsHullOfItsFaces mesh → IsHullOfItsFaces (moved_mesh f mesh)
+pub moved_is_hull_of_faces : (mesh : Mesh) (f : Affine) → IsShape mesh → (determinant_of f ≡ pos 0 → ⊥) → IsHullOfItsCorners mesh → IsHullOfItsCorners (moved_mesh f mesh)
 moved_is_hull_of_faces mesh f shape regular hull = record {
-  inside = λ q above. subst (λ (points : List (List ℤ)). IsInside (moved_mesh f mesh) q ↔ IsInnerCombination points q) (sym (moved_face_points mesh f shape)) (moved_inside mesh f (face_points mesh) shape regular hull.inside q above);
+  inside = λ q above. subst (λ (points : List (List ℤ)). IsInside (moved_mesh f mesh) q ↔ IsInnerCombination points q) (sym (moved_face_points mesh f shape)) (moved_inside mesh f (corner_points mesh) shape regular hull.inside q above);
 }

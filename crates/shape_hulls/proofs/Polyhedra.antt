@@ -1,6 +1,6 @@
 -- A polyhedron is the hull of its faces' points: a point behind all faces that a plane has on it or ahead, with no point of a face ahead, would see
 -- the closed surface projected onto a plane, where its faces turn one way and their sum is 0.
-use Rattle.std.proofs.Common.{◌≡◌, ◌⊎◌, inl, inr, ℕ, zero, suc, ◌+◌, ◌<◌, List, [], ◌∷◌, length, get_or, flat_map, refl, sym, ap, ◌∙◌, subst, arith, ℤ, pos, negsuc, ◌+ℤ◌, ◌-ℤ◌, ◌*ℤ◌, ◌<ℤ◌, ◌≤ℤ◌, unsigned_abs, All}
+use Rattle.std.proofs.Common.{◌≡◌, ℕ, zero, suc, ◌+◌, ◌<◌, List, [], ◌∷◌, length, get_or, flat_map, refl, sym, ap, ◌∙◌, subst, arith, ℤ, pos, negsuc, ◌+ℤ◌, ◌-ℤ◌, ◌*ℤ◌, ◌<ℤ◌, ◌≤ℤ◌, unsigned_abs, All}
 use Rattle.std.specs.List.{AllByRecursion}
 use Rattle.std.proofs.lemmas.List.{get_or_default}
 use Rattle.std.proofs.lemmas.List.Elements.{recursion_from_All, All-from_recursion}
@@ -10,25 +10,25 @@ use Rattle.plane_predicate.proofs.IntegerRing.{sums}
 use Rattle.plane_predicate.proofs.Polynomials.{var, num, plus, times, minus, ring}
 use Rattle.plane_predicate.proofs.SamePlanes.{directed_above}
 use Rattle.plane_predicate.proofs.Signs.{signs, least_least, least_most, most_most}
-use Rattle.primitives.specs.declared.ways.Way.{Way}
-use Rattle.primitives.specs.Checks.{HasOuterPlane, IsConvex}
-use Rattle.primitives.specs.Polyhedra.{mesh_of, IsPolyhedron, IsSurface}
-use Rattle.primitives.specs.Shapes.{corner, value_at, Mesh, HasBodyBehind, IsBehindFace, IsInside, IsShape}
-use Rattle.primitives.specs.Ways.{all_ways, ways_of}
+use Rattle.primitives.specs.declared.ways.DirectedEdge.{DirectedEdge}
+use Rattle.primitives.specs.Checks.{HasOuterPlane}
+use Rattle.primitives.specs.Polyhedra.{polyhedron_of, IsPolyhedron, IsSurface}
+use Rattle.primitives.specs.Shapes.{mesh_point, value_at_point, Mesh, IsBehindFace, IsInside, IsShape}
+use Rattle.primitives.specs.DirectedEdges.{all_edges, edges_of_mesh_face}
 use Rattle.primitives.proofs.FacePlanes.{behind_body, behind_each as behind_face}
 use Rattle.primitives.proofs.OnePlane.{some_direction}
-use Rattle.primitives.proofs.Solids.{shape_of}
+use Rattle.primitives.proofs.ConvexShapes.{polyhedron_is_shape}
 use Rattle.scad_hull.specs.Combinations.{IsInnerCombination}
 use Rattle.scad_hull.specs.Hulls.{AreOnOnePlane}
 use Rattle.scad_hull.proofs.Alternative.{point_less, value_point_less}
 use Rattle.scad_hull.proofs.Inner.{behind_each, inner}
 use Rattle.scad_hull.proofs.Members.{all_weaker}
 use Rattle.scad_hull.proofs.Turns.{Bounds}
-use Rattle.shape_hulls.specs.OwnHulls.{face_points, AreAllCorners, IsHullOfItsFaces, IsHullOfItsPoints}
-use Rattle.closed_faces.specs.Sums.{total}
+use Rattle.shape_hulls.specs.OwnHulls.{corner_points, AreAllCorners, IsHullOfItsCorners, IsHullOfItsPoints}
+use Rattle.plane_predicate.specs.Sums.{sum_over}
 use Rattle.shape_hulls.proofs.Axes.{no_times}
 use Rattle.closed_faces.proofs.Edges.{all_ways_total, once_each}
-use Rattle.shape_hulls.proofs.FacePoints.{at_corners, bounded, each_point, place_in, place_is, place_of, some_or_all, AtCorners}
+use Rattle.shape_hulls.proofs.FacePoints.{at_corners, bounded, each_point, place_in, place_is, place_of, AtCorners}
 use Rattle.shape_hulls.proofs.Insides.{hull_by}
 use Rattle.shape_hulls.proofs.Projected.{face_turns, least_face, spin_back, turn_of, IsSeen, IsView}
 use Rattle.shape_hulls.proofs.Seen.{depth}
@@ -43,9 +43,9 @@ HasNoneAhead mesh m = AtCorners mesh (λ p. value m (point_at p) ≤ℤ pos 0)
 deep : (v w u : ℤ) → pos 0 <ℤ v → pos 0 <ℤ w → u ≤ℤ pos 0 → pos 0 <ℤ (v -ℤ w *ℤ u)
 deep v w u hv hw hu = omega (arith, sums, hv, least_most w u (omega (arith, sums, hw)) hu)
 
-depths : (mesh : Mesh) (q : Coordinates) (m : Coefficients) → pos 0 <ℤ q.w → HasNoneAhead mesh m → pos 0 <ℤ value m q → AllByRecursion (λ p. pos 0 <ℤ depth m q (point_at p)) (face_points mesh)
+depths : (mesh : Mesh) (q : Coordinates) (m : Coefficients) → pos 0 <ℤ q.w → HasNoneAhead mesh m → pos 0 <ℤ value m q → AllByRecursion (λ p. pos 0 <ℤ depth m q (point_at p)) (corner_points mesh)
 depths mesh q m hw none ahead =
-    all_weaker (λ p. value m (point_at p) ≤ℤ pos 0) (λ p. pos 0 <ℤ depth m q (point_at p)) (λ p h. deep (value m q) q.w (value m (point_at p)) ahead hw h) (face_points mesh)
+    all_weaker (λ p. value m (point_at p) ≤ℤ pos 0) (λ p. pos 0 <ℤ depth m q (point_at p)) (λ p h. deep (value m q) q.w (value m (point_at p)) ahead hw h) (corner_points mesh)
     (each_point mesh (λ p. value m (point_at p) ≤ℤ pos 0) none)
 
 -- a plane with a point ahead, and a point of weight 1 that isn't ahead, has a direction
@@ -65,7 +65,7 @@ behind_outer mesh shape q inside k lt h =
 corner_count : (mesh : Mesh) → IsShape mesh → (k : ℕ) → k < length mesh.faces → 0 < length (get_or mesh.faces k [])
 corner_count mesh shape k lt = omega (arith, (shape.faces k [] lt).triangle.first_in)
 
-view : (mesh : Mesh) → IsShape mesh → (surface : IsSurface mesh) → (q : Coordinates) → pos 0 <ℤ q.w → IsInside mesh q → (m : Coefficients) → HasNoneAhead mesh m → pos 0 <ℤ value m q → (s : HasScale (λ p. depth m q (point_at p)) (face_points mesh)) →
+view : (mesh : Mesh) → IsShape mesh → (surface : IsSurface mesh) → (q : Coordinates) → pos 0 <ℤ q.w → IsInside mesh q → (m : Coefficients) → HasNoneAhead mesh m → pos 0 <ℤ value m q → (s : HasScale (λ p. depth m q (point_at p)) (corner_points mesh)) →
     (k : ℕ) → (lt : k < length mesh.faces) → IsView mesh.points (get_or mesh.faces k []) (surface.convex.faces k [] lt).plane m q s.factor s.common
 view mesh shape surface q hw inside m none ahead s k lt =
     let outer = surface.convex.faces k [] lt in
@@ -81,7 +81,7 @@ view mesh shape surface q hw inside m none ahead s k lt =
       behind = behind_outer mesh shape q inside k lt outer;
     }
 
-first_face_zero : (f : List ℕ → ℤ) (faces : List (List ℕ)) → 0 < length faces → AllByRecursion (λ face. pos 0 ≤ℤ f face) faces → total f faces ≡ pos 0 → f (get_or faces 0 []) ≡ pos 0
+first_face_zero : (f : List ℕ → ℤ) (faces : List (List ℕ)) → 0 < length faces → AllByRecursion (λ face. pos 0 ≤ℤ f face) faces → sum_over f faces ≡ pos 0 → f (get_or faces 0 []) ≡ pos 0
 first_face_zero f [] some h e = absurd (omega (arith, some))
 first_face_zero f (face ∷ faces) some h e = first_zero f face faces h e
 
@@ -91,12 +91,12 @@ least_by_default f faces h = λ k d lt. subst (λ (face : List ℕ). pos 0 ≤�
 -- a point inside isn't ahead of a plane that no point of a face is ahead of
 not_ahead : (mesh : Mesh) → IsShape mesh → IsSurface mesh → (q : Coordinates) → pos 0 <ℤ q.w → IsInside mesh q → (m : Coefficients) → HasNoneAhead mesh m → pos 0 <ℤ value m q → ⊥
 not_ahead mesh shape surface q hw inside m none ahead =
-    let s = scale (λ p. depth m q (point_at p)) (face_points mesh) (depths mesh q m hw none ahead) in
-    let f : Way → ℤ = turn_of s.factor m q in
-    let round : List ℕ → ℤ = λ face. total f (ways_of mesh.points face) in
-    let closed : total round mesh.faces ≡ pos 0 =
-    sym (total_flat f (ways_of mesh.points) mesh.faces)
-    ∙ all_ways_total (all_ways mesh.points mesh.faces) f (λ w. spin_back s.factor m q w.from w.to) (once_each (all_ways mesh.points mesh.faces) surface.closed) in
+    let s = scale (λ p. depth m q (point_at p)) (corner_points mesh) (depths mesh q m hw none ahead) in
+    let f : DirectedEdge → ℤ = turn_of s.factor m q in
+    let round : List ℕ → ℤ = λ face. sum_over f (edges_of_mesh_face mesh.points face) in
+    let closed : sum_over round mesh.faces ≡ pos 0 =
+    sym (total_flat f (edges_of_mesh_face mesh.points) mesh.faces)
+    ∙ all_ways_total (all_edges mesh.points mesh.faces) f (λ w. spin_back s.factor m q w.from w.to) (once_each (all_edges mesh.points mesh.faces) surface.closed) in
     let v = view mesh shape surface q hw inside m none ahead s in
     let least : AllByRecursion (λ face. pos 0 ≤ℤ round face) mesh.faces =
     recursion_from_All (λ face. pos 0 ≤ℤ round face) mesh.faces
@@ -151,36 +151,36 @@ not_on mesh shape surface q hw inside m none at p below =
     (now_ahead k (value m q) (value m (point_at p)) (value m (away k q p)) (value_point_less m (pos k) q (pos 1) (point_at p)) at below)
 
 -- ---- the hull of the faces' points
-not_on_one_plane : (mesh : Mesh) → IsSurface mesh → AreOnOnePlane (face_points mesh) → ⊥
+not_on_one_plane : (mesh : Mesh) → IsSurface mesh → AreOnOnePlane (corner_points mesh) → ⊥
 not_on_one_plane mesh surface h = surface.convex.solid (record {
   plane = h.plane;
   directed = h.directed;
-  on = at_corners mesh (λ p. value h.plane (point_at p) ≡ pos 0) (recursion_from_All (λ p. value h.plane (point_at p) ≡ pos 0) (face_points mesh) h.on);
+  on = at_corners mesh (λ p. value h.plane (point_at p) ≡ pos 0) (recursion_from_All (λ p. value h.plane (point_at p) ≡ pos 0) (corner_points mesh) h.on);
 })
 
-most_points : (points : List (List ℤ)) (m : Coefficients) → ((i : ℕ) → i < length points → value_at points m i ≤ℤ pos 0) → All (λ p. value m (point_at p) ≤ℤ pos 0) points
+most_points : (points : List (List ℤ)) (m : Coefficients) → ((i : ℕ) → i < length points → value_at_point points m i ≤ℤ pos 0) → All (λ p. value m (point_at p) ≤ℤ pos 0) points
 most_points points m h = λ k d lt. subst (λ (p : List ℤ). value m (point_at p) ≤ℤ pos 0) (get_or_default points k [] d lt) (h k lt)
 
-inside_combined : (mesh : Mesh) → IsShape mesh → IsSurface mesh → (q : Coordinates) → pos 0 <ℤ q.w → IsInside mesh q → IsInnerCombination (face_points mesh) q
+inside_combined : (mesh : Mesh) → IsShape mesh → IsSurface mesh → (q : Coordinates) → pos 0 <ℤ q.w → IsInside mesh q → IsInnerCombination (corner_points mesh) q
 inside_combined mesh shape surface q hw inside =
-    inner (face_points mesh) q (not_on_one_plane mesh surface) (λ i j k hi hj hk apart m b ei ej ek.
+    inner (corner_points mesh) q (not_on_one_plane mesh surface) (λ i j k hi hj hk apart m b ei ej ek.
     not_on mesh shape surface q hw inside m
-    (at_corners mesh (λ p. value m (point_at p) ≤ℤ pos 0) (recursion_from_All (λ p. value m (point_at p) ≤ℤ pos 0) (face_points mesh) (most_points (face_points mesh) m b.most)))
-    b.at (get_or (face_points mesh) b.far []) b.behind)
+    (at_corners mesh (λ p. value m (point_at p) ≤ℤ pos 0) (recursion_from_All (λ p. value m (point_at p) ≤ℤ pos 0) (corner_points mesh) (most_points (corner_points mesh) m b.most)))
+    b.at (get_or (corner_points mesh) b.far []) b.behind)
 
-combined_inside : (mesh : Mesh) → IsShape mesh → (q : Coordinates) → pos 0 <ℤ q.w → IsInnerCombination (face_points mesh) q → IsInside mesh q
+combined_inside : (mesh : Mesh) → IsShape mesh → (q : Coordinates) → pos 0 <ℤ q.w → IsInnerCombination (corner_points mesh) q → IsInside mesh q
 combined_inside mesh shape q hw c k d lt =
     let b = (shape.faces k d lt).body in
     record {
       plane = b.plane;
       is = b.is;
-      behind = behind_each (face_points mesh) q hw c b.plane
-          (All-from_recursion (λ p. value b.plane (point_at p) ≤ℤ pos 0) (face_points mesh) (each_point mesh (λ p. value b.plane (point_at p) ≤ℤ pos 0) b.is.none_ahead))
+      behind = behind_each (corner_points mesh) q hw c b.plane
+          (All-from_recursion (λ p. value b.plane (point_at p) ≤ℤ pos 0) (corner_points mesh) (each_point mesh (λ p. value b.plane (point_at p) ≤ℤ pos 0) b.is.none_ahead))
           (place_of mesh b.at_face b.at) (place_in mesh b.at_face b.at b.at_face_in b.at_in)
           (subst (λ (p : List ℤ). value b.plane (point_at p) <ℤ pos 0) (sym (place_is mesh b.at_face b.at b.at_face_in b.at_in)) b.behind);
     }
 
-pub surface_is_hull : (mesh : Mesh) → IsShape mesh → IsSurface mesh → IsHullOfItsFaces mesh
+pub surface_is_hull : (mesh : Mesh) → IsShape mesh → IsSurface mesh → IsHullOfItsCorners mesh
 surface_is_hull mesh shape surface = record { inside = λ q hw. (inside_combined mesh shape surface q hw, combined_inside mesh shape q hw) }
 
 -- and of all points, where each is a corner of a face
@@ -190,34 +190,8 @@ surface_is_hull_of_points mesh shape surface all =
     not_on mesh shape surface q hw inside m (λ k d lt i e hi. b.most (get_or (get_or mesh.faces k d) i e) ((shape.faces k d lt).there i e hi)) b.at (get_or mesh.points b.far []) b.behind)
 
 -- ---- polyhedra
-least_or_below : (x : ℤ) → (pos 0 ≤ℤ x) ⊎ (x <ℤ pos 0)
-least_or_below (pos n) = inl (omega (arith, sums))
-least_or_below (negsuc n) = inr (omega (arith, sums))
+pub polyhedron_is_hull : (unit : LengthUnit) (points : List (List ℤ)) (faces : List (List ℕ)) → IsPolyhedron unit points faces → IsHullOfItsCorners (polyhedron_of unit points faces)
+polyhedron_is_hull unit points faces h = surface_is_hull (polyhedron_of unit points faces) (polyhedron_is_shape unit points faces h) h.surface
 
-both_most : (v : ℤ) → v ≤ℤ pos 0 → pos 0 ≤ℤ v → v ≡ pos 0
-both_most v h k = omega (arith, sums, h, k)
-
--- not all points of the faces are on the plane of a face: some point is behind it
-body_behind : (mesh : Mesh) → IsConvex mesh → (face : List ℕ) → HasOuterPlane mesh face → HasBodyBehind mesh face
-body_behind mesh convex face outer =
-    let at : ℕ → ℤ = value_at mesh.points outer.plane in
-    let Below : List ℕ → Type 0 = λ f. (i : ℕ) × (i < length f) × (at (get_or f i 0) <ℤ pos 0) in
-    elim (some_or_all (λ f. AllByRecursion (λ i. pos 0 ≤ℤ at i) f) Below [] (some_or_all (λ i. pos 0 ≤ℤ at i) (λ i. at i <ℤ pos 0) 0 (λ i. least_or_below (at i))) mesh.faces) [
-      | inl least ↦ absurd (convex.solid (record {
-        plane = outer.plane;
-        directed = outer.is.directed;
-        on = λ k d lt i e hi. both_most _ (outer.is.none_ahead k d lt i e hi)
-            (All-from_recursion (λ j. pos 0 ≤ℤ at j) (get_or mesh.faces k d) (All-from_recursion (λ f. AllByRecursion (λ j. pos 0 ≤ℤ at j) f) mesh.faces least k d lt) i e hi);
-      }))
-      | inr some ↦ record { plane = outer.plane; is = outer.is; at_face = some.0; at = some.2.0; at_face_in = some.1; at_in = some.2.1; behind = some.2.2 }
-    ]
-
-polyhedron_is_shape : (unit : LengthUnit) (points : List (List ℤ)) (faces : List (List ℕ)) → IsPolyhedron unit points faces → IsShape (mesh_of unit points faces)
-polyhedron_is_shape unit points faces h =
-    shape_of unit points faces h (λ k d lt. body_behind (mesh_of unit points faces) h.surface.convex (get_or faces k d) (h.surface.convex.faces k d lt))
-
-pub polyhedron_is_hull : (unit : LengthUnit) (points : List (List ℤ)) (faces : List (List ℕ)) → IsPolyhedron unit points faces → IsHullOfItsFaces (mesh_of unit points faces)
-polyhedron_is_hull unit points faces h = surface_is_hull (mesh_of unit points faces) (polyhedron_is_shape unit points faces h) h.surface
-
-pub polyhedron_is_hull_of_points : (unit : LengthUnit) (points : List (List ℤ)) (faces : List (List ℕ)) → IsPolyhedron unit points faces → AreAllCorners (mesh_of unit points faces) → IsHullOfItsPoints (mesh_of unit points faces)
-polyhedron_is_hull_of_points unit points faces h = surface_is_hull_of_points (mesh_of unit points faces) (polyhedron_is_shape unit points faces h) h.surface
+pub polyhedron_is_hull_of_points : (unit : LengthUnit) (points : List (List ℤ)) (faces : List (List ℕ)) → IsPolyhedron unit points faces → AreAllCorners (polyhedron_of unit points faces) → IsHullOfItsPoints (polyhedron_of unit points faces)
+polyhedron_is_hull_of_points unit points faces h = surface_is_hull_of_points (polyhedron_of unit points faces) (polyhedron_is_shape unit points faces h) h.surface

@@ -1,7 +1,7 @@
 -- Points as they are seen from a point that a plane has ahead: in the central projection onto a parallel plane, the three turns of a triangle
 -- sum to one number whose sign tells the side of the triangle's plane.
 use Rattle.std.proofs.Common.{◌≡◌, [], ◌∷◌, ◌+◌, ◌<◌, refl, sym, ap, ◌∙◌, arith, ℤ, pos, ◌+ℤ◌, ◌-ℤ◌, ◌*ℤ◌, ◌<ℤ◌, ◌≤ℤ◌, unsigned_abs}
-use Rattle.plane_predicate.specs.Space.{Coefficients, Coordinates, determinant, inner_product, through, value}
+use Rattle.plane_predicate.specs.Space.{Coefficients, Coordinates, determinant, inner_product, plane_of_points, value}
 use Rattle.plane_predicate.proofs.IntegerRing.{sums}
 use Rattle.plane_predicate.proofs.Polynomials.{Poly, var, num, plus, times, minus, ring}
 use Rattle.plane_predicate.proofs.SamePlanes.{directed_above}
@@ -51,7 +51,7 @@ depth_seen m q x y z =
 -- the volume that a triangle spans with q
 volume_seen : (q : Coordinates) (a b c d e f g h i : ℤ) →
     determinant (q.w *ℤ a -ℤ q.x) (q.w *ℤ b -ℤ q.y) (q.w *ℤ c -ℤ q.z) (q.w *ℤ d -ℤ q.x) (q.w *ℤ e -ℤ q.y) (q.w *ℤ f -ℤ q.z) (q.w *ℤ g -ℤ q.x) (q.w *ℤ h -ℤ q.y) (q.w *ℤ i -ℤ q.z)
-    ≡ pos 0 -ℤ (q.w *ℤ q.w) *ℤ value (through (whole a b c) (whole d e f) (whole g h i)) q
+    ≡ pos 0 -ℤ (q.w *ℤ q.w) *ℤ value (plane_of_points (whole a b c) (whole d e f) (whole g h i)) q
 volume_seen q a b c d e f g h i =
     let Q = place 0 in let U = wholeP 4 in let V = wholeP 7 in let X = wholeP 10 in
     let part = λ (s t : Poly). minus (times Q.w s) t in
@@ -69,7 +69,7 @@ turned_signs gu gv gx s t r n w v d e f =
 -- the turns of a triangle, each times the depth of the third point
 pub triangle_seen : (m : Coefficients) (q : Coordinates) (a b c d e f g h i : ℤ) →
     let U = whole a b c in let V = whole d e f in let X = whole g h i in
-    depth m q X *ℤ swing m q U V +ℤ depth m q U *ℤ swing m q V X +ℤ depth m q V *ℤ swing m q X U ≡ inner_product m m *ℤ ((q.w *ℤ q.w) *ℤ value (through U V X) q)
+    depth m q X *ℤ swing m q U V +ℤ depth m q U *ℤ swing m q V X +ℤ depth m q V *ℤ swing m q X U ≡ inner_product m m *ℤ ((q.w *ℤ q.w) *ℤ value (plane_of_points U V X) q)
 triangle_seen m q a b c d e f g h i =
     let u1 = q.w *ℤ a -ℤ q.x in let u2 = q.w *ℤ b -ℤ q.y in let u3 = q.w *ℤ c -ℤ q.z in
     let v1 = q.w *ℤ d -ℤ q.x in let v2 = q.w *ℤ e -ℤ q.y in let v3 = q.w *ℤ f -ℤ q.z in
@@ -78,7 +78,7 @@ triangle_seen m q a b c d e f g h i =
     let s = swing m q U V in let t = swing m q V X in let r = swing m q X U in
     let now : depth m q X *ℤ s +ℤ depth m q U *ℤ t +ℤ depth m q V *ℤ r ≡ (pos 0 -ℤ dot m.a m.b m.c x1 x2 x3) *ℤ s +ℤ (pos 0 -ℤ dot m.a m.b m.c u1 u2 u3) *ℤ t +ℤ (pos 0 -ℤ dot m.a m.b m.c v1 v2 v3) *ℤ r =
     λ n. depth_seen m q g h i n *ℤ s +ℤ depth_seen m q a b c n *ℤ t +ℤ depth_seen m q d e f n *ℤ r in
-    now ∙ turned_signs (dot m.a m.b m.c u1 u2 u3) (dot m.a m.b m.c v1 v2 v3) (dot m.a m.b m.c x1 x2 x3) s t r (inner_product m m) (q.w *ℤ q.w) (value (through U V X) q) (determinant u1 u2 u3 v1 v2 v3 x1 x2 x3)
+    now ∙ turned_signs (dot m.a m.b m.c u1 u2 u3) (dot m.a m.b m.c v1 v2 v3) (dot m.a m.b m.c x1 x2 x3) s t r (inner_product m m) (q.w *ℤ q.w) (value (plane_of_points U V X) q) (determinant u1 u2 u3 v1 v2 v3 x1 x2 x3)
     (four_vectors m.a m.b m.c u1 u2 u3 v1 v2 v3 x1 x2 x3) (volume_seen q a b c d e f g h i)
 
 -- each point is moved along its ray to one depth: the turns of a triangle sum to one number
@@ -104,9 +104,9 @@ not_behind k x y z e hk hy hz = least_cancel k x hk (omega (arith, sums, e, most
 
 -- a point behind a plane isn't behind the plane of a triangle in it that goes round clockwise
 pub clockwise_side : (n : Coefficients) (a b c d e g h i j : ℤ) → let A = whole a b c in let B = whole d e g in let C = whole h i j in
-    GoesThrough n A B C → 0 < unsigned_abs n.a + unsigned_abs n.b + unsigned_abs n.c → inner_product n (through A B C) ≤ℤ pos 0 → (q : Coordinates) → value n q <ℤ pos 0 → pos 0 ≤ℤ value (through A B C) q
+    GoesThrough n A B C → 0 < unsigned_abs n.a + unsigned_abs n.b + unsigned_abs n.c → inner_product n (plane_of_points A B C) ≤ℤ pos 0 → (q : Coordinates) → value n q <ℤ pos 0 → pos 0 ≤ℤ value (plane_of_points A B C) q
 clockwise_side n a b c d e g h i j t directed clockwise q behind =
-    let T = through (whole a b c) (whole d e g) (whole h i j) in
+    let T = plane_of_points (whole a b c) (whole d e g) (whole h i j) in
     let same : inner_product n n *ℤ value T q ≡ value n q *ℤ inner_product n T =
     sym (ap (λ (z : ℤ). z *ℤ value T q) (value_beyond n n)) ∙ in_proportion n a b c d e g h i j t (beyond n) q ∙ ap (λ (z : ℤ). value n q *ℤ z) (value_beyond n T) in
     not_behind (inner_product n n) (value T q) (value n q) (inner_product n T) same (directed_above n directed) behind clockwise

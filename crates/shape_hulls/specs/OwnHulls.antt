@@ -12,16 +12,16 @@ pub record IsHullOfItsPoints (mesh : Mesh) : Type 0 where
   pub inside : (q : Coordinates) → pos 0 <ℤ q.w → IsInside mesh q ↔ IsInnerCombination mesh.points q
 
 -- the points of the faces: each corner of each face, in order. A point that is listed and no corner of a face isn't among them
-abbrev pub face_points : Mesh → List (List ℤ)
-face_points mesh = flat_map (λ f. map (λ i. get_or mesh.points i []) f) mesh.faces
+abbrev pub corner_points : Mesh → List (List ℤ)
+corner_points mesh = flat_map (λ f. map (λ i. get_or mesh.points i []) f) mesh.faces
 
 -- a point is inside the shape exactly where it is a combination of its faces' points with weights above 0: the shape is
 -- their convex hull, without its boundary
-pub record IsHullOfItsFaces (mesh : Mesh) : Type 0 where
-  pub inside : (q : Coordinates) → pos 0 <ℤ q.w → IsInside mesh q ↔ IsInnerCombination (face_points mesh) q
+pub record IsHullOfItsCorners (mesh : Mesh) : Type 0 where
+  pub inside : (q : Coordinates) → pos 0 <ℤ q.w → IsInside mesh q ↔ IsInnerCombination (corner_points mesh) q
 
 -- a point that is a corner of some face
-pub record IsCornerOf (faces : List (List ℕ)) (i : ℕ) : Type 0 where
+pub record IsFaceCorner (faces : List (List ℕ)) (i : ℕ) : Type 0 where
   pub face : ℕ
   pub at : ℕ
   pub face_in : face < length faces
@@ -30,7 +30,7 @@ pub record IsCornerOf (faces : List (List ℕ)) (i : ℕ) : Type 0 where
 
 -- each point of a mesh is a corner of some face
 abbrev pub AreAllCorners : Mesh → Type 0
-AreAllCorners mesh = (i : ℕ) → i < length mesh.points → IsCornerOf mesh.faces i
+AreAllCorners mesh = (i : ℕ) → i < length mesh.points → IsFaceCorner mesh.faces i
 
 -- the planes of a shape where a map places it, which leaves its faces faces of a body
 pub record ArePlacedPlanes (mesh : Mesh) (f : Affine) (planes : List Coefficients) : Type 0 where

@@ -8,7 +8,7 @@ ghost use Rattle.int_transform.specs.Maps.{image};
 ghost use Rattle.primitives.specs.Boxes.{cube_of};
 ghost use Rattle.primitives.specs.Placing.{moved_mesh, IsBehindAll};
 ghost use Rattle.primitives.specs.Polygons.{IsFlatShape};
-ghost use Rattle.primitives.specs.Polyhedra.{mesh_of, IsPolyhedron};
+ghost use Rattle.primitives.specs.Polyhedra.{polyhedron_of, IsPolyhedron};
 ghost use Rattle.primitives.specs.Prisms.{extrusion_of};
 ghost use Rattle.primitives.specs.Shapes.{Mesh, IsInside};
 ghost use Rattle.primitives.specs.Sizes.{AreSizes};
@@ -16,7 +16,7 @@ ghost use Rattle.round_four.specs.Cylinders.{cylinder_of, AreCylinderSizes};
 ghost use Rattle.scad_hull.specs.Combinations.{IsInnerCombination};
 ghost use Rattle.scad_hull.specs.Hulls.{hull_of};
 ghost use Rattle.scad_hull.specs.Refusals.{HaveHull};
-ghost use Rattle.shape_hulls.specs.OwnHulls.{face_points, AreAllCorners, ArePlacedPlanes, IsHullOfItsFaces, IsHullOfItsPoints};
+ghost use Rattle.shape_hulls.specs.OwnHulls.{corner_points, AreAllCorners, ArePlacedPlanes, IsHullOfItsCorners, IsHullOfItsPoints};
 
 /// A cube is the hull of its corners.
 pub fn cubes_are_hulls_of_their_points()
@@ -44,15 +44,13 @@ pub fn hulls_are_hulls_of_their_points()
     ensures { (given : List (List ℤ)) → HaveHull given → IsHullOfItsPoints (hull_of given) }
 {}
 
-/// A polyhedron is the hull of its faces' points: a point is strictly behind all of its faces
-/// exactly where it is a combination of these points with weights above 0. Where each point is a
-/// corner of a face, it is the hull of its points.
-pub fn polyhedra_are_hulls_of_their_faces()
+/// A polyhedron is the hull of the points that are corners of its faces, and of all its points where each one is such a corner.
+pub fn polyhedra_are_hulls_of_their_corners()
     ensures faces { (unit : LengthUnit) (points : List (List ℤ)) (faces : List (List ℕ)) →
-        IsPolyhedron unit points faces → IsHullOfItsFaces (mesh_of unit points faces) }
+        IsPolyhedron unit points faces → IsHullOfItsCorners (polyhedron_of unit points faces) }
     ensures points { (unit : LengthUnit) (points : List (List ℤ)) (faces : List (List ℕ)) →
-        IsPolyhedron unit points faces → AreAllCorners (mesh_of unit points faces) →
-        IsHullOfItsPoints (mesh_of unit points faces) }
+        IsPolyhedron unit points faces → AreAllCorners (polyhedron_of unit points faces) →
+        IsHullOfItsPoints (polyhedron_of unit points faces) }
 {}
 
 /// A point is inside a shape exactly where its image is strictly behind all planes of the placed
@@ -63,9 +61,8 @@ pub fn images_of_points_inside_are_behind_planes()
         IsInside mesh p ↔ IsBehindAll planes (image f p) }
 {}
 
-/// A placed shape is the hull of its placed points where the shape is the hull of its points: a
-/// point is strictly behind all of its planes exactly where it is a combination of the placed points
-/// with weights above 0. So it is within reach where they are.
+/// A placed shape is the hull of its placed points where the shape is the hull of its points. So it is within reach where they
+/// are.
 pub fn placed_shapes_are_hulls_of_their_points()
     ensures hull { (mesh : Mesh) (f : Affine) (planes : List Coefficients) →
         ArePlacedPlanes mesh f planes → IsHullOfItsPoints mesh →
@@ -82,16 +79,16 @@ pub fn placed_shapes_are_hulls_of_their_points()
 
 /// The same of a shape that is the hull of its faces' points, as a polyhedron is, whatever other
 /// points it lists.
-pub fn placed_shapes_are_hulls_of_their_faces()
+pub fn placed_shapes_are_hulls_of_their_corners()
     ensures hull { (mesh : Mesh) (f : Affine) (planes : List Coefficients) →
-        ArePlacedPlanes mesh f planes → IsHullOfItsFaces mesh →
-        IsHullOfItsFaces (moved_mesh f mesh) }
+        ArePlacedPlanes mesh f planes → IsHullOfItsCorners mesh →
+        IsHullOfItsCorners (moved_mesh f mesh) }
     ensures behind { (mesh : Mesh) (f : Affine) (planes : List Coefficients) →
-        ArePlacedPlanes mesh f planes → IsHullOfItsFaces mesh →
+        ArePlacedPlanes mesh f planes → IsHullOfItsCorners mesh →
         (q : Coordinates) → pos 0 <ℤ q.w →
-        IsBehindAll planes q ↔ IsInnerCombination (face_points (moved_mesh f mesh)) q }
+        IsBehindAll planes q ↔ IsInnerCombination (corner_points (moved_mesh f mesh)) q }
     ensures reach { (mesh : Mesh) (f : Affine) (planes : List Coefficients) →
-        ArePlacedPlanes mesh f planes → IsHullOfItsFaces mesh →
+        ArePlacedPlanes mesh f planes → IsHullOfItsCorners mesh →
         All (λ p. IsInReach (point_at p)) (moved_mesh f mesh).points →
         (q : Coordinates) → pos 0 <ℤ q.w → IsBehindAll planes q → IsInReach q }
 {}

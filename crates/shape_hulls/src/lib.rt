@@ -1,5 +1,5 @@
 //! Shapes as the hulls of their points: what is inside a cube, a polyhedron, a cylinder, an extrusion or a hull, before and
-//! after it is placed, as laws that the program doesn't call.
+//! after it is placed, as laws, which do nothing when they run.
 #![tactic(auto)]
 
 mod laws;
@@ -7,6 +7,6 @@ mod laws;
 pub use laws::{
     cubes_are_hulls_of_their_points, cylinders_are_hulls_of_their_points,
     extrusions_are_hulls_of_their_points, hulls_are_hulls_of_their_points,
-    images_of_points_inside_are_behind_planes, placed_shapes_are_hulls_of_their_faces,
-    placed_shapes_are_hulls_of_their_points, polyhedra_are_hulls_of_their_faces,
+    images_of_points_inside_are_behind_planes, placed_shapes_are_hulls_of_their_corners,
+    placed_shapes_are_hulls_of_their_points, polyhedra_are_hulls_of_their_corners,
 };

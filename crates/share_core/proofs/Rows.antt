@@ -1,8 +1,8 @@
 -- Runs of two clients that are written out: each has one command of one node, and both nodes have one key.
 use Rattle.std.proofs.Common.{◌≡◌, ℕ, true, false, List, [], ◌∷◌, drop, Option, Some, None, refl, inl, inr, nat_eq, nat_lt, if◌then◌else◌}
-use Rattle.memo_core.specs.Memo.{Entry, Item, item, Probe_answer, Fill_answer}
-use Rattle.share_core.specs.Views.{Node, Unasked, Missed, Built, There, Part, ClientTasks, Machine}
-use Rattle.share_core.specs.Steps.{is_possible, Steps, first_machine}
+use Rattle.memo_core.specs.Memo.{Entry, JournalRecord, journal_record, ProbeAnswer, FillAnswer}
+use Rattle.share_core.specs.Views.{NodeProgress, Unasked, Missed, Built, There, ClientProgress, ClientTasks, Machine}
+use Rattle.share_core.specs.Steps.{is_possible, StepsMachine, first_machine}
 use Rattle.share_core.specs.Runs.{Runs}
 use Rattle.share_core.specs.declared.event.Act.{Act}
 use Rattle.share_core.specs.declared.event.Act.TheVariants.{Command, Probe, Build, Fill, Reply}
@@ -32,40 +32,40 @@ abbrev TwoRun : Machine ℕ ℕ ℕ → List Event → List Event → Machine �
 TwoRun = Runs nat_eq name_of IsFive itself tasks
 
 abbrev TwoStep : Machine ℕ ℕ ℕ → Event → Machine ℕ ℕ ℕ → Type 0
-TwoStep = Steps nat_eq name_of IsFive itself tasks
+TwoStep = StepsMachine nat_eq name_of IsFive itself tasks
 
 abbrev event : ℕ → Act → Event
 event client act = record { client = client; act = act }
 
 abbrev entry : Entry ℕ ℕ
-entry = record { mark = record { name = 0 ∷ []; key = 7; weight = 5; owner = 0 }; value = 5 }
+entry = record { header = record { name = 0 ∷ []; key = 7; weight = 5; owner = 0 }; value = 5 }
 
-abbrev part : Option (List (Node ℕ)) → List ℕ → Part ℕ ℕ
+abbrev part : Option (List (NodeProgress ℕ)) → List ℕ → ClientProgress ℕ ℕ
 part nodes replies = record { nodes = nodes; replies = replies }
 
-abbrev idle : Part ℕ ℕ
+abbrev idle : ClientProgress ℕ ℕ
 idle = part None []
 
-abbrev at : Node ℕ → Part ℕ ℕ
+abbrev at : NodeProgress ℕ → ClientProgress ℕ ℕ
 at node = part (Some (node ∷ [])) []
 
-abbrev answered : Part ℕ ℕ
+abbrev answered : ClientProgress ℕ ℕ
 answered = part None (35 ∷ [])
 
-abbrev machine : List (Entry ℕ ℕ) → List (Item ℕ) → Part ℕ ℕ → Part ℕ ℕ → Machine ℕ ℕ ℕ
+abbrev machine : List (Entry ℕ ℕ) → List (JournalRecord ℕ) → ClientProgress ℕ ℕ → ClientProgress ℕ ℕ → Machine ℕ ℕ ℕ
 machine entries journal first second = record {
   memo = record { entries = entries; dropped = []; budget = 10; share = 0; journal = journal; spare = 0 };
   parts = first ∷ second ∷ [];
 }
 
-abbrev miss : ℕ → Item ℕ
-miss client = item client 7 (Probe_answer false)
+abbrev miss : ℕ → JournalRecord ℕ
+miss client = journal_record client 7 (ProbeAnswer false)
 
-abbrev hit : ℕ → Item ℕ
-hit client = item client 7 (Probe_answer true)
+abbrev hit : ℕ → JournalRecord ℕ
+hit client = journal_record client 7 (ProbeAnswer true)
 
-abbrev kept : ℕ → Item ℕ
-kept client = item client 7 (Fill_answer 5 true 0)
+abbrev kept : ℕ → JournalRecord ℕ
+kept client = journal_record client 7 (FillAnswer 5 true 0)
 
 -- ---- both probe before one fills
 abbrev both_miss : List Event
@@ -303,12 +303,12 @@ not_there_yet : is_possible tasks (machine [] [] (at (Built 5 5)) idle) (event 0
 not_there_yet = refl
 
 -- ---- a fill that is too heavy is noted, and its node is there all the same
-abbrev without_budget : List (Item ℕ) → Part ℕ ℕ → Machine ℕ ℕ ℕ
+abbrev without_budget : List (JournalRecord ℕ) → ClientProgress ℕ ℕ → Machine ℕ ℕ ℕ
 without_budget journal first = record {
   memo = record { entries = []; dropped = []; budget = 4; share = 0; journal = journal; spare = 0 };
   parts = first ∷ [];
 }
 
 heavy_is_there : TwoStep (without_budget [] (at (Built 5 5))) (event 0 (Fill 0))
-    (without_budget (item 0 7 (Fill_answer 5 false 0) ∷ []) (at (There 5)))
+    (without_budget (journal_record 0 7 (FillAnswer 5 false 0) ∷ []) (at (There 5)))
 heavy_is_there = (at (Built 5 5), at (There 5), refl, (5, 5, refl, refl, refl), refl)

@@ -4,8 +4,8 @@ use Rattle.std.specs.Prelude.{Option, IfSome, slice_get}
 use Rattle.std.proofs.lemmas.Option.{none-some, same_Some, slice_get_within}
 use Rattle.std.specs.Option.{option_map_or}
 use Rattle.std.proofs.lemmas.List.{length-append, length-set, length-replicate}
-use Rattle.share_core.specs.Views.{Node, Unasked, Missed, Built, There, Part, ClientTasks, MoreThere}
-use Rattle.share_core.specs.Fields.{value_of, have, IsSoundNode, AreSoundNodes, IsSoundPart, AreRepliesFrom}
+use Rattle.share_core.specs.Views.{NodeProgress, Unasked, Missed, Built, There, ClientProgress, ClientTasks, MoreThere}
+use Rattle.share_core.specs.Fields.{value_of, values_of, IsSoundNode, AreSoundNodes, IsSoundPart, AreRepliesFrom}
 use Rattle.share_core.specs.Steps.{all_there, key_at, node_at, with_node, part_at_command, part_after_reply, can_do, is_at, is_unasked, is_missed}
 use Rattle.share_core.specs.declared.event.Act.TheVariants.{Probe, Build, Reply}
 use Rattle.share_core.proofs.Nodes.{never, both, unasked_at, missed_at, sound_at, more_set, node_stays, nodes_stay, sound_set, unasked_sound}
@@ -17,23 +17,23 @@ replies_more f n (x ∷ xs) r a e = let k : n + length (x ∷ xs) ≡ n + 1 + le
 
 module _ {V R : Type 0} where
   -- a node that is at a place is within the nodes
-  pub node_within : (part : Part V R) (n : ℕ) (x : Node V) → node_at n part ≡ Some (Some x) → IfSome part.nodes (λ xs. n < length xs)
+  pub node_within : (part : ClientProgress V R) (n : ℕ) (x : NodeProgress V) → node_at n part ≡ Some (Some x) → IfSome part.nodes (λ xs. n < length xs)
   node_within part n x = go part.nodes where
-    go : (o : Option (List (Node V))) → option_map (λ xs. slice_get xs n) o ≡ Some (Some x) → IfSome o (λ xs. n < length xs)
+    go : (o : Option (List (NodeProgress V))) → option_map (λ xs. slice_get xs n) o ≡ Some (Some x) → IfSome o (λ xs. n < length xs)
     go None e = tt
     go (Some xs) e = slice_get_within xs n x (same_Some _ _ e)
 
-module _ {K V R : Type 0} (fits : K → V → Type 0) (weighs : V → ℕ) (tasks : ClientTasks K V R) (client : ℕ) (part : Part V R) (s : IsSoundPart fits weighs tasks client part) where
+module _ {K V R : Type 0} (fits : K → V → Type 0) (weighs : V → ℕ) (tasks : ClientTasks K V R) (client : ℕ) (part : ClientProgress V R) (s : IsSoundPart fits weighs tasks client part) where
   -- the nodes of the command that a client is at
-  pub nodes_in : (xs : List (Node V)) → part.nodes ≡ Some xs → AreSoundNodes fits weighs tasks client (length part.replies) (have xs) 0 xs
-  nodes_in xs e = subst (λ o. IfSome o (λ ys. AreSoundNodes fits weighs tasks client (length part.replies) (have ys) 0 ys)) e s.sound
+  pub nodes_in : (xs : List (NodeProgress V)) → part.nodes ≡ Some xs → AreSoundNodes fits weighs tasks client (length part.replies) (values_of xs) 0 xs
+  nodes_in xs e = subst (λ o. IfSome o (λ ys. AreSoundNodes fits weighs tasks client (length part.replies) (values_of ys) 0 ys)) e s.sound
 
   -- a node of the command that a client is at
-  pub node_in : (n : ℕ) (x : Node V) → node_at n part ≡ Some (Some x) → (xs : List (Node V)) × IsSoundNode fits weighs tasks client (length part.replies) (have xs) n x
+  pub node_in : (n : ℕ) (x : NodeProgress V) → node_at n part ≡ Some (Some x) → (xs : List (NodeProgress V)) × IsSoundNode fits weighs tasks client (length part.replies) (values_of xs) n x
   node_in n x = go part.nodes s.sound where
-    go : (o : Option (List (Node V))) → IfSome o (λ ys. AreSoundNodes fits weighs tasks client (length part.replies) (have ys) 0 ys) → option_map (λ xs. slice_get xs n) o ≡ Some (Some x) → (xs : List (Node V)) × IsSoundNode fits weighs tasks client (length part.replies) (have xs) n x
+    go : (o : Option (List (NodeProgress V))) → IfSome o (λ ys. AreSoundNodes fits weighs tasks client (length part.replies) (values_of ys) 0 ys) → option_map (λ xs. slice_get xs n) o ≡ Some (Some x) → (xs : List (NodeProgress V)) × IsSoundNode fits weighs tasks client (length part.replies) (values_of xs) n x
     go None t e = absurd (none-some _ e)
-    go (Some xs) t e = (xs, sound_at fits weighs tasks client (length part.replies) (have xs) n xs x t (same_Some _ _ e))
+    go (Some xs) t e = (xs, sound_at fits weighs tasks client (length part.replies) (values_of xs) n xs x t (same_Some _ _ e))
 
   -- what was built fits its key, and weighs its weight
   pub built_fits : (n : ℕ) (v : V) (w : ℕ) → node_at n part ≡ Some (Some (Built v w)) → fits (key_at tasks client n part) v × (w ≡ weighs v)
@@ -46,7 +46,7 @@ module _ {K V R : Type 0} (fits : K → V → Type 0) (weighs : V → ℕ) (task
     within = s.within;
     command = lt;
     count = length-replicate (tasks.nodes client (length part.replies)) Unasked;
-    sound = unasked_sound fits weighs tasks client (length part.replies) (have (replicate (tasks.nodes client (length part.replies)) Unasked)) (tasks.nodes client (length part.replies)) 0;
+    sound = unasked_sound fits weighs tasks client (length part.replies) (values_of (replicate (tasks.nodes client (length part.replies)) Unasked)) (tasks.nodes client (length part.replies)) 0;
   }
 
   -- a client that answers its command
@@ -61,8 +61,8 @@ module _ {K V R : Type 0} (fits : K → V → Type 0) (weighs : V → ℕ) (task
 
   module _ (stays : (command node : ℕ) (old new : List (Option V)) → MoreThere old new → tasks.ready client command node old ≡ true → tasks.ready client command node new ≡ true) where
     -- another state at a node that was not there
-    pub with_node_sound : (n : ℕ) (y x : Node V) → node_at n part ≡ Some (Some y) → value_of y ≡ None
-        → ((xs : List (Node V)) → part.nodes ≡ Some xs → IsSoundNode fits weighs tasks client (length part.replies) (have xs) n x)
+    pub with_node_sound : (n : ℕ) (y x : NodeProgress V) → node_at n part ≡ Some (Some y) → value_of y ≡ None
+        → ((xs : List (NodeProgress V)) → part.nodes ≡ Some xs → IsSoundNode fits weighs tasks client (length part.replies) (values_of xs) n x)
         → IsSoundPart fits weighs tasks client (with_node n x part)
     with_node_sound n y x at none sx = record {
       answered = s.answered;
@@ -71,44 +71,44 @@ module _ {K V R : Type 0} (fits : K → V → Type 0) (weighs : V → ℕ) (task
       count = keep_count _ part.nodes s.count;
       sound = keep_sound part.nodes refl s.sound at;
     } where
-      keep : (A : Type 0) (o : Option (List (Node V))) → IfSome o (λ _. A) → IfSome (option_map (λ xs. set xs n x) o) (λ _. A)
+      keep : (A : Type 0) (o : Option (List (NodeProgress V))) → IfSome o (λ _. A) → IfSome (option_map (λ xs. set xs n x) o) (λ _. A)
       keep A None t = tt
       keep A (Some xs) t = t
 
-      keep_count : (k : ℕ) (o : Option (List (Node V))) → IfSome o (λ xs. length xs ≡ k) → IfSome (option_map (λ xs. set xs n x) o) (λ xs. length xs ≡ k)
+      keep_count : (k : ℕ) (o : Option (List (NodeProgress V))) → IfSome o (λ xs. length xs ≡ k) → IfSome (option_map (λ xs. set xs n x) o) (λ xs. length xs ≡ k)
       keep_count k None t = tt
       keep_count k (Some xs) t = length-set xs n x ∙ t
 
-      keep_sound : (o : Option (List (Node V))) → part.nodes ≡ o → IfSome o (λ ys. AreSoundNodes fits weighs tasks client (length part.replies) (have ys) 0 ys) → option_map (λ xs. slice_get xs n) o ≡ Some (Some y)
-          → IfSome (option_map (λ xs. set xs n x) o) (λ ys. AreSoundNodes fits weighs tasks client (length part.replies) (have ys) 0 ys)
+      keep_sound : (o : Option (List (NodeProgress V))) → part.nodes ≡ o → IfSome o (λ ys. AreSoundNodes fits weighs tasks client (length part.replies) (values_of ys) 0 ys) → option_map (λ xs. slice_get xs n) o ≡ Some (Some y)
+          → IfSome (option_map (λ xs. set xs n x) o) (λ ys. AreSoundNodes fits weighs tasks client (length part.replies) (values_of ys) 0 ys)
       keep_sound None e t a = tt
       keep_sound (Some xs) e t a =
           let m = more_set xs n y x (same_Some _ _ a) none in
           let k : n ≡ 0 + n = omega arith in
-          sound_set fits weighs tasks client (length part.replies) (have (set xs n x)) 0 n xs x
-          (nodes_stay fits weighs tasks client stays (length part.replies) (have xs) (have (set xs n x)) 0 xs m t)
-          (subst (λ i. IsSoundNode fits weighs tasks client (length part.replies) (have (set xs n x)) i x) k (node_stays fits weighs tasks client stays (length part.replies) (have xs) (have (set xs n x)) n x m (sx xs e)))
+          sound_set fits weighs tasks client (length part.replies) (values_of (set xs n x)) 0 n xs x
+          (nodes_stay fits weighs tasks client stays (length part.replies) (values_of xs) (values_of (set xs n x)) 0 xs m t)
+          (subst (λ i. IsSoundNode fits weighs tasks client (length part.replies) (values_of (set xs n x)) i x) k (node_stays fits weighs tasks client stays (length part.replies) (values_of xs) (values_of (set xs n x)) n x m (sx xs e)))
 
     -- a node that was probed
     pub probed_sound : (n : ℕ) (o : Option V) → can_do tasks client (Probe n) part ≡ true → IfSome o (fits (key_at tasks client n part)) → IsSoundPart fits weighs tasks client (with_node n (option_map_or There o Missed) part)
     probed_sound n o can f = with_node_sound n Unasked (option_map_or There o Missed) (at part.nodes can) refl (λ xs e. held o f xs (ready xs e)) where
-      at : (q : Option (List (Node V))) → option_map_or (λ xs. is_at is_unasked xs n && tasks.ready client (length part.replies) n (have xs)) q false ≡ true → option_map (λ xs. slice_get xs n) q ≡ Some (Some Unasked)
+      at : (q : Option (List (NodeProgress V))) → option_map_or (λ xs. is_at is_unasked xs n && tasks.ready client (length part.replies) n (values_of xs)) q false ≡ true → option_map (λ xs. slice_get xs n) q ≡ Some (Some Unasked)
       at None h = absurd (never h)
-      at (Some xs) h = ap Some (unasked_at xs n (both (is_at is_unasked xs n) (tasks.ready client (length part.replies) n (have xs)) h).0)
+      at (Some xs) h = ap Some (unasked_at xs n (both (is_at is_unasked xs n) (tasks.ready client (length part.replies) n (values_of xs)) h).0)
 
-      ready : (xs : List (Node V)) → part.nodes ≡ Some xs → tasks.ready client (length part.replies) n (have xs) ≡ true
+      ready : (xs : List (NodeProgress V)) → part.nodes ≡ Some xs → tasks.ready client (length part.replies) n (values_of xs) ≡ true
       ready xs e =
-          (both (is_at is_unasked xs n) (tasks.ready client (length part.replies) n (have xs))
-          (subst (λ q. option_map_or (λ ys. is_at is_unasked ys n && tasks.ready client (length part.replies) n (have ys)) q false ≡ true) e can)).1
+          (both (is_at is_unasked xs n) (tasks.ready client (length part.replies) n (values_of xs))
+          (subst (λ q. option_map_or (λ ys. is_at is_unasked ys n && tasks.ready client (length part.replies) n (values_of ys)) q false ≡ true) e can)).1
 
-      held : (q : Option V) → IfSome q (fits (key_at tasks client n part)) → (xs : List (Node V)) → tasks.ready client (length part.replies) n (have xs) ≡ true → IsSoundNode fits weighs tasks client (length part.replies) (have xs) n (option_map_or There q Missed)
+      held : (q : Option V) → IfSome q (fits (key_at tasks client n part)) → (xs : List (NodeProgress V)) → tasks.ready client (length part.replies) n (values_of xs) ≡ true → IsSoundNode fits weighs tasks client (length part.replies) (values_of xs) n (option_map_or There q Missed)
       held None h xs r = r
       held (Some v) h xs r = h
 
     -- a node that was built
     pub built_sound : (n : ℕ) (v : V) (w : ℕ) → can_do tasks client (Build n) part ≡ true → fits (key_at tasks client n part) v → w ≡ weighs v → IsSoundPart fits weighs tasks client (with_node n (Built v w) part)
     built_sound n v w can f g = with_node_sound n Missed (Built v w) (at part.nodes can) refl (λ xs e. (f, g)) where
-      at : (q : Option (List (Node V))) → option_map_or (λ xs. is_at is_missed xs n) q false ≡ true → option_map (λ xs. slice_get xs n) q ≡ Some (Some Missed)
+      at : (q : Option (List (NodeProgress V))) → option_map_or (λ xs. is_at is_missed xs n) q false ≡ true → option_map (λ xs. slice_get xs n) q ≡ Some (Some Missed)
       at None h = absurd (never h)
       at (Some xs) h = ap Some (missed_at xs n h)
 
@@ -119,6 +119,6 @@ module _ {K V R : Type 0} (fits : K → V → Type 0) (weighs : V → ℕ) (task
   -- a client that can answer is at a command that it has
   pub answering : can_do tasks client Reply part ≡ true → length part.replies < tasks.commands client
   answering = go part.nodes s.command where
-    go : (q : Option (List (Node V))) → IfSome q (λ _. length part.replies < tasks.commands client) → option_map_or all_there q false ≡ true → length part.replies < tasks.commands client
+    go : (q : Option (List (NodeProgress V))) → IfSome q (λ _. length part.replies < tasks.commands client) → option_map_or all_there q false ≡ true → length part.replies < tasks.commands client
     go None c h = absurd (never h)
     go (Some xs) c h = c

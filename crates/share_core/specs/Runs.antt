@@ -1,9 +1,9 @@
 -- Whole runs: every list of events.
 use Rattle.std.specs.Prelude.{◌≡◌, ℕ, ◌+◌, ◌<◌, ◌≤◌, take, Bool, true, false, List, [], ◌∷◌, ◌++◌, map, length, ◌⊎◌, nat_eq, if◌then◌else◌, slice_get, Some}
-use Rattle.memo_core.specs.Memo.{Item, Answer, Probe_answer, Fill_answer}
-use Rattle.share_core.specs.Views.{ClientTasks, Machine, Part}
+use Rattle.memo_core.specs.Memo.{JournalRecord, Answer, ProbeAnswer, FillAnswer}
+use Rattle.share_core.specs.Views.{ClientTasks, Machine, ClientProgress}
 use Rattle.share_core.specs.Fields.{AreRepliesFrom}
-use Rattle.share_core.specs.Steps.{is_possible, Steps}
+use Rattle.share_core.specs.Steps.{is_possible, StepsMachine}
 use Rattle.share_core.specs.declared.event.Act.{Act}
 use Rattle.share_core.specs.declared.event.Act.TheVariants.{Command, Probe, Build, Fill, Reply}
 use Rattle.share_core.specs.declared.event.Event.{Event}
@@ -17,7 +17,7 @@ module _ {K V R : Type 0} (same : K → K → Bool) (name_of : K → List ℕ) (
   Runs machine (e ∷ es) taken machine' =
       ((is_possible tasks machine e ≡ false) × Runs machine es taken machine')
       ⊎ ((is_possible tasks machine e ≡ true)
-      × ((next : Machine K V R) × (rest : List Event) × Steps same name_of fits weighs tasks machine e next
+      × ((next : Machine K V R) × (rest : List Event) × StepsMachine same name_of fits weighs tasks machine e next
       × (taken ≡ e ∷ rest) × Runs next es rest machine'))
 
 -- how many replies an act gives
@@ -39,17 +39,17 @@ pub record MemoCall (K : Type 0) : Type 0 where
   pub key : K
   pub is_fill : Bool
 
-abbrev pub fills : Answer → Bool
-fills (Probe_answer hit) = false
-fills (Fill_answer weight kept evicted) = true
+abbrev pub is_fill_answer : Answer → Bool
+is_fill_answer (ProbeAnswer hit) = false
+is_fill_answer (FillAnswer weight kept evicted) = true
 
 module _ {K : Type 0} where
   -- the call of an item of a journal
-  abbrev pub call_of : Item K → MemoCall K
-  call_of i = record { caller = i.caller; key = i.key; is_fill = fills i.answer }
+  abbrev pub memo_call_of : JournalRecord K → MemoCall K
+  memo_call_of i = record { caller = i.caller; key = i.key; is_fill = is_fill_answer i.answer }
 
-  abbrev pub calls_of : List (Item K) → List (MemoCall K)
-  calls_of items = map call_of items
+  abbrev pub memo_calls_of : List (JournalRecord K) → List (MemoCall K)
+  memo_calls_of items = map memo_call_of items
 
 module _ {K V R : Type 0} (tasks : ClientTasks K V R) where
   -- the call that an act makes, if it makes one, of a client that has answered so many commands
@@ -65,18 +65,17 @@ module _ {K V R : Type 0} (tasks : ClientTasks K V R) where
   calls_after before [] = []
   calls_after before (e ∷ es) = call_by e.client (replies_in e.client before) e.act ++ calls_after (before ++ e ∷ []) es
 
-  -- What a whole run leaves: one item of the journal for each Probe and each Fill that was taken, in their
-  -- order, with the event's client and its node's key; and for each client the replies of its first
-  -- commands, one for each of its Reply events that was taken.
-  pub record Leaves (taken : List Event) (machine : Machine K V R) : Type 0 where
-    pub calls : calls_of machine.memo.journal ≡ calls_after [] taken
-    pub count : (client : ℕ) (part : Part V R) → slice_get machine.parts client ≡ Some part →
+  -- What a whole run leaves: in the journal the call of each Probe and each Fill that was taken, in their order; and for
+  -- each client the replies of its first commands, one for each Reply that was taken.
+  pub record RunLeaves (taken : List Event) (machine : Machine K V R) : Type 0 where
+    pub calls : memo_calls_of machine.memo.journal ≡ calls_after [] taken
+    pub count : (client : ℕ) (part : ClientProgress V R) → slice_get machine.parts client ≡ Some part →
         length part.replies ≡ replies_in client taken
-    pub answered : (client : ℕ) (part : Part V R) → slice_get machine.parts client ≡ Some part →
+    pub answered : (client : ℕ) (part : ClientProgress V R) → slice_get machine.parts client ≡ Some part →
         AreRepliesFrom (tasks.reply client) 0 part.replies
 
 module _ {K V R : Type 0} where
-  -- two works agree on a client's commands where each command that both have has the same reply; that its
+  -- two sets of tasks agree on a client's commands where each command that both have has the same reply; that its
   -- nodes and keys are the same ones is not even asked
   abbrev pub AgreeOn : ClientTasks K V R → ClientTasks K V R → ℕ → Type 0
   AgreeOn tasks others client =
@@ -86,5 +85,5 @@ module _ {K V R : Type 0} where
   -- a client has the same replies in both, for as many commands as it answered in both
   abbrev pub SameReplies : Machine K V R → Machine K V R → ℕ → Type 0
   SameReplies machine other client =
-      (part part' : Part V R) → slice_get machine.parts client ≡ Some part → slice_get other.parts client ≡ Some part'
+      (part part' : ClientProgress V R) → slice_get machine.parts client ≡ Some part → slice_get other.parts client ≡ Some part'
       → (n : ℕ) → n ≤ length part.replies → n ≤ length part'.replies → take n part.replies ≡ take n part'.replies

@@ -12,22 +12,22 @@ pub record ClientTasks (K V R : Type 0) : Type 0 where
   pub reply : ℕ → ℕ → R
 
 -- how far a node is: not probed, missed, built with a weight, or there
-pub data Node (V : Type 0) : Type 0 where
-  Unasked : Node V
-  Missed : Node V
-  Built : V → ℕ → Node V
-  There : V → Node V
+pub data NodeProgress (V : Type 0) : Type 0 where
+  Unasked : NodeProgress V
+  Missed : NodeProgress V
+  Built : V → ℕ → NodeProgress V
+  There : V → NodeProgress V
 
--- One client's part: the nodes of the command that it is at, or none between commands, and its replies.
+-- One client's progress: the nodes of the command that it is at, or none between commands, and its replies.
 -- The command that it is at, or else its next one, has the number of its replies.
-pub record Part (V R : Type 0) : Type 0 where
-  pub nodes : Option (List (Node V))
+pub record ClientProgress (V R : Type 0) : Type 0 where
+  pub nodes : Option (List (NodeProgress V))
   pub replies : List R
 
 -- the memo, without the room of its journal, and each client's part
 pub record Machine (K V R : Type 0) : Type 0 where
   pub memo : MemoView K V
-  pub parts : List (Part V R)
+  pub parts : List (ClientProgress V R)
 
 module _ {K V : Type 0} where
   -- A memo without the room of its journal and without what it has dropped, which are no part of the

@@ -5,7 +5,7 @@ ghost use Rattle.memo_core.specs.Fields.{value_in};
 ghost use Rattle.memo_core.specs.Views.{after_probe, after_fill};
 ghost use Rattle.share_core.specs.Views.{Built, There, settled_memo};
 ghost use Rattle.share_core.specs.Fields.{part_of, IsSoundPart};
-ghost use Rattle.share_core.specs.Steps.{Answers, Changes, can_do, is_at, is_built, node_at, key_at};
+ghost use Rattle.share_core.specs.Steps.{TellsIfTaken, Changes, can_do, is_at, is_built, node_at, key_at};
 ghost use Rattle.share_core.specs.Steps.{part_at_command, part_after_reply, with_node, node_after_probe};
 ghost use Rattle.std.specs.Option.{option_map_or};
 
@@ -39,7 +39,7 @@ pub fn command<F: Fit, W: Work<F>>(
     client: u32,
 ) -> Result<Stepped, NoMemory>
     requires { IsSoundPart F.fits F.weighs (W.tasks work.now) client (part_of part.old) }
-    ensures acts { IfOk result (Answers
+    ensures acts { IfOk result (TellsIfTaken
         (can_do (W.tasks work.now) client Act.Command (part_of part.old))
         (part_of part.new ≡ part_at_command (W.tasks work.now) client (part_of part.old))
         (part_of part.new ≡ part_of part.old)) }
@@ -95,7 +95,7 @@ pub fn probe<F: Fit, N: Namer<F::Key>, W: Work<F>>(
     node: u32,
 ) -> Result<Stepped, NoMemory>
     requires { IsSoundPart F.fits F.weighs (W.tasks work.now) client (part_of part.old) }
-    ensures acts { IfOk result (Answers
+    ensures acts { IfOk result (TellsIfTaken
         (can_do (W.tasks work.now) client (Act.Probe node) (part_of part.old))
         ((settled_memo memo.new ≡ after_probe F.same_key client
         (key_at (W.tasks work.now) client node (part_of part.old)) (settled_memo memo.old))
@@ -152,7 +152,7 @@ pub fn build<F: Fit, W: Work<F>>(
     node: u32,
 ) -> Result<Stepped, NoMemory>
     requires { IsSoundPart F.fits F.weighs (W.tasks work.now) client (part_of part.old) }
-    ensures acts { IfOk result (Answers
+    ensures acts { IfOk result (TellsIfTaken
         (can_do (W.tasks work.now) client (Act.Build node) (part_of part.old))
         ((v : F.Value) × (w : ℕ)
         × F.fits (key_at (W.tasks work.now) client node (part_of part.old)) v
@@ -225,7 +225,7 @@ pub fn fill<F: Fit, N: Namer<F::Key>, W: Work<F>>(
     node: u32,
 ) -> Result<Stepped, NoMemory>
     requires { IsSoundPart F.fits F.weighs (W.tasks work.now) client (part_of part.old) }
-    ensures acts { IfOk result (Answers
+    ensures acts { IfOk result (TellsIfTaken
         (can_do (W.tasks work.now) client (Act.Fill node) (part_of part.old))
         ((v : F.Value) × (w : ℕ) × (node_at node (part_of part.old) ≡ Some (Some (Built v w)))
         × (settled_memo memo.new ≡ after_fill F.same_key N.name_of client
@@ -284,7 +284,7 @@ pub fn reply<F: Fit, W: Work<F>>(
     client: u32,
 ) -> Result<Stepped, NoMemory>
     requires { IsSoundPart F.fits F.weighs (W.tasks work.now) client (part_of part.old) }
-    ensures acts { IfOk result (Answers
+    ensures acts { IfOk result (TellsIfTaken
         (can_do (W.tasks work.now) client Act.Reply (part_of part.old))
         (part_of part.new ≡ part_after_reply (W.tasks work.now) client (part_of part.old))
         (part_of part.new ≡ part_of part.old)) }
@@ -309,7 +309,8 @@ pub fn act<F: Fit, N: Namer<F::Key>, W: Work<F>>(
     act: Act,
 ) -> Result<Stepped, NoMemory>
     requires { IsSoundPart F.fits F.weighs (W.tasks work.now) client (part_of part.old) }
-    ensures acts { IfOk result (Answers (can_do (W.tasks work.now) client act (part_of part.old))
+    ensures acts { IfOk result (TellsIfTaken (can_do (W.tasks work.now) client act
+        (part_of part.old))
         (Changes F.same_key N.name_of F.fits F.weighs (W.tasks work.now) client act
         (settled_memo memo.old) (part_of part.old) (settled_memo memo.new) (part_of part.new))
         ((settled_memo memo.new ≡ settled_memo memo.old) × (part_of part.new ≡ part_of part.old))) }

@@ -28,13 +28,14 @@ pub struct Nodes<V> {
 impl<V> Model for Nodes<V> {
     ghost use Rattle.std.specs.Prelude.{◌≡◌, List, map, length, option_map};
     ghost use Rattle.std.specs.Arc.{arc_value};
-    ghost use Rattle.share_core.specs.Views.{Node};
+    ghost use Rattle.share_core.specs.Views.{NodeProgress};
 
-    ghost Value = { List (Node V) };
+    ghost Value = { List (NodeProgress V) };
 
-    ghost use Rattle.share_core.specs.KeptNodes.{nodes_of};
+    ghost use Rattle.share_core.specs.KeptNodes.{client_nodes};
 
-    ghost view = { λ n. nodes_of n.states.items (map (λ x. option_map arc_value x) n.have.items) };
+    ghost view = { λ n. client_nodes n.states.items
+        (map (λ x. option_map arc_value x) n.have.items) };
 
     ghost invariant = { λ n. length n.have.items ≡ length n.states.items };
 }
@@ -44,8 +45,8 @@ impl<V: Drop> Nodes<V> {
     ghost use Rattle.std.specs.Prelude.{replicate, false, slice_get, Some, slice_set};
     ghost use Rattle.std.specs.Arc.{arc_value};
     ghost use Rattle.share_core.specs.Views.{Unasked, Built};
-    ghost use Rattle.share_core.specs.KeptNodes.{node_of};
-    ghost use Rattle.share_core.specs.Fields.{have};
+    ghost use Rattle.share_core.specs.KeptNodes.{client_node};
+    ghost use Rattle.share_core.specs.Fields.{values_of};
     ghost use Rattle.share_core.specs.Steps.{all_there, is_at, is_unasked, is_missed, is_built};
 
     /// So many nodes that are not yet probed.
@@ -63,7 +64,7 @@ impl<V: Drop> Nodes<V> {
 
     /// The values that are there.
     pub fn have(&self) -> &[Option<Arc<V>>]
-        ensures { map (λ x. option_map arc_value x) result.now ≡ have self.now }
+        ensures { map (λ x. option_map arc_value x) result.now ≡ values_of self.now }
     {
         self.have.as_slice()
     }
@@ -103,7 +104,8 @@ impl<V: Drop> Nodes<V> {
     /// A node is there with this value, or else in this state.
     pub fn put(&mut self, node: u32, state: NodeState<V>, value: Option<Arc<V>>)
         requires { node < length self.old }
-        ensures { self.new ≡ slice_set self.old node (node_of state (option_map arc_value value)) }
+        ensures { self.new ≡ slice_set self.old node
+            (client_node state (option_map arc_value value)) }
     {
         let node = node as usize;
         self.states[node] = state;

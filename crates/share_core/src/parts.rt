@@ -1,7 +1,7 @@
 ghost use Rattle.std.specs.Prelude.{◌≡◌, ◌<◌, map, length, IfOk, IfSome, option_map, replicate};
 ghost use Rattle.std.specs.Arc.{arc_value};
-ghost use Rattle.share_core.specs.KeptNodes.{node_of};
-ghost use Rattle.share_core.specs.Fields.{nobody, part_of};
+ghost use Rattle.share_core.specs.KeptNodes.{client_node};
+ghost use Rattle.share_core.specs.Fields.{no_client_part, part_of};
 ghost use Rattle.share_core.specs.Steps.{with_node};
 
 use crate::kept_nodes::{NodeState, Nodes};
@@ -21,7 +21,7 @@ pub fn nobodies<V: Drop, R: Drop>(
     alloc: Global,
     clients: u32,
 ) -> Result<Vec<ClientPart<V, R>>, NoMemory>
-    ensures { IfOk result (λ v. map part_of v.items ≡ replicate clients nobody) }
+    ensures { IfOk result (λ v. map part_of v.items ≡ replicate clients no_client_part) }
 {
     let mut parts = Vec::new(alloc);
     for _index in 0..clients {
@@ -43,7 +43,7 @@ pub fn put_node<V: Drop, R: Drop>(
 )
     requires { IfSome (part_of part.old).nodes (λ xs. node < length xs) }
     ensures { part_of part.new ≡
-        with_node node (node_of state (option_map arc_value value)) (part_of part.old) }
+        with_node node (client_node state (option_map arc_value value)) (part_of part.old) }
 {
     if let Some(nodes) = &mut part.nodes {
         nodes.put(node, state, value);

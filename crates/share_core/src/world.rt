@@ -1,10 +1,10 @@
 ghost use Rattle.std.specs.Prelude.{◌≡◌, ◌≢◌, ℕ, ◌<◌, List, [], map, length};
 ghost use Rattle.std.specs.Prelude.{IfOk, OnErr, slice_get};
 ghost use Rattle.memo_core.specs.Memo.{IsLegal, replay};
-ghost use Rattle.memo_core.specs.Views.{marks};
+ghost use Rattle.memo_core.specs.Views.{headers_in};
 ghost use Rattle.share_core.specs.Fields.{AreSoundParts, part_of, machine_of};
-ghost use Rattle.share_core.specs.Steps.{Answers, Steps, is_possible, first_machine};
-ghost use Rattle.share_core.specs.Runs.{Runs, Leaves, AgreeOn, SameReplies};
+ghost use Rattle.share_core.specs.Steps.{TellsIfTaken, StepsMachine, is_possible, first_machine};
+ghost use Rattle.share_core.specs.Runs.{Runs, RunLeaves, AgreeOn, SameReplies};
 
 use crate::acts::act;
 use crate::event::{Event, Stepped};
@@ -40,11 +40,11 @@ impl<F: Fit, N: Namer<F::Key>, W: Work<F>> Model for World<F, N, W> {
 impl<F: Fit, N: Namer<F::Key>, W: Work<F>> World<F, N, W> {
     ghost use Rattle.std.specs.Prelude.{◌≡◌, ◌≢◌, ℕ, ◌<◌, ◌≤◌, [], length, IfOk, OnErr};
     ghost use Rattle.std.specs.Prelude.{slice_get, option_map, Some};
-    ghost use Rattle.memo_core.specs.Fields.{items_of};
+    ghost use Rattle.memo_core.specs.Fields.{records_of};
     ghost use Rattle.memo_core.specs.Memo.{IsLegal, replay};
-    ghost use Rattle.memo_core.specs.Views.{marks};
+    ghost use Rattle.memo_core.specs.Views.{headers_in};
     ghost use Rattle.share_core.specs.Fields.{AreRepliesFrom};
-    ghost use Rattle.share_core.specs.Steps.{Answers, Steps, is_possible, first_machine};
+    ghost use Rattle.share_core.specs.Steps.{TellsIfTaken, StepsMachine, is_possible, first_machine};
 
     /// A world in which nothing has happened: every client is between commands, its first command
     /// is the next one, and it has no replies; the memo is empty.
@@ -68,8 +68,9 @@ impl<F: Fit, N: Namer<F::Key>, W: Work<F>> World<F, N, W> {
     /// Takes an event, exactly where it is possible in this state.
     pub fn step(&mut self, alloc: Global, event: Event) -> Result<Stepped, NoMemory>
         ensures work { self.new.0 ≡ self.old.0 }
-        ensures steps { IfOk result (Answers (is_possible (W.tasks self.old.0) self.old.1 event)
-            (Steps F.same_key N.name_of F.fits F.weighs (W.tasks self.old.0) self.old.1 event
+        ensures steps { IfOk result (TellsIfTaken
+            (is_possible (W.tasks self.old.0) self.old.1 event)
+            (StepsMachine F.same_key N.name_of F.fits F.weighs (W.tasks self.old.0) self.old.1 event
             self.new.1)
             (self.new.1 ≡ self.old.1)) }
         ensures others { (client : ℕ) → client ≢ event.client →
@@ -93,10 +94,10 @@ impl<F: Fit, N: Namer<F::Key>, W: Work<F>> World<F, N, W> {
 
     /// The journal of the memo.
     pub fn journal(&self) -> &[JournalItem<F::Key>]
-        ensures is { items_of result.now ≡ self.now.1.memo.journal }
+        ensures is { records_of result.now ≡ self.now.1.memo.journal }
         ensures legal { IsLegal F.same_key N.name_of self.now.1.memo.budget
             self.now.1.memo.share [] self.now.1.memo.journal }
-        ensures replayed { marks self.now.1.memo.entries ≡
+        ensures replayed { headers_in self.now.1.memo.entries ≡
             replay F.same_key N.name_of self.now.1.memo.budget self.now.1.memo.share []
             self.now.1.memo.journal }
     {
@@ -113,9 +114,9 @@ fn step_parts<F: Fit, N: Namer<F::Key>, W: Work<F>>(
     event: Event,
 ) -> Result<Stepped, NoMemory>
     requires { AreSoundParts F.fits F.weighs (W.tasks work.now) 0 (map part_of parts.old.items) }
-    ensures steps { IfOk result (Answers
+    ensures steps { IfOk result (TellsIfTaken
         (is_possible (W.tasks work.now) (machine_of memo.old parts.old.items) event)
-        (Steps F.same_key N.name_of F.fits F.weighs (W.tasks work.now)
+        (StepsMachine F.same_key N.name_of F.fits F.weighs (W.tasks work.now)
         (machine_of memo.old parts.old.items) event (machine_of memo.new parts.new.items))
         (machine_of memo.new parts.new.items ≡ machine_of memo.old parts.old.items)) }
     ensures sound { AreSoundParts F.fits F.weighs (W.tasks work.now) 0
@@ -158,10 +159,10 @@ pub fn run<F: Fit, N: Namer<F::Key>, W: Work<F>>(
     ensures runs { IfOk result (λ w. (taken : List Event)
         × Runs F.same_key N.name_of F.fits F.weighs (W.tasks work)
         (first_machine clients budget share) events.now taken w.1
-        × Leaves (W.tasks work) taken w.1) }
+        × RunLeaves (W.tasks work) taken w.1) }
     ensures legal { IfOk result (λ w. IsLegal F.same_key N.name_of budget share []
         w.1.memo.journal) }
-    ensures replayed { IfOk result (λ w. marks w.1.memo.entries ≡
+    ensures replayed { IfOk result (λ w. headers_in w.1.memo.entries ≡
         replay F.same_key N.name_of budget share [] w.1.memo.journal) }
 {
     let mut world = World::new(alloc, fit, namer, work, clients, budget, share)?;

@@ -2,7 +2,7 @@
 
 ghost use Rattle.std.specs.Prelude.{◌≡◌, ℕ, List};
 ghost use Rattle.plane_predicate.specs.declared.unit.Unit.{Unit as LengthUnit};
-ghost use Rattle.csg_tree.specs.Formulas.{Formula};
+ghost use Rattle.csg_tree.specs.HalfSpaceTrees.{Tree};
 ghost use Rattle.csg_tree.specs.Reach.{KeepsWithinReach, LeavesKeepWithinReach};
 ghost use Rattle.scad_ast.specs.Terms.{StatementTerm, statements_from};
 ghost use Rattle.scad_scope.specs.Names.{first_bindings};
@@ -12,15 +12,15 @@ ghost use Rattle.scad_design.specs.Trees.{IsPlacedAs};
 ghost use Rattle.scad_meaning.specs.Verdicts.{Judge, IsRightJudge};
 ghost use Rattle.scad_meaning.specs.Meaning.{design_of};
 ghost use Rattle.scad_meaning.specs.Sources.{a_tree, IsMeaning};
-ghost use Rattle.source_solids.specs.SourceHulls.{AreHulls};
+ghost use Rattle.source_solids.specs.SourceHulls.{AreHullShapes};
 
 use csg_tree::joins_keep_within_reach;
 use scad_meaning::shapes_have_one_verdict;
 use shape_hulls::{
     cubes_are_hulls_of_their_points, cylinders_are_hulls_of_their_points,
     extrusions_are_hulls_of_their_points, hulls_are_hulls_of_their_points,
-    placed_shapes_are_hulls_of_their_faces, placed_shapes_are_hulls_of_their_points,
-    polyhedra_are_hulls_of_their_faces,
+    placed_shapes_are_hulls_of_their_corners, placed_shapes_are_hulls_of_their_points,
+    polyhedra_are_hulls_of_their_corners,
 };
 
 /// Each shape of the design of a program is the hull of its points, or, as a polyhedron, of those that are corners of its faces.
@@ -28,32 +28,32 @@ pub fn designs_are_of_hulls()
     ensures { (unit : LengthUnit) (program : List StatementTerm) (judge : Judge) (turns : ℕ)
         (design : DesignTree) → IsRightJudge judge →
         design_of unit judge first_bindings (statements_from program) ≡ Gives turns design →
-        AreHulls design }
+        AreHullShapes design }
 {
-    // These bring laws alone: each kind of shape is the hull of its points.
+    // Each call brings a law alone: each kind of shape is the hull of its points.
     cubes_are_hulls_of_their_points();
     cylinders_are_hulls_of_their_points();
     extrusions_are_hulls_of_their_points();
     hulls_are_hulls_of_their_points();
-    polyhedra_are_hulls_of_their_faces();
+    polyhedra_are_hulls_of_their_corners();
 }
 
 /// Where each shape of a design is a hull, each leaf of the tree that it is placed as holds only within reach.
 pub fn placed_hulls_keep_within_reach()
-    ensures { (design : DesignTree) (tree : Formula) → AreHulls design → IsPlacedAs design tree →
+    ensures { (design : DesignTree) (tree : Tree) → AreHullShapes design → IsPlacedAs design tree →
         LeavesKeepWithinReach tree }
 {
-    // These bring laws alone: what is behind all planes of a placed hull is within reach where its points are.
+    // Each call brings a law alone: what is behind all planes of a placed hull is within reach where its points are.
     placed_shapes_are_hulls_of_their_points();
-    placed_shapes_are_hulls_of_their_faces();
+    placed_shapes_are_hulls_of_their_corners();
 }
 
-/// The solid of a program keeps off the world box: the tree that the program means holds only within reach.
+/// The solid of a program keeps off the walls of the world box: the tree that the program means holds only within reach.
 pub fn programs_keep_within_reach()
-    ensures { (unit : LengthUnit) (program : List StatementTerm) (tree : Formula) →
+    ensures { (unit : LengthUnit) (program : List StatementTerm) (tree : Tree) →
         IsMeaning unit program (a_tree tree) → KeepsWithinReach tree }
 {
-    // These bring laws alone: some judge is right, the leaves of the tree hold only within reach, and so does it.
+    // Each call brings a law alone: some judge is right, the leaves of the tree hold only within reach, and so does it.
     shapes_have_one_verdict();
     designs_are_of_hulls();
     placed_hulls_keep_within_reach();

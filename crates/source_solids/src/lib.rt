@@ -1,5 +1,5 @@
-//! Solids of sources: each shape of a program is a hull, and the tree that the program means holds only within reach, as laws that
-//! the program doesn't call.
+//! Solids of sources: each shape of a program is a hull, and the tree that the program means holds only within reach, as laws,
+//! which do nothing when they run.
 #![tactic(auto)]
 
 mod laws;

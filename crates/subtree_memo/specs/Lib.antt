@@ -1,3 +1,4 @@
 -- The memo behind a lock.
 pub mod Shares
 pub mod Tallies
+pub mod Allowed

@@ -7,7 +7,7 @@ use Rattle.memo_core.specs.declared.memo.Fill.TheVariants.{Kept, TooHeavy, NoMem
 -- One caller's share: how many parts of the books it has, and what was booked on it: probes that were
 -- hits and misses, and fills that were kept, that were too heavy, and that were dropped for want of
 -- memory.
-pub record View : Type 0 where
+pub record ShareView : Type 0 where
   pub caller : ℕ
   pub parts : ℕ
   pub hits : ℕ
@@ -21,30 +21,30 @@ abbrev pub parts_each : ℕ
 parts_each = 128
 
 -- a fresh ledger is the one of this name and so many parts
-abbrev pub IsOf : ℕ → ℕ → Blank → Type 0
-IsOf name parts blank = (blank.name ≡ name) × (blank.parts ≡ parts)
+abbrev pub IsBlankLedger : ℕ → ℕ → Blank → Type 0
+IsBlankLedger name parts blank = (blank.name ≡ name) × (blank.parts ≡ parts)
 
 -- where the number of dropped fills stops
 abbrev pub dropped_max : ℕ
 dropped_max = 2 ^ 48
 
 -- a share on which a probe is booked that was a hit, or not
-abbrev pub probe_booked : Bool → View → View
-probe_booked true v = record v { hits = v.hits + 1 }
-probe_booked false v = record v { misses = v.misses + 1 }
+abbrev pub share_after_probe : Bool → ShareView → ShareView
+share_after_probe true v = record v { hits = v.hits + 1 }
+share_after_probe false v = record v { misses = v.misses + 1 }
 
 -- a share on which a fill is booked that was answered so
-abbrev pub fill_booked : Fill → View → View
-fill_booked Kept v = record v { kept = v.kept + 1 }
-fill_booked TooHeavy v = record v { heavy = v.heavy + 1 }
-fill_booked NoMemory v = record v { dropped = min (v.dropped + 1) dropped_max }
+abbrev pub share_after_fill : Fill → ShareView → ShareView
+share_after_fill Kept v = record v { kept = v.kept + 1 }
+share_after_fill TooHeavy v = record v { heavy = v.heavy + 1 }
+share_after_fill NoMemory v = record v { dropped = min (v.dropped + 1) dropped_max }
 
 -- a share with nothing booked
-abbrev pub fresh_share : ℕ → ℕ → View
+abbrev pub fresh_share : ℕ → ℕ → ShareView
 fresh_share caller parts = record { caller = caller; parts = parts; hits = 0; misses = 0; kept = 0; heavy = 0; dropped = 0 }
 
 -- two shares of one caller put together
-abbrev pub joined_share : View → View → View
+abbrev pub joined_share : ShareView → ShareView → ShareView
 joined_share a b = record {
   caller = a.caller;
   parts = a.parts + b.parts;
@@ -56,14 +56,14 @@ joined_share a b = record {
 }
 
 -- the shares of so many callers, by their numbers
-abbrev pub opened_shares : ℕ → List View
+abbrev pub opened_shares : ℕ → List ShareView
 opened_shares zero = []
 opened_shares (suc n) = opened_shares n ++ fresh_share n parts_each ∷ []
 
 -- the probes of a share
-abbrev pub probes_of : View → ℕ
+abbrev pub probes_of : ShareView → ℕ
 probes_of v = v.hits + v.misses
 
 -- the fills that were offered on a share
-abbrev pub offered_of : View → ℕ
-offered_of v = v.kept + v.heavy + v.dropped
+abbrev pub offers_of : ShareView → ℕ
+offers_of v = v.kept + v.heavy + v.dropped

@@ -1,34 +1,34 @@
 -- The counts of a journal.
 use Rattle.std.specs.Prelude.{◌≡◌, ℕ, ◌+◌, min, sum_by, List}
-use Rattle.memo_core.specs.Memo.{Item, count_in, hit_by, missed_by, kept_by, not_kept_by, evicted_in}
-use Rattle.subtree_memo.specs.Shares.{View, dropped_max}
+use Rattle.memo_core.specs.Memo.{JournalRecord, count_in, hit_count_of, miss_count_of, kept_count_of, not_kept_count_of, evicted_count}
+use Rattle.subtree_memo.specs.Shares.{ShareView, dropped_max}
 use Rattle.subtree_memo.specs.declared.tally.Counts.{Counts}
 use Rattle.subtree_memo.specs.declared.tally.Tally.{Tally}
 
 module _ {K : Type 0} where
-  -- these are a journal's numbers of hits, misses, fills that were kept and fills that were too heavy
-  pub record AreCounts (items : List (Item K)) (counts : Counts) : Type 0 where
-    pub hits : counts.hits ≡ count_in hit_by items
-    pub misses : counts.misses ≡ count_in missed_by items
-    pub kept : counts.kept ≡ count_in kept_by items
-    pub heavy : counts.heavy ≡ count_in not_kept_by items
+  -- these are a journal's numbers of hits, misses, fills that were kept and fills that were not
+  pub record AreCounts (items : List (JournalRecord K)) (counts : Counts) : Type 0 where
+    pub hits : counts.hits ≡ count_in hit_count_of items
+    pub misses : counts.misses ≡ count_in miss_count_of items
+    pub kept : counts.kept ≡ count_in kept_count_of items
+    pub heavy : counts.heavy ≡ count_in not_kept_count_of items
 
-  -- The tally of a journal, and of so many fills that were dropped for want of memory and stand in no
-  -- journal. Fills that were kept, too heavy or dropped were offered.
-  abbrev pub tally_of : List (Item K) → ℕ → Tally
+  -- The tally of a journal, and of so many fills for which memory ran out and which stand in no journal. Kept or not, or out of
+  -- memory, each fill was offered.
+  abbrev pub tally_of : List (JournalRecord K) → ℕ → Tally
   tally_of items dropped = record {
-    probes = count_in hit_by items + count_in missed_by items;
-    hits = count_in hit_by items;
-    misses = count_in missed_by items;
-    offered = count_in kept_by items + count_in not_kept_by items + dropped;
-    kept = count_in kept_by items;
-    heavy = count_in not_kept_by items;
+    probes = count_in hit_count_of items + count_in miss_count_of items;
+    hits = count_in hit_count_of items;
+    misses = count_in miss_count_of items;
+    offered = count_in kept_count_of items + count_in not_kept_count_of items + dropped;
+    kept = count_in kept_count_of items;
+    heavy = count_in not_kept_count_of items;
     dropped = dropped;
-    evicted = evicted_in items;
+    evicted = evicted_count items;
   }
 
 -- a tally has what was booked on all shares, where the number of dropped fills stops at its most
-pub record AreSums (shares : List View) (tally : Tally) : Type 0 where
+pub record AreSums (shares : List ShareView) (tally : Tally) : Type 0 where
   pub hits : tally.hits ≡ sum_by (λ s. s.hits) shares
   pub misses : tally.misses ≡ sum_by (λ s. s.misses) shares
   pub kept : tally.kept ≡ sum_by (λ s. s.kept) shares

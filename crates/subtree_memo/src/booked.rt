@@ -2,12 +2,13 @@ ghost use Rattle.std.specs.Prelude.{◌≡◌, ◌<◌, [], ◌∷◌, ◌++◌,
 ghost use Rattle.std.specs.Prelude.{true};
 ghost use Rattle.std.specs.Arc.{arc_value};
 ghost use Rattle.memo_core.specs.Fields.{value_in, is_hit};
-ghost use Rattle.memo_core.specs.Memo.{item, Probe_answer, count_in};
-ghost use Rattle.memo_core.specs.Memo.{hit_by, missed_by, kept_by, not_kept_by};
+ghost use Rattle.memo_core.specs.Memo.{journal_record, ProbeAnswer, count_in};
+ghost use Rattle.memo_core.specs.Memo.{hit_count_of, miss_count_of, kept_count_of, not_kept_count_of};
 ghost use Rattle.memo_core.specs.Fills.{IsFilled};
-ghost use Rattle.subtree_memo.specs.Shares.{probe_booked, fill_booked};
+ghost use Rattle.subtree_memo.specs.Shares.{share_after_probe, share_after_fill};
+ghost use Rattle.subtree_memo.specs.Allowed.{AreAllowed};
 
-use crate::ledgers::Books;
+use crate::ledgers::{AskPolicy, Books};
 use crate::share::{Share, dropped_sum};
 use memo_core::{DroppedEntries, Fill, Fit, MemoCore, Namer, Probe};
 use std::alloc::Global;
@@ -17,19 +18,20 @@ use text_place::NoMemory;
 
 /// A memo, and beside it the books of its journal's counts.
 #[derive(Drop)]
-pub struct BookedMemo<F: Fit, N: Namer<F::Key>, B: Books> {
+pub struct BookedMemo<F: Fit, N: Namer<F::Key>, B: Books + AskPolicy<F::Key>> {
     pub core: MemoCore<F, N>,
     pub hits: Book<B::Hits>,
     pub misses: Book<B::Misses>,
     pub kept: Book<B::Kept>,
     pub heavy: Book<B::Heavy>,
-    pub ghost hits_are: { hits.total ≡ count_in hit_by core.journal },
-    pub ghost misses_are: { misses.total ≡ count_in missed_by core.journal },
-    pub ghost kept_are: { kept.total ≡ count_in kept_by core.journal },
-    pub ghost heavy_are: { heavy.total ≡ count_in not_kept_by core.journal },
+    pub ghost hits_are: { hits.total ≡ count_in hit_count_of core.journal },
+    pub ghost misses_are: { misses.total ≡ count_in miss_count_of core.journal },
+    pub ghost kept_are: { kept.total ≡ count_in kept_count_of core.journal },
+    pub ghost heavy_are: { heavy.total ≡ count_in not_kept_count_of core.journal },
     pub ghost budget_is: { core.budget ≡ B.Hits.budget },
     pub ghost share_is: { core.share ≡ B.Hits.share },
     pub ghost callers_are: { All (λ i. i.caller < B.Hits.callers) core.journal },
+    pub ghost allowed: { ∥ AreAllowed B.may_ask core.journal ∥₁ },
 }
 
 /// The books of a memo, on which nothing is booked.
@@ -46,7 +48,8 @@ pub struct EmptyBooks<B: Books> {
 }
 
 /// A memo whose journal is empty, with its books.
-pub fn first_booked_memo<F: Fit, N: Namer<F::Key>, B: Books>(
+#[tactic(auto, using(crate::proofs::Counts::none_allowed))]
+pub fn first_booked_memo<F: Fit, N: Namer<F::Key>, B: Books + AskPolicy<F::Key>>(
     core: MemoCore<F, N>,
     books: EmptyBooks<B>,
 ) -> BookedMemo<F, N, B>
@@ -68,21 +71,22 @@ pub fn first_booked_memo<F: Fit, N: Namer<F::Key>, B: Books>(
     }
 }
 
-impl<F: Fit, N: Namer<F::Key>, B: Books> BookedMemo<F, N, B> {
+impl<F: Fit, N: Namer<F::Key>, B: Books + AskPolicy<F::Key>> BookedMemo<F, N, B> {
     /// A probe that is booked, and stands in the journal as the caller's of the share. NoMemory books
     /// nothing.
-    #[tactic(auto, using(crate::proofs::Counts::hits_more, crate::proofs::Counts::misses_more, crate::proofs::Counts::kept_more, crate::proofs::Counts::heavy_more, crate::proofs::Counts::callers_more))]
+    #[tactic(auto, using(crate::proofs::Counts::hits_more, crate::proofs::Counts::misses_more, crate::proofs::Counts::kept_more, crate::proofs::Counts::heavy_more, crate::proofs::Counts::callers_more, crate::proofs::Counts::allowed_more))]
     pub fn probe(
         &mut self,
         alloc: Global,
         share: &mut Share<B>,
         key: &Arc<F::Key>,
     ) -> Result<Probe<F::Value>, NoMemory>
-        requires { 0 < share.old.parts }
+        requires parts { 0 < share.old.parts }
+        requires allowed { B.may_ask share.old.caller (arc_value key.now) }
         ensures fits { IfOk result (λ p. IfSome (value_in p) (F.fits (arc_value key.now))) }
-        ensures booked { IfOk result (λ p. share.new ≡ probe_booked (is_hit p) share.old) }
+        ensures booked { IfOk result (λ p. share.new ≡ share_after_probe (is_hit p) share.old) }
         ensures journal { IfOk result (λ p. self.new.core.journal ≡ self.old.core.journal
-            ++ item share.old.caller (arc_value key.now) (Probe_answer (is_hit p)) ∷ []) }
+            ++ journal_record share.old.caller (arc_value key.now) (ProbeAnswer (is_hit p)) ∷ []) }
         ensures err { OnErr result ((share.new ≡ share.old)
             × (self.new.core.journal ≡ self.old.core.journal)) }
     {
@@ -104,21 +108,22 @@ impl<F: Fit, N: Namer<F::Key>, B: Books> BookedMemo<F, N, B> {
 
     /// A hit that is booked, where the memo holds the key, and stands in the journal as the caller's of the share. Where
     /// it does not, nothing is asked and nothing is booked. NoMemory books nothing.
-    #[tactic(auto, using(crate::proofs::Counts::hits_more, crate::proofs::Counts::misses_more, crate::proofs::Counts::kept_more, crate::proofs::Counts::heavy_more, crate::proofs::Counts::callers_more))]
+    #[tactic(auto, using(crate::proofs::Counts::hits_more, crate::proofs::Counts::misses_more, crate::proofs::Counts::kept_more, crate::proofs::Counts::heavy_more, crate::proofs::Counts::callers_more, crate::proofs::Counts::allowed_more))]
     pub fn hit(
         &mut self,
         alloc: Global,
         share: &mut Share<B>,
         key: &Arc<F::Key>,
     ) -> Result<Option<Arc<F::Value>>, NoMemory>
-        requires { 0 < share.old.parts }
+        requires parts { 0 < share.old.parts }
+        requires allowed { B.may_ask share.old.caller (arc_value key.now) }
         ensures fits { IfOk result (λ r. IfSome r (λ value.
             F.fits (arc_value key.now) (arc_value value))) }
         ensures booked { IfOk result (λ r. IfSome r (λ value.
-            share.new ≡ probe_booked true share.old)) }
+            share.new ≡ share_after_probe true share.old)) }
         ensures journal { IfOk result (λ r. IfSome r (λ value. self.new.core.journal ≡
             self.old.core.journal
-            ++ item share.old.caller (arc_value key.now) (Probe_answer true) ∷ [])) }
+            ++ journal_record share.old.caller (arc_value key.now) (ProbeAnswer true) ∷ [])) }
         ensures none { IfOk result (λ r. IfNone r ((share.new ≡ share.old)
             × (self.new.core.journal ≡ self.old.core.journal))) }
         ensures err { OnErr result ((share.new ≡ share.old)
@@ -143,7 +148,7 @@ impl<F: Fit, N: Namer<F::Key>, B: Books> BookedMemo<F, N, B> {
 
     /// A fill that is booked, also where memory runs out. Where it does not, the fill stands in the journal
     /// as the caller's of the share.
-    #[tactic(auto, using(crate::proofs::Counts::hits_more, crate::proofs::Counts::misses_more, crate::proofs::Counts::kept_more, crate::proofs::Counts::heavy_more, crate::proofs::Counts::callers_more))]
+    #[tactic(auto, using(crate::proofs::Counts::hits_more, crate::proofs::Counts::misses_more, crate::proofs::Counts::kept_more, crate::proofs::Counts::heavy_more, crate::proofs::Counts::callers_more, crate::proofs::Counts::allowed_more))]
     pub fn fill(
         &mut self,
         alloc: Global,
@@ -153,9 +158,10 @@ impl<F: Fit, N: Namer<F::Key>, B: Books> BookedMemo<F, N, B> {
         weight: u64,
     ) -> Fill
         requires parts { 0 < share.old.parts }
+        requires allowed { B.may_ask share.old.caller (arc_value key.now) }
         requires fits { F.fits (arc_value key.now) (arc_value value) }
         requires weight { weight ≡ F.weighs (arc_value value) }
-        ensures booked { share.new ≡ fill_booked result share.old }
+        ensures booked { share.new ≡ share_after_fill result share.old }
         ensures journal { IsFilled share.old.caller (arc_value key.now) weight result
             self.old.core.journal self.new.core.journal }
     {

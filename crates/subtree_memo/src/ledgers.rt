@@ -26,6 +26,16 @@ impl MemoLedger for Brand {
     ghost callers = { 0 };
 }
 
+/// Who may ask a memo for which keys. Each call of a program that opens a memo picks it: each item of the journal behind the lock is
+/// then of a caller who may ask for its key.
+pub trait AskPolicy<K> {
+    ghost may_ask: { ℕ → K → Type 0 };
+}
+
+impl<K> AskPolicy<K> for Brand {
+    ghost may_ask = { λ caller key. Unit {0} };
+}
+
 /// The ledgers of a memo's books, one type for all of them.
 pub trait Books {
     /// Of probes that were hits.
@@ -54,6 +64,11 @@ impl<H: MemoLedger, M: Ledger, K: Ledger, E: Ledger> Books for Ledgers<H, M, K, 
     type Kept = K;
 
     type Heavy = E;
+}
+
+impl<Key, H: MemoLedger + AskPolicy<Key>, M: Ledger, K: Ledger, E: Ledger> AskPolicy<Key>
+    for Ledgers<H, M, K, E> {
+    ghost may_ask = { H.may_ask };
 }
 
 /// A fresh set of a memo's ledgers, which no type stands for yet: each has 128 parts for each of 1 to 64

@@ -3,11 +3,12 @@ ghost use Rattle.std.specs.Prelude.{true};
 ghost use Rattle.std.specs.Arc.{arc_value};
 ghost use Rattle.memo_core.specs.Views.{IsSound};
 ghost use Rattle.memo_core.specs.Fields.{value_in, is_hit};
-ghost use Rattle.subtree_memo.specs.Shares.{probe_booked, fill_booked, opened_shares, IsOf};
+ghost use Rattle.subtree_memo.specs.Shares.{share_after_probe, share_after_fill, opened_shares, IsBlankLedger};
 ghost use Rattle.subtree_memo.specs.Tallies.{tally_of, AreSums};
+ghost use Rattle.subtree_memo.specs.Allowed.{AreAllowed};
 
 use crate::booked::{BookedMemo, EmptyBooks, first_booked_memo};
-use crate::ledgers::{Blanks, Books};
+use crate::ledgers::{AskPolicy, Blanks, Books};
 use crate::share::{Parts, Share, all_of, shares_of};
 use crate::tally::{Tally, counts_of};
 use memo_core::{Fill, Fit, MemoCore, Namer, Probe};
@@ -19,11 +20,11 @@ use text_place::NoMemory;
 /// A memo that threads share. Whenever its lock is free, the journal behind it is one of the sequential
 /// memo, and the books are the journal's counts.
 #[derive(Drop)]
-pub struct Memo<F: Fit, N: Namer<F::Key>, B: Books> {
+pub struct Memo<F: Fit, N: Namer<F::Key>, B: Books + AskPolicy<F::Key>> {
     lock: Mutex<BookedMemo<F, N, B>>,
 }
 
-impl<F: Fit, N: Namer<F::Key>, B: Books> Memo<F, N, B> {
+impl<F: Fit, N: Namer<F::Key>, B: Books + AskPolicy<F::Key>> Memo<F, N, B> {
     /// Puts a memo whose journal is empty behind a lock. Each caller of the ledgers, numbered from 0, gets a
     /// share with 128 parts of the books.
     pub fn open(
@@ -34,10 +35,10 @@ impl<F: Fit, N: Namer<F::Key>, B: Books> Memo<F, N, B> {
         requires empty { core.journal ≡ [] }
         requires limits { (core.budget ≡ B.Hits.budget) × (core.share ≡ B.Hits.share)
             × (blanks.callers ≡ B.Hits.callers) }
-        requires ledgers { IsOf B.Hits.name B.Hits.parts blanks.hits
-            × IsOf B.Misses.name B.Misses.parts blanks.misses
-            × IsOf B.Kept.name B.Kept.parts blanks.kept
-            × IsOf B.Heavy.name B.Heavy.parts blanks.heavy }
+        requires ledgers { IsBlankLedger B.Hits.name B.Hits.parts blanks.hits
+            × IsBlankLedger B.Misses.name B.Misses.parts blanks.misses
+            × IsBlankLedger B.Kept.name B.Kept.parts blanks.kept
+            × IsBlankLedger B.Heavy.name B.Heavy.parts blanks.heavy }
         ensures { IfOk result (λ r. r.1.items ≡ opened_shares blanks.callers) }
     {
         let callers = blanks.callers;
@@ -71,9 +72,10 @@ impl<F: Fit, N: Namer<F::Key>, B: Books> Memo<F, N, B> {
         share: &mut Share<B>,
         key: &Arc<F::Key>,
     ) -> Result<Probe<F::Value>, NoMemory>
-        requires { 0 < share.old.parts }
+        requires parts { 0 < share.old.parts }
+        requires allowed { B.may_ask share.old.caller (arc_value key.now) }
         ensures fits { IfOk result (λ p. IfSome (value_in p) (F.fits (arc_value key.now))) }
-        ensures booked { IfOk result (λ p. share.new ≡ probe_booked (is_hit p) share.old) }
+        ensures booked { IfOk result (λ p. share.new ≡ share_after_probe (is_hit p) share.old) }
         ensures err { OnErr result (share.new ≡ share.old) }
     {
         self.lock.lock(rt).probe(alloc, share, key)
@@ -88,11 +90,12 @@ impl<F: Fit, N: Namer<F::Key>, B: Books> Memo<F, N, B> {
         share: &mut Share<B>,
         key: &Arc<F::Key>,
     ) -> Result<Option<Arc<F::Value>>, NoMemory>
-        requires { 0 < share.old.parts }
+        requires parts { 0 < share.old.parts }
+        requires allowed { B.may_ask share.old.caller (arc_value key.now) }
         ensures fits { IfOk result (λ r. IfSome r (λ value.
             F.fits (arc_value key.now) (arc_value value))) }
         ensures booked { IfOk result (λ r. IfSome r (λ value.
-            share.new ≡ probe_booked true share.old)) }
+            share.new ≡ share_after_probe true share.old)) }
         ensures none { IfOk result (λ r. IfNone r (share.new ≡ share.old)) }
         ensures err { OnErr result (share.new ≡ share.old) }
     {
@@ -111,9 +114,10 @@ impl<F: Fit, N: Namer<F::Key>, B: Books> Memo<F, N, B> {
         weight: u64,
     ) -> Fill
         requires parts { 0 < share.old.parts }
+        requires allowed { B.may_ask share.old.caller (arc_value key.now) }
         requires fits { F.fits (arc_value key.now) (arc_value value) }
         requires weight { weight ≡ F.weighs (arc_value value) }
-        ensures { share.new ≡ fill_booked result share.old }
+        ensures { share.new ≡ share_after_fill result share.old }
     {
         let mut booked = self.lock.lock(rt);
         let answer = booked.fill(alloc, share, key, value, weight);
@@ -124,7 +128,7 @@ impl<F: Fit, N: Namer<F::Key>, B: Books> Memo<F, N, B> {
 
     /// The memo and its tally, once all shares are back: the tally is that of the memo's journal, and
     /// what was booked on the shares. The memo keeps to the budget and the share that it was opened with, and
-    /// its journal has no other callers than those.
+    /// its journal has no other callers than those, each of which might ask for the key of its item.
     pub fn close(self, shares: Vec<Share<B>>) -> (Tally, MemoCore<F, N>)
         requires whole { (0 < B.Hits.parts) × (sum_by (λ s. s.parts) shares.items ≡ B.Hits.parts) }
         requires ledgers { (B.Misses.parts ≡ B.Hits.parts) × (B.Kept.parts ≡ B.Hits.parts)
@@ -134,6 +138,7 @@ impl<F: Fit, N: Namer<F::Key>, B: Books> Memo<F, N, B> {
         ensures sound { IsSound F.same_key N.name_of F.fits F.weighs result.1 }
         ensures limits { (result.1.budget ≡ B.Hits.budget) × (result.1.share ≡ B.Hits.share) }
         ensures callers { All (λ i. i.caller < B.Hits.callers) result.1.journal }
+        ensures allowed { ∥ AreAllowed B.may_ask result.1.journal ∥₁ }
     {
         let Some(all) = all_of(shares) else {
             unreachable!()
@@ -151,6 +156,7 @@ impl<F: Fit, N: Namer<F::Key>, B: Books> Memo<F, N, B> {
         ensures sound { IsSound F.same_key N.name_of F.fits F.weighs result.1 }
         ensures limits { (result.1.budget ≡ B.Hits.budget) × (result.1.share ≡ B.Hits.share) }
         ensures callers { All (λ i. i.caller < B.Hits.callers) result.1.journal }
+        ensures allowed { ∥ AreAllowed B.may_ask result.1.journal ∥₁ }
     {
         let Memo { lock } = self;
         let BookedMemo {

@@ -23,9 +23,9 @@ pub struct Share<B: Books> {
 
 impl<B: Books> Model for Share<B> {
     ghost use Rattle.std.specs.Prelude.{◌≡◌, ◌<◌, ◌≤◌};
-    ghost use Rattle.subtree_memo.specs.Shares.{View, dropped_max};
+    ghost use Rattle.subtree_memo.specs.Shares.{ShareView, dropped_max};
 
-    ghost Value = { View };
+    ghost Value = { ShareView };
 
     ghost view = { λ s. record {
       caller = s.caller;

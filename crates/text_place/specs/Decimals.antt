@@ -1,7 +1,7 @@
 -- Decimal numbers as ASCII bytes.
-use Rattle.std.specs.Prelude.{ℕ, zero, suc, ◌+◌, ◌/◌, ◌%◌, ◌≤◌, Bool, false, List, [], ◌∷◌, ◌++◌, length, ℤ, pos, negsuc}
+use Rattle.std.specs.Prelude.{◌≡◌, ℕ, zero, suc, ◌+◌, ◌/◌, ◌%◌, ◌^◌, ◌≤◌, Bool, false, List, [], ◌∷◌, ◌++◌, length, ℤ, pos, negsuc}
 use Rattle.std.specs.Char.{is_ascii_digit}
-use Rattle.std.specs.Str.Parse.{AllDigits}
+use Rattle.std.specs.Str.Parse.{AllDigits, digits_value}
 
 -- the digits that at most so many divisions by ten give, the highest first, and none for 0
 abbrev pub digits_within : ℕ → ℕ → List ℕ
@@ -29,3 +29,11 @@ pub record IsShortNumeral (bytes : List ℕ) : Type 0 where
 abbrev pub begins_with_digit : List ℕ → Bool
 begins_with_digit [] = false
 begins_with_digit (byte ∷ bytes) = is_ascii_digit byte
+
+-- 1 to 7 digits that write this number; leading zeros are allowed
+abbrev pub IsNumeralOf : List ℕ → ℕ → Type 0
+IsNumeralOf digits n = IsShortNumeral digits × (n ≡ digits_value 10 digits)
+
+-- the least size of a number that is too large
+abbrev pub least_too_large : ℕ
+least_too_large = 2 ^ 53

@@ -9,6 +9,6 @@ stored_bytes (Inline n room) = take n room
 stored_bytes (Boxed bytes) = bytes.value.items
 
 -- no more bytes than there is room for, or more than that elsewhere
-abbrev pub fits : Stored → Type 0
-fits (Inline n room) = n ≤ 14
-fits (Boxed bytes) = 14 < length bytes.value.items
+abbrev pub IsStoredInPlace : Stored → Type 0
+IsStoredInPlace (Inline n room) = n ≤ 14
+IsStoredInPlace (Boxed bytes) = 14 < length bytes.value.items

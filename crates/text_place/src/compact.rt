@@ -28,13 +28,13 @@ const _: () = prove!(size_of::<CompactBytes>() == 16);
 
 impl Model for CompactBytes {
     ghost use Rattle.std.specs.Prelude.{List, ℕ};
-    ghost use Rattle.text_place.specs.Stored.{stored_bytes, fits};
+    ghost use Rattle.text_place.specs.Stored.{stored_bytes, IsStoredInPlace};
 
     ghost Value = { List ℕ };
 
     ghost view = { λ b. stored_bytes b.stored };
 
-    ghost invariant = { λ b. fits b.stored };
+    ghost invariant = { λ b. IsStoredInPlace b.stored };
 }
 
 impl CompactBytes {

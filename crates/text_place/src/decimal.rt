@@ -40,6 +40,7 @@ pub fn push_decimal(alloc: Global, out: &mut Vec<u8>, value: i128) -> Result<(),
 
 /// Where no digit follows, a text that begins with a numeral has one number there, and one rest.
 pub fn one_numeral()
-    ensures { (m n : ℕ) (x y : List ℕ) → IsFalse (begins_with_digit x) → IsFalse (begins_with_digit y) →
+    ensures { (m n : ℕ) (x y : List ℕ) → IsFalse (begins_with_digit x) →
+        IsFalse (begins_with_digit y) →
         numeral m ++ x ≡ numeral n ++ y → (m ≡ n) × (x ≡ y) }
 {}

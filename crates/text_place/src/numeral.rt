@@ -32,7 +32,8 @@ impl Model for Numeral {
 impl Numeral {
     /// The numeral that writes a number: None exactly where the number is past 2^53 - 1.
     pub fn of(number: u64) -> Option<Self>
-        ensures { MatchOption result (2 ^ 53 ≤ number) (λ numeral. (numeral ≡ number) × (number ≤ 2 ^ 53 - 1)) }
+        ensures { MatchOption result (2 ^ 53 ≤ number)
+            (λ numeral. (numeral ≡ number) × (number ≤ 2 ^ 53 - 1)) }
     {
         if number < TOO_LARGE {
             Some(Numeral { value: number })

@@ -2,8 +2,8 @@
 
 ghost use Rattle.std.specs.Prelude.{◌≡◌, All, IfOk, IfSome, OnOk};
 ghost use Rattle.plane_predicate.specs.Space.{ComesInReach};
-ghost use Rattle.csg_tree.specs.ProperTrees.{IsLeafPlane, IsProper, subtrees};
-ghost use Rattle.csg_tree.specs.Trees.{formula_of};
+ghost use Rattle.csg_tree.specs.ProperTrees.{IsLeafPlane, IsProper, subtree_count};
+ghost use Rattle.csg_tree.specs.Trees.{plain_tree_of};
 
 use case_lines::{CaseStop, Walls};
 use csg_tree::{CsgTree, Op, Planes, join, joins_are_proper};
@@ -22,24 +22,24 @@ pub struct ProperTree {
 }
 
 impl Model for ProperTree {
-    ghost use Rattle.csg_tree.specs.Formulas.{Formula};
-    ghost use Rattle.csg_tree.specs.Codes.{coded_formula};
+    ghost use Rattle.csg_tree.specs.HalfSpaceTrees.{Tree};
+    ghost use Rattle.csg_tree.specs.Codes.{coded_tree};
 
-    ghost Value = { Formula };
+    ghost Value = { Tree };
 
-    ghost coded = { coded_formula };
+    ghost coded = { coded_tree };
 
-    ghost use Rattle.csg_tree.specs.Trees.{formula_of};
+    ghost use Rattle.csg_tree.specs.Trees.{plain_tree_of};
     ghost use Rattle.csg_tree.specs.ProperTrees.{IsProper};
 
-    ghost view = { λ t. formula_of t.tree };
+    ghost view = { λ t. plain_tree_of t.tree };
 
-    ghost invariant = { λ t. IsProper (formula_of t.tree) };
+    ghost invariant = { λ t. IsProper (plain_tree_of t.tree) };
 }
 
 impl ProperTree {
     fn of(tree: CsgTree) -> ProperTree
-        requires { IsProper (formula_of tree) }
+        requires { IsProper (plain_tree_of tree) }
     {
         ProperTree { tree }
     }
@@ -68,14 +68,14 @@ impl ProperTree {
     }
 
     pub fn tree(&self) -> &CsgTree
-        ensures { IsProper (formula_of result.now) }
+        ensures { IsProper (plain_tree_of result.now) }
     {
         &self.tree
     }
 }
 
 fn nothing() -> CsgTree
-    ensures { IsProper (formula_of result) }
+    ensures { IsProper (plain_tree_of result) }
 {
     CsgTree::Nothing
 }
@@ -92,7 +92,7 @@ fn add(planes: &mut Vec<Plane>, plane: Plane) -> Result<(), NoMemory>
 }
 
 fn leaf(alloc: Global, walls: &Walls) -> Result<CsgTree, CaseStop>
-    ensures { IfOk result (λ tree. IsProper (formula_of tree)) }
+    ensures { IfOk result (λ tree. IsProper (plain_tree_of tree)) }
 {
     let mut planes = Vec::new(alloc);
     for plane in walls.planes() {
@@ -106,7 +106,7 @@ fn leaf(alloc: Global, walls: &Walls) -> Result<CsgTree, CaseStop>
 
 // How many subtrees a tree has, where they are few.
 fn counted(tree: &CsgTree) -> Option<u32>
-    ensures { IfSome result (λ n. n ≡ subtrees (formula_of tree.now)) }
+    ensures { IfSome result (λ n. n ≡ subtree_count (plain_tree_of tree.now)) }
 {
     match tree {
         CsgTree::Nothing | CsgTree::Leaf(_) => Some(1),
@@ -124,15 +124,16 @@ fn counted(tree: &CsgTree) -> Option<u32>
 
 // The join of two trees, each of which has few subtrees.
 fn joined(alloc: Global, op: Op, left: CsgTree, right: CsgTree) -> Result<CsgTree, CaseStop>
-    requires left { IsProper (formula_of left) }
-    requires right { IsProper (formula_of right) }
-    ensures { IfOk result (λ tree. IsProper (formula_of tree)) }
+    requires left { IsProper (plain_tree_of left) }
+    requires right { IsProper (plain_tree_of right) }
+    ensures { IfOk result (λ tree. IsProper (plain_tree_of tree)) }
 {
     let first = counted(&left).ok_or(CaseStop::Unread)?;
     let second = counted(&right).ok_or(CaseStop::Unread)?;
     if first > MOST || second > MOST {
         return Err(CaseStop::Unread);
     }
+    // Brings a law alone: joins of proper trees are proper.
     joins_are_proper();
     Ok(join(alloc, op, left, right)?)
 }

@@ -3,7 +3,7 @@ use Rattle.std.proofs.Common.{◌≡◌, ◌↔◌, ◌<◌, ◌≤◌, List, []
 use Rattle.text_place.specs.Decimals.{numeral}
 use Rattle.plane_predicate.specs.declared.unit.Unit.{Unit as LengthUnit}
 use Rattle.plane_polygon.specs.Polygons.{Outline}
-use Rattle.csg_tree.specs.Formulas.{Formula, nothing}
+use Rattle.csg_tree.specs.HalfSpaceTrees.{Tree, nothing}
 use Rattle.csg_tree.specs.Numberings.{nodes_of}
 use Rattle.bsp_boolean.specs.Solids.{solid_of}
 use Rattle.facet_cut.specs.Facets.{facets_of}
@@ -36,7 +36,7 @@ one_cut unit facets out other (inl a) (inr b) = absurd (omega (arith, a.0, b.0))
 one_cut unit facets out other (inr a) (inl b) = absurd (omega (arith, a.0, b.0))
 one_cut unit facets out other (inr a) (inr b) = one_written unit facets out other a.1 b.1
 
-pub one_export : (unit : LengthUnit) (tree : Formula) (out other : TreeExport) → IsExported unit tree out → IsExported unit tree other → out ≡ other
+pub one_export : (unit : LengthUnit) (tree : Tree) (out other : TreeExport) → IsExported unit tree out → IsExported unit tree other → out ≡ other
 one_export unit tree out other (inl a) (inl b) = a.2 ∙ ap exported.PassedLimit (one_passed (nodes_of tree) a.0 b.0 a.1 b.1) ∙ sym b.2
 one_export unit tree out other (inl a) (inr b) = absurd (none_passed (nodes_of tree) a.0 b.0 a.1)
 one_export unit tree out other (inr a) (inl b) = absurd (none_passed (nodes_of tree) b.0 a.0 b.1)
@@ -46,7 +46,7 @@ one_export unit tree out other (inr a) (inr b) = one_cut unit (facets_of (solid_
 not_text : (out : TreeExport) (passed : PassedLimit) → out ≡ exported.PassedLimit passed → IsTextExport out → ⊥
 not_text out passed e h = let both : exported.PassedLimit passed ≡ exported.Text h.0 = sym e ∙ h.1 in cc
 
-no_limit : (unit : LengthUnit) (tree : Formula) (out : TreeExport) → IsExported unit tree out → IsTextExport out → PassesNoLimit unit tree
+no_limit : (unit : LengthUnit) (tree : Tree) (out : TreeExport) → IsExported unit tree out → IsTextExport out → PassesNoLimit unit tree
 no_limit unit tree out (inl a) h = absurd (not_text out a.0 a.2 h)
 no_limit unit tree out (inr (sizes, inl a)) h = absurd (not_text out _ a.1 h)
 no_limit unit tree out (inr (sizes, inr (few, inl a))) h = absurd (not_text out _ a.1 h)
@@ -54,14 +54,14 @@ no_limit unit tree out (inr (sizes, inr (few, inr (short, inl a)))) h = absurd (
 no_limit unit tree out (inr (sizes, inr (few, inr (short, inr a)))) h =
     record { sizes = sizes; facets = few; corners = short; vertices = a.0 }
 
-pub text_within : (unit : LengthUnit) (tree : Formula) (out : TreeExport) → IsExported unit tree out → PassesNoLimit unit tree → IsTextExport out
+pub text_within : (unit : LengthUnit) (tree : Tree) (out : TreeExport) → IsExported unit tree out → PassesNoLimit unit tree → IsTextExport out
 text_within unit tree out (inl a) h = absurd (none_passed (nodes_of tree) a.0 h.sizes a.1)
 text_within unit tree out (inr (sizes, inl a)) h = absurd (omega (arith, a.0, h.facets))
 text_within unit tree out (inr (sizes, inr (few, inl a))) h = absurd (omega (arith, a.0, h.corners))
 text_within unit tree out (inr (sizes, inr (few, inr (short, inl a)))) h = absurd (one_count unit (facets_of (solid_of tree)) a.0 h.vertices)
 text_within unit tree out (inr (sizes, inr (few, inr (short, inr a)))) h = (a.1.0, a.1.2)
 
-pub texts : (unit : LengthUnit) (tree : Formula) (out : TreeExport) → IsExported unit tree out → IsTextExport out ↔ PassesNoLimit unit tree
+pub texts : (unit : LengthUnit) (tree : Tree) (out : TreeExport) → IsExported unit tree out → IsTextExport out ↔ PassesNoLimit unit tree
 texts unit tree out h = (no_limit unit tree out h, text_within unit tree out h)
 
 -- Nothing has no nodes and no facets

@@ -3,11 +3,11 @@ use Rattle.std.proofs.Common.{ℕ, zero, suc, ◌+◌, ◌*◌, ◌^◌, ◌<◌
 use Rattle.std.proofs.lemmas.List.Elements.{All-nil, All-cons}
 use Rattle.plane_predicate.specs.declared.unit.Unit.{Unit as LengthUnit}
 use Rattle.plane_predicate.specs.Space.{Coefficients}
-use Rattle.csg_tree.specs.Formulas.{Formula, leaf}
+use Rattle.csg_tree.specs.HalfSpaceTrees.{Tree, leaf}
 use Rattle.csg_tree.specs.Numberings.{nodes_of}
 use Rattle.bsp_tree.specs.Trees.{size}
 use Rattle.bsp_boolean.specs.LeafSolids.{solid_of_leaf}
-use Rattle.bsp_boolean.specs.TreeSolids.{most_of_one, solid_size, AreWithinSizeLimits}
+use Rattle.bsp_boolean.specs.TreeSolids.{most_solid_size, solid_size, AreWithinSizeLimits}
 use Rattle.facet_cut.specs.Facets.{facets_of}
 use Rattle.off_text.specs.Texts.{corner_count, most_vertices, HasVertices}
 use Rattle.off_text.proofs.Bounds.Sizes.{leaf_size, leaf_facets, leaf_corners}
@@ -31,7 +31,7 @@ eight (suc (suc (suc (suc (suc (suc (suc (suc (suc n))))))))) h = absurd (omega 
 
 one_node : (planes : List Coefficients) → size (solid_of_leaf planes) ≤ 32776 → AreWithinSizeLimits (nodes_of (leaf planes))
 one_node planes small =
-    let P = λ (tree : Formula). solid_size tree ≤ most_of_one in
+    let P = λ (tree : Tree). solid_size tree ≤ most_solid_size in
     record { each = All-cons P (leaf planes) [] (omega (arith, small)) (All-nil P); together = omega (arith, small) }
 
 few_enough : (unit : LengthUnit) (planes : List Coefficients) → corner_count (facets_of (solid_of_leaf planes)) ≤ 32768 →

@@ -4,7 +4,7 @@ use Rattle.std.proofs.lemmas.Bool.{cases_lt}
 use Rattle.plane_predicate.specs.declared.unit.Unit.{Unit as LengthUnit}
 use Rattle.plane_predicate.specs.Space.{Coordinates}
 use Rattle.plane_polygon.specs.Polygons.{Outline}
-use Rattle.csg_tree.specs.Formulas.{Formula}
+use Rattle.csg_tree.specs.HalfSpaceTrees.{Tree}
 use Rattle.csg_tree.specs.Numberings.{nodes_of}
 use Rattle.bsp_boolean.specs.Solids.{solid_of}
 use Rattle.facet_cut.specs.Facets.{facets_of}
@@ -16,7 +16,7 @@ use Rattle.tree_export.specs.declared.export.TreeExport.TheVariants as exported
 use Rattle.tree_export.specs.Exports.{most_facets, IsTextOutcome, IsFacetOutcome, IsExported, IsBoundaryText}
 use Rattle.tree_export.proofs.FirstPassed.{IsSettled}
 
-module _ (unit : LengthUnit) (tree : Formula) (faces : List (List Coordinates)) (corners : AreCornersOf unit (facets_of (solid_of tree)) faces)
+module _ (unit : LengthUnit) (tree : Tree) (faces : List (List Coordinates)) (corners : AreCornersOf unit (facets_of (solid_of tree)) faces)
     (boundary : (bytes : List ℕ) → IsTextOf unit (facets_of (solid_of tree)) bytes → IsBoundary unit bytes tree) where
   abbrev facets : List Outline
   facets = facets_of (solid_of tree)

@@ -5,7 +5,7 @@ use Rattle.std.specs.Global.{Global}
 use Rattle.std.specs.declared.sync.Arc.{Arc}
 use Rattle.plane_predicate.specs.declared.unit.Unit.{Unit as LengthUnit}
 use Rattle.plane_polygon.specs.Polygons.{Outline}
-use Rattle.csg_tree.specs.Formulas.{Formula}
+use Rattle.csg_tree.specs.HalfSpaceTrees.{Tree}
 use Rattle.csg_tree.specs.Numberings.{nodes_of}
 use Rattle.bsp_tree.specs.Shapes.{SolidParts}
 use Rattle.bsp_tree.specs.Shapes.{tree_of}
@@ -14,7 +14,7 @@ use Rattle.bsp_boolean.specs.declared.tree_solids.TreeStop.TheVariants.{TooBig, 
 use Rattle.bsp_boolean.specs.Solids.{solid_of}
 use Rattle.bsp_boolean.specs.TreeSolids.{AreWithinSizeLimits, IsTreeStop}
 use Rattle.facet_cut.specs.Facets.{facets_of}
-use Rattle.off_text.specs.Reading.{newline}
+use Rattle.text_place.specs.Separators.{newline}
 use Rattle.off_text.specs.Texts.{corner_count, most_corners, most_vertices, HasVertices, IsTextOf}
 use Rattle.off_text.specs.Bounding.{IsBoundary}
 use Rattle.reply_text.specs.declared.reply.PassedLimit.{PassedLimit}
@@ -28,14 +28,14 @@ most_facets = 20000
 
 -- the first limit of size that is passed by trees in order of number: at the first number at which either is, the limit of
 -- that tree's own solid, or else that of all solids up to it
-abbrev pub IsFirstPassed : List Formula → PassedLimit → Type 0
+abbrev pub IsFirstPassed : List Tree → PassedLimit → Type 0
 IsFirstPassed trees (limit.Solid number) = IsTreeStop trees (TooBig number)
 IsFirstPassed trees (limit.Sum number) = IsTreeStop trees (SumTooBig number)
 IsFirstPassed trees _ = ⊥
 
 -- the solid of a tree whose distinct subtrees are within the limits of size, or the first of them that passes one, or want of
 -- memory
-abbrev pub IsSolidOutcome : Formula → Result (Arc SolidParts Global) TreeStop → Type 0
+abbrev pub IsSolidOutcome : Tree → Result (Arc SolidParts Global) TreeStop → Type 0
 IsSolidOutcome tree made =
     IfOk made (λ solid. tree_of (arc_value solid) ≡ solid_of tree)
     × OnOk made (AreWithinSizeLimits (nodes_of tree))
@@ -57,13 +57,13 @@ IsFacetOutcome unit facets out =
 
 -- what the export of a tree gives: the first limit of size that its distinct subtrees pass in order of number, or else what
 -- the facets of its solid give
-abbrev pub IsExported : LengthUnit → Formula → TreeExport → Type 0
+abbrev pub IsExported : LengthUnit → Tree → TreeExport → Type 0
 IsExported unit tree out =
     ((passed : PassedLimit) × IsFirstPassed (nodes_of tree) passed × (out ≡ exported.PassedLimit passed))
     ⊎ (AreWithinSizeLimits (nodes_of tree) × IsFacetOutcome unit (facets_of (solid_of tree)) out)
 
 -- a tree that passes none of the limits
-pub record PassesNoLimit (unit : LengthUnit) (tree : Formula) : Type 0 where
+pub record PassesNoLimit (unit : LengthUnit) (tree : Tree) : Type 0 where
   pub sizes : AreWithinSizeLimits (nodes_of tree)
   pub facets : length (facets_of (solid_of tree)) ≤ most_facets
   pub corners : corner_count (facets_of (solid_of tree)) ≤ most_corners
@@ -74,7 +74,7 @@ abbrev pub IsTextExport : TreeExport → Type 0
 IsTextExport out = (bytes : List ℕ) × (out ≡ exported.Text bytes)
 
 -- a text is the boundary of the tree
-abbrev pub IsBoundaryText : LengthUnit → Formula → TreeExport → Type 0
+abbrev pub IsBoundaryText : LengthUnit → Tree → TreeExport → Type 0
 IsBoundaryText unit f (exported.Text bytes) = IsBoundary unit bytes f
 IsBoundaryText unit f (exported.PassedLimit passed) = Unit {0}
 

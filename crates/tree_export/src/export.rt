@@ -2,10 +2,10 @@
 
 ghost use Rattle.std.specs.Prelude.{◌≡◌, IfOk, IfErr, OnOk, OnErr};
 ghost use Rattle.std.specs.Arc.{arc_value};
-ghost use Rattle.csg_tree.specs.Formulas.{Formula};
+ghost use Rattle.csg_tree.specs.HalfSpaceTrees.{Tree};
 ghost use Rattle.csg_tree.specs.ProperTrees.{IsProper};
 ghost use Rattle.csg_tree.specs.Numberings.{nodes_of};
-ghost use Rattle.csg_tree.specs.Trees.{formula_of};
+ghost use Rattle.csg_tree.specs.Trees.{plain_tree_of};
 ghost use Rattle.bsp_tree.specs.Shapes.{tree_of};
 ghost use Rattle.bsp_tree.specs.Trees.{outside};
 ghost use Rattle.bsp_boolean.specs.Solids.{solid_of};
@@ -49,7 +49,7 @@ fn write_facets<R: Threads + Sync>(
     unit: Unit,
 ) -> Result<TreeExport, NoMemory>
     ensures written { IfOk result (IsTextOutcome unit facets.now) }
-    ensures boundary { (f : Formula) → IsProper f → facets.now ≡ facets_of (solid_of f) →
+    ensures boundary { (f : Tree) → IsProper f → facets.now ≡ facets_of (solid_of f) →
         IfOk result (IsBoundaryText unit f) }
 {
     match off_bytes_by(rt, alloc, workers, facets, unit) {
@@ -69,7 +69,7 @@ fn cut_solid<R: Threads + Sync>(
     unit: Unit,
 ) -> Result<TreeExport, NoMemory>
     ensures cut { IfOk result (IsFacetOutcome unit (facets_of (tree_of solid.now))) }
-    ensures boundary { (f : Formula) → IsProper f → tree_of solid.now ≡ solid_of f →
+    ensures boundary { (f : Tree) → IsProper f → tree_of solid.now ≡ solid_of f →
         IfOk result (IsBoundaryText unit f) }
 {
     match facets_by(rt, alloc, workers, solid, FACETS) {
@@ -88,8 +88,8 @@ fn share<T: Drop>(alloc: Global, value: T) -> Result<Arc<T>, NoMemory>
 
 /// The distinct subtrees of a proper tree, in order of number, as nodes that many can share. Nothing has none.
 pub fn nodes_of_tree(alloc: Global, tree: &CsgTree) -> Result<Arc<CsgStore>, NoMemory>
-    requires { IsProper (formula_of tree.now) }
-    ensures { IfOk result (λ store. arc_value store ≡ nodes_of (formula_of tree.now)) }
+    requires { IsProper (plain_tree_of tree.now) }
+    ensures { IfOk result (λ store. arc_value store ≡ nodes_of (plain_tree_of tree.now)) }
 {
     share(alloc, CsgStore::intern(alloc, tree)?)
 }
@@ -114,9 +114,10 @@ pub fn export_made<R: Threads + Sync>(
     made: Result<Arc<Solid>, TreeStop>,
     unit: Unit,
 ) -> Result<TreeExport, NoMemory>
-    ensures exported { (f : Formula) → IsSolidOutcome f made → IfOk result (IsExported unit f) }
+    ensures exported { (f : Tree) → IsSolidOutcome f made → IfOk result (IsExported unit f) }
     // A text is the boundary of the tree.
-    ensures boundary { (f : Formula) → IsProper f → IsSolidOutcome f made → IfOk result (IsBoundaryText unit f) }
+    ensures boundary { (f : Tree) → IsProper f → IsSolidOutcome f made →
+        IfOk result (IsBoundaryText unit f) }
     // Without a solid there is no other export than a limit of size.
     ensures stopped { OnErr made
         (IfOk result
@@ -132,10 +133,10 @@ pub fn export_made<R: Threads + Sync>(
 
 // The solid of a tree, by way of its distinct subtrees.
 fn solid_within(alloc: Global, tree: &CsgTree) -> Result<Arc<Solid>, TreeStop>
-    requires { IsProper (formula_of tree.now) }
-    ensures solid { IfOk result (λ s. tree_of (arc_value s) ≡ solid_of (formula_of tree.now)) }
-    ensures within { OnOk result (AreWithinSizeLimits (nodes_of (formula_of tree.now))) }
-    ensures stop { IfErr result (IsTreeStop (nodes_of (formula_of tree.now))) }
+    requires { IsProper (plain_tree_of tree.now) }
+    ensures solid { IfOk result (λ s. tree_of (arc_value s) ≡ solid_of (plain_tree_of tree.now)) }
+    ensures within { OnOk result (AreWithinSizeLimits (nodes_of (plain_tree_of tree.now))) }
+    ensures stop { IfErr result (IsTreeStop (nodes_of (plain_tree_of tree.now))) }
 {
     let store = nodes_of_tree(alloc, tree)?;
     if store.len() == 0 {
@@ -153,9 +154,9 @@ pub fn export_tree<R: Threads + Sync>(
     tree: &CsgTree,
     unit: Unit,
 ) -> Result<TreeExport, NoMemory>
-    requires { IsProper (formula_of tree.now) }
-    ensures exported { IfOk result (IsExported unit (formula_of tree.now)) }
-    ensures boundary { IfOk result (IsBoundaryText unit (formula_of tree.now)) }
+    requires { IsProper (plain_tree_of tree.now) }
+    ensures exported { IfOk result (IsExported unit (plain_tree_of tree.now)) }
+    ensures boundary { IfOk result (IsBoundaryText unit (plain_tree_of tree.now)) }
 {
     let made = solid_within(alloc, tree);
     export_made(rt, alloc, workers, made, unit)

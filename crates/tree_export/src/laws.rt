@@ -3,7 +3,7 @@
 ghost use Rattle.std.specs.Prelude.{◌≡◌, ◌<◌, ◌≤◌, ◌↔◌, ℕ, List, length};
 ghost use Rattle.plane_predicate.specs.declared.unit.Unit.{Unit as LengthUnit};
 ghost use Rattle.plane_predicate.specs.Space.{Coefficients};
-ghost use Rattle.csg_tree.specs.Formulas.{Formula, nothing, leaf};
+ghost use Rattle.csg_tree.specs.HalfSpaceTrees.{Tree, nothing, leaf};
 ghost use Rattle.csg_tree.specs.Numberings.{nodes_of, tree_numbered};
 ghost use Rattle.csg_tree.specs.ProperTrees.{IsProper};
 ghost use Rattle.bsp_tree.specs.Trees.{outside};
@@ -19,15 +19,16 @@ use off_text::{some_corners, texts_are_boundaries, texts_print_polygons};
 
 /// In each unit a tree has one export.
 pub fn one_export()
-    ensures { (unit : LengthUnit) (tree : Formula) (out other : TreeExport) →
+    ensures { (unit : LengthUnit) (tree : Tree) (out other : TreeExport) →
         IsExported unit tree out → IsExported unit tree other → out ≡ other }
 {}
 
 /// In each unit each proper tree has an export, and a text is the boundary of the tree.
 pub fn some_export()
-    ensures { (unit : LengthUnit) (tree : Formula) → IsProper tree → (out : TreeExport) ×
+    ensures { (unit : LengthUnit) (tree : Tree) → IsProper tree → (out : TreeExport) ×
         IsExported unit tree out × IsBoundaryText unit tree out }
 {
+    // Each call brings a law alone.
     one_tree_more();
     solids_are_their_trees();
     facets_are_polygons();
@@ -38,7 +39,7 @@ pub fn some_export()
 
 /// A tree's export is a text exactly where no limit is passed.
 pub fn texts_pass_no_limit()
-    ensures { (unit : LengthUnit) (tree : Formula) (out : TreeExport) → IsExported unit tree out →
+    ensures { (unit : LengthUnit) (tree : Tree) (out : TreeExport) → IsExported unit tree out →
         IsTextExport out ↔ PassesNoLimit unit tree }
 {}
 
@@ -56,10 +57,11 @@ pub fn small_leaves_are_texts()
 
 /// A tree's last node is the tree, and so has its solid; a tree without nodes has the empty solid.
 pub fn last_nodes_are_trees()
-    ensures same { (tree : Formula) → 0 < length (nodes_of tree) →
+    ensures same { (tree : Tree) → 0 < length (nodes_of tree) →
         tree_numbered (nodes_of tree) (length (nodes_of tree)) ≡ tree }
-    ensures last { (tree : Formula) → 0 < length (nodes_of tree) →
+    ensures last { (tree : Tree) → 0 < length (nodes_of tree) →
         solid_of (tree_numbered (nodes_of tree) (length (nodes_of tree))) ≡ solid_of tree }
-    ensures none { (tree : Formula) → length (nodes_of tree) ≡ 0 → outside ≡ solid_of tree }
-    ensures within { (tree : Formula) → length (nodes_of tree) ≡ 0 → AreWithinSizeLimits (nodes_of tree) }
+    ensures none { (tree : Tree) → length (nodes_of tree) ≡ 0 → outside ≡ solid_of tree }
+    ensures within { (tree : Tree) → length (nodes_of tree) ≡ 0 →
+        AreWithinSizeLimits (nodes_of tree) }
 {}

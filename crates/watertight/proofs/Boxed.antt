@@ -3,25 +3,25 @@ use Rattle.std.proofs.Common.{◌≡◌, ◌⊎◌, inl, inr, ℕ, zero, suc, �
 use Rattle.plane_predicate.specs.declared.unit.Unit.{Unit as LengthUnit}
 use Rattle.plane_predicate.specs.declared.unit.Unit.TheVariants.{Whole, Half}
 use Rattle.plane_predicate.specs.Space.{Coefficients, Coordinates, value, IsInWorld}
-use Rattle.plane_predicate.specs.Units.{steps_of}
+use Rattle.plane_predicate.specs.Units.{grid_steps_per_unit}
 use Rattle.plane_predicate.specs.InUnits.{in_steps}
 use Rattle.plane_predicate.proofs.IntegerRing.{mul_assoc_ℤ, sums}
 use Rattle.bsp_tree.specs.Cells.{world_box, AllBehind, IsInCell}
 use Rattle.bsp_tree.proofs.Worlds.{open_world}
-use Rattle.closed_surface.specs.Ways.{Direction, way, is_same_way, is_opposite_way}
-use Rattle.closed_surface.specs.Closed.{Edge, edges_along, edges_against, edges_of, runs_through, corners_at, is_corner, IsClosedSurface}
+use Rattle.closed_surface.specs.Ways.{Direction, displacement, is_same_direction, is_opposite_direction}
+use Rattle.closed_surface.specs.Closed.{Edge, count_of_edges_along, count_of_edges_against, edges_of, runs_through, corners_at, is_corner, IsClosedSurface}
 use Rattle.closed_surface.proofs.Numbers.{at_most}
 use Rattle.closed_surface.proofs.EdgeLines.{runs_behind}
 use Rattle.closed_surface.proofs.Each.{Each, each_from_all}
-use Rattle.watertight.specs.Everywhere.{IsClosedEverywhere}
+use Rattle.watertight.specs.Everywhere.{IsClosedAtEveryPoint}
 use Rattle.watertight.proofs.Lists.{HaveBoth, edges_have}
 
 -- the plane that says of a point in units what m says of it in grid steps
 abbrev plane_in_units : LengthUnit → Coefficients → Coefficients
-plane_in_units unit m = record { a = m.a *ℤ steps_of unit; b = m.b *ℤ steps_of unit; c = m.c *ℤ steps_of unit; d = m.d }
+plane_in_units unit m = record { a = m.a *ℤ grid_steps_per_unit unit; b = m.b *ℤ grid_steps_per_unit unit; c = m.c *ℤ grid_steps_per_unit unit; d = m.d }
 
 value_in_units : (unit : LengthUnit) (m : Coefficients) (p : Coordinates) → value (plane_in_units unit m) p ≡ value m (in_steps unit p)
-value_in_units unit m p = λ i. mul_assoc_ℤ m.a (steps_of unit) p.x i +ℤ mul_assoc_ℤ m.b (steps_of unit) p.y i +ℤ mul_assoc_ℤ m.c (steps_of unit) p.z i -ℤ m.d *ℤ p.w
+value_in_units unit m p = λ i. mul_assoc_ℤ m.a (grid_steps_per_unit unit) p.x i +ℤ mul_assoc_ℤ m.b (grid_steps_per_unit unit) p.y i +ℤ mul_assoc_ℤ m.c (grid_steps_per_unit unit) p.z i -ℤ m.d *ℤ p.w
 
 -- a point between two points that are behind some planes is behind them
 behind_all : (unit : LengthUnit) (a b q : Coordinates) → pos 0 <ℤ a.w → pos 0 <ℤ b.w → pos 0 <ℤ q.w → runs_through (a, b) q ≡ true →
@@ -86,11 +86,11 @@ in_or_none unit q wq (e ∷ edges) h = elim (in_or_none unit q wq edges h.1) [
 ]
 
 pub closed_everywhere : (unit : LengthUnit) (vertices : List Coordinates) (faces : List (List ℕ)) →
-    All (λ (p : Coordinates). IsInWorld (in_steps unit p)) vertices → IsClosedSurface unit vertices faces → IsClosedEverywhere vertices faces
+    All (λ (p : Coordinates). IsInWorld (in_steps unit p)) vertices → IsClosedSurface unit vertices faces → IsClosedAtEveryPoint vertices faces
 closed_everywhere unit vertices faces inside closed q v wq free =
     elim (in_or_none unit q wq (flat_map edges_of (map (corners_at vertices) faces))
     (edges_have (λ p. IsInWorld (in_steps unit p)) (map (corners_at vertices) faces)
     (faces_boxed unit vertices (each_from_all (λ p. IsInWorld (in_steps unit p)) vertices inside) faces))) [
       | inl world ↦ closed q v world free
-      | inr none ↦ none (λ e. is_same_way (way e.0 e.1) v) ∙ sym (none (λ e. is_opposite_way (way e.0 e.1) v))
+      | inr none ↦ none (λ e. is_same_direction (displacement e.0 e.1) v) ∙ sym (none (λ e. is_opposite_direction (displacement e.0 e.1) v))
     ]

@@ -8,7 +8,7 @@ use Rattle.plane_predicate.proofs.Vectors.{form, of_plane, determinantP}
 use Rattle.plane_predicate.proofs.Signs.{signs, zero_cancel}
 use Rattle.plane_predicate.proofs.SamePlanes.{directed_above, equal_or_opposite}
 use Rattle.bsp_tree.proofs.Openness.{more_below, more_above}
-use Rattle.closed_surface.specs.Ways.{Direction, way, dot_product, slope, line_of}
+use Rattle.closed_surface.specs.Ways.{Direction, displacement, dot_product, slope, line_of}
 use Rattle.closed_surface.specs.Around.{triple_product_of}
 use Rattle.closed_surface.specs.Near.{direction_beside}
 use Rattle.closed_surface.proofs.Near.{slope_beside}
@@ -29,7 +29,7 @@ same_points q hw m n plane hm hn z = record {
   points = λ p pw e.
       let a : Direction = record { x = m.a; y = m.b; z = m.c } in
       let b : Direction = record { x = n.a; y = n.b; z = n.c } in
-      let u = way q p in
+      let u = displacement q p in
       let flat : slope m u ≡ pos 0 = slope_way m q p ∙ minus_zero q.w (value m p) p.w (value m q) e hm in
       let same : slope n u ≡ pos 0 = zero_cancel (dot_product a a) (dot_product b u) (directed_above m plane.directed) (along_dot a b u z ∙ ap (λ (x : ℤ). dot_product a b *ℤ x) flat ∙ *ℤ-zero (dot_product a b)) in
       zero_cancel q.w (value n p) hw (only_first q.w (value n p) p.w (value n q) (sym (slope_way n q p) ∙ same) hn);

@@ -10,7 +10,8 @@ use Rattle.plane_predicate.proofs.SamePlanes.{directed_above}
 use Rattle.plane_polygon.proofs.FourPoints.{four_points}
 use Rattle.plane_polygon.proofs.Hull.{after_inside, after_last}
 use Rattle.closed_surface.proofs.Numbers.{at_least}
-use Rattle.off_text.specs.Boundaries.{corner_after, grid_corner, FaceCovers}
+use Rattle.off_text.specs.Boundaries.{grid_corner, FaceCovers}
+use Rattle.plane_predicate.specs.Indices.{index_after}
 
 -- going on from m, a number is first not below 0, and in the end not above it
 pub turning_point : (f : ℕ → ℤ) (m d : ℕ) → pos 0 ≤ℤ f m → f (m + suc d) ≤ℤ pos 0 → (i : ℕ) × (m ≤ i) × (i < m + suc d) × (pos 0 ≤ℤ f i) × (f (suc i) ≤ℤ pos 0)
@@ -40,7 +41,7 @@ module _ (unit : LengthUnit) (vertices : List Coordinates) (face : List ℕ) (th
   around i = orientation_seen_from n (spot 0) (spot i) inner
 
   -- left of the way from corner i to corner j, which is the next
-  left_to : (i j : ℕ) → i < length face → corner_after (length face) i ≡ j → pos 0 <ℤ orientation_seen_from n (spot i) (spot j) inner
+  left_to : (i j : ℕ) → i < length face → index_after (length face) i ≡ j → pos 0 <ℤ orientation_seen_from n (spot i) (spot j) inner
   left_to i j l e = subst (λ (k : ℕ). pos 0 <ℤ orientation_seen_from n (spot i) (spot k) inner) e (h.left i l)
 
   first : pos 0 ≤ℤ around 1
@@ -59,7 +60,7 @@ module _ (unit : LengthUnit) (vertices : List Coordinates) (face : List ℕ) (th
   fan : (i : ℕ) → 1 ≤ i → suc i < length face → pos 0 <ℤ orientation_seen_from n (spot 0) (spot i) (spot (suc i))
   fan i low high =
       let e = after_inside (length face) i high in
-      let apart : 0 ≢ corner_after (length face) i = subst (λ (k : ℕ). 0 ≢ k) (sym e) (omega arith) in
+      let apart : 0 ≢ index_after (length face) i = subst (λ (k : ℕ). 0 ≢ k) (sym e) (omega arith) in
       subst (λ (v : ℤ). pos 0 <ℤ v) (turn_round n (spot 0) (spot i) (spot (suc i)))
       (subst (λ (k : ℕ). pos 0 <ℤ orientation_seen_from n (spot i) (spot k) (spot 0)) e (h.faces.left i 0 (omega arith) (omega arith) (omega arith) apart))
 

@@ -5,7 +5,7 @@ use Rattle.std.proofs.Math.IntN.{*ℤ-zero}
 use Rattle.std.proofs.lemmas.Bool.{cases_lt}
 use Rattle.plane_predicate.specs.declared.unit.Unit.{Unit as LengthUnit}
 use Rattle.plane_predicate.specs.Space.{Coefficients, Coordinates, value, orientation_seen_from, opposite_of, is_same, product_with, IsPlane, IsInWorld}
-use Rattle.plane_predicate.specs.Units.{steps_of}
+use Rattle.plane_predicate.specs.Units.{grid_steps_per_unit}
 use Rattle.plane_predicate.specs.InUnits.{in_steps}
 use Rattle.plane_predicate.proofs.IntegerRing.{sums, mul_neg_left}
 use Rattle.plane_predicate.proofs.InUnits.{steps_above}
@@ -15,7 +15,7 @@ use Rattle.plane_predicate.proofs.Signs.{zero_cancel}
 use Rattle.plane_predicate.proofs.SamePlanes.{directed_above, equal_or_opposite}
 use Rattle.plane_polygon.proofs.FourPoints.{four_points}
 use Rattle.plane_polygon.proofs.Hull.{after_below}
-use Rattle.csg_tree.specs.Formulas.{Formula, nothing, leaf, joined, SideAssignment, holds, sides_of, IsPlaneOf}
+use Rattle.csg_tree.specs.HalfSpaceTrees.{Tree, nothing, leaf, tree_join, SideAssignment, holds, sides_of, IsPlaneOf}
 use Rattle.csg_tree.specs.FacePlanes.{IsFacePlane, IsOnOneFacePlane, sides_just_behind, sides_just_ahead, is_boundary_at}
 use Rattle.csg_tree.specs.ProperTrees.{HasFullLeaves, IsProper}
 use Rattle.bsp_tree.specs.Cells.{world_box}
@@ -29,17 +29,18 @@ use Rattle.closed_surface.proofs.Balanced.{in_near}
 use Rattle.closed_surface.proofs.Closing.{not_opposite}
 use Rattle.closed_surface.proofs.Lines.{IsEither}
 use Rattle.closed_surface.proofs.Each.{Each, each_weaker, each_both, each_append, each_left, each_right, each_from_all}
-use Rattle.off_text.specs.Boundaries.{corner_after, grid_corner, FacesPlane, FaceCovers, OneExactlyWhere}
+use Rattle.off_text.specs.Boundaries.{grid_corner, FacesPlane, FaceCovers, OneExactlyWhere}
 use Rattle.off_text.proofs.BesideFaces.{face_plane_is_plane}
 use Rattle.off_text.proofs.Rounded.{below_three, not_two, last_of_four}
 use Rattle.off_text.proofs.Scaled.{no_two_sides}
 use Rattle.watertight.proofs.General.{General, Clears, general, all_slopes, each_slope}
+use Rattle.plane_predicate.specs.Indices.{index_after}
 
 -- ---- the planes of a formula, in a list
-abbrev pub planes_in : Formula → List Coefficients
+abbrev pub planes_in : Tree → List Coefficients
 planes_in nothing = []
 planes_in (leaf planes) = planes
-planes_in (joined op left right) = planes_in left ++ planes_in right
+planes_in (tree_join op left right) = planes_in left ++ planes_in right
 
 pub contained : (planes : List Coefficients) → Each (Contains planes) planes
 contained [] = tt
@@ -48,24 +49,24 @@ contained (n ∷ planes) = (
   each_weaker (Contains planes) (Contains (n ∷ planes)) (λ m c. (suc c.0, omega (arith, c.1), c.2)) planes (contained planes),
 )
 
-pub each_is : (f : Formula) → Each (λ m. IsPlaneOf m f) (planes_in f)
+pub each_is : (f : Tree) → Each (λ m. IsPlaneOf m f) (planes_in f)
 each_is nothing = tt
 each_is (leaf planes) = contained planes
-each_is (joined op left right) =
-    each_append (λ m. IsPlaneOf m (joined op left right)) (planes_in left) (planes_in right)
-    (each_weaker (λ m. IsPlaneOf m left) (λ m. IsPlaneOf m (joined op left right)) (λ m h. inl h) (planes_in left) (each_is left))
-    (each_weaker (λ m. IsPlaneOf m right) (λ m. IsPlaneOf m (joined op left right)) (λ m h. inr h) (planes_in right) (each_is right))
+each_is (tree_join op left right) =
+    each_append (λ m. IsPlaneOf m (tree_join op left right)) (planes_in left) (planes_in right)
+    (each_weaker (λ m. IsPlaneOf m left) (λ m. IsPlaneOf m (tree_join op left right)) (λ m h. inl h) (planes_in left) (each_is left))
+    (each_weaker (λ m. IsPlaneOf m right) (λ m. IsPlaneOf m (tree_join op left right)) (λ m h. inr h) (planes_in right) (each_is right))
 
 pub each_contained : (P : Coefficients → Type 0) (planes : List Coefficients) → Each P planes → (m : Coefficients) → Contains planes m → P m
 each_contained P [] e m c = absurd (omega (arith, c.1))
 each_contained P (n ∷ planes) e m (zero, l, q) = subst P q e.0
 each_contained P (n ∷ planes) e m (suc i, l, q) = each_contained P planes e.1 m (i, omega (arith, l), q)
 
-pub each_of : (P : Coefficients → Type 0) (f : Formula) → Each P (planes_in f) → (m : Coefficients) → IsPlaneOf m f → P m
+pub each_of : (P : Coefficients → Type 0) (f : Tree) → Each P (planes_in f) → (m : Coefficients) → IsPlaneOf m f → P m
 each_of P nothing e m h = absurd h
 each_of P (leaf planes) e m h = each_contained P planes e m h
-each_of P (joined op left right) e m (inl h) = each_of P left (each_left P (planes_in left) (planes_in right) e) m h
-each_of P (joined op left right) e m (inr h) = each_of P right (each_right P (planes_in left) (planes_in right) e) m h
+each_of P (tree_join op left right) e m (inl h) = each_of P left (each_left P (planes_in left) (planes_in right) e) m h
+each_of P (tree_join op left right) e m (inr h) = each_of P right (each_right P (planes_in left) (planes_in right) e) m h
 
 -- ---- the plane whose value at a point is the orientation of a way to it
 abbrev pub way_plane : Coefficients → Coordinates → Coordinates → Coefficients
@@ -129,7 +130,7 @@ at_most_both x y n h k = omega arith
 
 -- ---- a direction in units, in grid steps
 abbrev pub several : LengthUnit → Direction → Direction
-several unit v = record { x = steps_of unit *ℤ v.x; y = steps_of unit *ℤ v.y; z = steps_of unit *ℤ v.z }
+several unit v = record { x = grid_steps_per_unit unit *ℤ v.x; y = grid_steps_per_unit unit *ℤ v.y; z = grid_steps_per_unit unit *ℤ v.z }
 
 pub coordinate_moved : (s k x v : ℤ) → s *ℤ (k *ℤ x +ℤ v) ≡ k *ℤ (s *ℤ x) +ℤ s *ℤ v
 coordinate_moved s k x v =
@@ -137,24 +138,24 @@ coordinate_moved s k x v =
 
 pub moved : (unit : LengthUnit) (number : ℕ) (p : Coordinates) (v : Direction) → in_steps unit (near_point number p v) ≡ near_point number (in_steps unit p) (several unit v)
 moved unit number p v = λ i. record {
-  x = coordinate_moved (steps_of unit) (pos (suc number)) p.x v.x i;
-  y = coordinate_moved (steps_of unit) (pos (suc number)) p.y v.y i;
-  z = coordinate_moved (steps_of unit) (pos (suc number)) p.z v.z i;
+  x = coordinate_moved (grid_steps_per_unit unit) (pos (suc number)) p.x v.x i;
+  y = coordinate_moved (grid_steps_per_unit unit) (pos (suc number)) p.y v.y i;
+  z = coordinate_moved (grid_steps_per_unit unit) (pos (suc number)) p.z v.z i;
   w = pos (suc number) *ℤ p.w;
 }
 
-pub slope_several : (unit : LengthUnit) (m : Coefficients) (v : Direction) → slope m (several unit v) ≡ steps_of unit *ℤ slope m v
+pub slope_several : (unit : LengthUnit) (m : Coefficients) (v : Direction) → slope m (several unit v) ≡ grid_steps_per_unit unit *ℤ slope m v
 slope_several unit m v =
     let M = form 0 in
-    ring (of_plane m (v.x ∷ v.y ∷ v.z ∷ steps_of unit ∷ []))
+    ring (of_plane m (v.x ∷ v.y ∷ v.z ∷ grid_steps_per_unit unit ∷ []))
     (plus (plus (times M.a (times (var 7) (var 4))) (times M.b (times (var 7) (var 5)))) (times M.c (times (var 7) (var 6))))
     (times (var 7) (plus (plus (times M.a (var 4)) (times M.b (var 5))) (times M.c (var 6)))) refl
 
 pub several_flat : (unit : LengthUnit) (m : Coefficients) (v : Direction) → slope m v ≡ pos 0 → slope m (several unit v) ≡ pos 0
-several_flat unit m v e = slope_several unit m v ∙ ap (λ (x : ℤ). steps_of unit *ℤ x) e ∙ *ℤ-zero (steps_of unit)
+several_flat unit m v e = slope_several unit m v ∙ ap (λ (x : ℤ). grid_steps_per_unit unit *ℤ x) e ∙ *ℤ-zero (grid_steps_per_unit unit)
 
 pub several_apart : (unit : LengthUnit) (m : Coefficients) (v : Direction) → slope m v ≢ pos 0 → slope m (several unit v) ≢ pos 0
-several_apart unit m v h e = h (zero_cancel (steps_of unit) (slope m v) (steps_above unit) (sym (slope_several unit m v) ∙ e))
+several_apart unit m v h e = h (zero_cancel (grid_steps_per_unit unit) (slope m v) (steps_above unit) (sym (slope_several unit m v) ∙ e))
 
 -- ---- the plane that a face faces
 module _ (unit : LengthUnit) (vertices : List Coordinates) (face : List ℕ) (three : 3 ≤ length face) where
@@ -162,7 +163,7 @@ module _ (unit : LengthUnit) (vertices : List Coordinates) (face : List ℕ) (th
   spot i = grid_corner unit vertices face i
 
   abbrev pub second : ℕ
-  second = corner_after (length face) 0
+  second = index_after (length face) 0
 
   pub first_below : 0 < length face
   first_below = below_three 0 (length face) three (omega arith)
@@ -202,7 +203,7 @@ is_where false P faces h i l hi = absurd (h i l hi)
 
 -- ---- near an inner point of a face
 abbrev pub way_slopes : LengthUnit → List Coordinates → Coefficients → List ℕ → Direction → ℕ → ℕ
-way_slopes unit vertices n face u i = unsigned_abs (slope (way_plane n (grid_corner unit vertices face i) (grid_corner unit vertices face (corner_after (length face) i))) u)
+way_slopes unit vertices n face u i = unsigned_abs (slope (way_plane n (grid_corner unit vertices face i) (grid_corner unit vertices face (index_after (length face) i))) u)
 
 abbrev pub face_slopes : LengthUnit → List Coordinates → Coefficients → List ℕ → Direction → ℕ
 face_slopes unit vertices n face u = sum_to (way_slopes unit vertices n face u) (length face)
@@ -218,14 +219,14 @@ still_covers unit vertices n face p v number flat enough h =
       on = ap (value n) (moved unit number p v) ∙ near_on n number q u h.on ∙ flat;
       left = λ i l.
           (let a = grid_corner unit vertices face i in
-          let b = grid_corner unit vertices face (corner_after (length face) i) in
+          let b = grid_corner unit vertices face (index_after (length face) i) in
           let small = below_sum (way_slopes unit vertices n face u) (length face) i l in
           subst (λ (x : ℤ). pos 0 <ℤ x) (way_value n a b (near_point number q u) ∙ ap (orientation_seen_from n a b) (sym (moved unit number p v)))
           (near_ahead (way_plane n a b) number q u (at_most_both (way_slopes unit vertices n face u i) (face_slopes unit vertices n face u) number small enough)
           (subst (λ (x : ℤ). pos 0 <ℤ x) (sym (way_value n a b q)) (h.left i l))));
     }
 
-module _ (unit : LengthUnit) (f : Formula) (full : HasFullLeaves f) (n : Coefficients) (plane : IsPlane n) (face_plane : IsFacePlane n f)
+module _ (unit : LengthUnit) (f : Tree) (full : HasFullLeaves f) (n : Coefficients) (plane : IsPlane n) (face_plane : IsFacePlane n f)
     (p : Coordinates) (world : IsInWorld (in_steps unit p)) (on : value n (in_steps unit p) ≡ pos 0) where
   abbrev pub here : Coordinates
   here = in_steps unit p

@@ -5,7 +5,7 @@ use Rattle.std.proofs.Math.IntN.{*ℤ-zero}
 use Rattle.std.proofs.lemmas.Bool.{cases_lt}
 use Rattle.plane_predicate.specs.declared.unit.Unit.{Unit as LengthUnit}
 use Rattle.plane_predicate.specs.Space.{Coefficients, Coordinates, value, orientation_seen_from, opposite_of, is_same, product_with, IsPlane, IsInWorld}
-use Rattle.plane_predicate.specs.Units.{steps_of}
+use Rattle.plane_predicate.specs.Units.{grid_steps_per_unit}
 use Rattle.plane_predicate.specs.InUnits.{in_steps}
 use Rattle.plane_predicate.proofs.IntegerRing.{sums, mul_neg_left}
 use Rattle.plane_predicate.proofs.InUnits.{steps_above}
@@ -15,7 +15,7 @@ use Rattle.plane_predicate.proofs.Signs.{zero_cancel}
 use Rattle.plane_predicate.proofs.SamePlanes.{directed_above, equal_or_opposite}
 use Rattle.plane_polygon.proofs.FourPoints.{four_points}
 use Rattle.plane_polygon.proofs.Hull.{after_below}
-use Rattle.csg_tree.specs.Formulas.{Formula, nothing, leaf, joined, SideAssignment, holds, sides_of, IsPlaneOf}
+use Rattle.csg_tree.specs.HalfSpaceTrees.{Tree, nothing, leaf, tree_join, SideAssignment, holds, sides_of, IsPlaneOf}
 use Rattle.csg_tree.specs.FacePlanes.{IsFacePlane, IsOnOneFacePlane, sides_just_behind, sides_just_ahead, is_boundary_at}
 use Rattle.csg_tree.specs.ProperTrees.{HasFullLeaves, IsProper}
 use Rattle.bsp_tree.specs.Cells.{world_box}
@@ -29,15 +29,16 @@ use Rattle.closed_surface.proofs.Balanced.{in_near}
 use Rattle.closed_surface.proofs.Closing.{not_opposite}
 use Rattle.closed_surface.proofs.Lines.{IsEither}
 use Rattle.closed_surface.proofs.Each.{Each, each_weaker, each_both, each_append, each_left, each_right, each_from_all}
-use Rattle.off_text.specs.Boundaries.{corner_after, grid_corner, FacesPlane, FaceCovers, OneExactlyWhere}
+use Rattle.off_text.specs.Boundaries.{grid_corner, FacesPlane, FaceCovers, OneExactlyWhere}
 use Rattle.off_text.specs.Bounding.{IsBoundary}
 use Rattle.off_text.proofs.BesideFaces.{face_plane_is_plane}
 use Rattle.off_text.proofs.Rounded.{below_three, not_two, last_of_four}
 use Rattle.off_text.proofs.Scaled.{no_two_sides}
-use Rattle.watertight.specs.Overlaps.{ShareNoInnerPoint}
+use Rattle.watertight.specs.Overlaps.{ShareNoInnerPointInAPlane}
 use Rattle.watertight.proofs.General.{General, Clears, general, all_slopes, each_slope}
 use Rattle.watertight.proofs.Nearby.{way_out, own_slopes, step_flat, alone_near, still_covers, face_slopes, several, one_plane, one_only, is_where, first_part, second_part, third_part}
 use Rattle.watertight.proofs.Strict.{inner_in_world, plane_reach}
+use Rattle.plane_predicate.specs.Indices.{index_after}
 
 -- ---- the other side of a plane
 both_or_neither : (x y s : Bool) → (x ≡ true → y ≡ true → ⊥) → (if y then true else if x then false else s) ≡ (if x then false else if y then true else s)
@@ -58,7 +59,7 @@ sides_exchanged n plane q = λ i m. other_side n plane q m i
 zero_negative : (x y : ℤ) → x ≡ neg_ℤ y → y ≡ pos 0 → x ≡ pos 0
 zero_negative x y e h = omega (arith, sums)
 
-opposite_face_plane : (f : Formula) (n : Coefficients) → IsFacePlane n f → IsFacePlane (opposite_of n) f
+opposite_face_plane : (f : Tree) (n : Coefficients) → IsFacePlane n f → IsFacePlane (opposite_of n) f
 opposite_face_plane f n (inl h) = inr (subst (λ (m : Coefficients). IsPlaneOf m f) (sym (opposite_twice n)) h)
 opposite_face_plane f n (inr h) = inl h
 
@@ -66,7 +67,7 @@ opposite_either : (m n : Coefficients) → IsEither m n → IsEither m (opposite
 opposite_either m n (inl e) = inr (e ∙ sym (opposite_twice n))
 opposite_either m n (inr e) = inl e
 
-on_opposite : (f : Formula) (n : Coefficients) (q : Coordinates) → IsOnOneFacePlane f n q → IsOnOneFacePlane f (opposite_of n) q
+on_opposite : (f : Tree) (n : Coefficients) (q : Coordinates) → IsOnOneFacePlane f n q → IsOnOneFacePlane f (opposite_of n) q
 on_opposite f n q h = record {
   world = h.world;
   face_plane = opposite_face_plane f n h.face_plane;
@@ -86,7 +87,7 @@ opposite_flat : (n : Coefficients) (u : Direction) → slope n u ≡ pos 0 → s
 opposite_flat n u e = zero_negative (slope (opposite_of n) u) (slope n u) (slope_opposite n u) e
 
 -- ---- the faces of a boundary
-module _ (unit : LengthUnit) (bytes : List ℕ) (f : Formula) (full : HasFullLeaves f) (text : IsBoundary unit bytes f) where
+module _ (unit : LengthUnit) (bytes : List ℕ) (f : Tree) (full : HasFullLeaves f) (text : IsBoundary unit bytes f) where
   abbrev face_at : ℕ → List ℕ
   face_at i = slice_index_or text.faces i []
 
@@ -141,5 +142,5 @@ module _ (unit : LengthUnit) (bytes : List ℕ) (f : Formula) (full : HasFullLea
       not_both_ways (holds f (sides_just_behind n r)) (holds f (sides_just_ahead n r)) (holds f (sides_just_ahead (opposite_of n) r)) one
       (subst (λ (s : SideAssignment). (holds f s && not (holds f (sides_just_ahead (opposite_of n) r))) ≡ true) (sides_exchanged n plane r) other)
 
-  pub no_overlaps : ShareNoInnerPoint unit text.vertices text.faces
+  pub no_overlaps : ShareNoInnerPointInAPlane unit text.vertices text.faces
   no_overlaps = record { same = same_face; opposite = no_opposite }

@@ -11,16 +11,17 @@ use Rattle.plane_predicate.proofs.IntegerRing.{sums}
 use Rattle.plane_predicate.proofs.Polynomials.{var, num, plus, times, minus, ring}
 use Rattle.plane_predicate.proofs.Vectors.{Form, place, of_point, valueP}
 use Rattle.csg_tree.specs.declared.op.Op.TheVariants.{Union}
-use Rattle.csg_tree.specs.Formulas.{Formula, leaf, joined, sides_of}
+use Rattle.csg_tree.specs.HalfSpaceTrees.{Tree, leaf, tree_join, sides_of}
 use Rattle.bsp_tree.specs.Cells.{AllBehind}
 use Rattle.closed_surface.specs.Ways.{Direction}
-use Rattle.closed_surface.specs.Closed.{edges_of, corners_at, edges_along, edges_against}
-use Rattle.off_text.specs.Boundaries.{corner_after, grid_corner, FacesPlane, FaceCovers}
-use Rattle.watertight.specs.Everywhere.{IsClosedEverywhere}
-use Rattle.watertight.specs.Pieces.{is_elementary, edges_along_part}
+use Rattle.closed_surface.specs.Closed.{edges_of, corners_at, count_of_edges_along, count_of_edges_against}
+use Rattle.off_text.specs.Boundaries.{grid_corner, FacesPlane, FaceCovers}
+use Rattle.watertight.specs.Everywhere.{IsClosedAtEveryPoint}
+use Rattle.watertight.specs.Pieces.{has_no_corner_within, count_of_edges_over}
 use Rattle.closed_surface.proofs.Numbers.{below_back}
-use Rattle.watertight.specs.Overlaps.{ShareNoInnerPoint}
+use Rattle.watertight.specs.Overlaps.{ShareNoInnerPointInAPlane}
 use Rattle.csg_tree.specs.Reach.{KeepsWithinReach, LeavesKeepWithinReach}
+use Rattle.plane_predicate.specs.Indices.{index_after}
 
 abbrev point : ℤ → ℤ → ℤ → ℤ → Coordinates
 point x y z w = record { x = x; y = y; z = z; w = w }
@@ -34,13 +35,13 @@ to_x = record { x = pos 1; y = pos 0; z = pos 0 }
 -- how many edges run through the point along the direction, and how many against it
 abbrev Run : List Coordinates → List (List ℕ) → Coordinates → Direction → ℕ → ℕ → Type 0
 Run vertices faces q v one other =
-    (edges_along (flat_map edges_of (map (corners_at vertices) faces)) q v ≡ one) × (edges_against (flat_map edges_of (map (corners_at vertices) faces)) q v ≡ other)
+    (count_of_edges_along (flat_map edges_of (map (corners_at vertices) faces)) q v ≡ one) × (count_of_edges_against (flat_map edges_of (map (corners_at vertices) faces)) q v ≡ other)
 
 -- whether no corner is strictly between the two points, and how many edges run along the part from the one to the other, and back
 abbrev Part : List Coordinates → List (List ℕ) → Coordinates → Coordinates → Bool → ℕ → ℕ → Type 0
 Part vertices faces p q free one other =
-    (is_elementary (map (corners_at vertices) faces) (p, q) ≡ free)
-    × (edges_along_part (map (corners_at vertices) faces) (p, q) ≡ one) × (edges_along_part (map (corners_at vertices) faces) (q, p) ≡ other)
+    (has_no_corner_within (map (corners_at vertices) faces) (p, q) ≡ free)
+    × (count_of_edges_over (map (corners_at vertices) faces) (p, q) ≡ one) × (count_of_edges_over (map (corners_at vertices) faces) (q, p) ≡ other)
 
 -- ---- a cube
 abbrev cube : List Coordinates
@@ -83,7 +84,7 @@ differ : (n m : ℕ) → n ≡ m → eqb n m ≡ false → ⊥
 differ n m e h = true≢false (sym ((Decides-eqb n m).1 e) ∙ h)
 
 -- without the face below, the cube is open at the middle of an edge of that face
-open_cube : IsClosedEverywhere cube others → ⊥
+open_cube : IsClosedAtEveryPoint cube others → ⊥
 open_cube h = differ 1 0 (h (point (pos 1) (pos 0) (pos 0) (pos 2)) to_x (omega (arith, sums)) refl) refl
 
 open_cube_edge : Part cube others (whole 0 0 0) (whole 1 0 0) true 1 0
@@ -169,8 +170,8 @@ corners_on (suc zero) l = refl
 corners_on (suc (suc zero)) l = refl
 corners_on (suc (suc (suc i))) l = absurd (omega arith)
 
-corners_left : (i j : ℕ) → i < 3 → j < 3 → j ≢ i → j ≢ corner_after 3 i →
-    pos 0 <ℤ orientation_seen_from slope_plane (grid_corner Whole tetrahedron slanted i) (grid_corner Whole tetrahedron slanted (corner_after 3 i)) (grid_corner Whole tetrahedron slanted j)
+corners_left : (i j : ℕ) → i < 3 → j < 3 → j ≢ i → j ≢ index_after 3 i →
+    pos 0 <ℤ orientation_seen_from slope_plane (grid_corner Whole tetrahedron slanted i) (grid_corner Whole tetrahedron slanted (index_after 3 i)) (grid_corner Whole tetrahedron slanted j)
 corners_left zero zero l k a b = absurd (a refl)
 corners_left zero (suc zero) l k a b = absurd (b refl)
 corners_left zero (suc (suc zero)) l k a b = omega (arith, sums)
@@ -183,7 +184,7 @@ corners_left (suc (suc zero)) (suc (suc zero)) l k a b = absurd (a refl)
 corners_left (suc (suc (suc i))) j l k a b = absurd (omega arith)
 corners_left i (suc (suc (suc j))) l k a b = absurd (omega arith)
 
-middle_left : (i : ℕ) → i < 3 → pos 0 <ℤ orientation_seen_from slope_plane (grid_corner Whole tetrahedron slanted i) (grid_corner Whole tetrahedron slanted (corner_after 3 i)) middle
+middle_left : (i : ℕ) → i < 3 → pos 0 <ℤ orientation_seen_from slope_plane (grid_corner Whole tetrahedron slanted i) (grid_corner Whole tetrahedron slanted (index_after 3 i)) middle
 middle_left zero l = omega (arith, sums)
 middle_left (suc zero) l = omega (arith, sums)
 middle_left (suc (suc zero)) l = omega (arith, sums)
@@ -198,8 +199,8 @@ back_on (suc zero) l = refl
 back_on (suc (suc zero)) l = refl
 back_on (suc (suc (suc i))) l = absurd (omega arith)
 
-back_left : (i j : ℕ) → i < 3 → j < 3 → j ≢ i → j ≢ corner_after 3 i →
-    pos 0 <ℤ orientation_seen_from (opposite_of slope_plane) (grid_corner Whole tetrahedron turned_round i) (grid_corner Whole tetrahedron turned_round (corner_after 3 i)) (grid_corner Whole tetrahedron turned_round j)
+back_left : (i j : ℕ) → i < 3 → j < 3 → j ≢ i → j ≢ index_after 3 i →
+    pos 0 <ℤ orientation_seen_from (opposite_of slope_plane) (grid_corner Whole tetrahedron turned_round i) (grid_corner Whole tetrahedron turned_round (index_after 3 i)) (grid_corner Whole tetrahedron turned_round j)
 back_left zero zero l k a b = absurd (a refl)
 back_left zero (suc zero) l k a b = absurd (b refl)
 back_left zero (suc (suc zero)) l k a b = omega (arith, sums)
@@ -212,7 +213,7 @@ back_left (suc (suc zero)) (suc (suc zero)) l k a b = absurd (a refl)
 back_left (suc (suc (suc i))) j l k a b = absurd (omega arith)
 back_left i (suc (suc (suc j))) l k a b = absurd (omega arith)
 
-middle_left_back : (i : ℕ) → i < 3 → pos 0 <ℤ orientation_seen_from (opposite_of slope_plane) (grid_corner Whole tetrahedron turned_round i) (grid_corner Whole tetrahedron turned_round (corner_after 3 i)) middle
+middle_left_back : (i : ℕ) → i < 3 → pos 0 <ℤ orientation_seen_from (opposite_of slope_plane) (grid_corner Whole tetrahedron turned_round i) (grid_corner Whole tetrahedron turned_round (index_after 3 i)) middle
 middle_left_back zero l = omega (arith, sums)
 middle_left_back (suc zero) l = omega (arith, sums)
 middle_left_back (suc (suc zero)) l = omega (arith, sums)
@@ -221,10 +222,10 @@ middle_left_back (suc (suc (suc i))) l = absurd (omega arith)
 middle_covered_back : FaceCovers Whole tetrahedron (opposite_of slope_plane) middle turned_round
 middle_covered_back = record { faces = record { on = back_on; left = back_left }; on = refl; left = middle_left_back }
 
-twice_overlaps : ShareNoInnerPoint Whole tetrahedron (slanted ∷ slanted ∷ []) → ⊥
+twice_overlaps : ShareNoInnerPointInAPlane Whole tetrahedron (slanted ∷ slanted ∷ []) → ⊥
 twice_overlaps h = differ 0 1 (h.same slope_plane middle is_plane (omega (arith, sums)) 0 1 (omega arith) (omega arith) middle_covered middle_covered) refl
 
-both_sides_overlap : ShareNoInnerPoint Whole tetrahedron (slanted ∷ turned_round ∷ []) → ⊥
+both_sides_overlap : ShareNoInnerPointInAPlane Whole tetrahedron (slanted ∷ turned_round ∷ []) → ⊥
 both_sides_overlap h = h.opposite slope_plane middle is_plane (omega (arith, sums)) 0 1 (omega arith) (omega arith) middle_covered middle_covered_back
 
 -- ---- formulas that hold only within reach: a cube, two cubes that share a face, two that share an edge alone
@@ -237,7 +238,7 @@ walls_at high_x low_x high_y low_y =
     wall (pos 1) (pos 0) (pos 0) high_x ∷ wall (negsuc 0) (pos 0) (pos 0) low_x ∷ wall (pos 0) (pos 1) (pos 0) high_y
     ∷ wall (pos 0) (negsuc 0) (pos 0) low_y ∷ wall (pos 0) (pos 0) (pos 1) (pos 1) ∷ wall (pos 0) (pos 0) (negsuc 0) (pos 0) ∷ []
 
-abbrev cube_at : (high_x low_x high_y low_y : ℤ) → Formula
+abbrev cube_at : (high_x low_x high_y low_y : ℤ) → Tree
 cube_at high_x low_x high_y low_y = leaf (walls_at high_x low_x high_y low_y)
 
 size_below_two : (x w : ℤ) → pos 0 <ℤ w → pos 0 <ℤ x → x <ℤ (pos 2 *ℤ w) → unsigned_abs x ≤ 4095 * unsigned_abs w
@@ -307,10 +308,10 @@ cube_at_its_edge p w solid = let h = behind_each (walls_at (pos 2) (negsuc 0) (p
       (to_one _ p.z p.w (ring (of_point p []) (valueP (wallP (pos 0) (pos 0) (pos 1) (pos 1)) (place 0)) (minus (var 2) (var 3)) refl) h.1.1.1.1.0 w);
 }
 
-cubes_at_a_face_keep : LeavesKeepWithinReach (joined Union (cube_at (pos 1) (pos 0) (pos 1) (pos 0)) (cube_at (pos 2) (negsuc 0) (pos 1) (pos 0)))
+cubes_at_a_face_keep : LeavesKeepWithinReach (tree_join Union (cube_at (pos 1) (pos 0) (pos 1) (pos 0)) (cube_at (pos 2) (negsuc 0) (pos 1) (pos 0)))
 cubes_at_a_face_keep = (first_cube, cube_next_to)
 
-cubes_at_an_edge_keep : LeavesKeepWithinReach (joined Union (cube_at (pos 1) (pos 0) (pos 1) (pos 0)) (cube_at (pos 2) (negsuc 0) (pos 2) (negsuc 0)))
+cubes_at_an_edge_keep : LeavesKeepWithinReach (tree_join Union (cube_at (pos 1) (pos 0) (pos 1) (pos 0)) (cube_at (pos 2) (negsuc 0) (pos 2) (negsuc 0)))
 cubes_at_an_edge_keep = (first_cube, cube_at_its_edge)
 
 -- all points with x below 0: one of them is 5,000 away

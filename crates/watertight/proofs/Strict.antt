@@ -4,36 +4,36 @@ use Rattle.std.proofs.Common.{◌≡◌, inl, inr, ℕ, ◌<◌, ◌≤◌, List
 use Rattle.std.proofs.Math.IntN.{*ℤ-zero}
 use Rattle.plane_predicate.specs.declared.unit.Unit.{Unit as LengthUnit}
 use Rattle.plane_predicate.specs.Space.{Coefficients, Coordinates, value, opposite_of, IsPlane, IsInReach, IsInWorld, IsInClosedWorld, ComesInReach}
-use Rattle.plane_predicate.specs.Units.{steps_of}
+use Rattle.plane_predicate.specs.Units.{grid_steps_per_unit}
 use Rattle.plane_predicate.specs.InUnits.{in_steps}
 use Rattle.plane_predicate.proofs.IntegerRing.{sums}
 use Rattle.plane_predicate.proofs.Polynomials.{Poly, var, plus, times, minus, ring}
 use Rattle.plane_predicate.proofs.Vectors.{Place, form, place, of_plane, of_point, valueP, value-opposite}
 use Rattle.plane_predicate.proofs.Signs.{signs, least_cancel}
-use Rattle.csg_tree.specs.Formulas.{Formula, nothing, leaf, joined, IsPlaneOf}
+use Rattle.csg_tree.specs.HalfSpaceTrees.{Tree, nothing, leaf, tree_join, IsPlaneOf}
 use Rattle.csg_tree.specs.FacePlanes.{IsFacePlane}
 use Rattle.csg_tree.specs.ProperTrees.{IsLeafPlane, HasFullLeaves}
 use Rattle.bsp_tree.specs.Cells.{world_box, AllBehind, NoneAhead}
 use Rattle.bsp_tree.proofs.Worlds.{open_world, closed_world, reach_in_box}
-use Rattle.closed_surface.specs.Ways.{Direction, way, slope}
+use Rattle.closed_surface.specs.Ways.{Direction, displacement, slope}
 use Rattle.closed_surface.specs.Near.{near_point}
 use Rattle.closed_surface.proofs.Near.{near_on}
-use Rattle.off_text.specs.Boundaries.{corner, grid_corner, FaceCovers}
+use Rattle.off_text.specs.Boundaries.{face_corner, grid_corner, FaceCovers}
 use Rattle.watertight.proofs.General.{minus_zero, least_itself}
 use Rattle.watertight.proofs.Inner.{inner_not_ahead}
 use Rattle.watertight.proofs.Nearby.{several, moved, face_slopes, still_covers, points_too}
 
 -- ---- a face plane comes within reach
-leaf_reach : (f : Formula) (m : Coefficients) → HasFullLeaves f → IsPlaneOf m f → ComesInReach m
+leaf_reach : (f : Tree) (m : Coefficients) → HasFullLeaves f → IsPlaneOf m f → ComesInReach m
 leaf_reach nothing m h k = absurd k
 leaf_reach (leaf planes) m h k = let i : IsLeafPlane (get_or planes k.0 m) = h.1 k.0 m k.1 in subst ComesInReach k.2 i.reach
-leaf_reach (joined op left right) m h (inl k) = leaf_reach left m h.0 k
-leaf_reach (joined op left right) m h (inr k) = leaf_reach right m h.1 k
+leaf_reach (tree_join op left right) m h (inl k) = leaf_reach left m h.0 k
+leaf_reach (tree_join op left right) m h (inr k) = leaf_reach right m h.1 k
 
 zero_back : (x y : ℤ) → y ≡ neg_ℤ x → y ≡ pos 0 → x ≡ pos 0
 zero_back x y e h = omega (arith, sums, e, h)
 
-pub plane_reach : (f : Formula) (n : Coefficients) → HasFullLeaves f → IsFacePlane n f → ComesInReach n
+pub plane_reach : (f : Tree) (n : Coefficients) → HasFullLeaves f → IsFacePlane n f → ComesInReach n
 plane_reach f n full (inl k) = leaf_reach f n full k
 plane_reach f n full (inr k) =
     let c = leaf_reach f (opposite_of n) full k in
@@ -44,11 +44,11 @@ abbrev stepped : Place → Place
 stepped p = record { x = times (var 12) p.x; y = times (var 12) p.y; z = times (var 12) p.z; w = p.w }
 
 slope_away : (unit : LengthUnit) (m : Coefficients) (c p : Coordinates) →
-    slope m (several unit (way c p)) ≡ c.w *ℤ value m (in_steps unit p) -ℤ p.w *ℤ value m (in_steps unit c)
+    slope m (several unit (displacement c p)) ≡ c.w *ℤ value m (in_steps unit p) -ℤ p.w *ℤ value m (in_steps unit c)
 slope_away unit m c p =
     let M = form 0 in let C = place 4 in let P = place 8 in
     let way_to : Poly → Poly → Poly = λ x y. times (var 12) (minus (times C.w y) (times P.w x)) in
-    ring (of_plane m (of_point c (of_point p (steps_of unit ∷ []))))
+    ring (of_plane m (of_point c (of_point p (grid_steps_per_unit unit ∷ []))))
     (plus (plus (times M.a (way_to C.x P.x)) (times M.b (way_to C.y P.y))) (times M.c (way_to C.z P.z)))
     (minus (times C.w (valueP M (stepped P))) (times P.w (valueP M (stepped C)))) refl
 
@@ -74,13 +74,13 @@ module _ (unit : LengthUnit) (vertices : List Coordinates) (face : List ℕ) (th
   -- a plane through the point that has no corner ahead goes through all corners
   corner_on : (m : Coefficients) → ((i : ℕ) → i < length face → value m (spot i) ≤ℤ pos 0) → value m here ≡ pos 0 → (j : ℕ) → j < length face → value m (spot j) ≡ pos 0
   corner_on m most zero j l =
-      let v = way (corner vertices face j) p in
+      let v = displacement (face_corner vertices face j) p in
       let number = face_slopes unit vertices n face (several unit v) in
-      let flat = slope_away unit n (corner vertices face j) p ∙ minus_zero (corner vertices face j).w (value n here) p.w (value n (spot j)) h.on (h.faces.on j l) in
+      let flat = slope_away unit n (face_corner vertices face j) p ∙ minus_zero (face_corner vertices face j).w (value n here) p.w (value n (spot j)) h.on (h.faces.on j l) in
       let r = near_point number p v in
       let covered = still_covers unit vertices n face p v number flat (least_itself number) h in
-      back_to_zero (value m (in_steps unit r)) (corner vertices face j).w (value m here) p.w (value m (spot j))
-      (ap (value m) (moved unit number p v) ∙ near_on m number here (several unit v) zero ∙ slope_away unit m (corner vertices face j) p)
+      back_to_zero (value m (in_steps unit r)) (face_corner vertices face j).w (value m here) p.w (value m (spot j))
+      (ap (value m) (moved unit number p v) ∙ near_on m number here (several unit v) zero ∙ slope_away unit m (face_corner vertices face j) p)
       zero (inner_not_ahead unit vertices face three n plane r covered m most) weight (most j l)
 
   strictly_behind : (m : Coefficients) → ((i : ℕ) → i < length face → value m (spot i) ≤ℤ pos 0) → (r : Coordinates) → value n r ≡ pos 0 → value m r <ℤ pos 0 → value m here <ℤ pos 0

@@ -7,8 +7,8 @@ use Rattle.std.proofs.Math.IntN.{*ℤ-zero}
 use Rattle.std.proofs.lemmas.Bool.{and_parts}
 use Rattle.std.proofs.lemmas.Bool.Decides.{eqb_tells}
 use Rattle.plane_predicate.specs.declared.unit.Unit.{Unit as LengthUnit}
-use Rattle.plane_predicate.specs.Space.{Coefficients, Coordinates, value, orientation_seen_from, inner_product, opposite_of, is_same, IsPlane, IsInReach, IsInWorld}
-use Rattle.plane_predicate.specs.Units.{steps_of}
+use Rattle.plane_predicate.specs.Space.{Coefficients, Coordinates, value, orientation_seen_from, inner_product, opposite_of, is_same, IsPlane, IsInReach, IsInWorld, origin}
+use Rattle.plane_predicate.specs.Units.{grid_steps_per_unit}
 use Rattle.plane_predicate.specs.InUnits.{in_steps}
 use Rattle.plane_predicate.proofs.IntegerRing.{sums, one_mul}
 use Rattle.plane_predicate.proofs.Identities.{combine, value_combine}
@@ -17,7 +17,7 @@ use Rattle.plane_predicate.proofs.Vectors.{Place, form, place, of_plane, of_poin
 use Rattle.plane_predicate.proofs.Signs.{signs, pos_pos, least_least}
 use Rattle.plane_predicate.proofs.SamePlanes.{directed_above}
 use Rattle.plane_polygon.proofs.Hull.{after_below, after_other, after_twice}
-use Rattle.csg_tree.specs.Formulas.{Formula, nothing, leaf, joined, SideAssignment, holds, sides_of, truth_of_join, IsPlaneOf}
+use Rattle.csg_tree.specs.HalfSpaceTrees.{Tree, nothing, leaf, tree_join, SideAssignment, holds, sides_of, truth_of_join, IsPlaneOf}
 use Rattle.csg_tree.specs.FacePlanes.{IsOnOneFacePlane, sides_just_behind, sides_just_ahead, is_boundary_at}
 use Rattle.csg_tree.specs.ProperTrees.{HasFullLeaves}
 use Rattle.bsp_tree.specs.Cells.{NoneAhead}
@@ -31,7 +31,7 @@ use Rattle.closed_surface.specs.Near.{near_point}
 use Rattle.closed_surface.proofs.Near.{near_ahead}
 use Rattle.closed_surface.proofs.Numbers.{below, not_below, at_most, at_least, zero_at_most, zero_at_least}
 use Rattle.closed_surface.proofs.Each.{Each, each_weaker, each_both, each_from_all}
-use Rattle.off_text.specs.Boundaries.{corner_after, corner, grid_corner, origin, FacesPlane, FaceCovers}
+use Rattle.off_text.specs.Boundaries.{face_corner, grid_corner, FacesPlane, FaceCovers}
 use Rattle.off_text.specs.Bounding.{IsBoundary}
 use Rattle.off_text.proofs.BesideFaces.{face_plane_is_plane}
 use Rattle.csg_tree.specs.Reach.{KeepsWithinReach}
@@ -42,6 +42,7 @@ use Rattle.watertight.proofs.Halves.{corners_pair}
 use Rattle.watertight.proofs.Nearby.{planes_in, each_is, each_of, way_plane, way_value, last_or_less, first_part, second_part, third_part, several, moved, is_where, face_slopes, still_covers, way_out, own_slopes, step_flat, alone_near}
 use Rattle.watertight.proofs.Reach.{reach_sides, reach_by_sides, sides_by_reach}
 use Rattle.watertight.proofs.Strict.{inner_in_world, plane_reach}
+use Rattle.plane_predicate.specs.Indices.{index_after}
 
 -- ---- sums of points
 abbrev stepped : Place → Place
@@ -51,7 +52,7 @@ at_combine : (unit : LengthUnit) (m : Coefficients) (u : ℤ) (p : Coordinates) 
     value m (in_steps unit (combine u p v q)) ≡ u *ℤ value m (in_steps unit p) +ℤ v *ℤ value m (in_steps unit q)
 at_combine unit m u p v q =
     let M = form 0 in let P = place 4 in let Q = place 8 in
-    ring (of_plane m (of_point p (of_point q (u ∷ v ∷ steps_of unit ∷ []))))
+    ring (of_plane m (of_point p (of_point q (u ∷ v ∷ grid_steps_per_unit unit ∷ []))))
     (valueP M (stepped (combineP (var 12) P (var 13) Q)))
     (plus (times (var 12) (valueP M (stepped P))) (times (var 13) (valueP M (stepped Q)))) refl
 
@@ -63,7 +64,7 @@ sum_of c (suc k) = combine (pos 1) (c k) (pos 1) (sum_of c k)
 at_none : (unit : LengthUnit) (m : Coefficients) → value m (in_steps unit (record { x = pos 0; y = pos 0; z = pos 0; w = pos 0 })) ≡ pos 0
 at_none unit m =
     let none = times (var 4) (num (pos 0)) in
-    ring (of_plane m (steps_of unit ∷ [])) (valueP (form 0) (record { x = none; y = none; z = none; w = num (pos 0) })) (num (pos 0)) refl
+    ring (of_plane m (grid_steps_per_unit unit ∷ [])) (valueP (form 0) (record { x = none; y = none; z = none; w = num (pos 0) })) (num (pos 0)) refl
 
 added_least : (v x y : ℤ) → v ≡ pos 1 *ℤ x +ℤ pos 1 *ℤ y → pos 0 ≤ℤ x → pos 0 ≤ℤ y → pos 0 ≤ℤ v
 added_least v x y e h k = omega (arith, sums, e, one_mul x, one_mul y, h, k)
@@ -132,22 +133,22 @@ mixed_weight k x y h g = omega (arith, sums, g, one_mul y, pos_pos (pos (suc k))
 
 -- ---- a point strictly inside a face, near one of its corners
 module _ (unit : LengthUnit) (vertices : List Coordinates) (face : List ℕ) (three : 3 ≤ length face) (n : Coefficients) (facing : FacesPlane unit vertices n face)
-    (weights : (j : ℕ) → j < length face → pos 0 <ℤ (corner vertices face j).w) where
+    (weights : (j : ℕ) → j < length face → pos 0 <ℤ (face_corner vertices face j).w) where
   abbrev spot : ℕ → Coordinates
   spot i = grid_corner unit vertices face i
 
   abbrev next : ℕ → ℕ
-  next i = corner_after (length face) i
+  next i = index_after (length face) i
 
   abbrev way_at : ℕ → Coefficients
   way_at i = way_plane n (spot i) (spot (next i))
 
   -- the corners together, and the corner k once and that many times more
   abbrev middle : Coordinates
-  middle = sum_of (corner vertices face) (length face)
+  middle = sum_of (face_corner vertices face) (length face)
 
   abbrev close : ℕ → ℕ → Coordinates
-  close number k = combine (pos (suc number)) (corner vertices face k) (pos 1) middle
+  close number k = combine (pos (suc number)) (face_corner vertices face k) (pos 1) middle
 
   -- no corner is on the right of a way from a corner to the next
   corner_left : (i j : ℕ) → i < length face → j < length face → pos 0 ≤ℤ value (way_at i) (spot j)
@@ -172,20 +173,20 @@ module _ (unit : LengthUnit) (vertices : List Coordinates) (face : List ℕ) (th
       let m = after_below (length face) i l in
       subst (λ (x : ℤ). pos 0 <ℤ x) (way_value n (spot i) (spot (next i)) (in_steps unit (close number k)))
       (mixed_above number (value (way_at i) (in_steps unit (close number k))) (value (way_at i) (spot k)) (value (way_at i) (in_steps unit middle))
-      (at_combine unit (way_at i) (pos (suc number)) (corner vertices face k) (pos 1) middle) (corner_left i k l d)
-      (sum_above unit (way_at i) (corner vertices face) (length face) (λ j b. corner_left i j l b) (next (next i)) (after_below (length face) (next i) m) (one_left i l)))
+      (at_combine unit (way_at i) (pos (suc number)) (face_corner vertices face k) (pos 1) middle) (corner_left i k l d)
+      (sum_above unit (way_at i) (face_corner vertices face) (length face) (λ j b. corner_left i j l b) (next (next i)) (after_below (length face) (next i) m) (one_left i l)))
 
   pub close_covered : (number k : ℕ) → k < length face → FaceCovers unit vertices n (close number k) face
   close_covered number k d = record {
     faces = facing;
     on = mixed_zero number (value n (in_steps unit (close number k))) (value n (spot k)) (value n (in_steps unit middle))
-        (at_combine unit n (pos (suc number)) (corner vertices face k) (pos 1) middle) (facing.on k d)
-        (sum_zero unit n (corner vertices face) (length face) (λ j b. facing.on j b));
+        (at_combine unit n (pos (suc number)) (face_corner vertices face k) (pos 1) middle) (facing.on k d)
+        (sum_zero unit n (face_corner vertices face) (length face) (λ j b. facing.on j b));
     left = λ i l. close_left number k i d l;
   }
 
   pub close_weight : (number k : ℕ) → k < length face → pos 0 <ℤ (close number k).w
-  close_weight number k d = mixed_weight number (corner vertices face k).w middle.w (weights k d) (sum_weight (corner vertices face) (length face) weights)
+  close_weight number k d = mixed_weight number (face_corner vertices face k).w middle.w (weights k d) (sum_weight (face_corner vertices face) (length face) weights)
 
   -- a point so near to a corner that it is ahead of a plane that the corner is ahead of
   abbrev pub enough : Coefficients → ℕ
@@ -193,7 +194,7 @@ module _ (unit : LengthUnit) (vertices : List Coordinates) (face : List ℕ) (th
 
   pub close_ahead : (s : Coefficients) (k : ℕ) → pos 0 <ℤ value s (spot k) → pos 0 <ℤ value s (in_steps unit (close (enough s) k))
   close_ahead s k h =
-      subst (λ (x : ℤ). pos 0 <ℤ x) (sym (at_combine unit s (pos (suc (enough s))) (corner vertices face k) (pos 1) middle))
+      subst (λ (x : ℤ). pos 0 <ℤ x) (sym (at_combine unit s (pos (suc (enough s))) (face_corner vertices face k) (pos 1) middle))
       (more_above (enough s) (value s (spot k)) (pos 1 *ℤ value s (in_steps unit middle)) h (least_itself (enough s)))
 
 -- ---- just behind a point on one face plane
@@ -203,10 +204,10 @@ all_alike [] a b h = refl
 all_alike (m ∷ planes) a b h =
     ap₂ ◌&&◌ (h m (0, omega arith, refl)) (all_alike planes a b (λ n c. h n (suc c.0, omega (arith, c.1), c.2)))
 
-holds_alike : (f : Formula) (a b : SideAssignment) → ((m : Coefficients) → IsPlaneOf m f → a m ≡ b m) → holds f a ≡ holds f b
+holds_alike : (f : Tree) (a b : SideAssignment) → ((m : Coefficients) → IsPlaneOf m f → a m ≡ b m) → holds f a ≡ holds f b
 holds_alike nothing a b h = refl
 holds_alike (leaf planes) a b h = all_alike planes a b h
-holds_alike (joined op left right) a b h =
+holds_alike (tree_join op left right) a b h =
     ap₂ (truth_of_join op) (holds_alike left a b (λ m k. h m (inl k))) (holds_alike right a b (λ m k. h m (inr k)))
 
 by_tests : (x y r s : Bool) → (x ≡ true → s ≡ true) → (y ≡ true → s ≡ false) → (x ≡ false → y ≡ false → s ≡ r) → s ≡ (if x then true else if y then false else r)
@@ -228,7 +229,7 @@ opposite_least x y e h = omega (arith, sums, e, h)
 not_both_sides : (x : ℤ) → pos 0 <ℤ x → x ≤ℤ pos 0 → ⊥
 not_both_sides x h k = omega (arith, sums, h, k)
 
-module _ (f : Formula) (n : Coefficients) (plane : IsPlane n) (r : Coordinates) (one : IsOnOneFacePlane f n r) (s : Coefficients) where
+module _ (f : Tree) (n : Coefficients) (plane : IsPlane n) (r : Coordinates) (one : IsOnOneFacePlane f n r) (s : Coefficients) where
   abbrev times_more : ℕ
   times_more = often (s ∷ planes_in f) (negsuc 0) (direction n)
 
@@ -289,7 +290,7 @@ face_with (face ∷ faces) i c = elim (split face (flat_map (λ face. face) face
 ]
 
 -- ---- the vertices of a boundary
-module _ (unit : LengthUnit) (bytes : List ℕ) (f : Formula) (full : HasFullLeaves f) (keeps : KeepsWithinReach f) (text : IsBoundary unit bytes f) where
+module _ (unit : LengthUnit) (bytes : List ℕ) (f : Tree) (full : HasFullLeaves f) (keeps : KeepsWithinReach f) (text : IsBoundary unit bytes f) where
   abbrev face_at : ℕ → List ℕ
   face_at i = slice_index_or text.faces i []
 
@@ -302,7 +303,7 @@ module _ (unit : LengthUnit) (bytes : List ℕ) (f : Formula) (full : HasFullLea
       let n = b.plane in
       let plane = face_plane_is_plane f n full b.of_formula in
       let three = (text.read.loops j [] l).three in
-      let weights : (i : ℕ) → i < length face → pos 0 <ℤ (corner text.vertices face i).w = λ i c. (b.boxed i c).weight in
+      let weights : (i : ℕ) → i < length face → pos 0 <ℤ (face_corner text.vertices face i).w = λ i c. (b.boxed i c).weight in
       let number = enough unit text.vertices face three n b.faces weights s in
       let p = close unit text.vertices face three n b.faces weights number k in
       let h = close_covered unit text.vertices face three n b.faces weights number k d in
@@ -350,7 +351,7 @@ module _ (unit : LengthUnit) (bytes : List ℕ) (f : Formula) (full : HasFullLea
       (reach_by_sides (in_steps unit (slice_index_or text.vertices i origin)) (text.read.points i origin l).weight (none_beyond reach_sides sides_by_reach i l))
 
 -- ---- watertight
-pub boxed_watertight : (unit : LengthUnit) (bytes : List ℕ) (f : Formula) (text : IsBoundary unit bytes f) → All (λ (p : Coordinates). IsInWorld (in_steps unit p)) text.vertices →
+pub boxed_watertight : (unit : LengthUnit) (bytes : List ℕ) (f : Tree) (text : IsBoundary unit bytes f) → All (λ (p : Coordinates). IsInWorld (in_steps unit p)) text.vertices →
     AreWatertight text.vertices text.faces
 boxed_watertight unit bytes f text inside =
     let closed = closed_everywhere unit text.vertices text.faces inside text.closed in
@@ -360,7 +361,7 @@ boxed_watertight unit bytes f text inside =
     (λ corners k. each_weaker (λ (x : Coordinates). IsInWorld (in_steps unit x)) (λ x. pos 0 <ℤ x.w) (λ x h. h.weight) corners k) faces boxed in
     record { everywhere = closed; edges = λ p q wp wq elementary. corners_pair faces weights closed p q wp wq elementary }
 
-pub watertight : (unit : LengthUnit) (bytes : List ℕ) (f : Formula) → HasFullLeaves f → KeepsWithinReach f → (text : IsBoundary unit bytes f) → AreWatertight text.vertices text.faces
+pub watertight : (unit : LengthUnit) (bytes : List ℕ) (f : Tree) → HasFullLeaves f → KeepsWithinReach f → (text : IsBoundary unit bytes f) → AreWatertight text.vertices text.faces
 watertight unit bytes f full keeps text =
     let reach = all_in_reach unit bytes f full keeps text in
     boxed_watertight unit bytes f text (λ i d l. (open_world (in_steps unit (slice_index_or text.vertices i d))).0 (reach_in_box (in_steps unit (slice_index_or text.vertices i d)) (reach i d l)))

@@ -8,7 +8,7 @@ use Rattle.plane_predicate.specs.Space.{Coordinates, minor}
 use Rattle.plane_predicate.proofs.IntegerRing.{sums, mul_comm_ℤ, mul_neg_left, mul_neg_right}
 use Rattle.plane_predicate.proofs.Polynomials.{Poly, var, plus, times, minus, ring}
 use Rattle.plane_predicate.proofs.Signs.{signs, pos_pos, least_least, pos_cancel, zero_cancel}
-use Rattle.closed_surface.specs.Ways.{Direction, way, dot_product, cross_product, is_same_place, is_same_way, is_opposite_way}
+use Rattle.closed_surface.specs.Ways.{Direction, displacement, dot_product, cross_product, is_same_point_of_space, is_same_direction, is_opposite_direction}
 use Rattle.closed_surface.proofs.Numbers.{not_zero_above}
 use Rattle.closed_surface.proofs.Parallels.{IsZero, along_dot, along_cross, dot_above, same_way_is, same_way_parts, same_place_is}
 
@@ -22,10 +22,10 @@ pub record NotAgainst (g u : Direction) : Type 0 where
   pub zero : IsZero (cross_product g u)
   pub least : pos 0 ≤ℤ dot_product g u
 
-pub along_parts : (g u : Direction) → is_same_way g u ≡ true → Along g u
+pub along_parts : (g u : Direction) → is_same_direction g u ≡ true → Along g u
 along_parts g u h = let k = same_way_parts g u h in record { zero = k.0; above = k.1 }
 
-pub along_is : (g u : Direction) → Along g u → is_same_way g u ≡ true
+pub along_is : (g u : Direction) → Along g u → is_same_direction g u ≡ true
 along_is g u h = same_way_is g u h.zero h.above
 
 pub length_above : (g u : Direction) → Along g u → pos 0 <ℤ dot_product g g
@@ -69,7 +69,7 @@ pub record IsSum (k l m : ℤ) (u u1 u2 : Direction) : Type 0 where
   pub z : k *ℤ u.z ≡ l *ℤ u1.z +ℤ m *ℤ u2.z
 
 -- the way from p to r by q
-pub way_by : (p q r : Coordinates) → IsSum q.w r.w p.w (way p r) (way p q) (way q r)
+pub way_by : (p q r : Coordinates) → IsSum q.w r.w p.w (displacement p r) (displacement p q) (displacement q r)
 way_by p q r = record {
   x = sum_of_ways p.w r.w q.w p.x r.x q.x;
   y = sum_of_ways p.w r.w q.w p.y r.y q.y;
@@ -150,25 +150,25 @@ module _ (k l m : ℤ) (v u u1 u2 : Direction) (h : IsSum k l m u u1 u2) where
   }
 
 -- ---- points in order: p comes before q along v where the way from p to q is along v
-pub before_before : (v : Direction) (p q r : Coordinates) → pos 0 <ℤ p.w → pos 0 <ℤ q.w → pos 0 <ℤ r.w → Along v (way p q) → Along v (way q r) → Along v (way p r)
+pub before_before : (v : Direction) (p q r : Coordinates) → pos 0 <ℤ p.w → pos 0 <ℤ q.w → pos 0 <ℤ r.w → Along v (displacement p q) → Along v (displacement q r) → Along v (displacement p r)
 before_before v p q r wp wq wr h k = record {
-  zero = sum_zero q.w r.w p.w v (way p r) (way p q) (way q r) (way_by p q r) wq h.zero k.zero;
-  above = pos_cancel q.w _ wq (subst (λ (x : ℤ). pos 0 <ℤ x) (sym (sum_dot q.w r.w p.w v (way p r) (way p q) (way q r) (way_by p q r)))
+  zero = sum_zero q.w r.w p.w v (displacement p r) (displacement p q) (displacement q r) (way_by p q r) wq h.zero k.zero;
+  above = pos_cancel q.w _ wq (subst (λ (x : ℤ). pos 0 <ℤ x) (sym (sum_dot q.w r.w p.w v (displacement p r) (displacement p q) (displacement q r) (way_by p q r)))
       (omega (arith, sums, pos_pos _ _ wr h.above, pos_pos _ _ wp k.above)));
 }
 
-pub most_before : (v : Direction) (p q r : Coordinates) → pos 0 <ℤ p.w → pos 0 <ℤ q.w → pos 0 <ℤ r.w → NotAgainst v (way p q) → Along v (way q r) → Along v (way p r)
+pub most_before : (v : Direction) (p q r : Coordinates) → pos 0 <ℤ p.w → pos 0 <ℤ q.w → pos 0 <ℤ r.w → NotAgainst v (displacement p q) → Along v (displacement q r) → Along v (displacement p r)
 most_before v p q r wp wq wr h k = record {
-  zero = sum_zero q.w r.w p.w v (way p r) (way p q) (way q r) (way_by p q r) wq h.zero k.zero;
-  above = pos_cancel q.w _ wq (subst (λ (x : ℤ). pos 0 <ℤ x) (sym (sum_dot q.w r.w p.w v (way p r) (way p q) (way q r) (way_by p q r)))
-      (omega (arith, sums, least_least r.w (dot_product v (way p q)) (omega (arith, sums, wr)) h.least, pos_pos _ _ wp k.above)));
+  zero = sum_zero q.w r.w p.w v (displacement p r) (displacement p q) (displacement q r) (way_by p q r) wq h.zero k.zero;
+  above = pos_cancel q.w _ wq (subst (λ (x : ℤ). pos 0 <ℤ x) (sym (sum_dot q.w r.w p.w v (displacement p r) (displacement p q) (displacement q r) (way_by p q r)))
+      (omega (arith, sums, least_least r.w (dot_product v (displacement p q)) (omega (arith, sums, wr)) h.least, pos_pos _ _ wp k.above)));
 }
 
-pub before_most : (v : Direction) (p q r : Coordinates) → pos 0 <ℤ p.w → pos 0 <ℤ q.w → pos 0 <ℤ r.w → Along v (way p q) → NotAgainst v (way q r) → Along v (way p r)
+pub before_most : (v : Direction) (p q r : Coordinates) → pos 0 <ℤ p.w → pos 0 <ℤ q.w → pos 0 <ℤ r.w → Along v (displacement p q) → NotAgainst v (displacement q r) → Along v (displacement p r)
 before_most v p q r wp wq wr h k = record {
-  zero = sum_zero q.w r.w p.w v (way p r) (way p q) (way q r) (way_by p q r) wq h.zero k.zero;
-  above = pos_cancel q.w _ wq (subst (λ (x : ℤ). pos 0 <ℤ x) (sym (sum_dot q.w r.w p.w v (way p r) (way p q) (way q r) (way_by p q r)))
-      (omega (arith, sums, pos_pos _ _ wr h.above, least_least p.w (dot_product v (way q r)) (omega (arith, sums, wp)) k.least)));
+  zero = sum_zero q.w r.w p.w v (displacement p r) (displacement p q) (displacement q r) (way_by p q r) wq h.zero k.zero;
+  above = pos_cancel q.w _ wq (subst (λ (x : ℤ). pos 0 <ℤ x) (sym (sum_dot q.w r.w p.w v (displacement p r) (displacement p q) (displacement q r) (way_by p q r)))
+      (omega (arith, sums, pos_pos _ _ wr h.above, least_least p.w (dot_product v (displacement q r)) (omega (arith, sums, wp)) k.least)));
 }
 
 -- ---- the way back
@@ -178,7 +178,7 @@ back u = record { x = neg_ℤ u.x; y = neg_ℤ u.y; z = neg_ℤ u.z }
 turned_difference : (a b : ℤ) → a -ℤ b ≡ neg_ℤ (b -ℤ a)
 turned_difference a b = omega (arith, sums)
 
-pub way_back : (p q : Coordinates) → way p q ≡ back (way q p)
+pub way_back : (p q : Coordinates) → displacement p q ≡ back (displacement q p)
 way_back p q = λ i. record {
   x = turned_difference (p.w *ℤ q.x) (q.w *ℤ p.x) i;
   y = turned_difference (p.w *ℤ q.y) (q.w *ℤ p.y) i;
@@ -203,11 +203,11 @@ back_cross g u h = record {
 }
 
 -- where the way from p to q is against v, the way from q to p is along it
-pub against_back : (v : Direction) (p q : Coordinates) → IsZero (cross_product v (way p q)) → dot_product v (way p q) <ℤ pos 0 → Along v (way q p)
-against_back v p q z d = subst (Along v) (sym (way_back q p)) (record { zero = back_zero v (way p q) z; above = omega (arith, sums, d, back_dot v (way p q)) })
+pub against_back : (v : Direction) (p q : Coordinates) → IsZero (cross_product v (displacement p q)) → dot_product v (displacement p q) <ℤ pos 0 → Along v (displacement q p)
+against_back v p q z d = subst (Along v) (sym (way_back q p)) (record { zero = back_zero v (displacement p q) z; above = omega (arith, sums, d, back_dot v (displacement p q)) })
 
-pub zero_back : (v : Direction) (p q : Coordinates) → IsZero (cross_product v (way p q)) → IsZero (cross_product v (way q p))
-zero_back v p q z = subst (λ (u : Direction). IsZero (cross_product v u)) (sym (way_back q p)) (back_zero v (way p q) z)
+pub zero_back : (v : Direction) (p q : Coordinates) → IsZero (cross_product v (displacement p q)) → IsZero (cross_product v (displacement q p))
+zero_back v p q z = subst (λ (u : Direction). IsZero (cross_product v u)) (sym (way_back q p)) (back_zero v (displacement p q) z)
 
 pub flip_zero : (a b : Direction) → IsZero (cross_product a b) → IsZero (cross_product b a)
 flip_zero a b h = record {
@@ -229,11 +229,11 @@ along_both_back u w h =
     }
 
 -- ---- the same place
-pub same_place_way : (p q : Coordinates) → is_same_place p q ≡ true → IsZero (way p q)
+pub same_place_way : (p q : Coordinates) → is_same_point_of_space p q ≡ true → IsZero (displacement p q)
 same_place_way p q h =
-    let a = and_parts (int_eq (way p q).x (pos 0)) (int_eq (way p q).y (pos 0) && int_eq (way p q).z (pos 0)) h in
-    let b = and_parts (int_eq (way p q).y (pos 0)) (int_eq (way p q).z (pos 0)) a.1 in
-    record { x = (Decides-int_eq (way p q).x (pos 0)).0 a.0; y = (Decides-int_eq (way p q).y (pos 0)).0 b.0; z = (Decides-int_eq (way p q).z (pos 0)).0 b.1 }
+    let a = and_parts (int_eq (displacement p q).x (pos 0)) (int_eq (displacement p q).y (pos 0) && int_eq (displacement p q).z (pos 0)) h in
+    let b = and_parts (int_eq (displacement p q).y (pos 0)) (int_eq (displacement p q).z (pos 0)) a.1 in
+    record { x = (Decides-int_eq (displacement p q).x (pos 0)).0 a.0; y = (Decides-int_eq (displacement p q).y (pos 0)).0 b.0; z = (Decides-int_eq (displacement p q).z (pos 0)).0 b.1 }
 
 no_minor : (p q y z : ℤ) → y ≡ pos 0 → z ≡ pos 0 → minor p q y z ≡ pos 0
 no_minor p q y z hy hz = rw (hy, hz, *ℤ-zero p, *ℤ-zero q) refl

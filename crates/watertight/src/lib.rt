@@ -1,4 +1,4 @@
-//! Watertight: what closed faces tell at every point of space, as laws that the program doesn't call.
+//! Watertight: what closed faces tell at every point of space, as laws, which do nothing when they run.
 #![tactic(auto)]
 
 mod laws;

@@ -1,13 +1,13 @@
 -- The solid of a leaf is a chain of nodes, one behind another.
 use Rattle.std.proofs.Common.{ℕ, suc, ◌*◌, ◌≤◌, Bool, true, false, if◌then◌else◌, List, [], ◌∷◌, length, arith}
 use Rattle.plane_predicate.specs.Space.{Coefficients, opposite_of, is_same}
-use Rattle.plane_polygon.specs.Polygons.{Outline, sides}
+use Rattle.plane_polygon.specs.Polygons.{Outline, edge_count}
 use Rattle.plane_polygon.specs.Parts.{class_of, part_behind, part_ahead}
 use Rattle.plane_polygon.specs.Boxes.{box_outline}
 use Rattle.plane_polygon.specs.declared.classes.Class.{Class}
 use Rattle.plane_polygon.specs.declared.classes.Class.TheVariants.{Behind, Ahead, Across}
-use Rattle.bsp_tree.specs.Trees.{BspTree, inside, outside, node, make, half_space}
-use Rattle.bsp_tree.specs.Partitions.{divide, rows}
+use Rattle.bsp_tree.specs.Trees.{BspTree, inside, outside, node, node_or_leaf, half_space}
+use Rattle.bsp_tree.specs.Partitions.{divide, parts_by_class}
 use Rattle.bsp_boolean.specs.Combined.{combination}
 use Rattle.bsp_boolean.specs.LeafSolids.{solid_of_leaf}
 use Rattle.off_text.proofs.Bounds.Edges.{part_edges, box_edges}
@@ -24,7 +24,7 @@ nodes (node s b a) = suc (nodes b)
 abbrev pub IsChain : ℕ → BspTree → Type 0
 IsChain k inside = Unit {0}
 IsChain k outside = Unit {0}
-IsChain k (node s b outside) = (doubled (sides s) (nodes b) ≤ k) × IsChain k b
+IsChain k (node s b outside) = (doubled (edge_count s) (nodes b) ≤ k) × IsChain k b
 IsChain k (node s b inside) = ⊥
 IsChain k (node s b (node t c d)) = ⊥
 
@@ -36,13 +36,13 @@ chain_more (node s b inside) j k h c = absurd c
 chain_more (node s b (node t d e)) j k h c = absurd c
 
 -- a node that may be folded to a leaf
-made_chain : (s : Outline) (b : BspTree) (k : ℕ) → doubled (sides s) (nodes b) ≤ k → IsChain k b →
-    IsChain k (make s b outside)
+made_chain : (s : Outline) (b : BspTree) (k : ℕ) → doubled (edge_count s) (nodes b) ≤ k → IsChain k b →
+    IsChain k (node_or_leaf s b outside)
 made_chain s inside k h c = (h, tt)
 made_chain s outside k h c = tt
 made_chain s (node t b a) k h c = (h, c)
 
-made_nodes : (s : Outline) (b : BspTree) → nodes (make s b outside) ≤ suc (nodes b)
+made_nodes : (s : Outline) (b : BspTree) → nodes (node_or_leaf s b outside) ≤ suc (nodes b)
 made_nodes s inside = omega arith
 made_nodes s outside = omega arith
 made_nodes s (node t b a) = omega arith
@@ -66,17 +66,17 @@ twice_room : (i j m n k : ℕ) → i ≤ 2 * j → m ≤ n → doubled j n ≤ k
 twice_room i j m n k h l r =
     omega (arith, doubled_more m i (2 * j) h, doubled_later m n (2 * j) l, doubled_twice n j)
 
-made_part : (s t : Outline) (r : BspTree) (k n : ℕ) → sides s ≤ 2 * sides t → doubled (sides t) n ≤ k →
-    IsPart k n r → IsPart k (suc n) (make s r outside)
+made_part : (s t : Outline) (r : BspTree) (k n : ℕ) → edge_count s ≤ 2 * edge_count t → doubled (edge_count t) n ≤ k →
+    IsPart k n r → IsPart k (suc n) (node_or_leaf s r outside)
 made_part s t r k n h l p = record {
-  chain = made_chain s r (2 * k) (twice_room (sides s) (sides t) (nodes r) n k h p.few l) p.chain;
+  chain = made_chain s r (2 * k) (twice_room (edge_count s) (edge_count t) (nodes r) n k h p.few l) p.chain;
   few = omega (arith, made_nodes s r, p.few);
 }
 
-module _ (s t : Outline) (b : BspTree) (k : ℕ) (c : doubled (sides t) (nodes b) ≤ k) (d : IsChain k b) where
+module _ (s t : Outline) (b : BspTree) (k : ℕ) (c : doubled (edge_count t) (nodes b) ≤ k) (d : IsChain k b) where
   row_part : (low low_part : BspTree × BspTree) (x y : Class) →
       IsPart k (nodes b) low.0 → IsPart k (nodes b) low_part.0 →
-      IsPart k (suc (nodes b)) (rows x y s t b outside low (outside, outside) low_part (outside, outside)).0
+      IsPart k (suc (nodes b)) (parts_by_class x y s t b outside low (outside, outside) low_part (outside, outside)).0
   row_part low low_part Across Across l p =
       made_part (part_behind t s.plane) t low_part.0 k (nodes b) (part_edges t s.plane) c p
   row_part low low_part Behind Behind l p = made_part t t low.0 k (nodes b) (omega arith) c l
@@ -102,7 +102,7 @@ divided (node t b (node u d e)) s k c = absurd c
 divided (node t b outside) s k c =
     let q = t.plane in
     chosen_part k (suc (nodes b)) b outside
-    (rows (class_of s q) (class_of t s.plane) s t b outside (divide b s) (divide outside s)
+    (parts_by_class (class_of s q) (class_of t s.plane) s t b outside (divide b s) (divide outside s)
     (divide b (part_behind s q)) (divide outside (part_ahead s q)))
     (is_same q s.plane) (is_same q (opposite_of s.plane))
     (own_part k b c.1) (outside_part k (suc (nodes b)))
@@ -125,7 +125,7 @@ one_more m n (node t b a) h =
     let s = box_outline m in
     let parts = divide (node t b a) s in
     let part = divided (node t b a) s (doubled 16 n) h.chain in
-    let edges = doubled_more (nodes parts.0) (sides s) 16 (box_edges m) in
+    let edges = doubled_more (nodes parts.0) (edge_count s) 16 (box_edges m) in
     let cuts = doubled_later (nodes parts.0) (suc n) 16 (omega (arith, part.few, h.few)) in
     let room : 2 * doubled 16 n ≤ doubled 16 (suc n) = omega (arith, doubled_twice n 16) in record {
       chain = made_chain s parts.0 (doubled 16 (suc n)) (omega (arith, edges, cuts))

@@ -2,12 +2,13 @@
 use Rattle.std.proofs.Common.{◌≡◌, ℕ, zero, suc, ◌*◌, ◌≤◌, Bool, true, false, if◌then◌else◌, not, List, flat_map, length, length-append, refl, ap, arith, ℤ, pos, negsuc}
 use Rattle.std.specs.Ordering.{int_eq}
 use Rattle.plane_predicate.specs.Space.{Coefficients}
-use Rattle.plane_polygon.specs.Polygons.{Outline, edge, sides, corner}
-use Rattle.plane_polygon.specs.Parts.{indices_below, is_behind, index_before, edges_kept_by, edges_kept_at, part_behind, class_of}
+use Rattle.plane_polygon.specs.Polygons.{Outline, edge_plane, edge_count, corner}
+use Rattle.plane_polygon.specs.Parts.{is_behind, index_before, edges_kept_by, edges_kept_at, part_behind, class_of}
 use Rattle.plane_polygon.specs.Boxes.{trimmed_outline, outline_trimmed_to, counterclockwise_edges, box_over_x, box_over_y, box_over_z, box_outline, high_x, low_x, high_y, low_y, high_z, low_z}
 use Rattle.plane_polygon.specs.declared.classes.Class.{Class}
 use Rattle.plane_polygon.specs.declared.classes.Class.TheVariants.{Behind, Ahead, On, Across}
 use Rattle.plane_polygon.proofs.PartLists.{flat_up_to}
+use Rattle.plane_predicate.specs.Indices.{indices_below}
 
 -- an edge gives one or two edges, or none
 kept_edges : (x y : Bool) (e m : Coefficients) → length (edges_kept_by x y e m) ≤ 2
@@ -23,18 +24,18 @@ all_edges f h (suc n) =
     let appended = length-append (flat_map f (indices_below n)) (f n) in
     omega (arith, ap length (flat_up_to f n), appended, all_edges f h n, h n)
 
-pub part_edges : (s : Outline) (m : Coefficients) → sides (part_behind s m) ≤ 2 * sides s
+pub part_edges : (s : Outline) (m : Coefficients) → edge_count (part_behind s m) ≤ 2 * edge_count s
 part_edges s m =
-    let from = λ (i : ℕ). is_behind m (corner s (index_before (sides s) i)) in
-    all_edges (edges_kept_at s m) (λ i. kept_edges (from i) (is_behind m (corner s i)) (edge s i) m) (sides s)
+    let from = λ (i : ℕ). is_behind m (corner s (index_before (edge_count s) i)) in
+    all_edges (edges_kept_at s m) (λ i. kept_edges (from i) (is_behind m (corner s i)) (edge_plane s i) m) (edge_count s)
 
-trimmed_to_edges : (c : Class) (s : Outline) (m : Coefficients) → sides (outline_trimmed_to c s m) ≤ 2 * sides s
+trimmed_to_edges : (c : Class) (s : Outline) (m : Coefficients) → edge_count (outline_trimmed_to c s m) ≤ 2 * edge_count s
 trimmed_to_edges Across s m = part_edges s m
 trimmed_to_edges Behind s m = omega arith
 trimmed_to_edges Ahead s m = omega arith
 trimmed_to_edges On s m = omega arith
 
-trimmed_edges : (s : Outline) (m : Coefficients) → sides (trimmed_outline s m) ≤ 2 * sides s
+trimmed_edges : (s : Outline) (m : Coefficients) → edge_count (trimmed_outline s m) ≤ 2 * edge_count s
 trimmed_edges s m = trimmed_to_edges (class_of s m) s m
 
 four_edges : (z : ℤ) (p q r s : Coefficients) → length (counterclockwise_edges z p q r s) ≡ 4
@@ -42,16 +43,16 @@ four_edges (pos n) p q r s = refl
 four_edges (negsuc n) p q r s = refl
 
 -- four edges, trimmed twice
-trimmed_twice : (s : Outline) (m n : Coefficients) → sides s ≡ 4 → sides (trimmed_outline (trimmed_outline s m) n) ≤ 16
+trimmed_twice : (s : Outline) (m n : Coefficients) → edge_count s ≡ 4 → edge_count (trimmed_outline (trimmed_outline s m) n) ≤ 16
 trimmed_twice s m n four = omega (arith, trimmed_edges (trimmed_outline s m) n, trimmed_edges s m)
 
-chosen_edges : (x y : Bool) (r s t : Outline) → sides r ≤ 16 → sides s ≤ 16 → sides t ≤ 16 →
-    sides (if x then r else if y then s else t) ≤ 16
+chosen_edges : (x y : Bool) (r s t : Outline) → edge_count r ≤ 16 → edge_count s ≤ 16 → edge_count t ≤ 16 →
+    edge_count (if x then r else if y then s else t) ≤ 16
 chosen_edges true y r s t h k l = h
 chosen_edges false true r s t h k l = k
 chosen_edges false false r s t h k l = l
 
-pub box_edges : (m : Coefficients) → sides (box_outline m) ≤ 16
+pub box_edges : (m : Coefficients) → edge_count (box_outline m) ≤ 16
 box_edges m =
     chosen_edges (not (int_eq m.c (pos 0))) (not (int_eq m.b (pos 0)))
     (box_over_z m) (box_over_y m) (box_over_x m)

@@ -2,7 +2,7 @@
 use Rattle.std.proofs.Common.{◌≡◌, ℕ, suc, ◌+◌, ◌*◌, ◌^◌, ◌≤◌, List, [], ◌∷◌, ◌++◌, flat_map, length, length-append, append-nil, append_assoc, refl, sym, ap, ◌∙◌, subst, arith}
 use Rattle.std.proofs.lemmas.Nat.{mul-le}
 use Rattle.plane_predicate.specs.Space.{Coefficients}
-use Rattle.plane_polygon.specs.Polygons.{Outline, sides}
+use Rattle.plane_polygon.specs.Polygons.{Outline, edge_count}
 use Rattle.plane_polygon.specs.Parts.{class_of, part_behind, part_ahead}
 use Rattle.plane_polygon.specs.declared.classes.Class.{Class}
 use Rattle.plane_polygon.specs.declared.classes.Class.TheVariants.{Behind, Ahead, On, Across}
@@ -19,7 +19,7 @@ chain_size inside k c = omega arith
 chain_size outside k c = omega arith
 chain_size (node s b inside) k c = absurd c
 chain_size (node s b (node t d e)) k c = absurd c
-chain_size (node s b outside) k c = omega (arith, chain_size b k c.1, c.0, doubled_least (nodes b) (sides s))
+chain_size (node s b outside) k c = omega (arith, chain_size b k c.1, c.0, doubled_least (nodes b) (edge_count s))
 
 -- at most n polygons, with at most k corners together
 record AreFew (n k : ℕ) (polygons : List Outline) : Type 0 where
@@ -68,20 +68,20 @@ on_sides_front Across k low high low_part high_part l p h g =
 
 -- a polygon has one facet at most, cut once by each node of the chain behind it
 chain_front : (t : BspTree) (s : Outline) (k : ℕ) → IsChain k t →
-    AreFew 1 (doubled (sides s) (nodes t)) (flat_map front (pieces t s))
+    AreFew 1 (doubled (edge_count s) (nodes t)) (flat_map front (pieces t s))
 chain_front inside s k c = record { few = omega arith; corners = omega arith }
-chain_front outside s k c = none (sides s)
+chain_front outside s k c = none (edge_count s)
 chain_front (node t b inside) s k c = absurd c
 chain_front (node t b (node u d e)) s k c = absurd c
 chain_front (node t b outside) s k c =
-    let room = doubled (2 * sides s) (nodes b) in
+    let room = doubled (2 * edge_count s) (nodes b) in
     let part = part_behind s t.plane in
     on_sides_front (class_of s t.plane) room (pieces b s) (pieces outside s) (pieces b part)
     (pieces outside (part_ahead s t.plane))
-    (more_corners 1 (doubled (sides s) (nodes b)) room (flat_map front (pieces b s))
-    (doubled_more (nodes b) (sides s) (2 * sides s) (omega arith)) (chain_front b s k c.1))
-    (more_corners 1 (doubled (sides part) (nodes b)) room (flat_map front (pieces b part))
-    (doubled_more (nodes b) (sides part) (2 * sides s) (part_edges s t.plane)) (chain_front b part k c.1))
+    (more_corners 1 (doubled (edge_count s) (nodes b)) room (flat_map front (pieces b s))
+    (doubled_more (nodes b) (edge_count s) (2 * edge_count s) (omega arith)) (chain_front b s k c.1))
+    (more_corners 1 (doubled (edge_count part) (nodes b)) room (flat_map front (pieces b part))
+    (doubled_more (nodes b) (edge_count part) (2 * edge_count s) (part_edges s t.plane)) (chain_front b part k c.1))
     refl refl
 
 chain_facets : (t : BspTree) (k : ℕ) → IsChain k t → AreFew (nodes t) (nodes t * k) (facets_of t)
@@ -91,7 +91,7 @@ chain_facets (node s b inside) k c = absurd c
 chain_facets (node s b (node t d e)) k c = absurd c
 chain_facets (node s b outside) k c =
     let here = facets_between b outside s in
-    let first = more_corners 1 (doubled (sides s) (nodes b)) k here c.0 (chain_front b s k c.1) in
+    let first = more_corners 1 (doubled (edge_count s) (nodes b)) k here c.0 (chain_front b s k c.1) in
     let all = together 1 (nodes b) k (nodes b * k) here (facets_of b) first (chain_facets b k c.1) in
     subst (AreFew (suc (nodes b)) (suc (nodes b) * k)) (sym (append-nil (here ++ facets_of b)))
     (record { few = omega (arith, all.few); corners = omega (arith, all.corners) })

@@ -2,9 +2,9 @@
 use Rattle.std.proofs.Common.{◌≡◌, ◌≤◌, Bool, true, false, cond, not, List, [], ◌∷◌, flat_map, filter, take, drop, length, refl, ap, arith}
 use Rattle.std.proofs.lemmas.List.{length-append, take-append-drop}
 use Rattle.plane_predicate.specs.declared.unit.Unit.{Unit as LengthUnit}
-use Rattle.plane_predicate.specs.Space.{Coordinates}
+use Rattle.plane_predicate.specs.Space.{Coordinates, has_same_numbers}
 use Rattle.plane_polygon.specs.Polygons.{Outline}
-use Rattle.off_text.specs.Texts.{same_point, place_of_least, from_least, distinct_points, printed_corners, vertices_of, corner_count, AreCornersOf}
+use Rattle.off_text.specs.Texts.{place_of_least, from_least, distinct_points, printed_corners, vertices_of, corner_count, AreCornersOf}
 use Rattle.off_text.proofs.Cornered.{found-length}
 
 kept_once : {X : Type 0} (b : Bool) (x : X) (xs ys : List X) → length xs ≤ length ys →
@@ -19,7 +19,7 @@ kept_length p (x ∷ xs) = kept_once (p x) x (filter p xs) xs (kept_length p xs)
 distinct_length : (points : List Coordinates) → length (distinct_points points) ≤ length points
 distinct_length [] = omega arith
 distinct_length (p ∷ points) =
-    omega (arith, kept_length (λ q. not (same_point p q)) (distinct_points points), distinct_length points)
+    omega (arith, kept_length (λ q. not (has_same_numbers p q)) (distinct_points points), distinct_length points)
 
 turned_length : (points : List Coordinates) → length (from_least points) ≡ length points
 turned_length points =

@@ -10,8 +10,8 @@ use Rattle.plane_table.specs.Cuts.{part_in}
 use Rattle.bsp_tree.specs.Trees.{BspTree}
 use Rattle.bsp_tree.specs.Growths.{tree_on}
 use Rattle.bsp_tree.proofs.Sheets.{stood_on}
-use Rattle.bsp_tree.specs.Partitions.{across_row, divide, rows}
-use Rattle.bsp_partition.specs.Parts.{row_parts, trees_on, HasParts}
+use Rattle.bsp_tree.specs.Partitions.{parts_where_across, divide, parts_by_class}
+use Rattle.bsp_partition.specs.Parts.{parts_off_plane, trees_on, HasParts}
 use Rattle.bsp_partition.proofs.SheetParts.{end_parts, sides_parted, across_parted}
 use Rattle.bsp_partition.proofs.parting.+parts.Goals as goal
 
@@ -56,11 +56,11 @@ other_parts-returns-in_ok-parts-in-Across-Across t c =
     let links = c.in_ok-parts-in-Across-Across.parts in
     let first = sym (rw c.table-table.ensures at c.in_ok-of_by.ensures.class) ∙ c.in-Across-Across.is-0 in
     let second = sym (rw c.table-table.ensures at c.in_ok-of_own.ensures.class) ∙ c.in-Across-Across.is-1 in
-    let row = ap₂ (λ (x y : Class). rows x y s u b a (divide b s) (divide a s) (divide b (part_behind s u.plane)) (divide a (part_ahead s u.plane))) first second in
+    let row = ap₂ (λ (x y : Class). parts_by_class x y s u b a (divide b s) (divide a s) (divide b (part_behind s u.plane)) (divide a (part_ahead s u.plane))) first second in
     IfOk-weaker c.made_across.result
-    (λ r. HasParts middle new r (across_row (outline_of middle.planes c.args.by.now) (outline_of middle.planes c.args.node.face) (trees_on middle links.0) (trees_on middle links.1)))
-    (λ r. HasParts old new r (row_parts s u b a))
+    (λ r. HasParts middle new r (parts_where_across (outline_of middle.planes c.args.by.now) (outline_of middle.planes c.args.node.face) (trees_on middle links.0) (trees_on middle links.1)))
+    (λ r. HasParts old new r (parts_off_plane s u b a))
     (λ r m. subst (HasParts old new r) (sym row)
     (across_parted old middle new links _ _ r s u parted
-    (subst (λ (ps : List Coefficients). HasParts middle new r (across_row (outline_of ps c.args.by.now) (outline_of ps c.args.node.face) (trees_on middle links.0) (trees_on middle links.1))) parted.longer.planes m)))
+    (subst (λ (ps : List Coefficients). HasParts middle new r (parts_where_across (outline_of ps c.args.by.now) (outline_of ps c.args.node.face) (trees_on middle links.0) (trees_on middle links.1))) parted.longer.planes m)))
     c.made_across.ensures

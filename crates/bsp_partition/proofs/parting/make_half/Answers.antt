@@ -4,7 +4,7 @@ use Rattle.plane_polygon.specs.Polygons.{Outline}
 use Rattle.plane_table.specs.Tables.{plane_named}
 use Rattle.plane_table.specs.Faces.{outline_of}
 use Rattle.plane_table.specs.Cuts.{part_in}
-use Rattle.bsp_tree.specs.Trees.{make}
+use Rattle.bsp_tree.specs.Trees.{node_or_leaf}
 use Rattle.bsp_tree.specs.Growths.{tree_on}
 use Rattle.bsp_partition.specs.Parts.{HasAddedTree}
 use Rattle.bsp_partition.proofs.SheetParts.{same_made}
@@ -18,7 +18,7 @@ returns c =
     let old = c.args.nodes.now in
     let outline = rw c.table.ensures at c.in_ok-part.ensures.outline in
     IfOk-weaker c.make_node.result
-    (λ l. HasAddedTree old c.make_node.new.nodes l (make (outline_of old.planes c.in_ok-part.part) (tree_on old c.args.behind) (tree_on old c.args.ahead)))
-    (λ l. HasAddedTree old c.make_node.new.nodes l (make (part_in c.args.half (outline_of old.planes c.args.own.face.now) (plane_named old.planes c.args.own.number)) (tree_on old c.args.behind) (tree_on old c.args.ahead)))
-    (λ l. subst (λ (s : Outline). HasAddedTree old c.make_node.new.nodes l (make s (tree_on old c.args.behind) (tree_on old c.args.ahead))) outline)
+    (λ l. HasAddedTree old c.make_node.new.nodes l (node_or_leaf (outline_of old.planes c.in_ok-part.part) (tree_on old c.args.behind) (tree_on old c.args.ahead)))
+    (λ l. HasAddedTree old c.make_node.new.nodes l (node_or_leaf (part_in c.args.half (outline_of old.planes c.args.own.face.now) (plane_named old.planes c.args.own.number)) (tree_on old c.args.behind) (tree_on old c.args.ahead)))
+    (λ l. subst (λ (s : Outline). HasAddedTree old c.make_node.new.nodes l (node_or_leaf s (tree_on old c.args.behind) (tree_on old c.args.ahead))) outline)
     c.make_node.ensures

@@ -1,7 +1,7 @@
 use Rattle.std.proofs.Common.{◌≡◌, ℕ, ◌+◌, List, [], ◌∷◌, ◌++◌, take, length, ap, sym, ◌∙◌, arith}
 use Rattle.std.proofs.lemmas.List.{length-map, length_push}
 use Rattle.csg_tree.specs.Numberings.{height}
-use Rattle.csg_tree.specs.Nodes.{node_of, tree_over, trees_of_lent}
+use Rattle.csg_tree.specs.Nodes.{node_of, tree_of_node, trees_of_lent_nodes}
 use Rattle.csg_tree.specs.Levels.{height_over}
 use Rattle.csg_tree.proofs.Linked.{lent_at, next_lent}
 use Rattle.csg_tree.proofs.ByHeight.{over_low, over_same, height_known, heights_more, level_more, low_push}
@@ -12,7 +12,7 @@ height_of-height-requires-clause-over c =
     let parts = c.args.parts.now in
     let i = c.loop-part.part-index in
     let part = c.part-item.result in
-    let ts = trees_of_lent (take i parts) in
+    let ts = trees_of_lent_nodes (take i parts) in
     let count : length ts ≡ length c.deref.result.now =
     sym (length-map ts height) ∙ ap length (sym c.loop-part.invariant.heights) ∙ ap length (sym c.deref.ensures.value) in
     let over = rw (← c.part-item.is) at (lent_at parts i part c.requires.linked (omega arith)) in
@@ -23,7 +23,7 @@ put-requires c =
     let parts = c.args.parts.now in
     let i = c.loop-part.part-index in
     let part = c.part-item.result in
-    let ts = trees_of_lent (take i parts) in
+    let ts = trees_of_lent_nodes (take i parts) in
     let hs = c.loop-part.heights.items in
     let count : length ts ≡ length hs = sym (length-map ts height) ∙ ap length (sym c.loop-part.invariant.heights) in
     let over = rw (← c.part-item.is) at (lent_at parts i part c.requires.linked (omega arith)) in
@@ -36,9 +36,9 @@ loop-part-preserved c =
     let parts = c.args.parts.now in
     let i = c.loop-part.part-index in
     let part = c.part-item.result in
-    let ts = trees_of_lent (take i parts) in
-    let us = trees_of_lent (take (i + 1) parts) in
-    let t = tree_over ts (node_of part) in
+    let ts = trees_of_lent_nodes (take i parts) in
+    let us = trees_of_lent_nodes (take (i + 1) parts) in
+    let t = tree_of_node ts (node_of part) in
     let hs = c.loop-part.heights.items in
     let r = c.height_of-height.result in
     let e : us ≡ ts ++ t ∷ [] = next_lent parts i part (omega arith) c.part-item.is in

@@ -1,9 +1,9 @@
 use Rattle.std.proofs.Common.{◌≡◌, ℕ, ◌+◌, ◌-◌, ◌∷◌, ◌++◌, [], List, get_or, take, map, sym, ap, subst, ◌∙◌, inl, inr, arith, append_assoc}
 use Rattle.std.proofs.lemmas.Bool.{cases_lt}
 use Rattle.std.proofs.lemmas.List.{length-map, map-append, take_all, take_more}
-use Rattle.csg_tree.specs.Formulas.{Formula}
+use Rattle.csg_tree.specs.HalfSpaceTrees.{Tree}
 use Rattle.csg_tree.specs.Numberings.{distinct_trees, tree_numbered}
-use Rattle.csg_tree.specs.Nodes.{node_of, trees_of, trees_of_lent}
+use Rattle.csg_tree.specs.Nodes.{node_of, trees_of_nodes, trees_of_lent_nodes}
 use Rattle.csg_tree.specs.Interned.{IsPartNumbered}
 use Rattle.csg_tree.proofs.Linked.{length_lent}
 use Rattle.csg_tree.proofs.Placing.{lent_number}
@@ -18,7 +18,7 @@ number_part-requires-clause-ready c =
       ready.0,
       λ d.
           let node = node_of (get_or parts (m - 1) d) in
-          ready_stay (trees_of_lent parts) (trees_of c.args.interner.now.nodes.items) (trees_of c.loop-number.interner.nodes.items)
+          ready_stay (trees_of_lent_nodes parts) (trees_of_nodes c.args.interner.now.nodes.items) (trees_of_nodes c.loop-number.interner.nodes.items)
           c.args.numbers.now.items c.loop-number.numbers.items node (lent_number parts m d c.requires.numbering.linked ready.0).0
           c.loop-number.invariant.stay (ready.1 d),
     )
@@ -26,12 +26,12 @@ number_part-requires-clause-ready c =
 pub loop-number-preserved : goal.loop-number-preserved
 loop-number-preserved c =
     let parts = c.args.parts.now in
-    let ps = trees_of_lent parts in
+    let ps = trees_of_lent_nodes parts in
     let level = c.args.level.now in
     let i = c.loop-number.number-index in
     let now = c.in_ok-number_part.ensures in
     let before = c.loop-number.invariant in
-    let us = trees_of c.number_part.new.interner.nodes.items in
+    let us = trees_of_nodes c.number_part.new.interner.nodes.items in
     let count = length_lent parts in
     let taken : map (tree_numbered ps) (take (i + 1) level) ≡ map (tree_numbered ps) (take i level) ++ tree_numbered ps (get_or level i 0) ∷ [] =
     ap (map (tree_numbered ps)) (take_more level i 0 (omega arith)) ∙ map-append (tree_numbered ps) (take i level) (get_or level i 0 ∷ []) in
@@ -52,13 +52,13 @@ loop-number-preserved c =
       distinct = λ trees e.
           now.grown.distinct (trees ++ map (tree_numbered ps) (take i level)) (before.distinct trees e)
           ∙ ap distinct_trees (append_assoc trees (map (tree_numbered ps) (take i level)) (tree_numbered ps (get_or level i 0) ∷ [])
-          ∙ ap (λ (xs : List Formula). trees ++ xs) (sym taken));
+          ∙ ap (λ (xs : List Tree). trees ++ xs) (sym taken));
     }
 
 pub returns-clause-grown : goal.returns-clause-grown
 returns-clause-grown c =
     let level = c.args.level.now in
-    let ps = trees_of_lent c.args.parts.now in
+    let ps = trees_of_lent_nodes c.args.parts.now in
     let whole : take c.loop-number.number-index level ≡ level = take_all c.loop-number.number-index level (omega arith) in
     record {
       distinct = λ trees e.

@@ -2,7 +2,7 @@ use Rattle.std.proofs.Common.{◌≡◌, List, [], true, false, arith}
 use Rattle.link_forest.specs.declared.link.NodeId.{NodeId}
 use Rattle.link_forest.specs.declared.link.Link.TheVariants.{End, To}
 use Rattle.link_forest.specs.declared.forest.Entry.{Entry}
-use Rattle.link_forest.specs.Forests.{Adds}
+use Rattle.link_forest.specs.Forests.{AddsNode}
 use Rattle.link_forest.proofs.Longer.{extends_itself}
 use Rattle.link_forest.proofs.Reaching.{reached_by_added}
 use Rattle.plane_polygon.specs.Polygons.{Outline}
@@ -15,7 +15,7 @@ use Rattle.bsp_tree.proofs.Wholes.{one_node_whole}
 use Rattle.geometry_cases.proofs.solids.twice.Goals as goal
 
 two_nodes_whole : (s : Outline) (own : OwnFace) (none one two : List (Entry Face)) (copy : Face) (first second : NodeId) → IsOwnFaceOf s own → none ≡ [] → copy ≡ own.face →
-    Adds none one copy (End true) (End false) first → Adds one two own.face (To first) (To first) second →
+    AddsNode none one copy (End true) (End false) first → AddsNode one two own.face (To first) (To first) second →
     IsWholeSolid (record { planes = own.planes.items; nodes = two; root = To second })
 two_nodes_whole s own none one two copy first second h empty same d e =
     let w = one_node_whole s own none one first h empty (rw same at d) in

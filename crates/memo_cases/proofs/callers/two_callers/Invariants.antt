@@ -6,6 +6,9 @@ ghosts-run-H-Ledger g a = record { name = a.blanks.hits.name; parts = a.blanks.h
 abbrev pub ghosts-run-H-MemoLedger : goal.ghosts-run-H-MemoLedger
 ghosts-run-H-MemoLedger g a = record { budget = a.core.budget; share = a.core.share; callers = a.blanks.callers }
 
+abbrev pub ghosts-run-H-AskPolicy : goal.ghosts-run-H-AskPolicy
+ghosts-run-H-AskPolicy g a = record { may_ask = λ caller key. Unit {0} }
+
 abbrev pub ghosts-run-M-Ledger : goal.ghosts-run-M-Ledger
 ghosts-run-M-Ledger g a = record { name = a.blanks.misses.name; parts = a.blanks.misses.parts }
 

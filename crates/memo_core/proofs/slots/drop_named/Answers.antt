@@ -3,7 +3,7 @@ use Rattle.std.specs.Map.{remove_entry}
 use Rattle.std.proofs.lemmas.List.{take_more}
 use Rattle.lru.specs.LruCache.{lru_cache}
 use Rattle.memo_core.specs.Memo.{same_name}
-use Rattle.memo_core.specs.Plans.{pairs_without, pair_of}
+use Rattle.memo_core.specs.Plans.{pairs_without, pair_if_there}
 use Rattle.memo_core.proofs.Walks.{removed_more}
 use Rattle.memo_core.proofs.Drops.{drops_then, drops_taken}
 use Rattle.memo_core.proofs.slots.drop_named.Goals as goal
@@ -20,7 +20,7 @@ loop-name-preserved g c =
       ap (λ x. x.cap) popped ∙ c.loop-name.invariant.1,
       omega (arith, c.loop-name.invariant.2, c.hand_out.ensures.len, c.hand_out.ensures.capacity),
       drops_then c.args.cache.now.entries c.loop-name.cache.entries _ c.args.gone.now.items c.loop-name.gone.items _ c.loop-name.invariant.3
-          (drops_taken n c.loop-name.cache.entries c.loop-name.gone.items _ _ (c.hand_out.ensures.items ∙ ap (λ o. c.loop-name.gone.items ++ pair_of n o) c.pop.ensures.value) (ap (λ x. x.entries) popped)),
+          (drops_taken n c.loop-name.cache.entries c.loop-name.gone.items _ _ (c.hand_out.ensures.items ∙ ap (λ o. c.loop-name.gone.items ++ pair_if_there n o) c.pop.ensures.value) (ap (λ x. x.entries) popped)),
     )
 
 pub hand_out-requires : goal.hand_out-requires

@@ -1,7 +1,7 @@
 use Rattle.std.proofs.Common.{rules, ◌≡◌, ◌∙◌, ◌-◌, ap, subst, [], length, Some}
 use Rattle.std.specs.Prelude.{slice_get}
 use Rattle.std.specs.Arc.{arc_value}
-use Rattle.memo_core.specs.Memo.{IsLegal, Item}
+use Rattle.memo_core.specs.Memo.{IsLegal, JournalRecord}
 use Rattle.memo_core.specs.Fields.{answer_of}
 use Rattle.memo_shares.proofs.Replays.{no_item, last_item}
 use Rattle.memo_shares.proofs.again.repeats.Goals as goal
@@ -16,4 +16,4 @@ returns-clause-other g c f =
     subst (λ h. IsLegal g.F.Fit.same_key g.N.Namer.name_of c.args.core.now.budget h [] now.journal) c.in_ok-call.ensures.share
     (subst (λ b. IsLegal g.F.Fit.same_key g.N.Namer.name_of b now.share [] now.journal) c.in_ok-call.ensures.budget c.journal.ensures.sound.legal) in
     no_item g.F.Fit.same_key g.N.Namer.name_of c.args.core.now.budget c.args.core.now.share c.args.core.now.journal now.journal c.args.noted.now.caller (arc_value c.args.noted.now.key) call.0 (answer_of c.args.noted.now.did)
-    call.1 legal call.2 (λ h. c.says_same.ensures.other f (ap (λ (i : Item g.row.F-Key.Denot). i.answer) last ∙ h))
+    call.1 legal call.2 (λ h. c.says_same.ensures.other f (ap (λ (i : JournalRecord g.row.F-Key.Denot). i.answer) last ∙ h))

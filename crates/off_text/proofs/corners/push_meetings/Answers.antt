@@ -3,7 +3,7 @@ use Rattle.std.proofs.lemmas.Simd.{map-map}
 use Rattle.plane_predicate.specs.Space.{Coordinates}
 use Rattle.plane_predicate.specs.InUnits.{in_units}
 use Rattle.plane_polygon.specs.Polygons.{Outline, corner, AreReducedFrom}
-use Rattle.plane_polygon.specs.Parts.{indices_below}
+use Rattle.plane_predicate.specs.Indices.{indices_below}
 use Rattle.plane_polygon.proofs.CornerSides.{reduced_step}
 use Rattle.off_text.proofs.corners.push_meetings.Goals as goal
 

@@ -1,7 +1,7 @@
 use Rattle.std.proofs.Common.{map}
 use Rattle.plane_predicate.specs.InUnits.{in_units}
 use Rattle.plane_polygon.specs.Polygons.{corner, AreReducedFrom}
-use Rattle.plane_polygon.specs.Parts.{indices_below}
+use Rattle.plane_predicate.specs.Indices.{indices_below}
 use Rattle.off_text.proofs.corners.push_meetings.Given as goal
 
 abbrev pub invariant-loop-i : goal.invariant-loop-i

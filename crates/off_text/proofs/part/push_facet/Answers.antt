@@ -4,9 +4,9 @@ use Rattle.plane_predicate.specs.declared.unit.Unit.{Unit as LengthUnit}
 use Rattle.plane_predicate.specs.Space.{Coordinates}
 use Rattle.plane_polygon.specs.Polygons.{Outline, AreReducedFrom, IsPolygon}
 use Rattle.off_text.specs.declared.numbering.FaceNumbers.{FaceNumbers}
-use Rattle.off_text.specs.Texts.{corners_in_units, from_least, is_least, number_among, place_of_least}
+use Rattle.off_text.specs.Texts.{corners_in_units, from_least, is_least, vertex_number, place_of_least}
 use Rattle.off_text.specs.Numbering.{with_points}
-use Rattle.off_text.specs.FaceNumbers.{numbers_among, AddsNumbers}
+use Rattle.off_text.specs.FaceNumbers.{vertex_numbers, AddsNumbers}
 use Rattle.off_text.proofs.Numbers.{place_at_most, round_length}
 use Rattle.off_text.proofs.part.push_facet.Goals as goal
 
@@ -20,14 +20,14 @@ push_face-requires c =
 adds : {V E : Type 0} (r : Result V E) (unit : LengthUnit) (s : Outline) (old new found points : List Coordinates) (start : ℕ) (before all : FaceNumbers) →
     IsPolygon s → AreReducedFrom (corners_in_units unit s) found → start ≡ place_of_least found → points ≡ found →
     OnOk r (new ≡ with_points old (drop start points ++ take start points)) → OnOk r (all.sides.items ≡ before.sides.items ++ length points ∷ []) →
-    OnOk r (all.numbers.items ≡ before.numbers.items ++ numbers_among new (drop start points ++ take start points)) → OnOk r (AddsNumbers unit s old new before all)
+    OnOk r (all.numbers.items ≡ before.numbers.items ++ vertex_numbers new (drop start points ++ take start points)) → OnOk r (AddsNumbers unit s old new before all)
 adds (Ok v) unit s old new found points start before all h k at same g c n =
     let round : drop start points ++ take start points ≡ from_least found = ap₂ (λ (i : ℕ) (ps : List Coordinates). drop i ps ++ take i ps) at same in
-    let count : length points ≡ length (numbers_among new (drop start points ++ take start points)) =
-    round_length points start (take start points) (drop start points) refl refl ∙ sym (length-map (drop start points ++ take start points) (number_among new)) in
+    let count : length points ≡ length (vertex_numbers new (drop start points ++ take start points)) =
+    round_length points start (take start points) (drop start points) refl refl ∙ sym (length-map (drop start points ++ take start points) (vertex_number new)) in
     record {
-      face = numbers_among new (drop start points ++ take start points);
-      adds = record { polygon = h; found = found; corners = k; grows = g ∙ ap (with_points old) round; numbers = ap (map (number_among new)) round };
+      face = vertex_numbers new (drop start points ++ take start points);
+      adds = record { polygon = h; found = found; corners = k; grows = g ∙ ap (with_points old) round; numbers = ap (map (vertex_number new)) round };
       sides = c ∙ ap (λ (i : ℕ). before.sides.items ++ i ∷ []) count;
       numbers = n;
     }

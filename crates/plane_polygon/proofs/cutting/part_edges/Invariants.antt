@@ -2,8 +2,9 @@ use Rattle.std.proofs.Common.{◌≡◌, flat_map, length}
 use Rattle.plane_predicate.specs.Space.{value, opposite_of}
 use Rattle.plane_predicate.specs.Sides.{side_of}
 use Rattle.plane_polygon.specs.Polygons.{corner}
-use Rattle.plane_polygon.specs.Parts.{edges_kept_at, indices_below, index_before}
+use Rattle.plane_polygon.specs.Parts.{edges_kept_at, index_before}
 use Rattle.plane_polygon.proofs.cutting.part_edges.Given as goal
+use Rattle.plane_predicate.specs.Indices.{indices_below}
 
 abbrev pub invariant-loop-i : goal.invariant-loop-i
 invariant-loop-i l = record {

@@ -1,7 +1,8 @@
 use Rattle.std.proofs.Common.{◌≡◌, flat_map, length, get_or}
-use Rattle.plane_polygon.specs.Parts.{indices_below, index_before}
+use Rattle.plane_polygon.specs.Parts.{index_before}
 use Rattle.plane_table.specs.Cuts.{is_strictly_in_half, numbers_kept_at, on_the_plane}
 use Rattle.plane_table.proofs.cutting.part_edges.Given as goal
+use Rattle.plane_predicate.specs.Indices.{indices_below}
 
 abbrev pub invariant-loop-i : goal.invariant-loop-i
 invariant-loop-i l = record {

@@ -1,10 +1,11 @@
 use Rattle.std.proofs.Common.{◌≡◌, ◌<◌, length, get_or, map, IfSome}
 use Rattle.plane_polygon.specs.Polygons.{corner}
-use Rattle.plane_polygon.specs.Parts.{some_of, is_behind, is_ahead, indices_below}
+use Rattle.plane_polygon.specs.Parts.{some_of, is_behind, is_ahead}
 use Rattle.plane_polygon.specs.Parallels.{HasAllOn}
 use Rattle.plane_table.specs.Tables.{plane_named}
 use Rattle.plane_table.specs.Faces.{outline_of, side_against}
 use Rattle.plane_table.proofs.sorting.sides.Given as goal
+use Rattle.plane_predicate.specs.Indices.{indices_below}
 
 abbrev pub invariant-loop-i : goal.invariant-loop-i
 invariant-loop-i l = record {

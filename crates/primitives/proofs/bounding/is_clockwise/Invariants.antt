@@ -1,5 +1,5 @@
 use Rattle.std.proofs.Common.{All, take}
-use Rattle.primitives.specs.Ways.{HasNoneLeft}
+use Rattle.primitives.specs.DirectedEdges.{HasNoneLeft}
 use Rattle.primitives.proofs.bounding.is_clockwise.Given as goal
 
 abbrev pub invariant-loop-way : goal.invariant-loop-way

@@ -1,4 +1,4 @@
-use Rattle.primitives.specs.contracts.ways.WayOrd.TheImpl.{cmp-value}
+use Rattle.primitives.specs.contracts.ways.DirectedEdgeOrd.TheImpl.{cmp-value}
 use Rattle.primitives.proofs.Sets.{HasFirst}
 use Rattle.primitives.proofs.closed.met.Given as goal
 

@@ -1,6 +1,6 @@
 use Rattle.std.proofs.Common.{◌≡◌, ℕ, pos, All, take}
-use Rattle.primitives.specs.Shapes.{value_at}
+use Rattle.primitives.specs.Shapes.{value_at_point}
 use Rattle.primitives.proofs.flat_faces.holds_all.Given as goal
 
 abbrev pub invariant-loop-i : goal.invariant-loop-i
-invariant-loop-i l = All (λ (i : ℕ). value_at l.points l.plane i ≡ pos 0) (take l.i-index l.face)
+invariant-loop-i l = All (λ (i : ℕ). value_at_point l.points l.plane i ≡ pos 0) (take l.i-index l.face)

@@ -1,7 +1,7 @@
 use Rattle.std.proofs.Common.{◌≡◌, ◌<◌, List, ℤ, pos, length, sym, ◌∙◌, ap, subst, All, Any, Err}
 use Rattle.std.proofs.lemmas.Result.{err_from_is_err_and}
 use Rattle.plane_predicate.specs.Space.{point_at, IsInReach}
-use Rattle.int_transform.specs.Maps.{determinant_of, map_of, LeavesRange, StaysInRange}
+use Rattle.int_transform.specs.Maps.{determinant_of, map_of, LeavesSafeCoordinates, KeepsSafeCoordinates}
 use Rattle.primitives.specs.Placing.{moved_mesh}
 use Rattle.primitives.proofs.Transforms.{faces_after, some_points, images_in_reach, image_past_reach, inside-placed, placed_faces, reach_placed, some_placed, IsPlaced}
 use Rattle.primitives.proofs.Stops.{placing_stop}
@@ -11,7 +11,7 @@ pub returns-in_err-points-clause-stops : goal.returns-in_err-points-clause-stops
 returns-in_err-points-clause-stops c =
     let steps = c.args.steps.now in
     let stop = placing_stop steps c.args.shape.now.points c.in_err-points.field-0.0 (λ e.
-    subst (Any (λ (p : List ℤ). LeavesRange steps (point_at p))) c.points.ensures.points (c.in_err-points.ensures.too_large (ap Err e))) in
+    subst (Any (λ (p : List ℤ). LeavesSafeCoordinates steps (point_at p))) c.points.ensures.points (c.in_err-points.ensures.too_large (ap Err e))) in
     let p = err_from_is_err_and c.from_residual.result c.from_residual.ensures.1 in
     rw (p.1 ∙ ap Err p.2) stop
 
@@ -20,7 +20,7 @@ returns-then-not-are_in_reach-clause-stops c =
     let f = map_of c.args.steps.now in
     let points = c.args.shape.now.points in
     let same : c.deref.result.now ≡ (moved_mesh f c.args.shape.now).points = c.deref.ensures.value ∙ c.in_ok-points.ensures.images ∙ ap (λ (ps : List (List ℤ)). (moved_mesh f (record { points = ps; faces = c.args.shape.now.faces })).points) c.points.ensures.points in
-    (subst (All (λ (p : List ℤ). StaysInRange c.args.steps.now (point_at p))) c.points.ensures.points c.in_ok-points.ensures.in_range, image_past_reach f points c.deref.result.now same c.if-not-are_in_reach.ensures.past)
+    (subst (All (λ (p : List ℤ). KeepsSafeCoordinates c.args.steps.now (point_at p))) c.points.ensures.points c.in_ok-points.ensures.in_range, image_past_reach f points c.deref.result.now same c.if-not-are_in_reach.ensures.past)
 
 pub planes_of-requires-clause-faces_are : goal.planes_of-requires-clause-faces_are
 planes_of-requires-clause-faces_are c =

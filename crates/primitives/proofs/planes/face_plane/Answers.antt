@@ -1,6 +1,6 @@
 use Rattle.std.proofs.Common.{ℕ, List, All, Any, pos, ◌<ℤ◌, ◌≤ℤ◌, sym, subst}
 use Rattle.plane_predicate.specs.Space.{Coefficients}
-use Rattle.primitives.specs.Shapes.{Mesh, value_at, IsPlaneOfFace}
+use Rattle.primitives.specs.Shapes.{Mesh, value_at_point, IsPlaneOfFace}
 use Rattle.primitives.proofs.ShapeBodies.{reach_on_grid}
 use Rattle.primitives.proofs.FacePlanes.{found, spanned_as_it_is, spanned_opposite}
 use Rattle.primitives.proofs.planes.face_plane.Goals as goal
@@ -15,8 +15,8 @@ pub returns-then-has_ahead : goal.returns-then-has_ahead
 returns-then-has_ahead c =
     let mesh : Mesh = record { points = c.args.points.now; faces = c.args.faces.now } in
     let plane = c.spanned-plane.result in
-    let some = subst (λ (m : Coefficients). Any (λ (f : List ℕ). Any (λ (i : ℕ). pos 0 <ℤ value_at mesh.points m i) f) mesh.faces) c.of_plane.ensures c.if-has_ahead.ensures.some in
-    let f = found (λ (i : ℕ). pos 0 <ℤ value_at mesh.points plane i) mesh.faces some in
+    let some = subst (λ (m : Coefficients). Any (λ (f : List ℕ). Any (λ (i : ℕ). pos 0 <ℤ value_at_point mesh.points m i) f) mesh.faces) c.of_plane.ensures c.if-has_ahead.ensures.some in
+    let f = found (λ (i : ℕ). pos 0 <ℤ value_at_point mesh.points plane i) mesh.faces some in
     subst (IsPlaneOfFace mesh c.args.face.now) (sym c.opposite.ensures.numbers)
     (spanned_opposite mesh c.args.face.now c.requires.face_is plane c.spanned-plane.ensures f.face f.at f.face_in f.at_in f.holds)
 
@@ -25,4 +25,4 @@ returns-else-has_ahead c =
     let mesh : Mesh = record { points = c.args.points.now; faces = c.args.faces.now } in
     let plane = c.spanned-plane.result in
     spanned_as_it_is mesh c.args.face.now c.requires.face_is plane c.spanned-plane.ensures
-    (subst (λ (m : Coefficients). All (λ (f : List ℕ). All (λ (i : ℕ). value_at mesh.points m i ≤ℤ pos 0) f) mesh.faces) c.of_plane.ensures c.if-has_ahead.ensures.none)
+    (subst (λ (m : Coefficients). All (λ (f : List ℕ). All (λ (i : ℕ). value_at_point mesh.points m i ≤ℤ pos 0) f) mesh.faces) c.of_plane.ensures c.if-has_ahead.ensures.none)

@@ -1,6 +1,6 @@
 use Rattle.std.proofs.Common.{All, take}
-use Rattle.primitives.specs.Polygons.{IsInRange}
+use Rattle.primitives.specs.Polygons.{IsFlatPointInRange}
 use Rattle.primitives.proofs.polygon.are_in_range.Given as goal
 
 abbrev pub invariant-loop-point : goal.invariant-loop-point
-invariant-loop-point l = All IsInRange (take l.point-index l.points)
+invariant-loop-point l = All IsFlatPointInRange (take l.point-index l.points)

@@ -1,7 +1,7 @@
 use Rattle.std.proofs.Common.{◌≡◌, ◌∙◌, sym, ap, subst, Err}
 use Rattle.std.proofs.lemmas.Result.{err_from_is_err_and}
 use Rattle.primitives.specs.Shapes.{Mesh, IsShape}
-use Rattle.primitives.specs.Polyhedra.{mesh_of}
+use Rattle.primitives.specs.Polyhedra.{polyhedron_of}
 use Rattle.primitives.proofs.FirstFaults.{answers_stop}
 use Rattle.primitives.proofs.Solids.{shape_of}
 use Rattle.primitives.proofs.polyhedron.polyhedron_shape.Goals as goal
@@ -18,5 +18,5 @@ of-requires c =
     let h = c.in_ok-placed.ensures in
     let placed = c.in_ok-placed.placed.items in let copies = c.in_ok-copied.field-0.items in
     let m : Mesh = record { points = placed; faces = copies } in
-    let same : mesh_of unit points faces ≡ m = λ i. record { points = sym h.points i; faces = sym c.in_ok-copied.ensures i } in
+    let same : polyhedron_of unit points faces ≡ m = λ i. record { points = sym h.points i; faces = sym c.in_ok-copied.ensures i } in
     subst IsShape same (shape_of unit points faces h.polyhedron h.body)

@@ -1,13 +1,13 @@
 use Rattle.std.proofs.Common.{ℤ, List, [], arith}
 use Rattle.plane_predicate.specs.Space.{point_at}
 use Rattle.primitives.proofs.Lists.{all_done, all_next}
-use Rattle.primitives.specs.Shapes.{IsInRange}
+use Rattle.primitives.specs.Shapes.{IsPointInRange}
 use Rattle.primitives.proofs.ranges.are_in_range.Goals as goal
 
 pub loop-point-preserved : goal.loop-point-preserved
 loop-point-preserved c =
-    all_next (λ (p : List ℤ). IsInRange (point_at p)) c.args.points.now c.loop-point.point-index [] (omega arith) c.loop-point.invariant c.if-not-is_in_range.ensures.all
+    all_next (λ (p : List ℤ). IsPointInRange (point_at p)) c.args.points.now c.loop-point.point-index [] (omega arith) c.loop-point.invariant c.if-not-is_in_range.ensures.all
 
 pub returns-clause-all : goal.returns-clause-all
 returns-clause-all c =
-    all_done (λ (p : List ℤ). IsInRange (point_at p)) c.args.points.now c.loop-point.point-index (omega arith) c.loop-point.invariant
+    all_done (λ (p : List ℤ). IsPointInRange (point_at p)) c.args.points.now c.loop-point.point-index (omega arith) c.loop-point.invariant

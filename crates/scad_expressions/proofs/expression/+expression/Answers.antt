@@ -11,9 +11,9 @@ use Rattle.scad_ast.specs.Terms.{Term, PositionalTerm}
 use Rattle.scad_ast.specs.ExprView.{term_of, terms_of, link_of, suffix_of, arg_of, args_of}
 use Rattle.scad_grammar.specs.declared.SyntaxFault.{SyntaxFault}
 use Rattle.scad_grammar.specs.Classes.{close_bracket_sign, close_parenthesis_sign, has_class_in, has_class, has_class_outside}
-use Rattle.scad_grammar.specs.Grammar.{levels, unary_term, index_term, paren_term, bracket_term, filled_term, given_term, Rest}
+use Rattle.scad_grammar.specs.Grammar.{levels, unary_term, index_term, paren_term, bracket_term, list_or_range_term, named_argument_term, Rest}
 use Rattle.scad_grammar.specs.Languages.{pair_of}
-use Rattle.scad_grammar.specs.Reading.{Read, then_read, both, maybe, with_front}
+use Rattle.scad_grammar.specs.Reading.{Read, then_read, sequence_read, optional_read, with_front}
 use Rattle.scad_grammar.specs.Reads.{expr_read, operand_read, arg_in, args_read, suffix_read, rest_read, chain_read, choice_read, in_parentheses}
 use Rattle.scad_grammar.proofs.Readers.{loop_more, loop_end, loop_fault}
 use Rattle.scad_expressions.specs.declared.class.Level.TheVariants.{Or}
@@ -33,7 +33,7 @@ use Rattle.scad_expressions.proofs.expression.+expression.Goals as goal
 use Rattle.scad_expressions.proofs.expression.+expression.Goals.{climb_below-then-begins+in_ok-chained, climb_below-else-begins}
 
 bracket_filled : (bracket : Token) (first : Term) (q : Read Token SyntaxFault Rest)
-    → then_read (then_read (then_read q (λ more us. Ok (pair_of first more, us))) (λ p us. Ok (Some p, us))) (λ p us. Ok (bracket_term bracket p, us)) ≡ then_read q (λ more us. Ok (filled_term bracket first more, us))
+    → then_read (then_read (then_read q (λ more us. Ok (pair_of first more, us))) (λ p us. Ok (Some p, us))) (λ p us. Ok (bracket_term bracket p, us)) ≡ then_read q (λ more us. Ok (list_or_range_term bracket first more, us))
 bracket_filled bracket first (Ok p) = refl
 bracket_filled bracket first (Err e) = refl
 
@@ -266,7 +266,7 @@ arg-returns t c = record {
       let made = c.in_ok-bytes-2.ensures.ok in
       let value = rw made.1 at c.expr-2.ensures.value in
       arg_given c.args.depth c.args.tokens.now c.in-Some.name.now c.in-Some.rest.now c.if-depth-eq0.false c.in-Some.ensures.some
-      ∙ ap (λ (q : Read Token SyntaxFault Term). then_read q (λ x us. Ok (given_term c.in-Some.name.now x, us))) value
+      ∙ ap (λ (q : Read Token SyntaxFault Term). then_read q (λ x us. Ok (named_argument_term c.in-Some.name.now x, us))) value
       ∙ ap (λ x. Ok (x, c.in_ok-bytes-2.rest.now)) (sym c.given.ensures);
 }
 
@@ -455,7 +455,7 @@ paren-returns t c = record {
 pub bracket-returns : goal.bracket-returns
 bracket-returns t c = record {
   value =
-      let inside = maybe (has_class_outside (close_bracket_sign ∷ [])) (both pair_of (expr_read c.args.depth) (rest_read (expr_read c.args.depth))) c.in_ok-open.rest.now in
+      let inside = optional_read (has_class_outside (close_bracket_sign ∷ [])) (sequence_read pair_of (expr_read c.args.depth) (rest_read (expr_read c.args.depth))) c.in_ok-open.rest.now in
       same_read term_of c.closed.result _ _ (rw c.in_ok-open.ensures.value (sym (closed_made (has_class close_bracket_sign) (bracket_term c.in_ok-open.open.now) inside)))
       (closed_gives term_of (has_class close_bracket_sign) c.inside.result c.closed.result _ c.inside.ensures.value c.closed.ensures);
 }
@@ -484,7 +484,7 @@ arg-returns-in_err-bytes-2 t c = record {
   value =
       let read = rw c.in_err-bytes-2.ensures.err at c.expr-2.ensures.value in
       same_read arg_of c.from_residual-in_err-bytes-2.result _ _ (arg_given c.args.depth c.args.tokens.now c.in-Some.name.now c.in-Some.rest.now c.if-depth-eq0.false c.in-Some.ensures.some)
-      (made_stops term_of arg_of (given_term c.in-Some.name.now) c.from_residual-in_err-bytes-2.result c.in_err-bytes-2.field-0.0 _ read c.from_residual-in_err-bytes-2.ensures.1);
+      (made_stops term_of arg_of (named_argument_term c.in-Some.name.now) c.from_residual-in_err-bytes-2.result c.in_err-bytes-2.field-0.0 _ read c.from_residual-in_err-bytes-2.ensures.1);
 }
 
 pub arg-returns-in_err-value : goal.arg-returns-in_err-value

@@ -1,7 +1,7 @@
 use Rattle.std.proofs.Common.{◌≡◌, ◌+◌, ◌-◌, ◌*◌, ◌≤◌, [], ◌∷◌, map, length, Ok}
 use Rattle.scad_ast.specs.ExprView.{term_of, link_of, suffix_of, arg_of}
 use Rattle.scad_grammar.specs.Classes.{comma_sign, close_bracket_sign, close_parenthesis_sign, has_class_in, has_class, has_class_outside}
-use Rattle.scad_grammar.specs.Reading.{many, trailing_items, in_front}
+use Rattle.scad_grammar.specs.Reading.{repeated_read, trailing_items, in_front}
 use Rattle.scad_grammar.specs.Reads.{expr_read, arg_in, suffix_read}
 use Rattle.scad_expressions.specs.Climbing.{unary_in, link_in, climb_read}
 use Rattle.scad_expressions.specs.TokenClasses.{levels_below, operators_at, suffix_signs, tighter_levels}
@@ -111,15 +111,15 @@ decreases-some_links l = 64 * l.depth + (7 * tighter_levels l.level + 13)
 
 abbrev pub invariant-links-links : goal.invariant-links-links
 invariant-links-links l =
-    many (has_class_in (operators_at l.level)) (link_in l.level l.depth) l.tokens
-    ≡ in_front (map link_of l.items.items) (many (has_class_in (operators_at l.level)) (link_in l.level l.depth) l.rest)
+    repeated_read (has_class_in (operators_at l.level)) (link_in l.level l.depth) l.tokens
+    ≡ in_front (map link_of l.items.items) (repeated_read (has_class_in (operators_at l.level)) (link_in l.level l.depth) l.rest)
 
 abbrev pub decreases-links-links : goal.decreases-links-links
 decreases-links-links l = length l.rest
 
 abbrev pub invariant-suffixes-suffixes : goal.invariant-suffixes-suffixes
 invariant-suffixes-suffixes l =
-    many (has_class_in suffix_signs) (suffix_read (expr_read l.depth)) l.tokens ≡ in_front (map suffix_of l.items.items) (many (has_class_in suffix_signs) (suffix_read (expr_read l.depth)) l.rest)
+    repeated_read (has_class_in suffix_signs) (suffix_read (expr_read l.depth)) l.tokens ≡ in_front (map suffix_of l.items.items) (repeated_read (has_class_in suffix_signs) (suffix_read (expr_read l.depth)) l.rest)
 
 abbrev pub decreases-suffixes-suffixes : goal.decreases-suffixes-suffixes
 decreases-suffixes-suffixes l = length l.rest

@@ -3,7 +3,7 @@ use Rattle.std.proofs.lemmas.List.{length-map}
 use Rattle.scad_ast.specs.Terms.{args_from}
 use Rattle.scad_ast.specs.ExprView.{args_of, arg_of}
 use Rattle.scad_builtin.specs.Builtins.{takes_count}
-use Rattle.scad_func.specs.Meaning.{built_in_value}
+use Rattle.scad_func.specs.Meaning.{built_in_call_value}
 use Rattle.scad_func.proofs.Steps.{as_many, built_in_named, built_in_taken}
 use Rattle.scad_func.proofs.Forms.{args_form}
 use Rattle.scad_func.proofs.argument.built_in_for.Goals.{then-not-have_no_names-via-then-not-have_no_names, then-not-have_no_names-via-else-not-have_no_names+then-not-takes}
@@ -15,14 +15,14 @@ returns-clause-called c = λ here turns.
     let n : length xs.items ≡ c.len.result = omega (arith, c.len.ensures, xs.ok.0) in
     let taken = ap (takes_count c.in-Some.function) (as_many (args_of c.args.args.now) ∙ ap length
     (args_form c.args.args.now) ∙ length-map xs.items arg_of ∙ n) ∙ sym c.if-not-takes.ensures in
-    ap (λ o. built_in_value here c.args.place c.args.name.now (args_from (args_of c.args.args.now)) turns o)
+    ap (λ o. built_in_call_value here c.args.place c.args.name.now (args_from (args_of c.args.args.now)) turns o)
     (sym c.in-Some.ensures)
     ∙ built_in_taken here c.args.place c.args.name.now (args_from (args_of c.args.args.now)) turns
     c.in-Some.function true (sym c.if-not-have_no_names.ensures) taken
 
 pub returns-then-not-have_no_names-clause-refused : goal.returns-then-not-have_no_names-clause-refused
 returns-then-not-have_no_names-clause-refused c = λ here turns k. rw (c.at-then-not-have_no_names.ensures)
-    (ap (λ o. built_in_value here c.args.place c.args.name.now (args_from (args_of c.args.args.now)) turns o)
+    (ap (λ o. built_in_call_value here c.args.place c.args.name.now (args_from (args_of c.args.args.now)) turns o)
     (sym c.in-Some.ensures) ∙ elim
     c.then-not-have_no_names.branch [
       | then-not-have_no_names-via-then-not-have_no_names w ↦ built_in_named here c.args.place c.args.name.now

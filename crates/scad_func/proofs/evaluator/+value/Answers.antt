@@ -24,7 +24,7 @@ use Rattle.scad_scope.specs.Names.{find_in, variable_in}
 use Rattle.scad_scope.specs.Table.{bindings_of}
 use Rattle.scad_definitions.specs.TextView.{function_of}
 use Rattle.scad_func.specs.Limits.{most_evaluations}
-use Rattle.scad_func.specs.Meaning.{Outcome, Gives, Faults, deeper_value, setting_with_calls, each_argument, each_parameter, parameter_value, function_value, value_here, each_value, each_suffix, each_link, call_value, answer_at, or_fault, or_zero, Setting, BoundArguments, Arguments, then_with}
+use Rattle.scad_func.specs.Meaning.{Outcome, Gives, Faults, value_at_next_depth, expression_with_calls_left, each_argument, each_parameter, parameter_value, function_value, value_here, each_value, each_suffix, each_link, call_value, outcome_of_answer, or_fault, or_zero, ExpressionContext, BoundArguments, Arguments, then_with}
 use Rattle.scad_value.specs.Answers.{range_of}
 use Rattle.scad_value.specs.AnswerView.{MeetsAnswerAt}
 use Rattle.scad_func.specs.Steps.{all_values, suffix_value, link_value, with_parameters}
@@ -34,7 +34,7 @@ use Rattle.scad_definitions.specs.declared.parameters.CallArguments.{CallArgumen
 use Rattle.scad_definitions.specs.declared.parameters.Names.{Names}
 use Rattle.scad_definitions.specs.declared.so_far.ArgumentsSoFar.{ArgumentsSoFar}
 use Rattle.scad_definitions.specs.declared.parameters.Destination.{Destination}
-use Rattle.scad_func.specs.Evaluations.{EvaluatesTo, OneCallDeeper, MoreBindings, numbered_env_here, setting_here, work_left}
+use Rattle.scad_func.specs.Evaluations.{EvaluatesTo, OneCallDeeper, MoreBindings, numbered_env_here, expression_context_here, work_left}
 use Rattle.scad_func.specs.Transitions.{IsRefusedCall}
 use Rattle.scad_func.specs.declared.source.Source.{Source}
 use Rattle.scad_func.proofs.Outcomes.{meets_along, fault_goes, evaluated_deeper, evaluated_too_deep, value_counted, fault_counted, values_end, terms_here, terms_end, args_here, args_end, values_here, suffixes_here, suffix_step, links_here, step_more, step_fault, name_then, fault_at, link_wants}
@@ -50,7 +50,7 @@ use Rattle.scad_func.proofs.evaluator.+value.Goals as goal
 pub evaluate-returns-in_err-value : goal.evaluate-returns-in_err-value
 evaluate-returns-in_err-value t c =
     let p = err_from_is_err_and c.from_residual.result c.from_residual.ensures.1 in
-    let here = setting_here c.args.evaluation.now in
+    let here = expression_context_here c.args.evaluation.now in
     record {
       value = rw (p.1, p.2) (fault_counted c.in_err-value.field-0.0 (most_evaluations - c.args.evaluation.now.depth) _
           c.at_next_depth.new.evaluation.turns c.args.evaluation.now.turns here.calls_left here.env here.bindings (term_of c.args.expr.now)
@@ -60,7 +60,7 @@ evaluate-returns-in_err-value t c =
 
 pub evaluate-returns : goal.evaluate-returns
 evaluate-returns t c =
-    let here = setting_here c.args.evaluation.now in
+    let here = expression_context_here c.args.evaluation.now in
     record {
       value = value_counted c.count_elements.result (most_evaluations - c.args.evaluation.now.depth) c.count_elements.new.evaluation.turns
           c.args.evaluation.now.turns c.at_next_depth.new.evaluation.turns here.calls_left here.env here.bindings (term_of c.args.expr.now)
@@ -89,7 +89,7 @@ operand-returns-in-ChildCount t c =
     let e = c.args.evaluation.now in
     record {
       value = meets_along c.child_count.result e.turns _ _
-          (ap (λ x. value_here (setting_here e) x e.turns)
+          (ap (λ x. value_here (expression_context_here e) x e.turns)
           (ap term_of c.in-ChildCount.is ∙ count_form c.in-ChildCount.place)
           ∙ ap (λ o. Gives e.turns (or_zero o))
           (variable_same (table_in e.source.now) (numbered_env_here e) (codes "$children")))
@@ -102,7 +102,7 @@ operand-returns-in-Name t c =
     let e = c.args.evaluation.now in
     record {
       value = meets_along c.variable_of.result e.turns _ _
-          (ap (λ x. value_here (setting_here e) x e.turns)
+          (ap (λ x. value_here (expression_context_here e) x e.turns)
           (ap term_of c.in-Name.is ∙ name_form c.in-Name.place c.in-Name.name)
           ∙ ap (λ o. or_fault o UnknownName c.in-Name.place (λ x. Gives e.turns x))
           (variable_same (table_in e.source.now) (numbered_env_here e) c.in-Name.name ∙ ap
@@ -117,7 +117,7 @@ operand-returns-in-Special t c =
     let e = c.args.evaluation.now in
     record {
       value = meets_along c.special_of.result e.turns _ _
-          (ap (λ x. value_here (setting_here e) x e.turns)
+          (ap (λ x. value_here (expression_context_here e) x e.turns)
           (ap term_of c.in-Special.is ∙ special_form c.in-Special.place c.in-Special.name)
           ∙ ap (λ n. or_fault (find_in (bindings_of e.scopes.now) n) UnknownName c.in-Special.place (λ x. Gives e.turns x))
           (sym c.items-in-Special.ensures))
@@ -129,7 +129,7 @@ pub operand-returns-in-Postfix : goal.operand-returns-in-Postfix
 operand-returns-in-Postfix t c =
     record {
       value = meets_along c.postfix.result c.postfix.new.evaluation.turns _ _
-          (ap (λ e. value_here (setting_here c.args.evaluation.now) e c.args.evaluation.now.turns)
+          (ap (λ e. value_here (expression_context_here c.args.evaluation.now) e c.args.evaluation.now.turns)
           (postfix_form c.args.expr.now c.in-Postfix.field-0 c.in-Postfix.parts c.deref-in-Postfix.result.now c.deref-in-Postfix-2.result.now
           c.in-Postfix.is c.deref-in-Postfix.ensures c.deref-in-Postfix-2.ensures)) c.postfix.ensures.value;
       kept = c.postfix.ensures.kept;
@@ -139,7 +139,7 @@ pub operand-returns-in-Chain : goal.operand-returns-in-Chain
 operand-returns-in-Chain t c =
     record {
       value = meets_along c.operators.result c.operators.new.evaluation.turns _ _
-          (ap (λ e. value_here (setting_here c.args.evaluation.now) e c.args.evaluation.now.turns)
+          (ap (λ e. value_here (expression_context_here c.args.evaluation.now) e c.args.evaluation.now.turns)
           (chain_form c.args.expr.now c.in-Chain.field-0 c.in-Chain.parts c.deref-in-Chain.result.now c.deref-in-Chain-2.result.now
           c.in-Chain.is c.deref-in-Chain.ensures c.deref-in-Chain-2.ensures)) c.operators.ensures.value;
       kept = c.operators.ensures.kept;
@@ -149,7 +149,7 @@ pub operand-returns-in-Choice : goal.operand-returns-in-Choice
 operand-returns-in-Choice t c =
     record {
       value = meets_along c.choice.result c.choice.new.evaluation.turns _ _
-          (ap (λ e. value_here (setting_here c.args.evaluation.now) e c.args.evaluation.now.turns)
+          (ap (λ e. value_here (expression_context_here c.args.evaluation.now) e c.args.evaluation.now.turns)
           (choice_form c.args.expr.now c.in-Choice.field-0 c.in-Choice.parts c.deref-in-Choice.result.now c.deref-in-Choice-2.result.now c.deref-in-Choice-3.result.now
           c.in-Choice.is c.deref-in-Choice.ensures c.deref-in-Choice-2.ensures c.deref-in-Choice-3.ensures)) c.choice.ensures.value;
       kept = c.choice.ensures.kept;
@@ -159,24 +159,24 @@ pub list-returns-in_err-values : goal.list-returns-in_err-values
 list-returns-in_err-values t c =
     let p = err_from_is_err_and c.from_residual.result c.from_residual.ensures.1 in
     rw (p.1, p.2) (stops values_seen bounded_val (λ here. each_value here (terms_from (terms_of c.args.items.now)))
-    (λ here turns vs. answer_at (value_or_long_list (Ok (ListVal vs))) c.args.place turns) _ _ c.in_err-values.field-0.0 c.in_err-values.ensures)
+    (λ here turns vs. outcome_of_answer (value_or_long_list (Ok (ListVal vs))) c.args.place turns) _ _ c.in_err-values.field-0.0 c.in_err-values.ensures)
 
 pub list-returns : goal.list-returns
 list-returns t c =
     goes values_seen bounded_val (λ here. each_value here (terms_from (terms_of c.args.items.now)))
-    (λ here turns vs. answer_at (value_or_long_list (Ok (ListVal vs))) c.args.place turns) _ _ _ c.in_ok-values.values c.list_value.result c.in_ok-values.ensures
+    (λ here turns vs. outcome_of_answer (value_or_long_list (Ok (ListVal vs))) c.args.place turns) _ _ _ c.in_ok-values.values c.list_value.result c.in_ok-values.ensures
     (answers _ c.list_value.result (value_or_long_list (Ok (ListVal (values_seen c.in_ok-values.values)))) c.args.place c.list_value.ensures)
 
 pub unary-returns-in_err-value : goal.unary-returns-in_err-value
 unary-returns-in_err-value t c =
     let p = err_from_is_err_and c.from_residual.result c.from_residual.ensures.1 in
-    rw (p.1, p.2) (stops bounded_val bounded_val (λ here. deeper_value here false (term_of c.args.of.now))
-    (λ here turns v. answer_at (unary_of c.args.op v) c.args.place turns) _ _ c.in_err-value.field-0.0 c.in_err-value.ensures)
+    rw (p.1, p.2) (stops bounded_val bounded_val (λ here. value_at_next_depth here false (term_of c.args.of.now))
+    (λ here turns v. outcome_of_answer (unary_of c.args.op v) c.args.place turns) _ _ c.in_err-value.field-0.0 c.in_err-value.ensures)
 
 pub unary-returns : goal.unary-returns
 unary-returns t c =
-    goes bounded_val bounded_val (λ here. deeper_value here false (term_of c.args.of.now))
-    (λ here turns v. answer_at (unary_of c.args.op v) c.args.place turns) _ _ _ c.in_ok-value.value c.unary_value.result c.in_ok-value.ensures
+    goes bounded_val bounded_val (λ here. value_at_next_depth here false (term_of c.args.of.now))
+    (λ here turns v. outcome_of_answer (unary_of c.args.op v) c.args.place turns) _ _ _ c.in_ok-value.value c.unary_value.result c.in_ok-value.ensures
     (answers _ c.unary_value.result (unary_of c.args.op (bounded_val c.in_ok-value.value)) c.args.place c.unary_value.ensures)
 
 pub operators-returns-in_err-left : goal.operators-returns-in_err-left
@@ -194,19 +194,19 @@ operators-returns t c =
 pub range-returns-in_err-first : goal.range-returns-in_err-first
 range-returns-in_err-first t c =
     let p = err_from_is_err_and c.from_residual.result c.from_residual.ensures.1 in
-    rw (p.1, p.2) (stops bounded_val bounded_val (λ here. deeper_value here true (term_of c.args.from.now))
-    (λ here turns a. then_with (deeper_value here true (term_of c.args.upto.now) turns) (λ turns b. answer_at (range_of a b) c.args.place turns))
+    rw (p.1, p.2) (stops bounded_val bounded_val (λ here. value_at_next_depth here true (term_of c.args.from.now))
+    (λ here turns a. then_with (value_at_next_depth here true (term_of c.args.upto.now) turns) (λ turns b. outcome_of_answer (range_of a b) c.args.place turns))
     _ _ c.in_err-first.field-0.0 c.in_err-first.ensures)
 
 pub range-returns-in_err-a : goal.range-returns-in_err-a
 range-returns-in_err-a t c =
     let p = err_from_is_err_and c.from_residual-in_err-a.result c.from_residual-in_err-a.ensures.1 in
     let a = c.in_ok-first.first in
-    let last = λ (here : Setting). deeper_value here true (term_of c.args.upto.now) in
-    rw (p.1, p.2) (goes bounded_val bounded_val (λ here. deeper_value here true (term_of c.args.from.now))
-    (λ here turns a. then_with (last here turns) (λ turns b. answer_at (range_of a b) c.args.place turns)) _ _ _ a (Err c.in_err-a.field-0.0)
+    let last = λ (here : ExpressionContext). value_at_next_depth here true (term_of c.args.upto.now) in
+    rw (p.1, p.2) (goes bounded_val bounded_val (λ here. value_at_next_depth here true (term_of c.args.from.now))
+    (λ here turns a. then_with (last here turns) (λ turns b. outcome_of_answer (range_of a b) c.args.place turns)) _ _ _ a (Err c.in_err-a.field-0.0)
     c.in_ok-first.ensures
-    (stops bounded_val bounded_val last (λ here turns b. answer_at (range_of (bounded_val a) b) c.args.place turns) _ _ c.in_err-a.field-0.0
+    (stops bounded_val bounded_val last (λ here turns b. outcome_of_answer (range_of (bounded_val a) b) c.args.place turns) _ _ c.in_err-a.field-0.0
     (subst (λ (r : Result BoundedValue Stop). EvaluatesTo bounded_val c.evaluate.new.evaluation c.evaluate-next.new.evaluation r last)
     c.in_err-a.ensures.err c.evaluate-next.ensures)))
 
@@ -215,11 +215,11 @@ range-returns t c =
     let a = c.in_ok-first.first in
     let b = c.in_ok-a.b in
     let w = c.in_ok-a.ensures.ok in
-    let last = λ (here : Setting). deeper_value here true (term_of c.args.upto.now) in
-    goes bounded_val bounded_val (λ here. deeper_value here true (term_of c.args.from.now))
-    (λ here turns a. then_with (last here turns) (λ turns b. answer_at (range_of a b) c.args.place turns)) _ _ _ a c.range_value.result
+    let last = λ (here : ExpressionContext). value_at_next_depth here true (term_of c.args.upto.now) in
+    goes bounded_val bounded_val (λ here. value_at_next_depth here true (term_of c.args.from.now))
+    (λ here turns a. then_with (last here turns) (λ turns b. outcome_of_answer (range_of a b) c.args.place turns)) _ _ _ a c.range_value.result
     c.in_ok-first.ensures
-    (goes bounded_val bounded_val last (λ here turns b. answer_at (range_of (bounded_val a) b) c.args.place turns) _ _ _ b c.range_value.result
+    (goes bounded_val bounded_val last (λ here turns b. outcome_of_answer (range_of (bounded_val a) b) c.args.place turns) _ _ _ b c.range_value.result
     (subst (λ (r : Result BoundedValue Stop). EvaluatesTo bounded_val c.evaluate.new.evaluation c.evaluate-next.new.evaluation r last) w.1 c.evaluate-next.ensures)
     (answers _ c.range_value.result (range_of (bounded_val a) (bounded_val b)) c.args.place
     (subst (λ (x : BoundedValue). MeetsAnswerAt c.range_value.result (range_of (bounded_val x) (bounded_val b)) c.args.place) w.0 c.range_value.ensures)))
@@ -234,12 +234,12 @@ each_value-each-preserved t c =
     c.deref-expr-items.ensures.value in
     let inv = c.each.invariant in
     let g = c.evaluate-next.ensures in
-    let here = setting_here c.args.evaluation.now in
+    let here = expression_context_here c.args.evaluation.now in
     let rest = terms_from (map term_of (drop (i + 1) xs)) in
     record {
       told = item_told _ _ inv.kept c.each.values _
           (each_value here (terms_from (map term_of (drop i xs))) c.each.evaluation.turns)
-          (λ here. deeper_value here true (term_of x)) (each_value here rest) inv.told
+          (λ here. value_at_next_depth here true (term_of x)) (each_value here rest) inv.told
           (ap (λ t. each_value here t c.each.evaluation.turns) (terms_here xs i x h is))
           _ c.evaluate-next.result c.in_ok-values.values c.in_ok-values.ensures g;
       kept = keeps_trans inv.kept g.kept;
@@ -251,7 +251,7 @@ each_value-returns t c =
     let i = c.each.expr-index in
     let le : length xs ≤ i = omega (arith, c.each-test.false, ap length c.deref-expr-items.ensures.value) in
     record {
-      value = values_end (setting_here c.args.evaluation.now) _ (vals_in c.each.values.items.items) []
+      value = values_end (expression_context_here c.args.evaluation.now) _ (vals_in c.each.values.items.items) []
           (terms_from (map term_of (drop i xs))) c.each.evaluation.turns c.each.invariant.told (terms_end xs i le);
       kept = c.each.invariant.kept;
     }
@@ -267,12 +267,12 @@ each_value-returns-in_err-values t c =
     c.deref-expr-items.ensures.value in
     let inv = c.each.invariant in
     let g = c.evaluate-next.ensures in
-    let here = setting_here c.args.evaluation.now in
+    let here = expression_context_here c.args.evaluation.now in
     let rest = terms_from (map term_of (drop (i + 1) xs)) in
     record {
       value = rw (p.1, p.2) (item_stops _ _ inv.kept c.each.values _
           (each_value here (terms_from (map term_of (drop i xs))) c.each.evaluation.turns)
-          (λ here. deeper_value here true (term_of x)) (each_value here rest) inv.told
+          (λ here. value_at_next_depth here true (term_of x)) (each_value here rest) inv.told
           (ap (λ t. each_value here t c.each.evaluation.turns) (terms_here xs i x h is))
           c.evaluate-next.new.evaluation c.evaluate-next.result c.in_err-values.field-0.0 c.evaluate-next.new.evaluation.turns c.in_err-values.ensures g);
       kept = keeps_trans inv.kept g.kept;
@@ -288,12 +288,12 @@ each_positional-each-preserved t c =
     c.deref-arg-items.ensures.value in
     let inv = c.each.invariant in
     let g = c.evaluate-next.ensures in
-    let here = setting_here c.args.evaluation.now in
+    let here = expression_context_here c.args.evaluation.now in
     let rest = args_from (map arg_of (drop (i + 1) xs)) in
     record {
       told = item_told _ _ inv.kept c.each.values _
           (each_value here (all_values (args_from (map arg_of (drop i xs)))) c.each.evaluation.turns)
-          (λ here. deeper_value here true (term_of c.argument_value.result.now)) (each_value here (all_values rest)) inv.told
+          (λ here. value_at_next_depth here true (term_of c.argument_value.result.now)) (each_value here (all_values rest)) inv.told
           (ap (λ t. each_value here t c.each.evaluation.turns) (values_here xs i x h is _ c.argument_value.ensures.value))
           _ c.evaluate-next.result c.in_ok-values.values c.in_ok-values.ensures g;
       kept = keeps_trans inv.kept g.kept;
@@ -305,7 +305,7 @@ each_positional-returns t c =
     let i = c.each.arg-index in
     let le : length xs ≤ i = omega (arith, c.each-test.false, ap length c.deref-arg-items.ensures.value) in
     record {
-      value = values_end (setting_here c.args.evaluation.now) _ (vals_in c.each.values.items.items) []
+      value = values_end (expression_context_here c.args.evaluation.now) _ (vals_in c.each.values.items.items) []
           (all_values (args_from (map arg_of (drop i xs)))) c.each.evaluation.turns c.each.invariant.told
           (ap all_values (args_end xs i le));
       kept = c.each.invariant.kept;
@@ -322,12 +322,12 @@ each_positional-returns-in_err-values t c =
     c.deref-arg-items.ensures.value in
     let inv = c.each.invariant in
     let g = c.evaluate-next.ensures in
-    let here = setting_here c.args.evaluation.now in
+    let here = expression_context_here c.args.evaluation.now in
     let rest = args_from (map arg_of (drop (i + 1) xs)) in
     record {
       value = rw (p.1, p.2) (item_stops _ _ inv.kept c.each.values _
           (each_value here (all_values (args_from (map arg_of (drop i xs)))) c.each.evaluation.turns)
-          (λ here. deeper_value here true (term_of c.argument_value.result.now)) (each_value here (all_values rest)) inv.told
+          (λ here. value_at_next_depth here true (term_of c.argument_value.result.now)) (each_value here (all_values rest)) inv.told
           (ap (λ t. each_value here t c.each.evaluation.turns) (values_here xs i x h is _ c.argument_value.ensures.value))
           c.evaluate-next.new.evaluation c.evaluate-next.result c.in_err-values.field-0.0 c.evaluate-next.new.evaluation.turns c.in_err-values.ensures g);
       kept = keeps_trans inv.kept g.kept;
@@ -337,7 +337,7 @@ pub postfix-returns-in_err-variable : goal.postfix-returns-in_err-variable
 postfix-returns-in_err-variable t c =
     let p = err_from_is_err_and c.from_residual.result c.from_residual.ensures.1 in
     let e = c.args.evaluation.now in
-    let here = setting_here e in
+    let here = expression_context_here e in
     let missing = c.in_err-variable.ensures.missing in
     let none = variable_same (table_in e.source.now) (numbered_env_here e) c.in-Name.name ∙ ap
     (λ n. variable_in (numbered_env_here e) n) (sym c.items.ensures)
@@ -353,7 +353,7 @@ postfix-returns-in_err-variable t c =
 pub postfix-returns-in-Name : goal.postfix-returns-in-Name
 postfix-returns-in-Name t c =
     let e = c.args.evaluation.now in
-    let here = setting_here e in
+    let here = expression_context_here e in
     let found = variable_same (table_in e.source.now) (numbered_env_here e) c.in-Name.name ∙ ap
     (λ n. variable_in (numbered_env_here e) n) (sym c.items.ensures)
     ∙ c.in_ok-variable.ensures.found in
@@ -377,7 +377,7 @@ suffixes-returns-in_err-so_far-2 t c =
     let next = suffixes_here xs i x h is in
     let inv = c.each.invariant in
     let v = bounded_val c.each.so_far in
-    let here = setting_here c.args.evaluation.now in
+    let here = expression_context_here c.args.evaluation.now in
     let rest = suffixes_from (map suffix_of (drop (i + 1) xs)) in
     let step = suffix_value here v (suffix_of x) c.each.evaluation.turns in
     let apart = ap (λ ss. each_suffix here v ss c.each.evaluation.turns) next ∙ suffix_step here v (suffix_of x) rest
@@ -402,7 +402,7 @@ suffixes-each-preserved t c =
     let next = suffixes_here xs i x h is in
     let inv = c.each.invariant in
     let v = bounded_val c.each.so_far in
-    let here = setting_here c.args.evaluation.now in
+    let here = expression_context_here c.args.evaluation.now in
     let rest = suffixes_from (map suffix_of (drop (i + 1) xs)) in
     let step = suffix_value here v (suffix_of x) c.each.evaluation.turns in
     let apart = ap (λ ss. each_suffix here v ss c.each.evaluation.turns) next ∙ suffix_step here v (suffix_of x) rest
@@ -426,7 +426,7 @@ links-returns-in_err-so_far-2 t c =
     let next = links_here xs i x h is in
     let inv = c.each.invariant in
     let v = bounded_val c.each.so_far in
-    let here = setting_here c.args.evaluation.now in
+    let here = expression_context_here c.args.evaluation.now in
     let rest = links_from (map link_of (drop (i + 1) xs)) in
     let step = link_value here v (link_of x) c.each.evaluation.turns in
     record {
@@ -450,7 +450,7 @@ links-each-preserved t c =
     let inv = c.each.invariant in
     let g = c.in_ok-so_far-2.ensures in
     let v = bounded_val c.each.so_far in
-    let here = setting_here c.args.evaluation.now in
+    let here = expression_context_here c.args.evaluation.now in
     let rest = links_from (map link_of (drop (i + 1) xs)) in
     record {
       told = step_more _ (λ turns y. each_link here y rest turns) _ (link_value here v (link_of x) c.each.evaluation.turns)
@@ -463,7 +463,7 @@ links-each-preserved t c =
 pub link-returns-in-Name : goal.link-returns-in-Name
 link-returns-in-Name t c =
     let e = c.args.evaluation.now in
-    let here = setting_here e in
+    let here = expression_context_here e in
     let part = c.args.part.now in
     record {
       value = meets_along c.binary_with_variable.result e.turns _ _
@@ -471,7 +471,7 @@ link-returns-in-Name t c =
           ∙ link_wants here (bounded_val c.args.left) (record { op = part.op; at = part.place; right = term_of part.right })
           e.turns (sym c.if-not-wants_right.ensures)
           ∙ name_then here (term_of part.right) c.in-Name.at c.in-Name.name e.turns _
-          (λ turns w. answer_at (binary_of part.op (bounded_val c.args.left) w) part.place turns)
+          (λ turns w. outcome_of_answer (binary_of part.op (bounded_val c.args.left) w) part.place turns)
           (ap term_of c.in-Name.is ∙ name_form c.in-Name.at c.in-Name.name)
           (variable_same (table_in e.source.now) (numbered_env_here e) c.in-Name.name))
           (c.binary_with_variable.ensures e.turns);
@@ -484,7 +484,7 @@ call-returns-in_err-given-in-Some t c =
     let e = c.args.evaluation.now in
     let args = args_from (args_of c.args.args.now) in
     let told = subst (λ (l : List Param). MeetsOutcome arguments_of (Err c.in_err-given-in-Some.field-0.0) c.arguments.new.evaluation.turns
-    (each_argument (setting_here e) (parameter_names (map param_of l)) 0 args (no_arguments_of (length (parameter_names (map param_of l)))) e.turns))
+    (each_argument (expression_context_here e) (parameter_names (map param_of l)) 0 args (no_arguments_of (length (parameter_names (map param_of l)))) e.turns))
     c.deref.ensures.value c.in_err-given-in-Some.ensures.given.value in
     record {
       value = rw (p.1, p.2) (meets_along (Err c.in_err-given-in-Some.field-0.0) c.arguments.new.evaluation.turns _ _
@@ -511,7 +511,7 @@ call-returns-in_err-function-in-None t c =
     let p = err_from_is_err_and c.from_residual-in_err-function-in-None.result
     c.from_residual-in_err-function-in-None.ensures.1 in
     let e = c.args.evaluation.now in
-    let here = setting_here e in
+    let here = expression_context_here e in
     record {
       value = rw (p.1, p.2) (meets_along (Err c.in_err-function-in-None.field-0.0) e.turns _ _
           (ap (λ o. call_value here c.args.place c.args.name.now (args_from (args_of c.args.args.now)) e.turns o)
@@ -526,7 +526,7 @@ arguments-each-init t c =
     let names = names_in c.args.names in
     let so_far = c.in_ok-so_far.so_far in
     let none = nothing_seen so_far.given _ c.in_ok-so_far.ensures.given in
-    let here = setting_here c.args.evaluation.now in
+    let here = expression_context_here c.args.evaluation.now in
     record {
       told = ap (λ given. each_argument here names 0 (args_from (args_of c.args.args.now)) given
           c.args.evaluation.now.turns) (sym none)
@@ -549,7 +549,7 @@ arguments-each-preserved t c =
     let g = c.evaluate-next.ensures in
     let a = arg_of x in
     let rest = args_from (map arg_of (drop (i + 1) xs)) in
-    let here = setting_here c.args.evaluation.now in
+    let here = expression_context_here c.args.evaluation.now in
     let names = names_in c.args.names in
     let before = c.each.so_far.given in
     let after = c.in_ok-so_far-2.so_far in
@@ -559,8 +559,8 @@ arguments-each-preserved t c =
     ∙ taker_given (names_in c.each.so_far.names) c.each.positional before a
     ∙ if_ok_at (λ (d : Destination). destination_of (names_in c.each.so_far.names) c.each.positional (call_arguments_of before) a ≡ Some (destination_term d))
     c.destination_for-free.result d w.1 c.destination_for-free.ensures.free in
-    let step = meets_along c.evaluate-next.result _ _ _ (ap (λ e. deeper_value here true e c.each.evaluation.turns)
-    (sym c.argument_value.ensures.value) ∙ moved (λ s. deeper_value s true (term_of c.argument_value.result.now) c.each.evaluation.turns)
+    let step = meets_along c.evaluate-next.result _ _ _ (ap (λ e. value_at_next_depth here true e c.each.evaluation.turns)
+    (sym c.argument_value.ensures.value) ∙ moved (λ s. value_at_next_depth s true (term_of c.argument_value.result.now) c.each.evaluation.turns)
     inv.kept) g.value in
     let given = held_seen before d c.evaluate-next.result (Ok after.given)
     (subst (λ (v : ArgumentsSoFar BoundedValue). IsOneMoreGiven v.given d c.evaluate-next.result (Ok after.given)) w.0
@@ -586,7 +586,7 @@ arguments-returns-in_err-held-clause-given t c =
     let inv = c.each.invariant in
     let a = arg_of x in
     let rest = args_from (map arg_of (drop (i + 1) xs)) in
-    let here = setting_here c.args.evaluation.now in
+    let here = expression_context_here c.args.evaluation.now in
     let names = names_in c.args.names in
     let before = c.each.so_far.given in
     let stop = c.in_err-held.field-0.0 in
@@ -607,7 +607,7 @@ arguments-returns-clause-given t c =
     let i = c.each.arg-index in
     let le : length xs ≤ i = omega (arith, c.each-test.false, ap length c.deref-arg-items.ensures.value) in
     let inv = c.each.invariant in
-    let here = setting_here c.args.evaluation.now in
+    let here = expression_context_here c.args.evaluation.now in
     let given = c.each.so_far.given in
     record {
       value = inv.told ∙ ap (λ l. each_argument here (names_in c.args.names) c.each.positional l (arguments_of given) c.each.evaluation.turns)
@@ -627,7 +627,7 @@ arguments-returns-in_err-so_far-2-clause-given t c =
     let inv = c.each.invariant in
     let a = arg_of x in
     let rest = args_from (map arg_of (drop (i + 1) xs)) in
-    let here = setting_here c.args.evaluation.now in
+    let here = expression_context_here c.args.evaluation.now in
     let names = names_in c.args.names in
     let g = c.evaluate-next.ensures in
     let before = c.each.so_far.given in
@@ -637,8 +637,8 @@ arguments-returns-in_err-so_far-2-clause-given t c =
     ∙ taker_given (names_in c.each.so_far.names) c.each.positional before a
     ∙ if_ok_at (λ (d : Destination). destination_of (names_in c.each.so_far.names) c.each.positional (call_arguments_of before) a ≡ Some (destination_term d))
     c.destination_for-free.result d w.1 c.destination_for-free.ensures.free in
-    let step = meets_along c.evaluate-next.result _ _ _ (ap (λ e. deeper_value here true e c.each.evaluation.turns)
-    (sym c.argument_value.ensures.value) ∙ moved (λ s. deeper_value s true (term_of c.argument_value.result.now) c.each.evaluation.turns)
+    let step = meets_along c.evaluate-next.result _ _ _ (ap (λ e. value_at_next_depth here true e c.each.evaluation.turns)
+    (sym c.argument_value.ensures.value) ∙ moved (λ s. value_at_next_depth s true (term_of c.argument_value.result.now) c.each.evaluation.turns)
     inv.kept) g.value in
     let stop = c.in_err-so_far-2.field-0.0 in
     let held = held_seen before d c.evaluate-next.result (Err stop)
@@ -686,7 +686,7 @@ parameters-each-preserved t c =
     let r = c.parameter-next.result in
     let longer = subst (λ (y : Result BoundedValues Stop). IsOneMore c.each.values r y) w.1
     c.with_next-longer.ensures in
-    let here = setting_here c.args.evaluation.now in
+    let here = expression_context_here c.args.evaluation.now in
     let ps = map param_of (drop (i + 1) xs) in
     record {
       told = item_told _ _ inv.kept c.each.values _
@@ -706,7 +706,7 @@ parameters-returns t c =
     let i = c.each.i in
     let le : length xs ≤ i = omega (arith, c.each-test.false, ap length c.deref-param-items.ensures.value) in
     record {
-      value = filled_end (setting_here c.args.evaluation.now) _ (vals_in c.each.values.items.items)
+      value = filled_end (expression_context_here c.args.evaluation.now) _ (vals_in c.each.values.items.items)
           (map param_of (drop i xs)) (bound_arguments_in (drop i c.each.open.items)) c.each.evaluation.turns
           c.each.invariant.told (params_end xs i le);
       count = omega (arith, c.each.invariant.got, le, c.each.far-i, ap length c.deref-param-items.ensures.value);
@@ -721,7 +721,7 @@ function_call-returns-in_err-given t c =
     let stop = c.in_err-given.field-0.0 in
     record {
       value = rw (p.1, p.2) (call_refused bounded_val e c.args.place stop _
-          (λ calls turns. function_value (setting_with_calls (setting_here e) calls) (function_of c.args.function) (arguments_of c.args.given) turns)
+          (λ calls turns. function_value (expression_with_calls_left (expression_context_here e) calls) (function_of c.args.function) (arguments_of c.args.given) turns)
           (if_err_at (IsRefusedCall e c.args.place) begun.result stop c.in_err-given.ensures.err begun.ensures.refused));
       kept = on_err_at _ begun.result stop c.in_err-given.ensures.err begun.ensures.kept;
     }
@@ -761,13 +761,13 @@ function_call-returns t c =
     let at_next_depth : OneCallDeeper e mid = on_ok_at _ begun.result _ w.1 begun.ensures.begun in
     let count_elements = on_ok_at _ begun.result _ w.1 begun.ensures.counted in
     let g = c.function_value-value.ensures in
-    let told : Setting → Arguments → ℕ → Outcome Val = λ here given turns. function_value here f given turns in
+    let told : ExpressionContext → Arguments → ℕ → Outcome Val = λ here given turns. function_value here f given turns in
     record {
       value = rw (c.end_call.ensures.turns) (meets_along c.function_value-value.result _ _ _
-          (call_goes c.args.place e.calls e.turns (λ calls turns. told (setting_with_calls (setting_here e) calls) (arguments_of c.args.given) turns) at_next_depth.within count_elements.0
+          (call_goes c.args.place e.calls e.turns (λ calls turns. told (expression_with_calls_left (expression_context_here e) calls) (arguments_of c.args.given) turns) at_next_depth.within count_elements.0
           ∙ ap (λ s. told s (arguments_of c.args.given) (e.turns + 1)) (sym (call_setting e mid at_next_depth))
-          ∙ ap (told (setting_here mid) (arguments_of c.args.given)) (sym count_elements.1)
-          ∙ ap (λ (given : CallArguments BoundedValue). told (setting_here mid) (arguments_of given) mid.turns) (sym w.0)) g.value);
+          ∙ ap (told (expression_context_here mid) (arguments_of c.args.given)) (sym count_elements.1)
+          ∙ ap (λ (given : CallArguments BoundedValue). told (expression_context_here mid) (arguments_of given) mid.turns) (sym w.0)) g.value);
       kept = c.end_call.ensures.back e (call_kept e at_next_depth g.kept);
     }
 
@@ -777,8 +777,8 @@ suffix-returns-in-Member t c =
     let v = indexed_val (numbered_env_here e) c.args.of in
     record {
       value = meets_along c.member_item.result e.turns _ _
-          (ap (λ (x : Suffix). suffix_value (setting_here e) v (suffix_of x) e.turns) c.in-Member.is
-          ∙ ap (λ x. suffix_value (setting_here e) v x e.turns) (member_form c.in-Member.place c.in-Member.name c.in-Member.name_place))
+          (ap (λ (x : Suffix). suffix_value (expression_context_here e) v (suffix_of x) e.turns) c.in-Member.is
+          ∙ ap (λ x. suffix_value (expression_context_here e) v x e.turns) (member_form c.in-Member.place c.in-Member.name c.in-Member.name_place))
           (c.member_item.ensures e.turns);
       kept = keeps_same _;
     }
@@ -827,11 +827,11 @@ function_value-returns t c =
     let begins : MoreBindings e begun before = if_ok_at (λ (n : ℕ). MoreBindings e begun n) c.push_bindings-begun.result _ w.1 c.push_bindings-begun.ensures.begins.begun in
     let bindings : bindings_of begun.scopes.now ≡ given.dynamic ++ bindings_of e.scopes.now = on_ok_at _ c.push_bindings-begun.result _ w.1 c.push_bindings-begun.ensures.begins.bindings in
     let g = c.with_defaults-value.ensures in
-    let told : Setting → BoundArguments → ℕ → Outcome Val = λ here bound turns. then_with (each_parameter here f.params bound turns) (λ turns vs. with_parameters here f vs turns) in
+    let told : ExpressionContext → BoundArguments → ℕ → Outcome Val = λ here bound turns. then_with (each_parameter here f.params bound turns) (λ turns vs. with_parameters here f vs turns) in
     record {
       value = rw (c.pop_bindings.ensures.turns) (meets_along c.with_defaults-value.result _ _ _
           (ap (λ s. told s given.bound e.turns) (sym (specials_setting e begun before given.dynamic begins bindings))
-          ∙ ap (λ (v : Vec (Option BoundedValue) Global). told (setting_here begun) (bound_arguments_in v.items) e.turns) (sym w.0)
-          ∙ ap (told (setting_here begun) (bound_arguments_in c.in_ok-bound.bound.items)) (sym c.push_bindings-begun.ensures.begins.turns)) g.value);
+          ∙ ap (λ (v : Vec (Option BoundedValue) Global). told (expression_context_here begun) (bound_arguments_in v.items) e.turns) (sym w.0)
+          ∙ ap (told (expression_context_here begun) (bound_arguments_in c.in_ok-bound.bound.items)) (sym c.push_bindings-begun.ensures.begins.turns)) g.value);
       kept = c.pop_bindings.ensures.back e (specials_kept e before begins g.kept);
     }

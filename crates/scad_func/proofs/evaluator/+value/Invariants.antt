@@ -17,7 +17,7 @@ use Rattle.scad_definitions.specs.ArgumentsView.{names_in}
 use Rattle.scad_func.specs.Meaning.{each_value, each_argument, each_parameter, each_suffix, each_link}
 use Rattle.scad_func.specs.Steps.{all_values}
 use Rattle.scad_func.specs.View.{indexed_val, bound_arguments_in, arguments_of, function_size, param_size, params_size}
-use Rattle.scad_func.specs.Evaluations.{KeepsEvaluation, work_left, numbered_env_here, setting_here}
+use Rattle.scad_func.specs.Evaluations.{KeepsEvaluation, work_left, numbered_env_here, expression_context_here}
 use Rattle.scad_func.proofs.Calls.{in_front}
 use Rattle.scad_func.proofs.evaluator.+value.Given as goal
 
@@ -100,7 +100,7 @@ decreases-each_positional l = work_left l.evaluation.now.source.now l.evaluation
 
 abbrev pub invariant-each_value-each : goal.invariant-each_value-each
 invariant-each_value-each l =
-    let here = setting_here l.fn.evaluation in
+    let here = expression_context_here l.fn.evaluation in
     record {
       told : each_value here (terms_from (terms_of l.exprs)) l.fn.evaluation.turns
           ≡ in_front (vals_in l.values.items.items) (each_value here
@@ -110,7 +110,7 @@ invariant-each_value-each l =
 
 abbrev pub invariant-each_positional-each : goal.invariant-each_positional-each
 invariant-each_positional-each l =
-    let here = setting_here l.fn.evaluation in
+    let here = expression_context_here l.fn.evaluation in
     record {
       told : each_value here (all_values (args_from (args_of l.args))) l.fn.evaluation.turns
           ≡ in_front (vals_in l.values.items.items) (each_value here
@@ -120,7 +120,7 @@ invariant-each_positional-each l =
 
 abbrev pub invariant-suffixes-each : goal.invariant-suffixes-each
 invariant-suffixes-each l =
-    let here = setting_here l.fn.evaluation in
+    let here = expression_context_here l.fn.evaluation in
     record {
       told : each_suffix here (indexed_val (numbered_env_here l.fn.evaluation) l.fn.of)
           (suffixes_from (suffixes_of l.rest)) l.fn.evaluation.turns
@@ -131,7 +131,7 @@ invariant-suffixes-each l =
 
 abbrev pub invariant-links-each : goal.invariant-links-each
 invariant-links-each l =
-    let here = setting_here l.fn.evaluation in
+    let here = expression_context_here l.fn.evaluation in
     record {
       told : each_link here (bounded_val l.fn.left) (links_from (links_of l.rest)) l.fn.evaluation.turns
           ≡ each_link here (bounded_val l.so_far)
@@ -141,7 +141,7 @@ invariant-links-each l =
 
 abbrev pub invariant-arguments-each : goal.invariant-arguments-each
 invariant-arguments-each l =
-    let here = setting_here l.fn.evaluation in
+    let here = expression_context_here l.fn.evaluation in
     record {
       told : each_argument here (names_in l.names) 0 (args_from (args_of l.args))
           (no_arguments_of (length (names_in l.names))) l.fn.evaluation.turns
@@ -154,7 +154,7 @@ invariant-arguments-each l =
 
 abbrev pub invariant-parameters-each : goal.invariant-parameters-each
 invariant-parameters-each l =
-    let here = setting_here l.fn.evaluation in
+    let here = expression_context_here l.fn.evaluation in
     record {
       told : each_parameter here (params_of l.params) (bound_arguments_in l.fn.bound.items) l.fn.evaluation.turns
           ≡ in_front (vals_in l.values.items.items) (each_parameter here

@@ -1,7 +1,7 @@
 use Rattle.std.proofs.Common.{◌≡◌, ◌∙◌, false, pos, subst, arith}
 use Rattle.std.proofs.lemmas.List.{length-set, length-replicate}
 use Rattle.plane_predicate.specs.Space.{Coefficients}
-use Rattle.primitives.specs.Shapes.{value_at}
+use Rattle.primitives.specs.Shapes.{value_at_point}
 use Rattle.scad_hull.proofs.PlaneRows.{none_on, one_more_on, when_true}
 use Rattle.scad_hull.proofs.plane_points.row_of.Goals as goal
 
@@ -16,6 +16,6 @@ loop-number-preserved c =
     let row = c.loop-number.row in (
       length-set row n on ∙ c.loop-number.invariant.0,
       one_more_on points c.args.triple row n on (omega (arith, c.loop-number.invariant.0, c.requires.few))
-          (λ e. subst (λ (m : Coefficients). value_at points m n ≡ pos 0) c.through-plane.ensures (when_true on _ c.is_point_on.ensures e))
+          (λ e. subst (λ (m : Coefficients). value_at_point points m n ≡ pos 0) c.through-plane.ensures (when_true on _ c.is_point_on.ensures e))
           c.loop-number.invariant.1,
     )

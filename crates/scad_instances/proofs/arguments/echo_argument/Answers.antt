@@ -9,7 +9,7 @@ use Rattle.scad_definitions.specs.ArgumentsView.{names_in, call_arguments_of, de
 use Rattle.scad_definitions.specs.SoFarView.{only_arguments}
 use Rattle.scad_definitions.specs.declared.parameters.Destination.{Destination}
 use Rattle.scad_definitions.specs.declared.so_far.ArgumentsSoFar.{ArgumentsSoFar}
-use Rattle.scad_func.specs.Evaluations.{setting_here}
+use Rattle.scad_func.specs.Evaluations.{expression_context_here}
 use Rattle.scad_func.proofs.Kept.{keeps_same}
 use Rattle.scad_instances.proofs.Said.{special_form, taken, refused}
 use Rattle.scad_instances.proofs.arguments.echo_argument.Goals as goal
@@ -23,7 +23,7 @@ returns-in_err-held-in-Special c =
     let h = IfErr-at_err (λ (s : Stop). (destination_of (names_in so_far.names) 0 (call_arguments_of so_far.given) a ≡ None) × IsFaultAt s BadArgument (argument_place a))
     c.in_err-held-in-Special.ensures.err c.destination_for-free.ensures.none in
     record {
-      value = rw (p.1, p.2) (refused (setting_here c.args.evaluation.now) a x.field-0 x.field-1 (term_of x.value)
+      value = rw (p.1, p.2) (refused (expression_context_here c.args.evaluation.now) a x.field-0 x.field-1 (term_of x.value)
           (special_form c.args.arg.now x.field-0 x.field-1 x.value x.is) (names_in so_far.names) so_far.given c.args.evaluation.now.turns
           c.in_err-held-in-Special.field-0.0 c.args.evaluation.now.turns h.0 h.1);
       kept = keeps_same _;
@@ -37,7 +37,7 @@ returns-in_ok-held-in-Special c =
     let d = c.in_ok-held-in-Special.destination in
     let w = c.in_ok-held-in-Special.ensures.ok in
     record {
-      value = taken (setting_here c.args.evaluation.now) a x.field-0 x.field-1 (term_of x.value)
+      value = taken (expression_context_here c.args.evaluation.now) a x.field-0 x.field-1 (term_of x.value)
           (special_form c.args.arg.now x.field-0 x.field-1 x.value x.is) (names_in so_far.names) so_far.given c.args.evaluation.now.turns
           d c.evaluate-next.new.evaluation.turns c.evaluate-next.result (only_arguments c.with_next.result)
           (IfOk-at_ok (λ (d : Destination). destination_of (names_in so_far.names) 0 (call_arguments_of so_far.given) a ≡ Some (destination_term d)) w.1 c.destination_for-free.ensures.free)

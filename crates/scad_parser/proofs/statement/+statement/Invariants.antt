@@ -1,7 +1,7 @@
 use Rattle.std.proofs.Common.{◌≡◌, ◌+◌, ◌*◌, map, length}
 use Rattle.scad_ast.specs.StatementView.{statement_of}
 use Rattle.scad_grammar.specs.Classes.{has_class_in}
-use Rattle.scad_grammar.specs.Reading.{many, in_front}
+use Rattle.scad_grammar.specs.Reading.{repeated_read, in_front}
 use Rattle.scad_grammar.specs.StatementReads.{firsts_of_statement, statement_read}
 use Rattle.scad_parser.proofs.statement.+statement.Given as goal
 
@@ -52,7 +52,7 @@ decreases-otherwise l = 16 * l.depth + 2
 
 abbrev pub invariant-statements-statements : goal.invariant-statements-statements
 invariant-statements-statements l =
-    many (has_class_in firsts_of_statement) (statement_read l.depth) l.tokens ≡ in_front (map statement_of l.items.items) (many (has_class_in firsts_of_statement) (statement_read l.depth) l.rest)
+    repeated_read (has_class_in firsts_of_statement) (statement_read l.depth) l.tokens ≡ in_front (map statement_of l.items.items) (repeated_read (has_class_in firsts_of_statement) (statement_read l.depth) l.rest)
 
 abbrev pub decreases-statements-statements : goal.decreases-statements-statements
 decreases-statements-statements l = length l.rest

@@ -1,7 +1,7 @@
 use Rattle.std.proofs.Common.{◌≡◌, ◌∙◌, ◌<◌, ◌+◌, sym, ap, subst, length, get_or, drop, arith, Ok, List}
 use Rattle.scad_value.specs.declared.value.Value.{Value}
 use Rattle.scad_value.specs.Values.{vals_from}
-use Rattle.scad_value.specs.Operators.{values_in_front, pairs_by_parts}
+use Rattle.scad_value.specs.Operators.{values_in_front, pairs_by_elements}
 use Rattle.scad_value.specs.View.{vals_in, MeetsAnswers}
 use Rattle.scad_value.specs.Rows.{pair_row}
 use Rattle.scad_value.proofs.Lists.{pairs_more, pairs_end, vals_out, equal_counts, unequal_counts}
@@ -26,7 +26,7 @@ each_pair-loop-i-preserved t c =
     (l : List Value). get_or l c.loop-i.i c.value-item.result) c.deref-value-items.ensures.value in
     c.loop-i.invariant ∙ pairs_more
     (pair_row c.args.row) c.args.left.now.items.items c.args.right.now.items.items c.loop-i.items.items c.loop-i.i c.value-item.result c.index.result.now c.in_ok-by_parts.field-0 left (omega (arith, left, c.requires)) here c.index.ensures c.in_ok-by_parts.ensures
-    ∙ ap (λ (l : List Value). values_in_front (vals_in l) (pairs_by_parts (pair_row c.args.row) (vals_from
+    ∙ ap (λ (l : List Value). values_in_front (vals_in l) (pairs_by_elements (pair_row c.args.row) (vals_from
     (vals_in (drop (c.loop-i.i + 1) c.args.left.now.items.items))) (vals_from (vals_in (drop
     (c.loop-i.i + 1) c.args.right.now.items.items))))) (sym c.in_ok-push.ensures.items)
 

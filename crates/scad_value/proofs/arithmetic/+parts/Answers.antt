@@ -2,7 +2,7 @@ use Rattle.std.proofs.Common.{◌≡◌, ◌∙◌, ◌<◌, ◌+◌, List, Ok, 
 use Rattle.std.proofs.lemmas.Result.{err_from_is_err_and}
 use Rattle.scad_value.specs.declared.value.Value.{Value}
 use Rattle.scad_value.specs.Values.{vals_from}
-use Rattle.scad_value.specs.Operators.{values_in_front, each_of_parts}
+use Rattle.scad_value.specs.Operators.{values_in_front, each_of_elements}
 use Rattle.scad_value.specs.Rows.{part_row}
 use Rattle.scad_value.specs.View.{vals_in}
 use Rattle.scad_value.proofs.Lists.{vals_out, parts_begin, parts_more, parts_stop, parts_end}
@@ -28,7 +28,7 @@ each_of-loop-value-preserved t c =
     c.value-item.is ∙ ap (λ (l : List Value). get_or l c.loop-value.value-index c.value-item.result) c.deref-value-items.ensures.value in
     c.loop-value.invariant
     ∙ parts_more (part_row c.args.row) c.args.of.now.items.items c.loop-value.items.items c.loop-value.value-index c.value-item.result c.in_ok-each_part.field-0 here item c.in_ok-each_part.ensures
-    ∙ ap (λ (l : List Value). values_in_front (vals_in l) (each_of_parts (part_row c.args.row) (vals_from (vals_in
+    ∙ ap (λ (l : List Value). values_in_front (vals_in l) (each_of_elements (part_row c.args.row) (vals_from (vals_in
     (drop (c.loop-value.value-index + 1) c.args.of.now.items.items))))) (sym {A = List Value} c.in_ok-push.ensures.items)
 
 pub each_of-returns : goal.each_of-returns

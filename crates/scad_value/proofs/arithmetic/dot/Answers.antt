@@ -2,7 +2,7 @@ use Rattle.std.proofs.Common.{◌≡◌, ◌<◌, ◌+◌, ◌^◌, ◌∙◌, s
 use Rattle.std.specs.Prelude.{unsigned_abs}
 use mir.Syntax.{w128}
 use Rattle.scad_value.specs.declared.value.Value.{Value}
-use Rattle.scad_value.specs.Values.{vals_from, parts_in}
+use Rattle.scad_value.specs.Values.{vals_from, element_count_in}
 use Rattle.scad_value.specs.Operators.{plus_answer, dot_of}
 use Rattle.scad_value.specs.View.{vals_in}
 use Rattle.scad_value.proofs.Integers.{sum_fits, sum_is, sum_size, plus_plus}
@@ -11,14 +11,14 @@ use Rattle.scad_value.proofs.arithmetic.dot.Goals as goal
 
 pub overflow_add-sum : goal.overflow_add-sum
 overflow_add-sum c =
-    let few : parts_in (vals_from (vals_in c.args.left.now.items.items)) < 2 ^ 20 =
-    subst (λ xs. parts_in (vals_from xs) < 2 ^ 20) (vals_out c.args.left.now) c.requires.few in
+    let few : element_count_in (vals_from (vals_in c.args.left.now.items.items)) < 2 ^ 20 =
+    subst (λ xs. element_count_in (vals_from xs) < 2 ^ 20) (vals_out c.args.left.now) c.requires.few in
     sum_fits (to_z w128 c.loop-i.sum-bits) c.in_ok-sum.field-0 c.loop-i.i c.loop-i.invariant.size c.in_ok-sum.ensures.size (omega (arith, few, length-le_parts c.args.left.now.items.items, c.loop-i-test.true, ap length c.deref-value-items.ensures.value))
 
 pub loop-i-preserved : goal.loop-i-preserved
 loop-i-preserved c =
-    let few : parts_in (vals_from (vals_in c.args.left.now.items.items)) < 2 ^ 20 =
-    subst (λ xs. parts_in (vals_from xs) < 2 ^ 20) (vals_out c.args.left.now) c.requires.few in
+    let few : element_count_in (vals_from (vals_in c.args.left.now.items.items)) < 2 ^ 20 =
+    subst (λ xs. element_count_in (vals_from xs) < 2 ^ 20) (vals_out c.args.left.now) c.requires.few in
     let i = c.loop-i.i in
     let left : i < length c.args.left.now.items.items =
     omega (arith, c.loop-i-test.true, ap length c.deref-value-items.ensures.value) in

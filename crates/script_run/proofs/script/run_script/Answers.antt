@@ -1,8 +1,8 @@
-use Rattle.std.proofs.Common.{◌≡◌, ◌++◌, length, length-append, All, ap, sym, subst, arith}
-use Rattle.std.proofs.lemmas.List.Elements.{All-take}
+use Rattle.std.proofs.Common.{◌≡◌, ◌++◌, length, length-append, ap, sym, subst, arith}
+use Rattle.script_run.specs.Asking.{AreFresh}
 use Rattle.script_run.specs.Moves.{AllMove}
 use Rattle.script_run.specs.Serving.{AreWaiting}
-use Rattle.script_run.proofs.Together.{IsFresh, AllServed, waiting_many, waiting_ready, all_served, exporters_many}
+use Rattle.script_run.proofs.Together.{AllServed, waiting_many, waiting_ready, fresh_front, all_served, exporters_many}
 use Rattle.script_run.proofs.script.run_script.Goals as goal
 
 pub split_at_mut-busy-requires : goal.split_at_mut-busy-requires
@@ -12,16 +12,19 @@ split_at_mut-busy-requires g c =
 
 pub work_each-requires-after_bounds : goal.work_each-requires-after_bounds
 work_each-requires-after_bounds g c κs within =
-    let Fresh = IsFresh g.E.Exporter.asked g.E.Exporter.can_export in
+    let asked = g.E.Exporter.asked in
+    let can = g.E.Exporter.can_export c.args.unit in
     let clients = c.args.script.now.clients in
     let items = c.in_ok-clients.clients.items in
     let all = c.deref_mut.result.now in
     let busy = c.split_at_mut-busy.result.0.now in
     let same : all ≡ items = cc c.deref_mut.ensures.value in
     let waiting : AreWaiting clients items = subst (λ cs. AreWaiting cs items) c.items.ensures c.in_ok-clients.ensures in
-    let fresh : All Fresh busy =
-    subst (All Fresh) (sym c.split_at_mut-busy.ensures.front) (All-take Fresh c.len-2.result c.args.exporters.now c.requires.fresh) in
-    waiting_ready Fresh clients all busy (subst (AreWaiting clients) (sym same) waiting) c.requires.within.each fresh
+    let many = waiting_many clients items waiting in
+    let long : c.len-2.result ≡ length clients = omega (arith, many, c.len-2.ensures, c.in_ok-clients.clients.ok.0) in
+    let fresh : AreFresh asked can clients busy =
+    subst (AreFresh asked can clients) (sym c.split_at_mut-busy.ensures.front) (fresh_front asked can clients c.args.exporters.now c.len-2.result long c.requires.fresh) in
+    waiting_ready asked can clients all busy (subst (AreWaiting clients) (sym same) waiting) c.requires.within.each fresh
     (omega (arith, c.split_at_mut-busy.ensures.front_len, c.len-2.ensures, c.in_ok-clients.clients.ok.0, ap length same))
 
 -- what is told at the end

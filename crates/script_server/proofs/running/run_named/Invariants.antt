@@ -1,3 +1,4 @@
+use Rattle.script_server.specs.Books.{IsAskedBy}
 use Rattle.script_server.proofs.running.run_named.Given as goal
 
 -- the ledgers are named by the blanks that are handed on, and keep to the new memo's limits
@@ -6,6 +7,10 @@ ghosts-run_over-H-Ledger g a = record { name = a.blanks.hits.name; parts = a.bla
 
 abbrev pub ghosts-run_over-H-MemoLedger : goal.ghosts-run_over-H-MemoLedger
 ghosts-run_over-H-MemoLedger g a = record { budget = a.core.budget; share = a.core.share; callers = a.blanks.callers }
+
+-- each client may ask for the joins of what its own commands may export
+abbrev pub ghosts-run_over-H-AskPolicy : goal.ghosts-run_over-H-AskPolicy
+ghosts-run_over-H-AskPolicy g a = record { may_ask = IsAskedBy a.unit a.script.now.clients }
 
 abbrev pub ghosts-run_over-M-Ledger : goal.ghosts-run_over-M-Ledger
 ghosts-run_over-M-Ledger g a = record { name = a.blanks.misses.name; parts = a.blanks.misses.parts }

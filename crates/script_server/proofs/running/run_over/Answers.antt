@@ -1,10 +1,9 @@
 use Rattle.std.proofs.Math.Nat.{le-max_left}
 use Rattle.std.proofs.lemmas.List.Elements.{All-weaker, All-map}
-use Rattle.std.proofs.Common.{◌≡◌, ℕ, ◌≤◌, ◌<◌, ◌∙◌, List, Ok, All, length, get_or, map, ap, sym, subst, arith, rules}
-use Rattle.csg_tree.specs.Formulas.{Formula}
-use Rattle.memo_core.specs.Memo.{Item}
-use Rattle.subtree_memo.specs.Shares.{View, opened_shares, offered_of, parts_each}
+use Rattle.std.proofs.Common.{◌≡◌, ℕ, ◌≤◌, ◌∙◌, List, Ok, All, length, get_or, map, ap, sym, subst, arith, rules}
+use Rattle.subtree_memo.specs.Shares.{ShareView, opened_shares, offers_of, parts_each}
 use Rattle.flight_memo.specs.Shares.{FlightView}
+use Rattle.script_server.proofs.Asked.{fresh_of_opened, asked_by}
 use Rattle.script_server.proofs.Books.{of_given, parts_in_all, all_opened, opened_many, memo_opened, written_over, mapped_many, mapped_same, all_read}
 use Rattle.script_server.proofs.Refused.{some_joins}
 use Rattle.script_server.proofs.Sums.{tally_of_shares, adds_up, offered_most}
@@ -13,8 +12,8 @@ use Rattle.script_server.proofs.running.run_over.Goals as goal
 pub exporters_of-exporters-requires-clause-fresh : goal.exporters_of-exporters-requires-clause-fresh
 exporters_of-exporters-requires-clause-fresh g c =
     let read = memo_opened c.args.blanks.callers _ _ c.in_ok-memo.ensures c.in_ok-flight.ensures in
-    all_read (λ (s : FlightView). s.share) (λ (s : View). (s.parts ≡ parts_each) × (offered_of s ≡ 0)) _
-    (subst (All (λ (s : View). (s.parts ≡ parts_each) × (offered_of s ≡ 0))) (sym read) (all_opened c.args.blanks.callers))
+    all_read (λ (s : FlightView). s.share) (λ (s : ShareView). (s.parts ≡ parts_each) × (offers_of s ≡ 0)) _
+    (subst (All (λ (s : ShareView). (s.parts ≡ parts_each) × (offers_of s ≡ 0))) (sym read) (all_opened c.args.blanks.callers))
 
 pub exporters_of-exporters-requires-clause-order : goal.exporters_of-exporters-requires-clause-order
 exporters_of-exporters-requires-clause-order g c =
@@ -31,7 +30,7 @@ exporters_of-exporters-requires-clause-room g c =
     )
 
 -- there are as many exporters as callers
-exporters_many : {A : Type 0} (share : A → View) (es : List A) (flights : List FlightView) (callers : ℕ) → map share es ≡ map (λ (s : FlightView). s.share) flights →
+exporters_many : {A : Type 0} (share : A → ShareView) (es : List A) (flights : List FlightView) (callers : ℕ) → map share es ≡ map (λ (s : FlightView). s.share) flights →
     map (λ (s : FlightView). s.share) flights ≡ opened_shares callers → length es ≡ callers
 exporters_many share es flights callers same read = mapped_many share es (opened_shares callers) (same ∙ read) ∙ opened_many callers
 
@@ -64,7 +63,7 @@ shares_of-shares-requires-clause-room g c =
 pub close-core-requires-clause-whole : goal.close-core-requires-clause-whole
 close-core-requires-clause-whole g c =
     let whole = parts_in_all c.shares_of-shares.result.items
-    (All-weaker (λ (s : FlightView). (s.share.parts ≡ parts_each) × (offered_of s.share ≤ s.share.misses)) (λ (s : FlightView). s.share.parts ≡ parts_each) (λ s both. both.0) c.shares_of-shares.result.items c.shares_of-shares.ensures.whole) in
+    (All-weaker (λ (s : FlightView). (s.share.parts ≡ parts_each) × (offers_of s.share ≤ s.share.misses)) (λ (s : FlightView). s.share.parts ≡ parts_each) (λ s both. both.0) c.shares_of-shares.result.items c.shares_of-shares.ensures.whole) in
     let es = c.exporters_of-exporters.result in
     let left = written_over es.len c.run_script-served.new.exporters es.items
     (omega (arith, c.run_script-served.ensures.many, ap length c.deref_mut.ensures.value, es.ok.0)) in (
@@ -107,42 +106,57 @@ returns g c =
       counted = told.tally;
       sums = sums;
       offered = offered_most books c.close-core.result.0 c.close-core.result.1.journal told.tally told.booked
-          (All-map (λ (s : View). offered_of s ≤ s.misses) (λ (s : FlightView). s.share) c.shares_of-shares.result.items
-          (All-weaker (λ (s : FlightView). (s.share.parts ≡ parts_each) × (offered_of s.share ≤ s.share.misses)) (λ (s : FlightView). offered_of s.share ≤ s.share.misses) (λ s both. both.1)
+          (All-map (λ (s : ShareView). offers_of s ≤ s.misses) (λ (s : FlightView). s.share) c.shares_of-shares.result.items
+          (All-weaker (λ (s : FlightView). (s.share.parts ≡ parts_each) × (offers_of s.share ≤ s.share.misses)) (λ (s : FlightView). offers_of s.share ≤ s.share.misses) (λ s both. both.1)
           c.shares_of-shares.result.items c.shares_of-shares.ensures.whole));
       sound = told.sound;
       claims = told.claims;
-      callers = subst (λ n. All (λ (i : Item Formula). i.caller < n) c.close-core.result.1.journal) (sym c.requires.limits.2 ∙ c.requires.callers.0) told.callers;
+      keys = asked_by c.args.unit g.H.AskPolicy.may_ask c.args.script.now.clients c.close-core.result.1.journal c.requires.policy told.callers.1;
       limits = (told.limits.0 ∙ sym c.requires.limits.0, told.limits.1 ∙ sym c.requires.limits.1);
     }
 
 pub run_script-served-requires-clause-fresh : goal.run_script-served-requires-clause-fresh
-run_script-served-requires-clause-fresh g c κs within = λ k d lt.
-    let same : c.deref_mut.result.now ≡ c.exporters_of-exporters.result.items = cc c.deref_mut.ensures.value in
-    let alike = c.exporters_of-exporters.ensures.alike k d (omega (arith, lt, ap length same)) in (
-      subst (λ es. (get_or es k d).client.asked ≡ 0) (sym same) alike.0,
-      (
-        λ client unit source few short. (
-          (short, few),
-          (
-            record { owned = c.type_bounds.send-N.owned; leaving = search rules },
-            record { owned = c.type_bounds.send-H.owned; leaving = search rules },
-            record { owned = c.type_bounds.send-M.owned; leaving = search rules },
-            record { owned = c.type_bounds.send-K.owned; leaving = search rules },
-            record { owned = c.type_bounds.send-E.owned; leaving = search rules },
-            record { owned = c.type_bounds.send-S.owned; leaving = search rules },
-            record { owned = c.type_bounds.send-T.owned; leaving = search rules },
-            record { shared = c.type_bounds.sync-N.shared },
-            record { shared = c.type_bounds.sync-H.shared },
-            record { shared = c.type_bounds.sync-M.shared },
-            record { shared = c.type_bounds.sync-K.shared },
-            record { shared = c.type_bounds.sync-E.shared },
-            record { shared = c.type_bounds.sync-S.shared },
-            record { shared = c.type_bounds.sync-T.shared },
-            record { shared = c.type_bounds.sync-G.shared },
-            record { shared = c.type_bounds.sync-R.shared },
-          ),
+run_script-served-requires-clause-fresh g c κs within =
+    let es = c.exporters_of-exporters.result.items in
+    let lent = c.deref_mut.result.now in
+    let same : lent ≡ es = cc c.deref_mut.ensures.value in
+    let opened = c.exporters_of-exporters.ensures.shares ∙ memo_opened c.args.blanks.callers _ _ c.in_ok-memo.ensures c.in_ok-flight.ensures in
+    fresh_of_opened (λ e. e.client.share) (λ e. e.client.asked) _ c.args.unit g.H.AskPolicy.may_ask c.args.blanks.callers c.args.script.now.clients lent c.requires.policy
+    (subst (λ l. map (λ e. e.client.share) l ≡ opened_shares c.args.blanks.callers) (sym same) opened)
+    (omega (
+      arith,
+      c.requires.callers.0,
+      le-max_left (length c.args.script.now.clients) 1,
+      ap length same,
+      exporters_many (λ e. e.client.share) es _ c.args.blanks.callers c.exporters_of-exporters.ensures.shares
+          (memo_opened c.args.blanks.callers _ _ c.in_ok-memo.ensures c.in_ok-flight.ensures),
+    ))
+    (λ k d lt.
+    let alike = c.exporters_of-exporters.ensures.alike k d (omega (arith, lt, ap length same)) in
+    subst (λ l. (get_or l k d).client.asked ≡ 0) (sym same) alike.0)
+    (λ e source allowed. ((
+      λ client unit source few short may. (
+        (short, few, may),
+        (
+          record { owned = c.type_bounds.send-N.owned; leaving = search rules },
+          record { owned = c.type_bounds.send-H.owned; leaving = search rules },
+          record { owned = c.type_bounds.send-M.owned; leaving = search rules },
+          record { owned = c.type_bounds.send-K.owned; leaving = search rules },
+          record { owned = c.type_bounds.send-E.owned; leaving = search rules },
+          record { owned = c.type_bounds.send-S.owned; leaving = search rules },
+          record { owned = c.type_bounds.send-T.owned; leaving = search rules },
+          record { shared = c.type_bounds.sync-N.shared },
+          record { shared = c.type_bounds.sync-H.shared },
+          record { shared = c.type_bounds.sync-M.shared },
+          record { shared = c.type_bounds.sync-K.shared },
+          record { shared = c.type_bounds.sync-E.shared },
+          record { shared = c.type_bounds.sync-S.shared },
+          record { shared = c.type_bounds.sync-T.shared },
+          record { shared = c.type_bounds.sync-G.shared },
+          record { shared = c.type_bounds.sync-R.shared },
         ),
-        λ client unit source r after post. post.1,
       ),
+      λ client unit source r after post. post.1,
+      allowed,
     )
+    ))

@@ -1,6 +1,6 @@
 use Rattle.std.proofs.Common.{◌≡◌, ◌≤◌, ◌∙◌, ◌++◌, ◌∷◌, [], All, ap, map, length, sym, subst, append_assoc, append-nil, length-append, arith, rules}
 use Rattle.std.proofs.lemmas.List.{nil_from_length, map-append}
-use Rattle.subtree_memo.specs.Shares.{parts_each, offered_of}
+use Rattle.subtree_memo.specs.Shares.{parts_each, offers_of}
 use Rattle.flight_memo.specs.Shares.{FlightView}
 use Rattle.script_server.proofs.Books.{All_push}
 use Rattle.script_server.proofs.running.shares_of.Goals as goal
@@ -13,8 +13,8 @@ loop-exporter-preserved g c =
     let left = c.next.new.self.rest.items in
     let first = c.in-Some.ensures.steps.0 in
     let pushed = c.push_reserved.ensures.items in record {
-      whole = subst (All (λ (s : FlightView). (s.share.parts ≡ parts_each) × (offered_of s.share ≤ s.share.misses))) (sym pushed)
-          (All_push (λ (s : FlightView). (s.share.parts ≡ parts_each) × (offered_of s.share ≤ s.share.misses)) shares share c.loop-exporter.invariant.whole (c.into_share.ensures.whole, c.into_share.ensures.offered));
+      whole = subst (All (λ (s : FlightView). (s.share.parts ≡ parts_each) × (offers_of s.share ≤ s.share.misses))) (sym pushed)
+          (All_push (λ (s : FlightView). (s.share.parts ≡ parts_each) × (offers_of s.share ≤ s.share.misses)) shares share c.loop-exporter.invariant.whole (c.into_share.ensures.whole, c.into_share.ensures.offered));
       many = omega (arith, ap length pushed, length-append shares (share ∷ []), length-append c.loop-exporter.yielded (c.in-Some.exporter ∷ []), c.loop-exporter.invariant.many);
       room = search rules;
       all = ap (λ l. map (λ (s : FlightView). s.share) l ++ map (λ e. e.client.share) left) pushed

@@ -5,7 +5,7 @@ use Rattle.link_forest.specs.declared.link.Link.{Link}
 use Rattle.link_forest.specs.declared.link.Link.TheVariants.{To}
 use Rattle.bsp_tree.specs.declared.growing.GrowStop.{GrowStop}
 use Rattle.plane_table.specs.Faces.{outline_of}
-use Rattle.bsp_tree.specs.Trees.{BspTree, make}
+use Rattle.bsp_tree.specs.Trees.{BspTree, node_or_leaf}
 use Rattle.bsp_tree.specs.Links.{is_alike}
 use Rattle.bsp_tree.specs.Growths.{Sheet, with_sides_exchanged, tree_on, GrowsBy, HasGrown}
 use Rattle.bsp_tree.proofs.Growths.{leaf_grows, make_size, stops, stops_after}
@@ -85,5 +85,5 @@ node-returns-clause-grows t c =
     let after = subst (λ (u : BspTree). HasGrown c.branch-self.new.growing c.branch-self-2.new.growing c.in_ok-ahead.ahead (combination m.in_decides (tree_on m.left.now.own c.in_ok-face.ahead) (with_sides_exchanged m.is_exchanged u))) high c.in_ok-ahead.ensures.grows in
     let planes = after.longer.planes ∙ before.longer.planes ∙ c.requires.tables.growing_planes in
     let outline = ap (λ (ps : List Coefficients). outline_of ps face) planes ∙ moved.outline in
-    rw whole (subst (λ (s : Outline). GrowsBy c.args.growing.now c.make.new.self (make s (combination m.in_decides (tree_on m.left.now.own c.in_ok-face.behind) (with_sides_exchanged m.is_exchanged (divide (tree_on c.args.scratch.now (To c.args.right)) (outline_of m.left.now.own.planes moved.own)).0)) (combination m.in_decides (tree_on m.left.now.own c.in_ok-face.ahead) (with_sides_exchanged m.is_exchanged (divide (tree_on c.args.scratch.now (To c.args.right)) (outline_of m.left.now.own.planes moved.own)).1))) c.make.result)
+    rw whole (subst (λ (s : Outline). GrowsBy c.args.growing.now c.make.new.self (node_or_leaf s (combination m.in_decides (tree_on m.left.now.own c.in_ok-face.behind) (with_sides_exchanged m.is_exchanged (divide (tree_on c.args.scratch.now (To c.args.right)) (outline_of m.left.now.own.planes moved.own)).0)) (combination m.in_decides (tree_on m.left.now.own c.in_ok-face.ahead) (with_sides_exchanged m.is_exchanged (divide (tree_on c.args.scratch.now (To c.args.right)) (outline_of m.left.now.own.planes moved.own)).1))) c.make.result)
     outline (c.make.ensures c.args.growing.now c.branch-self.new.growing _ _ before after))

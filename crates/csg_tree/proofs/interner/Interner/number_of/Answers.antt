@@ -2,7 +2,7 @@ use Rattle.std.proofs.Common.{◌≡◌, ◌∷◌, [], List, Some, None, length
 use Rattle.std.specs.BTreeMap.{get}
 use Rattle.csg_tree.specs.Numberings.{HasNumber}
 use Rattle.csg_tree.specs.declared.node.StoredNode.{StoredNode}
-use Rattle.csg_tree.specs.Nodes.{node_of, tree_over, trees_of}
+use Rattle.csg_tree.specs.Nodes.{node_of, tree_of_node, trees_of_nodes}
 use Rattle.csg_tree.specs.Interned.{key_cmp, AreInterned, TreesStay}
 use Rattle.csg_tree.proofs.Linked.{behind_more}
 use Rattle.csg_tree.proofs.Interning.{known_number, no_number, interned_push, new_number, they_stay}
@@ -18,10 +18,10 @@ returns-in-Some-clause-number c =
 pub returns-in-Some-clause-grown : goal.returns-in-Some-clause-grown
 returns-in-Some-clause-grown c =
     let look : get key_cmp c.args.self.now.found c.in_ok-key.key ≡ Some c.in-Some.number = sym c.look_up.ensures ∙ c.in-Some.is in
-    let ts = trees_of c.args.self.now.nodes.items in
+    let ts = trees_of_nodes c.args.self.now.nodes.items in
     record {
       distinct = λ trees e.
-          distinct_known ts trees (tree_over ts (node_of c.args.node)) c.in-Some.number e
+          distinct_known ts trees (tree_of_node ts (node_of c.args.node)) c.in-Some.number e
           (known_number c.args.self.now.found c.args.self.now.nodes.items c.in_ok-key.key (node_of c.args.node) c.in-Some.number
           c.requires.interned c.in_ok-key.ensures look);
       few = omega arith;
@@ -39,13 +39,13 @@ returns-in_ok-number-in-None-clause-number c =
     let old = c.args.self.now.nodes.items in
     let node = node_of c.args.node in
     let number = c.in_ok-number-in-None.number in
-    subst (λ (nodes : List StoredNode). HasNumber (trees_of nodes) (tree_over (trees_of old) node) number)
+    subst (λ (nodes : List StoredNode). HasNumber (trees_of_nodes nodes) (tree_of_node (trees_of_nodes old) node) number)
     (sym c.in_ok-number-in-None.ensures.nodes) (new_number old node number c.in_ok-number-in-None.ensures.number)
 
 pub returns-in_ok-number-in-None-clause-stay : goal.returns-in_ok-number-in-None-clause-stay
 returns-in_ok-number-in-None-clause-stay c =
     let old = c.args.self.now.nodes.items in
-    subst (λ (nodes : List StoredNode). TreesStay (trees_of old) (trees_of nodes)) (sym c.in_ok-number-in-None.ensures.nodes)
+    subst (λ (nodes : List StoredNode). TreesStay (trees_of_nodes old) (trees_of_nodes nodes)) (sym c.in_ok-number-in-None.ensures.nodes)
     (they_stay old (node_of c.args.node))
 
 pub returns-in_ok-number-in-None-clause-grown : goal.returns-in_ok-number-in-None-clause-grown
@@ -55,8 +55,8 @@ returns-in_ok-number-in-None-clause-grown c =
     let node = node_of c.args.node in
     record {
       distinct = λ trees e.
-          ap trees_of c.in_ok-number-in-None.ensures.nodes ∙ behind_more [] old node
-          ∙ distinct_new (trees_of old) trees (tree_over (trees_of old) node) e
+          ap trees_of_nodes c.in_ok-number-in-None.ensures.nodes ∙ behind_more [] old node
+          ∙ distinct_new (trees_of_nodes old) trees (tree_of_node (trees_of_nodes old) node) e
           (no_number c.args.self.now.found old c.in_ok-key.key node c.requires.interned c.in_ok-key.ensures look c.requires.over);
       few = omega (arith, ap length c.in_ok-number-in-None.ensures.nodes, length-append old (node ∷ []));
     }

@@ -1,6 +1,6 @@
 use Rattle.std.proofs.Common.{◌≡◌, ◌-◌, length, get_or, ap, sym, subst, arith, List}
 use Rattle.csg_tree.specs.declared.node.StoredNode.{StoredNode}
-use Rattle.csg_tree.specs.Formulas.{Formula}
+use Rattle.csg_tree.specs.HalfSpaceTrees.{Tree}
 use Rattle.csg_tree.specs.Numberings.{IsNumberIn}
 use Rattle.csg_tree.specs.Nodes.{node_of, IsNodeOf}
 use Rattle.csg_tree.proofs.Linked.{length_trees}
@@ -19,5 +19,5 @@ returns-clause-node c =
     (c.requires.0, omega (arith, c.requires.1, length_trees nodes, ap length c.self.view_is)) in
     let is : node_of told ≡ get_or nodes (number - 1) (node_of told) =
     subst (λ (x : StoredNode). x ≡ get_or nodes (number - 1) x) (sym c.as_node.ensures) c.index.ensures in
-    subst (λ (ts : List Formula). IsNodeOf ts number told) c.self.view_is
+    subst (λ (ts : List Tree). IsNodeOf ts number told) c.self.view_is
     (node_told nodes number told c.self.invariant.linked within is)

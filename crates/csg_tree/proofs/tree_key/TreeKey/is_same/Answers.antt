@@ -1,14 +1,14 @@
 use Rattle.std.proofs.Common.{◌≡◌, ℕ, List, Bool, true, false, refl, sym, ap, subst, ◌∙◌, true≢false, eqb}
 use Rattle.std.specs.Cmp.Lexicographic.{pointwise}
 use Rattle.std.proofs.lemmas.Cmp.{nat_list_eq_equiv}
-use Rattle.csg_tree.specs.Formulas.{Formula}
+use Rattle.csg_tree.specs.HalfSpaceTrees.{Tree}
 use Rattle.csg_tree.specs.Numberings.{is_same_tree}
 use Rattle.csg_tree.specs.TreeKeys.{name_of}
 use Rattle.csg_tree.proofs.Sameness.{tree_true}
 use Rattle.csg_tree.proofs.tree_key.TreeKey.is_same.Goals as goal
 
 -- trees with different names differ
-names_differ : (a b : Formula) (m n : List ℕ) → m ≡ name_of a → n ≡ name_of b → pointwise eqb m n ≡ false → false ≡ is_same_tree a b
+names_differ : (a b : Tree) (m n : List ℕ) → m ≡ name_of a → n ≡ name_of b → pointwise eqb m n ≡ false → false ≡ is_same_tree a b
 names_differ a b m n ea eb h = by_test (is_same_tree a b) refl
   where
     by_test : (c : Bool) → is_same_tree a b ≡ c → false ≡ is_same_tree a b

@@ -4,7 +4,7 @@ use Rattle.plane_table.specs.Tables.{plane_named}
 use Rattle.plane_table.specs.Faces.{outline_of}
 use Rattle.plane_table.specs.Cuts.{part_in}
 use Rattle.facet_cut.specs.Facets.{Piece, facets_facing}
-use Rattle.facet_cut.specs.Adding.{Adds}
+use Rattle.facet_cut.specs.Adding.{AddsFacetsWithin}
 use Rattle.facet_cut.proofs.Nodes.{end_pieces, across_node, adds_more, adds_none, adds_stopped, same_leaf_facets}
 use Rattle.facet_cut.proofs.walls.Walls.+ahead.Goals as goal
 
@@ -64,14 +64,14 @@ push_ahead-returns-in_err-push_half-in-Across t c =
     let stopped : c.push_half.result ≡ Err stop = search rules in
     let across = across_node (λ (r : Piece). facets_facing c.args.is_inside r.is_inside r.part) _ _ c.args.ahead _ _ c.args.face.now _ _ _
     c.in-To.is c.at-low.ensures c.in_ok-of_face-in-To.ensures c.in-Across.is in
-    subst (λ (more : List Outline). Adds more c.args.most c.args.found.now.items c.push_half.new.found.items c.from_residual-in_err-push_half-in-Across.result) (sym across)
+    subst (λ (more : List Outline). AddsFacetsWithin more c.args.most c.args.found.now.items c.push_half.new.found.items c.from_residual-in_err-push_half-in-Across.result) (sym across)
     (adds_stopped _ _ c.args.most c.args.found.now.items c.push_half.new.found.items stop c.push_half.result c.from_residual-in_err-push_half-in-Across.result stopped given c.push_half.ensures)
 
 pub push_ahead-returns : goal.push_ahead-returns
 push_ahead-returns t c =
     let across = across_node (λ (r : Piece). facets_facing c.args.is_inside r.is_inside r.part) _ _ c.args.ahead _ _ c.args.face.now _ _ _
     c.in-To.is c.at-low.ensures c.in_ok-of_face-in-To.ensures c.in-Across.is in
-    subst (λ (more : List Outline). Adds more c.args.most c.args.found.now.items c.push_half-in-Across.new.found.items c.push_half-in-Across.result) (sym across)
+    subst (λ (more : List Outline). AddsFacetsWithin more c.args.most c.args.found.now.items c.push_half-in-Across.new.found.items c.push_half-in-Across.result) (sym across)
     (adds_more _ _ c.args.most c.args.found.now.items c.push_half.new.found.items _ c.push_half-in-Across.result
     c.in_ok-push_half-in-Across.ensures.0 c.push_half-in-Across.ensures)
 
@@ -81,5 +81,5 @@ push_half-returns-then-is_same_leaf t c =
     let crossing = c.args.crossing in
     let s = part_in c.args.half (outline_of w.table.now crossing.face.now) (plane_named w.table.now crossing.number) in
     let none = same_leaf_facets w.table.now w.forest.now.nodes c.args.is_inside c.args.ahead s (sym c.is_same_leaf.ensures ∙ c.if-is_same_leaf.true) in
-    subst (λ (more : List Outline). Adds {A = Unit {0}} more c.args.most c.args.found.now.items c.args.found.now.items (Ok (tt {0}))) (sym none)
+    subst (λ (more : List Outline). AddsFacetsWithin {A = Unit {0}} more c.args.most c.args.found.now.items c.args.found.now.items (Ok (tt {0}))) (sym none)
     (adds_none c.args.most c.args.found.now.items (tt {0}) c.requires.within)

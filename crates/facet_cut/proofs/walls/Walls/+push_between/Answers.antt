@@ -3,7 +3,7 @@ use Rattle.plane_polygon.specs.Polygons.{Outline}
 use Rattle.plane_table.specs.Faces.{outline_of}
 use Rattle.bsp_tree.specs.Shapes.{tree_at_link}
 use Rattle.facet_cut.specs.Facets.{Piece, facets_ahead}
-use Rattle.facet_cut.specs.Adding.{Adds}
+use Rattle.facet_cut.specs.Adding.{AddsFacetsWithin}
 use Rattle.facet_cut.proofs.Nodes.{end_pieces, across_node, adds_more, adds_stopped}
 use Rattle.facet_cut.proofs.walls.Walls.+push_between.Goals as goal
 
@@ -41,7 +41,7 @@ returns-in_err-push_between-in-Across t c =
     let across = across_node (λ (r : Piece). facets_ahead r.is_inside (tree_at_link w.table.now w.forest.now.nodes c.args.ahead) r.part) _ _ c.args.behind _ _ c.args.face.now _ _ _
     c.in-To.is c.at-low.ensures c.in_ok-of_face-in-To.ensures c.in-Across.is in
     let low = rw c.in_ok-part-in-Across.ensures.outline at c.push_between-in-Across.ensures in
-    subst (λ (more : List Outline). Adds more c.args.most c.args.found.now.items c.push_between-in-Across.new.found.items c.from_residual-in_err-push_between-in-Across.result) (sym across)
+    subst (λ (more : List Outline). AddsFacetsWithin more c.args.most c.args.found.now.items c.push_between-in-Across.new.found.items c.from_residual-in_err-push_between-in-Across.result) (sym across)
     (adds_stopped _ _ c.args.most c.args.found.now.items c.push_between-in-Across.new.found.items stop c.push_between-in-Across.result c.from_residual-in_err-push_between-in-Across.result stopped given low)
 
 pub returns : goal.returns
@@ -51,5 +51,5 @@ returns t c =
     c.in-To.is c.at-low.ensures c.in_ok-of_face-in-To.ensures c.in-Across.is in
     let low = rw c.in_ok-part-in-Across.ensures.outline at c.in_ok-push_between-in-Across.ensures.0 in
     let high = rw c.in_ok-part-in-Across-2.ensures.outline at c.push_between-in-Across-2.ensures in
-    subst (λ (more : List Outline). Adds more c.args.most c.args.found.now.items c.push_between-in-Across-2.new.found.items c.push_between-in-Across-2.result) (sym across)
+    subst (λ (more : List Outline). AddsFacetsWithin more c.args.most c.args.found.now.items c.push_between-in-Across-2.new.found.items c.push_between-in-Across-2.result) (sym across)
     (adds_more _ _ c.args.most c.args.found.now.items c.push_between-in-Across.new.found.items _ c.push_between-in-Across-2.result low high)

@@ -1,7 +1,7 @@
 use Rattle.std.proofs.Common.{◌≡◌, ◌+◌, ◌≤◌, ◌<◌, ◌++◌, ◌∷◌, [], length, ap, sym, subst, ◌∙◌, arith, length-append}
 use Rattle.std.specs.Arc.{arc_value}
 use Rattle.std.proofs.lemmas.List.{length-map, map-append}
-use Rattle.flight_memo.specs.Claims.{Claim, Begun, IsFree, IsLegalLog, live_in, begun_in, ended_in}
+use Rattle.flight_memo.specs.Claims.{Claim, Begun, IsFree, IsLegalLog, live_claims, begin_count, end_count}
 use Rattle.flight_memo.specs.Fields.{claim_in, claims_of, event_of, events_of}
 use Rattle.flight_memo.proofs.Logs.{legal_more, begun_more, ended_more, begun_few, live_more}
 use Rattle.flight_memo.proofs.Legal.{known_of_legal}
@@ -27,8 +27,8 @@ invariant_of-self g c =
     ∙ (map-append claim_in c.self.inside.live.items _ ∙ ap (λ key. live ++ record { number = c.self.inside.begun; caller = c.args.caller; key = key } ∷ []) c.args.copies.one.0) in
     let fresh = (known_of_legal log kept.legal).ahead c.self.inside.begun (omega (arith, kept.count)) in record {
       legal = subst IsLegalLog (sym logged) (legal_more log (Begun claim) kept.legal (kept.count, subst (IsFree claim.key) kept.live (subst (λ v. IsFree claim.key v.live) seen c.requires.free)));
-      live = lives ∙ (ap (λ l. l ++ claim ∷ []) kept.live ∙ (sym (live_more log claim fresh) ∙ ap live_in (sym logged)));
-      count = omega (arith, kept.count, begun_more log (Begun claim), ap begun_in logged);
+      live = lives ∙ (ap (λ l. l ++ claim ∷ []) kept.live ∙ (sym (live_more log claim fresh) ∙ ap live_claims (sym logged)));
+      count = omega (arith, kept.count, begun_more log (Begun claim), ap begin_count logged);
       room = omega (arith, kept.room, asked, ap length lives, length-append live (claim ∷ []), c.push_reserved.ensures.len, c.push_reserved.ensures.capacity);
-      few = omega (arith, kept.few, ap length lives, length-append live (claim ∷ []), begun_more log (Begun claim), ended_more log (Begun claim), ap begun_in logged, ap ended_in logged);
+      few = omega (arith, kept.few, ap length lives, length-append live (claim ∷ []), begun_more log (Begun claim), ended_more log (Begun claim), ap begin_count logged, ap end_count logged);
     }

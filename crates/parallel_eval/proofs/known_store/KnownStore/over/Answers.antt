@@ -2,7 +2,7 @@ use Rattle.std.proofs.Common.{◌≡◌, ◌+◌, length, ap, subst, ◌∙◌, 
 use Rattle.std.specs.Arc.{arc_value}
 use Rattle.std.proofs.lemmas.List.{length_push}
 use Rattle.std.proofs.lemmas.List.Sums.{sum_by_push}
-use Rattle.csg_tree.specs.Formulas.{Formula}
+use Rattle.csg_tree.specs.HalfSpaceTrees.{Tree}
 use Rattle.csg_tree.specs.Earlier.{AreAllNumbersIn}
 use Rattle.csg_tree.specs.Numberings.{tree_numbered}
 use Rattle.parallel_eval.specs.Known.{IsKnown, known_size, known_sizes}
@@ -16,8 +16,8 @@ leaf_in-requires c =
     let k = c.loop-before.before in
     let numbers = c.in_ok-numbers.numbers.items in
     let all : AreAllNumbersIn earlier trees numbers =
-    subst (λ (es : List Formula). AreAllNumbersIn es trees numbers) c.store.ensures
-    (subst (λ (ts : List Formula). AreAllNumbersIn c.store.result.now ts numbers) c.deref.ensures c.in_ok-numbers.ensures) in
+    subst (λ (es : List Tree). AreAllNumbersIn es trees numbers) c.store.ensures
+    (subst (λ (ts : List Tree). AreAllNumbersIn c.store.result.now ts numbers) c.deref.ensures c.in_ok-numbers.ensures) in
     let many = c.len-before-end.ensures.is ∙ ap length c.deref-2.ensures in
     number_within earlier (tree_numbered trees (k + 1)) c.index.result.now
     (number_at earlier trees numbers k c.index.result.now all (omega (arith, many)) c.index.ensures)
@@ -32,8 +32,8 @@ loop-before-preserved c =
     let leaf = c.with_room.result in
     let place : k + 1 ≡ length old + 1 = omega (arith, c.loop-before.invariant.count) in
     let all : AreAllNumbersIn earlier trees numbers =
-    subst (λ (es : List Formula). AreAllNumbersIn es trees numbers) c.store.ensures
-    (subst (λ (ts : List Formula). AreAllNumbersIn c.store.result.now ts numbers) c.deref.ensures c.in_ok-numbers.ensures) in
+    subst (λ (es : List Tree). AreAllNumbersIn es trees numbers) c.store.ensures
+    (subst (λ (ts : List Tree). AreAllNumbersIn c.store.result.now ts numbers) c.deref.ensures c.in_ok-numbers.ensures) in
     let many = c.len-before-end.ensures.is ∙ ap length c.deref-2.ensures in
     let number = number_at earlier trees numbers k c.index.result.now all (omega (arith, many)) c.index.ensures in
     record {

@@ -1,8 +1,12 @@
 use Rattle.std.proofs.Common.{◌≡◌, ◌+◌, ◌-◌, ◌++◌, ◌∷◌, [], if◌then◌else◌, refl, ap, subst, sym, ◌∙◌, arith}
-use Rattle.parallel_eval.specs.Joins.{AreAsked}
+use Rattle.parallel_eval.specs.Joins.{AreAsked, MayAskJoins}
 use Rattle.parallel_eval.specs.Runs.{joins_to, HasMade}
 use Rattle.parallel_eval.proofs.Laned.{lane_steps, lane_breaks}
 use Rattle.parallel_eval.proofs.lanes.RunWork.do_lane.Goals as goal
+
+pub outcome-requires-clause-allowed : goal.outcome-requires-clause-allowed
+outcome-requires-clause-allowed g c =
+    subst (λ k. MayAskJoins (g.B.AskPolicy.may_ask k) c.args.self.now.store.now) (sym c.loop-before.invariant.asked.caller) c.requires.allowed
 
 pub returns-in_default : goal.returns-in_default
 returns-in_default g c =

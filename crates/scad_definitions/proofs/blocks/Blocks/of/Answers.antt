@@ -2,7 +2,7 @@ use Rattle.std.proofs.Common.{◌≡◌, ◌∙◌, length, sym, ap, subst}
 use Rattle.std.specs.Prelude.{IsTrue}
 use Rattle.scad_ast.specs.ProgramView.{program_of}
 use Rattle.scad_definitions.specs.Blocks.{entities_of_program, block_table, BlockTable, StandsInOrder}
-use Rattle.scad_definitions.specs.Numbered.{entries_below}
+use Rattle.scad_definitions.specs.Numbered.{are_entries_below}
 use Rattle.scad_definitions.specs.TextView.{function_of, module_of}
 use Rattle.scad_definitions.specs.Walk.{table_so_far}
 use Rattle.scad_definitions.proofs.Held.{mapped_length}
@@ -16,12 +16,12 @@ invariant_of-result c =
     let w = c.in_ok-walk.walk in
     let e : table_so_far w ≡ block_table (program_of c.args.program.now) =
     c.in_ok-walk.ensures ∙ whole_text (entities_of_program (program_of c.args.program.now)) in
-    let below = subst (λ (t : BlockTable). IsTrue (entries_below (length t.functions) (length t.modules) t.entries)) (sym e)
+    let below = subst (λ (t : BlockTable). IsTrue (are_entries_below (length t.functions) (length t.modules) t.entries)) (sym e)
     (program_below (program_of c.args.program.now)) in
     record {
       numbered = subst (λ t. IsTrue t)
-          (ap (λ n. entries_below n (length (table_so_far w).modules) (table_so_far w).entries) (mapped_length function_of w.functions.items)
-          ∙ ap (λ n. entries_below (length w.functions.items) n (table_so_far w).entries) (mapped_length module_of w.modules.items)) below;
+          (ap (λ n. are_entries_below n (length (table_so_far w).modules) (table_so_far w).entries) (mapped_length function_of w.functions.items)
+          ∙ ap (λ n. are_entries_below (length w.functions.items) n (table_so_far w).entries) (mapped_length module_of w.modules.items)) below;
     }
 
 pub returns-clause-text : goal.returns-clause-text

@@ -11,7 +11,7 @@ use Rattle.scad_ast.specs.StatementView.{binder_of, params_of}
 use Rattle.scad_value.specs.declared.bounded_value.BoundedValue.{BoundedValue}
 use Rattle.scad_value.specs.Values.{Val, Vals, truth_of}
 use Rattle.scad_value.specs.BoundedView.{bounded_val}
-use Rattle.scad_scope.specs.Names.{Row, oldest_pairs}
+use Rattle.scad_scope.specs.Names.{ScopeRow, oldest_pairs}
 use Rattle.scad_scope.specs.Table.{bindings_of}
 use Rattle.scad_definitions.specs.declared.text.Module.{Module}
 use Rattle.scad_definitions.specs.TextView.{module_of}
@@ -20,13 +20,13 @@ use Rattle.scad_definitions.specs.declared.parameters.CallArguments.{CallArgumen
 use Rattle.scad_modules.specs.declared.effects.Effect.{Effect}
 use Rattle.scad_modules.specs.declared.table.BuiltinModule.{BuiltinModule}
 use Rattle.scad_modules.specs.Effects.{ChosenCall}
-use Rattle.scad_modules.specs.View.{chosen_of, call_of}
-use Rattle.scad_design.specs.Designs.{moved_by}
+use Rattle.scad_modules.specs.View.{chosen_of, effect_call_of}
+use Rattle.scad_design.specs.Designs.{moved_design_tree}
 use Rattle.scad_func.specs.Limits.{most_calls, most_turns}
-use Rattle.scad_func.specs.Meaning.{Outcome, Gives, Faults, Activation, Within, no_activation, activation, with_value, then_with, or_fault, each_parameter, entered_scope, Arguments, BoundArguments, Setting, Env}
+use Rattle.scad_func.specs.Meaning.{Outcome, Gives, Faults, Activation, InnerScope, no_activation, activation, with_value, then_with, or_fault, each_parameter, entered_scope, Arguments, BoundArguments, ExpressionContext, Env}
 use Rattle.scad_func.specs.View.{env_seen, table_in, arguments_of, bound_arguments_in, bindings_in, values_seen, IsNoMemory}
 use Rattle.scad_func.specs.Definitions.{statements_at, block_scope, IsWholeTable}
-use Rattle.scad_func.specs.Evaluations.{OneCallDeeper, MoreBindings, env_here, setting_in}
+use Rattle.scad_func.specs.Evaluations.{OneCallDeeper, MoreBindings, env_here, expression_context_in}
 use Rattle.scad_func.specs.Transitions.{IsRefusedCall}
 use Rattle.scad_func.specs.declared.source.Source.{Source}
 use Rattle.scad_instances.specs.declared.numbered.NumberedInstance.{NumberedInstance}
@@ -38,10 +38,10 @@ use Rattle.scad_instances.specs.Positions.{term_of_numbered, HasBlocks}
 use Rattle.scad_instances.specs.Seen.{one_member_of, instance_design_of, member_designs_of}
 use Rattle.scad_meaning.specs.Verdicts.{Judge}
 use Rattle.scad_meaning.specs.Bodies.{is_child}
-use Rattle.scad_meaning.specs.Loops.{items_of}
-use Rattle.scad_meaning.specs.Meaning.{Context, MemberDesigns, InstanceDesign, Evaluator, joined_members, moved_design, no_design, as_member, and_members, body_design, core_design, core_of_instance, hull_design, loop_design, built_in_design, children_design, effect_design, turn_after_step, turn_after_call, each_member, each_step, each_iteration, in_loop, module_design, module_scope, with_calls_left, with_bindings, inside_scope, setting, as_root, block_members, built_in_given, instances_chosen, module_filled, module_given}
+use Rattle.scad_meaning.specs.Loops.{iterated_values}
+use Rattle.scad_meaning.specs.Meaning.{Context, MemberDesigns, InstanceDesign, Evaluator, joined_members, moved_design, no_design, as_member, and_members, body_design, core_design, core_of_instance, hull_design, loop_design, built_in_design, children_design, effect_design, turn_after_step, turn_after_call, each_member, each_step, each_iteration, in_loop, module_design, module_scope, with_calls_left, with_bindings, inside_scope, expression_context, as_root, block_members, built_in_with_arguments, instances_chosen, module_with_values, module_with_arguments}
 use Rattle.scad_eval.specs.declared.evaluator.InstanceEvaluator.{InstanceEvaluator}
-use Rattle.scad_eval.specs.Keeping.{evaluator_at, env_at, context_at, Stays, Enters, meant_at}
+use Rattle.scad_eval.specs.Keeping.{evaluator_at, env_at, context_at, Stays, Enters, outcome_at}
 use Rattle.scad_eval.specs.Steps.{one_step}
 use Rattle.scad_eval.specs.Within.{body_seen, IsInstanceAt, IsModuleCall}
 use Rattle.scad_func.proofs.Kept.{keeps_same, keeps_trans, specials_kept, scope_kept}
@@ -168,7 +168,7 @@ children_entered : (judge : Judge) (m mid : InstanceEvaluator) (position : Posit
     → IsWholeTable (table_in m.evaluation.source.now) → call ≡ activation (statements_at (table_in m.evaluation.source.now) block) caller → Enters m mid before
     → env_here mid.evaluation ≡ block_scope (table_in m.evaluation.source.now) block no_activation caller → mid.evaluation.turns ≡ m.evaluation.turns
     → children_design (evaluator_at m judge) (context_at m position) call chosen m.evaluation.turns m.leaves
-    ≡ then_with (meant_at mid position judge (λ evaluator. block_members evaluator (Some chosen) (statements_at (table_in mid.evaluation.source.now) block)))
+    ≡ then_with (outcome_at mid position judge (λ evaluator. block_members evaluator (Some chosen) (statements_at (table_in mid.evaluation.source.now) block)))
     (λ turns members. Gives turns (joined_members Union members))
 children_entered judge m mid position before block caller call chosen whole found e inside turns =
     let table = table_in m.evaluation.source.now in
@@ -282,7 +282,7 @@ built_in_made-returns-in_err-made t c =
     rw (p.1, p.2) (told_from c.in_err-made.ensures
     (λ judge right. built_in_meant m begun c.args.position c.args.place c.args.built_in (arguments_of c.args.given) (body_seen c.args.body) (bound_arguments_in c.in_ok-bound.bound.items) begins.1
     (slots_lent ok.0)
-    judge (begun_at c.in_err-made.ensures) c.in_ok-bound.length (call_of c.in_ok-effect.effect) refl refl c.push_bindings-begun.ensures.begins.turns begins.0 (stays_kept begun _ refl (keeps_same _)) refl
+    judge (begun_at c.in_err-made.ensures) c.in_ok-bound.length (effect_call_of c.in_ok-effect.effect) refl refl c.push_bindings-begun.ensures.begins.turns begins.0 (stays_kept begun _ refl (keeps_same _)) refl
     c.in_ok-effect.ensures.effect) refl refl tt)
 
 pub built_in_made-returns : goal.built_in_made-returns
@@ -295,7 +295,7 @@ built_in_made-returns t c =
     told_from c.in_ok-made.ensures
     (λ judge right. built_in_meant m begun c.args.position c.args.place c.args.built_in (arguments_of c.args.given) (body_seen c.args.body) (bound_arguments_in c.in_ok-bound.bound.items) begins.1
     (slots_lent ok.0)
-    judge (begun_at c.in_ok-made.ensures) c.in_ok-bound.length (call_of c.in_ok-effect.effect) refl refl c.push_bindings-begun.ensures.begins.turns begins.0 (stays_kept begun _ refl (keeps_same _)) refl
+    judge (begun_at c.in_ok-made.ensures) c.in_ok-bound.length (effect_call_of c.in_ok-effect.effect) refl refl c.push_bindings-begun.ensures.begins.turns begins.0 (stays_kept begun _ refl (keeps_same _)) refl
     c.in_ok-effect.ensures.effect) c.pop_bindings.ensures.turns refl
     (stays_kept m _ k.unit (c.pop_bindings.ensures.back m.evaluation (specials_kept m.evaluation c.in_ok-bound.length begins.0 k.evaluation)))
 
@@ -310,7 +310,7 @@ pub built_in_called-returns-in_err-given-in-Some : goal.built_in_called-returns-
 built_in_called-returns-in_err-given-in-Some t c =
     let p = err_from_is_err_and c.from_residual.result c.from_residual.ensures.1 in
     let m = c.args.self.now in
-    rw (p.1, p.2) (evaluation_stops (λ judge turns given. built_in_given (evaluator_at m judge) c.args.place c.in-Some.built_in given (body_seen c.args.body) (context_at m c.args.position) turns m.leaves)
+    rw (p.1, p.2) (evaluation_stops (λ judge turns given. built_in_with_arguments (evaluator_at m judge) c.args.place c.in-Some.built_in given (body_seen c.args.body) (context_at m c.args.position) turns m.leaves)
     c.in_err-given-in-Some.ensures
     (λ judge right. ap (λ (o : Option BuiltinModule). built_in_design (evaluator_at m judge) (context_at m c.args.position) c.args.place c.args.name.now (args_of c.args.args.now) (body_seen c.args.body) o m.evaluation.turns m.leaves)
     (sym c.in-Some.ensures)) tt)
@@ -321,7 +321,7 @@ built_in_called-returns-in_ok-given-in-Some t c =
     told_after (stays_kept m _ refl c.arguments_for.ensures.kept) c.built_in_made.ensures
     (λ judge right. ap (λ (o : Option BuiltinModule). built_in_design (evaluator_at m judge) (context_at m c.args.position) c.args.place c.args.name.now (args_of c.args.args.now) (body_seen c.args.body) o m.evaluation.turns m.leaves)
     (sym c.in-Some.ensures)
-    ∙ ap (λ o. then_with o (λ turns given. built_in_given (evaluator_at m judge) c.args.place c.in-Some.built_in given (body_seen c.args.body) (context_at m c.args.position) turns m.leaves))
+    ∙ ap (λ o. then_with o (λ turns given. built_in_with_arguments (evaluator_at m judge) c.args.place c.in-Some.built_in given (body_seen c.args.body) (context_at m c.args.position) turns m.leaves))
     c.in_ok-given-in-Some.ensures.value)
 
 pub built_in_called-built_in_made-requires : goal.built_in_called-built_in_made-requires
@@ -337,7 +337,7 @@ effect_made-returns-in-Solid t c =
     let m = c.args.self.now in
     let f = c.solid.ensures c.args.position in
     told_from f
-    (λ judge right. ap (λ (e : Effect). effect_design (evaluator_at m judge) (context_at m c.args.position) c.args.place (call_of e) (body_seen c.args.body) m.evaluation.turns m.leaves)
+    (λ judge right. ap (λ (e : Effect). effect_design (evaluator_at m judge) (context_at m c.args.position) c.args.place (effect_call_of e) (body_seen c.args.body) m.evaluation.turns m.leaves)
     c.in-Solid.is) refl refl (stays_told c.solid.result f.kept)
 
 pub effect_made-returns-in_err-made-in-Hull : goal.effect_made-returns-in_err-made-in-Hull
@@ -345,7 +345,7 @@ effect_made-returns-in_err-made-in-Hull t c =
     let p = err_from_is_err_and c.from_residual.result c.from_residual.ensures.1 in
     let m = c.args.self.now in
     rw (p.1, p.2) (stops (λ judge turns made. hull_design (judge.hull made.design) c.args.place made turns) c.in_err-made-in-Hull.ensures
-    (λ judge right. ap (λ (e : Effect). effect_design (evaluator_at m judge) (context_at m c.args.position) c.args.place (call_of e) (body_seen c.args.body) m.evaluation.turns m.leaves)
+    (λ judge right. ap (λ (e : Effect). effect_design (evaluator_at m judge) (context_at m c.args.position) c.args.place (effect_call_of e) (body_seen c.args.body) m.evaluation.turns m.leaves)
     c.in-Hull.is) tt)
 
 pub effect_made-returns-in_ok-made-in-Hull : goal.effect_made-returns-in_ok-made-in-Hull
@@ -354,7 +354,7 @@ effect_made-returns-in_ok-made-in-Hull t c =
     let f = c.hull.ensures c.args.position in
     record {
       equation = λ judge right.
-          along (ap (λ (e : Effect). effect_design (evaluator_at m judge) (context_at m c.args.position) c.args.place (call_of e) (body_seen c.args.body) m.evaluation.turns m.leaves)
+          along (ap (λ (e : Effect). effect_design (evaluator_at m judge) (context_at m c.args.position) c.args.place (effect_call_of e) (body_seen c.args.body) m.evaluation.turns m.leaves)
           c.in-Hull.is)
           (then_outcome (λ turns made. hull_design (judge.hull made.design) c.args.place made turns)
           (c.in_ok-made-in-Hull.ensures.equation judge right) (f.equation judge right));
@@ -364,7 +364,7 @@ effect_made-returns-in_ok-made-in-Hull t c =
 pub moved-returns-in_err-design : goal.moved-returns-in_err-design
 moved-returns-in_err-design t c =
     let p = err_from_is_err_and c.from_residual.result c.from_residual.ensures.1 in
-    rw (p.1, p.2) (stops (λ judge turns made. Gives turns (moved_design (moved_by c.args.steps.now) made)) c.in_err-design.ensures (λ judge right. refl) tt)
+    rw (p.1, p.2) (stops (λ judge turns made. Gives turns (moved_design (moved_design_tree c.args.steps.now) made)) c.in_err-design.ensures (λ judge right. refl) tt)
 
 pub instance-returns-in_err-begin_evaluation : goal.instance-returns-in_err-begin_evaluation
 instance-returns-in_err-begin_evaluation t c =
@@ -405,10 +405,10 @@ instance-returns t c =
 
 -- a loop's variables, as they are read
 turns_meant : (m : InstanceEvaluator) (position : Position) (judge : Judge) (op : Op) (place : Place) (body : BodyTerm) {binders read : List Binder} → read ≡ binders
-    → meant_at m position judge (λ evaluator here. loop_design evaluator op here place (map binder_of binders) body)
-    ≡ then_with (meant_at m position judge (λ evaluator. each_iteration evaluator place (map binder_of read) body)) (λ turns members. Gives turns (joined_members op members))
+    → outcome_at m position judge (λ evaluator here. loop_design evaluator op here place (map binder_of binders) body)
+    ≡ then_with (outcome_at m position judge (λ evaluator. each_iteration evaluator place (map binder_of read) body)) (λ turns members. Gives turns (joined_members op members))
 turns_meant m position judge op place body same =
-    ap (λ (bs : List Binder). meant_at m position judge (λ evaluator here. loop_design evaluator op here place (map binder_of bs) body)) (sym same)
+    ap (λ (bs : List Binder). outcome_at m position judge (λ evaluator here. loop_design evaluator op here place (map binder_of bs) body)) (sym same)
 
 pub looped-returns-in_err-members : goal.looped-returns-in_err-members
 looped-returns-in_err-members t c =
@@ -432,7 +432,7 @@ by_root_modifier-returns t c =
           along (marked_form (evaluator_at m judge) (context_at m c.args.position) i m.evaluation.turns m.leaves
           (sym c.has_root_modifier.ensures ∙ c.if-not-has_root_modifier.false) (sym c.is_some.ensures ∙ c.if-is_some.false) c.if-position.false)
           (then_outcome (λ turns made. Gives turns (as_root made))
-          (along (ap (λ (position : Position). meant_at m position judge (λ evaluator here. core_design evaluator here (core_of_instance i))) (sym c.inside_root.ensures))
+          (along (ap (λ (position : Position). outcome_at m position judge (λ evaluator here. core_design evaluator here (core_of_instance i))) (sym c.inside_root.ensures))
           (f.equation judge right))
           (record { is = ap (λ (made : InstanceDesign). Gives c.core-2.new.self.evaluation.turns made) (sym (c.in_ok-as_root.ensures c.core-2.new.self.leaves)) }));
       kept = f.kept;
@@ -495,7 +495,7 @@ module_called-returns-in_err-given t c =
     rw (p.1, p.2) (record {
       equation = λ judge right. record {
         is = call_refused (instance_design_of m.leaves) m.evaluation c.args.place _ _
-            (λ calls turns. module_given (evaluator_at m judge) (module_of c.args.defined, env_at m c.args.defining_scope)
+            (λ calls turns. module_with_arguments (evaluator_at m judge) (module_of c.args.defined, env_at m c.args.defining_scope)
             (arguments_of c.args.given) (body_seen c.args.body) (with_calls_left (context_at m c.args.position) calls) turns m.leaves)
             (IfErr-at_err (IsRefusedCall m.evaluation c.args.place) c.in_err-given.ensures.err c.begin_counted_call-begun.ensures.refused);
       };
@@ -518,16 +518,16 @@ module_called-module_with_bindings-requires t c =
 counted_meant : (judge : Judge) (m mid : InstanceEvaluator) (position : Position) (place : Place) (defined : SourceModule) (defining_scope : ℕ) (body : BodyTerm)
     {given lent : CallArguments BoundedValue} → mid.unit ≡ m.unit → mid.leaves ≡ m.leaves → OneCallDeeper m.evaluation mid.evaluation
     → (m.evaluation.turns < most_turns) × (mid.evaluation.turns ≡ m.evaluation.turns + 1) → lent ≡ given
-    → meant_at m position judge (λ evaluator here. module_design evaluator here place (defined, env_at m defining_scope) (arguments_of given) body)
-    ≡ meant_at mid position judge (λ evaluator. module_given evaluator (defined, env_at mid defining_scope) (arguments_of lent) body)
+    → outcome_at m position judge (λ evaluator here. module_design evaluator here place (defined, env_at m defining_scope) (arguments_of given) body)
+    ≡ outcome_at mid position judge (λ evaluator. module_with_arguments evaluator (defined, env_at mid defining_scope) (arguments_of lent) body)
 counted_meant judge m mid position place defined defining_scope body {given = given} {lent = lent} unit leaves begun count_elements same =
     let left = most_calls - (m.evaluation.calls + 1) in
-    let go : CallArguments BoundedValue → ℕ → ℕ → Outcome InstanceDesign = λ given calls turns. module_given (evaluator_at m judge) (defined, env_at m defining_scope)
+    let go : CallArguments BoundedValue → ℕ → ℕ → Outcome InstanceDesign = λ given calls turns. module_with_arguments (evaluator_at m judge) (defined, env_at m defining_scope)
     (arguments_of given) body (with_calls_left (context_at m position) calls) turns m.leaves in
     call_goes place m.evaluation.calls m.evaluation.turns (go given) begun.within count_elements.0
     ∙ ap (go given left) (sym count_elements.1)
     ∙ ap (λ (given : CallArguments BoundedValue). go given left mid.evaluation.turns) (sym same)
-    ∙ call_meant (λ (x : Source) (rows : List Row) evaluator. module_given evaluator (defined, env_seen x rows defining_scope) (arguments_of lent) body)
+    ∙ call_meant (λ (x : Source) (rows : List ScopeRow) evaluator. module_with_arguments evaluator (defined, env_seen x rows defining_scope) (arguments_of lent) body)
     judge m mid position unit leaves begun
 
 pub module_called-returns-in_err-made : goal.module_called-returns-in_err-made
@@ -564,8 +564,8 @@ module_meant : (judge : Judge) (m mid : InstanceEvaluator) (position : Position)
     → IsModuleCall m defined defining_scope body → Enters m mid before
     → env_here mid.evaluation ≡ module_scope (env_at m defining_scope) (module_of defined) values (statements_of_body (body_seen body)) (env_here m.evaluation)
     → mid.evaluation.turns ≡ m.evaluation.turns
-    → meant_at m position judge (λ evaluator. module_filled evaluator (module_of defined, env_at m defining_scope) values (body_seen body))
-    ≡ then_with (meant_at mid position judge (λ evaluator. block_members evaluator None (statements_at (table_in mid.evaluation.source.now) defined.block)))
+    → outcome_at m position judge (λ evaluator. module_with_values evaluator (module_of defined, env_at m defining_scope) values (body_seen body))
+    ≡ then_with (outcome_at mid position judge (λ evaluator. block_members evaluator None (statements_at (table_in mid.evaluation.source.now) defined.block)))
     (λ turns members. Gives turns (joined_members Union members))
 module_meant judge m mid position before defined defining_scope values body called e inside turns =
     ap (λ o. then_with o (λ turns members. Gives turns (joined_members Union members)))
@@ -613,17 +613,17 @@ module_with_bindings-module_made-requires t c =
     )
 
 -- the values of a module's parameters, and the module with them
-module _ (evaluator : Evaluator) (defined : SourceModule) (defining_scope : Env) (given : Arguments) (there : Context) (from : Setting) (bound : BoundArguments) (start : ℕ) {turns : ℕ}
-    (same : from ≡ setting evaluator.evaluations (inside_scope there defining_scope)) (bound_argument : given.bound ≡ bound) (more : start ≡ turns) where
-  parameters_from : each_parameter (setting evaluator.evaluations (inside_scope there defining_scope)) defined.params given.bound turns ≡ each_parameter from defined.params bound start
+module _ (evaluator : Evaluator) (defined : SourceModule) (defining_scope : Env) (given : Arguments) (there : Context) (from : ExpressionContext) (bound : BoundArguments) (start : ℕ) {turns : ℕ}
+    (same : from ≡ expression_context evaluator.evaluations (inside_scope there defining_scope)) (bound_argument : given.bound ≡ bound) (more : start ≡ turns) where
+  parameters_from : each_parameter (expression_context evaluator.evaluations (inside_scope there defining_scope)) defined.params given.bound turns ≡ each_parameter from defined.params bound start
   parameters_from =
       ap (λ s. each_parameter s defined.params given.bound turns) (sym same) ∙ ap (λ s. each_parameter from defined.params s turns) bound_argument
       ∙ ap (λ n. each_parameter from defined.params bound n) (sym more)
 
   filled_from : (body : BodyTerm) (leaves : ℕ) {after : ℕ} {vs : Vals} → each_parameter from defined.params bound start ≡ Gives after vs
-      → then_with (each_parameter (setting evaluator.evaluations (inside_scope there defining_scope)) defined.params given.bound turns) (λ turns vs. module_filled evaluator (defined, defining_scope) vs body there turns leaves)
-      ≡ module_filled evaluator (defined, defining_scope) vs body there after leaves
-  filled_from body leaves h = ap (λ o. then_with o (λ turns vs. module_filled evaluator (defined, defining_scope) vs body there turns leaves)) (parameters_from ∙ h)
+      → then_with (each_parameter (expression_context evaluator.evaluations (inside_scope there defining_scope)) defined.params given.bound turns) (λ turns vs. module_with_values evaluator (defined, defining_scope) vs body there turns leaves)
+      ≡ module_with_values evaluator (defined, defining_scope) vs body there after leaves
+  filled_from body leaves h = ap (λ o. then_with o (λ turns vs. module_with_values evaluator (defined, defining_scope) vs body there turns leaves)) (parameters_from ∙ h)
 
 pub module_with_bindings-returns-in_err-values : goal.module_with_bindings-returns-in_err-values
 module_with_bindings-returns-in_err-values t c =
@@ -637,7 +637,7 @@ module_with_bindings-returns-in_err-values t c =
           let given = arguments_of c.args.given in
           let defining_scope = env_at m c.args.defining_scope in
           let there = with_bindings (context_at m c.args.position) (given.dynamic ++ bindings_of m.evaluation.scopes.now) in
-          let go : ℕ → Vals → Outcome InstanceDesign = λ turns vs. module_filled (evaluator_at m judge) (module_of c.args.defined, defining_scope) vs (body_seen c.args.body) there turns m.leaves in
+          let go : ℕ → Vals → Outcome InstanceDesign = λ turns vs. module_with_values (evaluator_at m judge) (module_of c.args.defined, defining_scope) vs (body_seen c.args.body) there turns m.leaves in
           along (ap (λ o. then_with o go) (parameters_from (evaluator_at m judge) (module_of c.args.defined) defining_scope given there _ _ _
           (specials_setting m begun c.args.position c.args.defining_scope c.in_ok-bound.length given.dynamic begins.0 begins.1)
           (slots_lent ok.0) c.push_bindings-begun.ensures.begins.turns))
@@ -650,13 +650,13 @@ specials_filled : (judge : Judge) (m begun mid : InstanceEvaluator) (position : 
     (values : Vals) (body : BodyTerm) → begun.unit ≡ m.unit → begun.leaves ≡ m.leaves → begun.evaluation.turns ≡ m.evaluation.turns → MoreBindings m.evaluation begun.evaluation count
     → bindings_of begun.evaluation.scopes.now ≡ given.dynamic ++ bindings_of m.evaluation.scopes.now → given.bound ≡ bound
     → Stays begun mid → mid.leaves ≡ begun.leaves
-    → each_parameter (setting_in begun.evaluation defining_scope) defined.params bound begun.evaluation.turns ≡ Gives mid.evaluation.turns values
-    → meant_at m position judge (λ evaluator. module_given evaluator (defined, env_at m defining_scope) given body)
-    ≡ meant_at mid position judge (λ evaluator. module_filled evaluator (defined, env_at mid defining_scope) values body)
+    → each_parameter (expression_context_in begun.evaluation defining_scope) defined.params bound begun.evaluation.turns ≡ Gives mid.evaluation.turns values
+    → outcome_at m position judge (λ evaluator. module_with_arguments evaluator (defined, env_at m defining_scope) given body)
+    ≡ outcome_at mid position judge (λ evaluator. module_with_values evaluator (defined, env_at mid defining_scope) values body)
 specials_filled judge m begun mid position count defined defining_scope given bound values body unit leaves turns begins bindings bound_argument k same is =
     filled_from (evaluator_at m judge) defined (env_at m defining_scope) given (with_bindings (context_at m position) (given.dynamic ++ bindings_of m.evaluation.scopes.now)) _ _ _
     (specials_setting m begun position defining_scope count given.dynamic begins bindings) bound_argument turns body m.leaves is
-    ∙ specials_meant (λ (x : Source) (rows : List Row) evaluator. module_filled evaluator (defined, env_seen x rows defining_scope) values body)
+    ∙ specials_meant (λ (x : Source) (rows : List ScopeRow) evaluator. module_with_values evaluator (defined, env_seen x rows defining_scope) values body)
     judge m begun mid position count given.dynamic unit leaves begins bindings k same
 
 pub module_with_bindings-returns-in_err-made : goal.module_with_bindings-returns-in_err-made
@@ -757,7 +757,7 @@ iterations-returns-in-Some-of t c =
     let here = context_at m c.args.position in
     let quarter_turns_about : List ℕ → Val → ℕ → ℕ → Outcome MemberDesigns = λ name item. each_iteration evaluator c.args.place (map binder_of c.in-Some.rest.now) (body_seen c.args.body) (in_loop here name item) in
     ap (λ (bs : List Binder). each_iteration evaluator c.args.place (map binder_of bs) (body_seen c.args.body) here m.evaluation.turns m.leaves) c.in-Some.ensures.cases.0
-    ∙ ap (λ o. then_with o (λ turns value. or_fault (items_of value) TypeMismatch c.args.place (λ items. each_step c.args.place (quarter_turns_about binder.name) items turns m.leaves))) c.in_ok-value-in-Some.ensures.value
+    ∙ ap (λ o. then_with o (λ turns value. or_fault (iterated_values value) TypeMismatch c.args.place (λ items. each_step c.args.place (quarter_turns_about binder.name) items turns m.leaves))) c.in_ok-value-in-Some.ensures.value
     ∙ ap (λ (o : Option Vals). or_fault o TypeMismatch c.args.place (λ items. each_step c.args.place (quarter_turns_about binder.name) items n m.leaves)) (sym c.in-Some-of.ensures)
     ∙ ap (λ (name : List ℕ). each_step c.args.place (quarter_turns_about name) (remaining_in c.in-Some-of.items.remaining) n m.leaves) (sym c.items.ensures))
 
@@ -835,12 +835,12 @@ iterations_with-iterations-requires t c =
 
 -- the iterations of a loop in the scope of a variable
 variable_meant : (judge : Judge) (m mid : InstanceEvaluator) (position : Position) (before : ℕ) (place : Place) (name : List ℕ) (rest : List BinderTerm) (body : BodyTerm) (value : Val)
-    {empty : Env} → Enters m mid before → env_here mid.evaluation ≡ with_value name value empty → empty ≡ Within [] [] [] no_activation (env_here m.evaluation)
+    {empty : Env} → Enters m mid before → env_here mid.evaluation ≡ with_value name value empty → empty ≡ InnerScope [] [] [] no_activation (env_here m.evaluation)
     → mid.evaluation.turns ≡ m.evaluation.turns
-    → meant_at m position judge (λ evaluator here. each_iteration evaluator place rest body (in_loop here name value)) ≡ meant_at mid position judge (λ evaluator. each_iteration evaluator place rest body)
+    → outcome_at m position judge (λ evaluator here. each_iteration evaluator place rest body (in_loop here name value)) ≡ outcome_at mid position judge (λ evaluator. each_iteration evaluator place rest body)
 variable_meant judge m mid position before place name rest body value e bound inside turns =
     entered_meant (λ (x : Source) evaluator. each_iteration evaluator place rest body) judge m mid position before
-    (Within ((name, value) ∷ []) [] [] no_activation (env_here m.evaluation)) e (bound ∙ ap (λ (x : Env). with_value name value x) inside) turns
+    (InnerScope ((name, value) ∷ []) [] [] no_activation (env_here m.evaluation)) e (bound ∙ ap (λ (x : Env). with_value name value x) inside) turns
 
 pub iterations_with-returns-in_err-members : goal.iterations_with-returns-in_err-members
 iterations_with-returns-in_err-members t c =

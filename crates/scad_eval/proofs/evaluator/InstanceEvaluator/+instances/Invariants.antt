@@ -8,7 +8,7 @@ use Rattle.scad_value.specs.Values.{Val, count_of}
 use Rattle.scad_func.specs.Meaning.{Outcome}
 use Rattle.scad_instances.specs.Items.{remaining_in}
 use Rattle.scad_instances.specs.Seen.{member_designs_of, members_in_front}
-use Rattle.scad_eval.specs.Keeping.{evaluator_at, context_at, Stays, meant_at}
+use Rattle.scad_eval.specs.Keeping.{evaluator_at, context_at, Stays, outcome_at}
 use Rattle.scad_eval.specs.Within.{body_seen}
 use Rattle.scad_eval.proofs.Work.{work}
 use Rattle.scad_eval.proofs.evaluator.InstanceEvaluator.+instances.Given as goal
@@ -97,7 +97,7 @@ invariant-members-each l =
     record {
       stays : Stays old l.self;
       told : (judge : Judge) → IsRightJudge judge →
-          meant_at old l.position judge (λ evaluator here. each_member evaluator here (map term_of_numbered l.instances))
+          outcome_at old l.position judge (λ evaluator here. each_member evaluator here (map term_of_numbered l.instances))
           ≡ members_in_front (member_designs_of old.leaves l.members)
           (each_member (evaluator_at old judge) (context_at old l.position) (map term_of_numbered (drop l.instance-index l.instances)) l.self.evaluation.turns l.self.leaves);
     }

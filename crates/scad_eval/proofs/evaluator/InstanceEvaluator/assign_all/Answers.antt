@@ -1,7 +1,7 @@
 use Rattle.std.proofs.Common.{◌-◌, ◌<◌, length, map, sym, ap, arith}
 use Rattle.std.proofs.lemmas.Result.{err_from_is_err_and}
-use Rattle.scad_definitions.specs.TextView.{assigned_of}
-use Rattle.scad_meaning.specs.Meaning.{each_assigned}
+use Rattle.scad_definitions.specs.TextView.{source_assignment_of}
+use Rattle.scad_meaning.specs.Meaning.{each_assignment}
 use Rattle.scad_eval.specs.Keeping.{evaluations_left, context_at}
 use Rattle.scad_eval.proofs.Binding.{assigned_next, assigned_stops}
 use Rattle.scad_eval.proofs.Outcomes.{along}
@@ -21,7 +21,7 @@ each-preserved c =
     let judge = some_judge in
     record {
       assigns = assigns_then inv.assigns (c.in_ok-assign.ensures some_position).kept;
-      told = λ position. assigned_next (each_assigned (evaluations_left old) (context_at old position) (map assigned_of xs) old.evaluation.turns)
+      told = λ position. assigned_next (each_assignment (evaluations_left old) (context_at old position) (map source_assignment_of xs) old.evaluation.turns)
           (evaluations_left old) (evaluations_left here) (context_at here position) xs i c.assignment-item.result here.evaluation.turns
           (inv.told position) (ap (λ n. most_evaluations - n) inv.assigns.older.same.depth) h c.assignment-item.is
           c.assign.new.self.evaluation.turns c.assign.new.self.leaves ((c.in_ok-assign.ensures position).equation judge.0 judge.1);
@@ -38,9 +38,9 @@ returns-in_err-assign c = λ position.
     let inv = c.each.invariant in
     rw (p.1, p.2) (record {
       equation = λ judge right.
-          along (ap (λ l. each_assigned (evaluations_left old) (context_at old position) l old.evaluation.turns)
+          along (ap (λ l. each_assignment (evaluations_left old) (context_at old position) l old.evaluation.turns)
           (sym (c.assignments-assignments.ensures c.requires)))
-          (assigned_stops (each_assigned (evaluations_left old) (context_at old position) (map assigned_of xs) old.evaluation.turns)
+          (assigned_stops (each_assignment (evaluations_left old) (context_at old position) (map source_assignment_of xs) old.evaluation.turns)
           (evaluations_left old) (evaluations_left here) (context_at here position) xs i c.assignment-item.result here.evaluation.turns
           (inv.told position) (ap (λ n. most_evaluations - n) inv.assigns.older.same.depth) h c.assignment-item.is _ _ _ _
           ((c.in_err-assign.ensures position).equation judge right));

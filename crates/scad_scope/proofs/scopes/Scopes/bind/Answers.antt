@@ -1,6 +1,6 @@
 use Rattle.std.proofs.Common.{refl}
 use Rattle.scad_value.specs.View.{val_of}
-use Rattle.scad_definitions.specs.Numbered.{numbers_below}
+use Rattle.scad_definitions.specs.Numbered.{are_numbers_below}
 use Rattle.scad_scope.specs.Table.{rows_of}
 use Rattle.scad_scope.proofs.Envs.{binding_shown, binding_keeps}
 use Rattle.scad_scope.proofs.Numbered.{binding_passes}
@@ -17,11 +17,11 @@ returns-clause-kept c = binding_keeps (rows_of c.args.self.now) (rows_of c.add_v
 
 pub returns-clause-numbered : goal.returns-clause-numbered
 returns-clause-numbered c = record {
-  functions = λ n h. binding_passes (λ r. numbers_below n r.functions)
+  functions = λ n h. binding_passes (λ r. are_numbers_below n r.functions)
       (rows_of c.args.self.now)
       (rows_of c.add_variable.new.self) c.args.scope c.args.name.now (val_of c.args.value) (λ r. refl)
       c.add_variable.result c.add_variable.ensures.bound c.add_variable.ensures.unchanged h;
-  modules = λ n h. binding_passes (λ r. numbers_below n r.modules) (rows_of c.args.self.now)
+  modules = λ n h. binding_passes (λ r. are_numbers_below n r.modules) (rows_of c.args.self.now)
       (rows_of c.add_variable.new.self) c.args.scope c.args.name.now (val_of c.args.value) (λ r. refl)
       c.add_variable.result c.add_variable.ensures.bound c.add_variable.ensures.unchanged h;
 }

@@ -1,15 +1,15 @@
 use Rattle.std.proofs.Common.{refl, subst, ◌≡◌, [], ◌∷◌, ◌++◌}
 use Rattle.std.specs.Prelude.{OnOk}
-use Rattle.scad_scope.specs.Names.{Row, no_numbered_activation}
+use Rattle.scad_scope.specs.Names.{ScopeRow, no_numbered_activation}
 use Rattle.scad_scope.specs.Rows.{row_of_block}
-use Rattle.scad_definitions.specs.Tables.{table_held}
+use Rattle.scad_definitions.specs.Tables.{block_table_in}
 use Rattle.scad_scope.specs.Table.{rows_of}
 use Rattle.scad_scope.proofs.Envs.{entering_told, entering_kept}
 use Rattle.scad_scope.proofs.Numbered.{block_stays_below}
 use Rattle.scad_scope.proofs.scopes.Scopes.enter.Goals as goal
 
-row : goal.After-add → Row
-row c = row_of_block c.args.outer (table_held c.args.blocks.now) c.args.block
+row : goal.After-add → ScopeRow
+row c = row_of_block c.args.outer (block_table_in c.args.blocks.now) c.args.block
 
 added : (c : goal.After-add) → OnOk c.add.result
     (rows_of c.add.new.self ≡ rows_of c.args.self.now ++ row c ∷ [])

@@ -1,16 +1,16 @@
 use Rattle.std.proofs.Common.{refl, ap, length, subst, ◌≡◌, [], ◌∷◌, ◌++◌, ◌∙◌}
 use Rattle.std.specs.Prelude.{OnOk}
-use Rattle.scad_scope.specs.Names.{Row, numbered_activation, activation_row, env_of}
+use Rattle.scad_scope.specs.Names.{ScopeRow, numbered_activation, activation_row, env_of}
 use Rattle.scad_scope.specs.Rows.{row_of_block}
-use Rattle.scad_definitions.specs.Tables.{table_held}
+use Rattle.scad_definitions.specs.Tables.{block_table_in}
 use Rattle.scad_scope.specs.Table.{rows_of}
 use Rattle.scad_scope.proofs.Envs.{entering_told, entering_kept, called_from}
 use Rattle.scad_scope.proofs.Numbered.{block_stays_below}
 use Rattle.scad_scope.proofs.scopes.Scopes.enter_activation.Goals as goal
 
-row : goal.After-add → Row
+row : goal.After-add → ScopeRow
 row c = activation_row c.args.call.children c.args.call.caller
-    (row_of_block c.args.outer (table_held c.args.blocks.now) c.args.block)
+    (row_of_block c.args.outer (block_table_in c.args.blocks.now) c.args.block)
 
 added : (c : goal.After-add) → OnOk c.add.result
     (rows_of c.add.new.self ≡ rows_of c.args.self.now ++ row c ∷ [])

@@ -1,7 +1,7 @@
 use Rattle.std.proofs.Common.{refl, subst, ◌≡◌, [], ◌∷◌, ◌++◌}
 use Rattle.std.specs.Prelude.{OnOk}
 use Rattle.scad_scope.specs.Names.{empty_row, no_numbered_activation}
-use Rattle.scad_definitions.specs.Numbered.{numbers_below}
+use Rattle.scad_definitions.specs.Numbered.{are_numbers_below}
 use Rattle.scad_scope.specs.Table.{rows_of}
 use Rattle.scad_scope.proofs.Envs.{entering_told, entering_kept}
 use Rattle.scad_scope.proofs.Numbered.{entering_passes}
@@ -25,9 +25,9 @@ returns-clause-kept c = record {
 
 pub returns-clause-numbered : goal.returns-clause-numbered
 returns-clause-numbered c = record {
-  functions = λ n h. entering_passes (λ r. numbers_below n r.functions)
+  functions = λ n h. entering_passes (λ r. are_numbers_below n r.functions)
       (rows_of c.args.self.now)
       (rows_of c.add.new.self) (empty_row c.args.outer) c.add.result (added c) c.add.ensures.unchanged refl h;
-  modules = λ n h. entering_passes (λ r. numbers_below n r.modules) (rows_of c.args.self.now)
+  modules = λ n h. entering_passes (λ r. are_numbers_below n r.modules) (rows_of c.args.self.now)
       (rows_of c.add.new.self) (empty_row c.args.outer) c.add.result (added c) c.add.ensures.unchanged refl h;
 }

@@ -4,7 +4,7 @@ use Rattle.std.proofs.lemmas.List.{take-map}
 use Rattle.std.proofs.Math.Seq.{take-append_seam}
 use Rattle.scad_scope.specs.declared.table.Scope.{Scope}
 use Rattle.scad_scope.specs.Names.{env_of}
-use Rattle.scad_definitions.specs.Numbered.{numbers_below}
+use Rattle.scad_definitions.specs.Numbered.{are_numbers_below}
 use Rattle.scad_scope.specs.Numbered.{each_row}
 use Rattle.scad_scope.specs.Table.{rows_of}
 use Rattle.scad_scope.specs.View.{row_of_scope, rows_in}
@@ -26,8 +26,8 @@ returns-clause-kept c = λ k h. ap (λ rs. env_of rs k) (cut _ _ c.args.to c.tru
 
 pub returns-clause-numbered : goal.returns-clause-numbered
 returns-clause-numbered c = record {
-  functions = λ n h. subst (λ rs. IsTrue (each_row (λ r. numbers_below n r.functions) rs)) (sym (cut _ _ c.args.to c.truncate.ensures.items))
-      (cut_passes (λ r. numbers_below n r.functions) c.args.to (rows_of c.args.self.now) h);
-  modules = λ n h. subst (λ rs. IsTrue (each_row (λ r. numbers_below n r.modules) rs)) (sym (cut _ _ c.args.to c.truncate.ensures.items))
-      (cut_passes (λ r. numbers_below n r.modules) c.args.to (rows_of c.args.self.now) h);
+  functions = λ n h. subst (λ rs. IsTrue (each_row (λ r. are_numbers_below n r.functions) rs)) (sym (cut _ _ c.args.to c.truncate.ensures.items))
+      (cut_passes (λ r. are_numbers_below n r.functions) c.args.to (rows_of c.args.self.now) h);
+  modules = λ n h. subst (λ rs. IsTrue (each_row (λ r. are_numbers_below n r.modules) rs)) (sym (cut _ _ c.args.to c.truncate.ensures.items))
+      (cut_passes (λ r. are_numbers_below n r.modules) c.args.to (rows_of c.args.self.now) h);
 }

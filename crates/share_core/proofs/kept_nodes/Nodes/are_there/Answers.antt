@@ -1,7 +1,7 @@
 use Rattle.std.proofs.Common.{rules, ◌≡◌, ◌∙◌, ap, sym, map, option_map, List, length}
 use Rattle.std.specs.Arc.{arc_value}
 use Rattle.std.proofs.lemmas.List.{length-map}
-use Rattle.share_core.specs.Views.{Node}
+use Rattle.share_core.specs.Views.{NodeProgress}
 use Rattle.share_core.specs.KeptNodes.{are_values}
 use Rattle.share_core.specs.Steps.{all_there}
 use Rattle.share_core.proofs.KeptLists.{all_there_is}
@@ -11,4 +11,4 @@ pub returns : goal.returns
 returns g c =
     let l : length (map (λ x. option_map arc_value x) c.self.inside.have.items) ≡ length c.self.inside.states.items = length-map c.self.inside.have.items (λ x. option_map arc_value x) ∙ c.self.invariant in
     let values : c.are_some.result ≡ are_values (map (λ x. option_map arc_value x) c.self.inside.have.items) = search rules in
-    values ∙ sym (all_there_is c.self.inside.states.items (map (λ x. option_map arc_value x) c.self.inside.have.items) l) ∙ ap (λ (xs : List (Node g.row.V.Denot)). all_there xs) c.self.view_is
+    values ∙ sym (all_there_is c.self.inside.states.items (map (λ x. option_map arc_value x) c.self.inside.have.items) l) ∙ ap (λ (xs : List (NodeProgress g.row.V.Denot)). all_there xs) c.self.view_is

@@ -1,7 +1,7 @@
 use Rattle.std.proofs.Common.{rules, ◌<◌, ◌∙◌, ap, option_map, List, length, set}
 use Rattle.std.specs.Arc.{arc_value}
-use Rattle.share_core.specs.Views.{Node}
-use Rattle.share_core.specs.KeptNodes.{node_of}
+use Rattle.share_core.specs.Views.{NodeProgress}
+use Rattle.share_core.specs.KeptNodes.{client_node}
 use Rattle.share_core.proofs.KeptLists.{place_within, nodes_put}
 use Rattle.share_core.proofs.kept_nodes.Nodes.put.Goals as goal
 
@@ -18,4 +18,4 @@ index_mut-requires-2 g c =
 pub returns : goal.returns
 returns g c =
     nodes_put (λ x. option_map arc_value x) c.self.inside.states.items c.self.inside.have.items c.args.node c.args.state c.args.value
-    ∙ ap (λ (xs : List (Node g.row.V.Denot)). set xs c.args.node (node_of c.args.state (option_map arc_value c.args.value))) c.self.view_is
+    ∙ ap (λ (xs : List (NodeProgress g.row.V.Denot)). set xs c.args.node (client_node c.args.state (option_map arc_value c.args.value))) c.self.view_is
