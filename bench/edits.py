@@ -26,9 +26,7 @@ FRAME = (
     "tree_export::",
     "pair_work::",
     "parallel_eval::",
-    "join_solids::",
-    "known_store::",
-    "scad_source::",
+    "scad_parser::source::",
 )
 
 # The functions that stand for each phase, by how their names begin; the longest beginning counts. The compiler puts functions
@@ -36,26 +34,21 @@ FRAME = (
 # rest, with freeing, threads, and the reply's way to the output.
 PHASES = {
     # words of the source to tokens, tokens to a program, and its end
-    "reading": ("scad_lexer::", "scad_parser::", "scad_statement_parts::", "scad_expressions::", "scad_source::scad_ast"),
+    "reading": ("scad_lexer::", "scad_parser::", "scad_expressions::"),
     # a program to a design
-    "evaluating": (
-        "scad_eval::", "scad_evaluation::", "scad_func::", "scad_scope::", "scad_blocks::", "scad_arguments::", "newest_names::",
-        "scad_design::",
-    ),
+    "evaluating": ("scad_eval::", "scad_func::", "scad_scope::", "scad_definitions::", "scad_design::"),
     # a design to a tree in world position
     "placing": ("scad_design::placing::",),
     # the distinct subtrees by number, and their keys, with the SHA-256 of their bytes
-    "naming": ("csg_tree::", "tree_names::", "sha2::", "std_collections::btree::", "std_alloc::vec::lodged::"),
+    "naming": ("csg_tree::", "sha2::", "std_collections::btree::", "std_alloc::vec::lodged::"),
     # what is asked of the memo and offered to it, with the comparison of keys; what isn't a call stands in `join_solid`
     "probing": (
         "flight_memo::", "subtree_memo::", "memo_core::", "lru::", "csg_tree::tree_key::are_same", "core::sync::Mutex::lock",
     ),
     # the solids of leaves, and merges
-    "building": (
-        "bsp_boolean::", "leaf_solids::", "bsp_partition::", "bsp_tree::", "plane_table::", "plane_line::", "plane_polygon::",
-    ),
+    "building": ("bsp_boolean::", "bsp_partition::", "bsp_tree::", "plane_table::", "plane_polygon::"),
     "facets": ("facet_cut::",),
-    "text": ("off_text::", "lowest_terms::", "text_place::decimal::"),
+    "text": ("off_text::", "text_place::decimal::"),
 }
 
 
@@ -195,7 +188,9 @@ class Measuring:
 
 
 def phase_of(function: str) -> str | None:
-    """The phase that a function stands for."""
+    """The phase that a function stands for; one between the phases stands for none."""
+    if function.startswith(FRAME):
+        return None
     found = [(len(it), phase) for phase, names in PHASES.items() for it in names if function.startswith(it)]
     return max(found)[1] if found else None
 

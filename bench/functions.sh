@@ -3,4 +3,4 @@
 # evaluates a second. Run by hand, with rt in the path.
 set -eu
 bench=$(cd "$(dirname "$0")" && pwd)
-sh "$bench/proved.sh" functions_program scad_lexer scad_parser scad_ast scad_value scad_scope scad_evaluation scad_func text_place anyhow
+sh "$bench/proved.sh" functions_program scad_lexer scad_parser scad_ast scad_value scad_scope scad_func text_place anyhow

@@ -3,4 +3,4 @@
 # in a box. Run by hand, with rt in the path.
 set -eu
 bench=$(cd "$(dirname "$0")" && pwd)
-sh "$bench/proved.sh" hull_program scad_hull shape_planes text_place anyhow
+sh "$bench/proved.sh" hull_program scad_hull primitives text_place anyhow

@@ -62,4 +62,4 @@ eleven=$(least "$work/again" 1 --workers 1)
 again=$(awk -v a="$eleven" -v b="$alone" 'BEGIN { printf "%.2f", (a - b) / 10 }')
 echo "an export that is repeated:                        $again ms, the first $(ratio "$alone" "$again") times as long"
 sh "$top/bench/proved.sh" sharing_program plane_predicate csg_tree bsp_boolean text_place scad_lexer scad_parser scad_ast \
-    scad_eval tree_export script_reader script_service script_server join_solids reply_text memo_core anyhow
+    scad_eval tree_export script_reader script_service script_server reply_text memo_core anyhow
