@@ -1,5 +1,6 @@
 -- Where instances stand, before and after steps.
-use Rattle.std.proofs.Common.{◌≡◌, ℕ, ◌-◌, List, [], ◌++◌, take, false, Option, None, Result, Ok, Err, refl, sym, ap, subst, ◌∙◌, append_assoc}
+use denote.RawPtr.{null_ptr}
+use Rattle.std.proofs.Common.{Vec, Global, arith, ◌≡◌, ℕ, ◌-◌, List, [], ◌++◌, take, false, Option, None, Result, Ok, Err, refl, sym, ap, subst, ◌∙◌, append_assoc}
 use Rattle.std.specs.Prelude.{OnOk}
 use Rattle.plane_predicate.specs.declared.unit.Unit.{Unit as LengthUnit}
 use Rattle.scad_value.specs.Values.{Val}
@@ -69,8 +70,15 @@ stays_told (Ok x) k = k
 stays_told (Err stop) k = tt
 
 -- a position that is any other as well, for what is said of every position
-pub some_position : Position
-some_position = record { inside = None; under_root = false }
+no_items : {A : Type 0} → Global → Vec A Global
+no_items alloc = record { ptr = null_ptr; len = 0; cap = 0; alloc = alloc; items = []; ok = (refl, omega arith); small = omega arith }
+
+pub some_position : Global → Position
+some_position alloc = record {
+  instances = record { ref_ptr = (0, 0); now = record { blocks = no_items alloc } };
+  inside = None;
+  under_root = false;
+}
 
 -- an extrusion with nothing wrong still has nothing wrong
 pub checked_still : (a b : LengthUnit) (through : Option Extrusion) → b ≡ a → IsCheckedInside a through → IsCheckedInside b through

@@ -11,6 +11,7 @@ use Rattle.scad_func.specs.declared.source.Source.{Source}
 use Rattle.scad_instances.specs.declared.numbered.NumberedInstance.{NumberedInstance}
 use Rattle.scad_instances.specs.declared.position.NumberedBody.{NumberedBody}
 use Rattle.scad_instances.specs.declared.position.Position.{Position}
+use Rattle.scad_instances.specs.Listing.{AreInstancesOf}
 use Rattle.scad_instances.specs.Positions.{HasBlocks}
 use Rattle.scad_eval.specs.declared.evaluator.InstanceEvaluator.{InstanceEvaluator}
 use Rattle.scad_eval.specs.Keeping.{IsPosition, Stays, Binds, Assigns}
@@ -23,6 +24,7 @@ module _ (old new : InstanceEvaluator) (unit : new.unit ≡ old.unit) (source : 
   pub position_still : {position : Position} → IsPosition old position → IsPosition new position
   position_still {position = position} h = record {
     whole = subst (λ (x : Source). IsWholeTable (table_in x)) (sym source) h.whole;
+    listed = subst (λ (x : Source). AreInstancesOf (table_in x) position.instances.now) (sym source) h.listed;
     inside = checked_still old.unit new.unit position.inside unit h.inside;
   }
 
@@ -45,6 +47,7 @@ module _ (old new : InstanceEvaluator) (unit : new.unit ≡ old.unit) (source : 
     inside = checked_still old.unit new.unit position.inside unit h.inside;
     called = record {
       whole = subst (λ (x : Source). IsWholeTable (table_in x)) (sym source) h.called.whole;
+      listed = subst (λ (x : Source). AreInstancesOf (table_in x) position.instances.now) (sym source) h.called.listed;
       block = subst (λ (x : Source). IsInBlock (table_in x) body) (sym source) h.called.block;
       its_block = subst (λ (x : Source). IsBlockOf (table_in x) defined.block (body_of defined.body.now)) (sym source) h.called.its_block;
       there = subst (λ l. defining_scope < length l) (sym rows) h.called.there;

@@ -13,6 +13,7 @@ use Rattle.scad_func.specs.Definitions.{IsWholeTable}
 use Rattle.scad_func.specs.Evaluations.{KeepsEvaluation, KeepsAllButScopes, scopes_there, env_here, OneScopeMore}
 use Rattle.scad_meaning.specs.declared.extrusion.Extrusion.{Extrusion}
 use Rattle.scad_instances.specs.declared.position.Position.{Position}
+use Rattle.scad_instances.specs.Listing.{AreInstancesOf}
 use Rattle.scad_eval.specs.declared.evaluator.InstanceEvaluator.{InstanceEvaluator}
 use Rattle.scad_meaning.specs.Verdicts.{Judge, IsRightJudge}
 use Rattle.scad_meaning.specs.Meaning.{Context, Evaluator, evaluator_with}
@@ -50,9 +51,10 @@ abbrev pub IsCheckedInside : LengthUnit → Option Extrusion → Type 0
 IsCheckedInside unit None = Unit {0}
 IsCheckedInside unit (Some through) = IsCheckedExtrusion unit through
 
--- a position in a whole source, inside an extrusion with nothing wrong or inside none
+-- a position in a whole source with its instances, inside an extrusion with nothing wrong or inside none
 pub record IsPosition (evaluator : InstanceEvaluator) (position : Position) : Type 0 where
   pub whole : IsWholeTable (table_in evaluator.evaluation.source.now)
+  pub listed : AreInstancesOf (table_in evaluator.evaluation.source.now) position.instances.now
   pub inside : IsCheckedInside evaluator.unit position.inside
 
 -- all but the turns and the leaves is as before

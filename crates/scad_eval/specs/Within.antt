@@ -10,6 +10,8 @@ use Rattle.scad_func.specs.View.{table_in}
 use Rattle.scad_instances.specs.declared.numbered.NumberedInstance.{NumberedInstance}
 use Rattle.scad_instances.specs.declared.position.NumberedBody.{NumberedBody}
 use Rattle.scad_instances.specs.declared.position.Position.{Position}
+use Rattle.scad_instances.specs.declared.table.InstanceTable.{InstanceTable}
+use Rattle.scad_instances.specs.Listing.{AreInstancesOf}
 use Rattle.scad_instances.specs.Positions.{HasBlocks}
 use Rattle.scad_eval.specs.declared.evaluator.InstanceEvaluator.{InstanceEvaluator}
 use Rattle.scad_eval.specs.Keeping.{IsCheckedInside, IsPosition}
@@ -32,10 +34,11 @@ pub record IsBodyAt (evaluator : InstanceEvaluator) (stand : Position) (body : N
   pub position : IsPosition evaluator stand
   pub block : IsInBlock (table_in evaluator.evaluation.source.now) body
 
--- a call of a module in a whole source: its body stands in its block, and the module's in its own, and the scope of the
+-- a call of a module in a whole source with its instances: its body stands in its block, and the module's in its own, and the scope of the
 -- module is there
-pub record IsModuleCall (evaluator : InstanceEvaluator) (defined : Module) (defining_scope : ℕ) (body : NumberedBody) : Type 0 where
+pub record IsModuleCall (evaluator : InstanceEvaluator) (instances : InstanceTable) (defined : Module) (defining_scope : ℕ) (body : NumberedBody) : Type 0 where
   pub whole : IsWholeTable (table_in evaluator.evaluation.source.now)
+  pub listed : AreInstancesOf (table_in evaluator.evaluation.source.now) instances
   pub block : IsInBlock (table_in evaluator.evaluation.source.now) body
   pub its_block : IsBlockOf (table_in evaluator.evaluation.source.now) defined.block (body_of defined.body.now)
   pub there : defining_scope < scopes_there evaluator.evaluation
@@ -43,4 +46,4 @@ pub record IsModuleCall (evaluator : InstanceEvaluator) (defined : Module) (defi
 -- a position, and a call of a module there
 pub record IsCallAt (evaluator : InstanceEvaluator) (stand : Position) (defined : Module) (defining_scope : ℕ) (body : NumberedBody) : Type 0 where
   pub inside : IsCheckedInside evaluator.unit stand.inside
-  pub called : IsModuleCall evaluator defined defining_scope body
+  pub called : IsModuleCall evaluator stand.instances.now defined defining_scope body

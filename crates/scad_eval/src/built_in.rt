@@ -36,14 +36,14 @@ impl InstanceEvaluator<'_, '_> {
     #[cycle(instances)]
     pub(crate) fn built_in_called(
         &mut self,
-        position: Position,
+        position: Position<'_, '_>,
         place: Place,
         name: &[u8],
         args: &Args,
         body: NumberedBody<'_>,
     ) -> Result<InstanceResult, Stop>
         requires { IsBodyAt self.old position body }
-        ensures { EvaluatesAt instance_design_of self.old self.new position result
+        ensures { EvaluatesAt instance_design_of self.old self.new position.entry result
             (λ evaluator here.
             built_in_design evaluator here place name.now (args_of args.now) (body_seen body.entry)
             (builtin_module_of name.now)) }
@@ -61,14 +61,14 @@ impl InstanceEvaluator<'_, '_> {
     #[cycle(instances)]
     fn built_in_made(
         &mut self,
-        position: Position,
+        position: Position<'_, '_>,
         place: Place,
         built_in: BuiltinModule,
         given: CallArguments<'_, BoundedValue>,
         body: NumberedBody<'_>,
     ) -> Result<InstanceResult, Stop>
         requires { IsBodyAt self.old position body }
-        ensures { EvaluatesAt instance_design_of self.old self.new position result (λ evaluator.
+        ensures { EvaluatesAt instance_design_of self.old self.new position.entry result (λ evaluator.
             built_in_with_arguments evaluator place built_in (arguments_of given.entry)
             (body_seen body.entry)) }
     {
@@ -92,14 +92,14 @@ impl InstanceEvaluator<'_, '_> {
     #[cycle(instances)]
     fn effect_made(
         &mut self,
-        position: Position,
+        position: Position<'_, '_>,
         place: Place,
         effect: Effect,
         body: NumberedBody<'_>,
     ) -> Result<InstanceResult, Stop>
         requires stands { IsBodyAt self.old position body }
         requires safe { IsSafeCall (effect_call_of effect) }
-        ensures { EvaluatesAt instance_design_of self.old self.new position result
+        ensures { EvaluatesAt instance_design_of self.old self.new position.entry result
             (λ evaluator here.
             effect_design evaluator here place (effect_call_of effect) (body_seen body.entry)) }
     {
@@ -124,12 +124,12 @@ impl InstanceEvaluator<'_, '_> {
     #[cycle(instances)]
     fn moved(
         &mut self,
-        position: Position,
+        position: Position<'_, '_>,
         steps: &[Step],
         body: NumberedBody<'_>,
     ) -> Result<InstanceResult, Stop>
         requires { IsBodyAt self.old position body }
-        ensures { EvaluatesAt instance_design_of self.old self.new position result
+        ensures { EvaluatesAt instance_design_of self.old self.new position.entry result
             (λ evaluator here turns leaves.
             then_with (body_design evaluator Union here (body_seen body.entry) turns leaves)
             (λ turns made. Gives turns (moved_design (moved_design_tree steps.now) made))) }
@@ -145,14 +145,14 @@ impl InstanceEvaluator<'_, '_> {
     #[cycle(instances)]
     fn extruded(
         &mut self,
-        position: Position,
+        position: Position<'_, '_>,
         place: Place,
         through: Extrusion,
         body: NumberedBody<'_>,
     ) -> Result<InstanceResult, Stop>
         requires stands { IsBodyAt self.old position body }
         requires safe { IsSafe through.height }
-        ensures { EvaluatesAt instance_design_of self.old self.new position result
+        ensures { EvaluatesAt instance_design_of self.old self.new position.entry result
             (λ evaluator here. effect_design evaluator here place
             (an_extrusion through.center through.height)
             (body_seen body.entry)) }

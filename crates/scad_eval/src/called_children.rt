@@ -19,13 +19,13 @@ impl InstanceEvaluator<'_, '_> {
     #[cycle(instances)]
     pub(crate) fn children_called(
         &mut self,
-        position: Position,
+        position: Position<'_, '_>,
         place: Place,
         chosen: &Chosen,
     ) -> Result<InstanceResult, Stop>
         requires position { IsPosition self.old position }
         requires safe { IsSafeChoice (chosen_of chosen.now) }
-        ensures { EvaluatesAt instance_design_of self.old self.new position result
+        ensures { EvaluatesAt instance_design_of self.old self.new position.entry result
             (λ evaluator. counted_children evaluator place (chosen_of chosen.now)) }
     {
         let turns = self.evaluation.turns;
@@ -41,13 +41,13 @@ impl InstanceEvaluator<'_, '_> {
     #[cycle(instances)]
     fn children_chosen(
         &mut self,
-        position: Position,
+        position: Position<'_, '_>,
         place: Place,
         chosen: &Chosen,
     ) -> Result<InstanceResult, Stop>
         requires position { IsPosition self.old position }
         requires safe { IsSafeChoice (chosen_of chosen.now) }
-        ensures { EvaluatesAt instance_design_of self.old self.new position result
+        ensures { EvaluatesAt instance_design_of self.old self.new position.entry result
             (λ evaluator. chosen_children evaluator place (chosen_of chosen.now)) }
     {
         self.evaluation.begin_call(place)?;
@@ -58,10 +58,14 @@ impl InstanceEvaluator<'_, '_> {
 
     // The chosen children of the enclosing call, in a new scope inside its caller's, or nothing where none encloses.
     #[cycle(instances)]
-    fn children_made(&mut self, position: Position, chosen: &Chosen) -> Result<InstanceResult, Stop>
+    fn children_made(
+        &mut self,
+        position: Position<'_, '_>,
+        chosen: &Chosen,
+    ) -> Result<InstanceResult, Stop>
         requires position { IsPosition self.old position }
         requires safe { IsSafeChoice (chosen_of chosen.now) }
-        ensures { EvaluatesAt instance_design_of self.old self.new position result
+        ensures { EvaluatesAt instance_design_of self.old self.new position.entry result
             (λ evaluator here. children_design evaluator here (activation_in here.env)
             (chosen_of chosen.now)) }
     {

@@ -25,14 +25,14 @@ impl InstanceEvaluator<'_, '_> {
     #[cycle(instances)]
     pub(crate) fn called(
         &mut self,
-        position: Position,
+        position: Position<'_, '_>,
         place: Place,
         name: &[u8],
         args: &Args,
         body: NumberedBody<'_>,
     ) -> Result<InstanceResult, Stop>
         requires { IsBodyAt self.old position body }
-        ensures { EvaluatesAt instance_design_of self.old self.new position result
+        ensures { EvaluatesAt instance_design_of self.old self.new position.entry result
             (λ evaluator here.
             call_design evaluator here place name.now (args_of args.now) (body_seen body.entry)
             (visible_module here.env name.now)) }
@@ -51,7 +51,7 @@ impl InstanceEvaluator<'_, '_> {
     #[cycle(instances)]
     fn module_called(
         &mut self,
-        position: Position,
+        position: Position<'_, '_>,
         place: Place,
         defined: Module<'_>,
         defining_scope: u32,
@@ -60,7 +60,7 @@ impl InstanceEvaluator<'_, '_> {
     ) -> Result<InstanceResult, Stop>
         requires called { IsCallAt self.old position defined defining_scope body }
         requires given { length given.bound.items ≡ length (params_of defined.params.now) }
-        ensures { EvaluatesAt instance_design_of self.old self.new position result
+        ensures { EvaluatesAt instance_design_of self.old self.new position.entry result
             (λ evaluator here.
             module_design evaluator here place
             (module_of defined.entry, env_at self.old defining_scope)
@@ -77,7 +77,7 @@ impl InstanceEvaluator<'_, '_> {
     #[cycle(instances)]
     fn module_with_bindings(
         &mut self,
-        position: Position,
+        position: Position<'_, '_>,
         defined: Module<'_>,
         defining_scope: u32,
         given: CallArguments<'_, BoundedValue>,
@@ -85,7 +85,7 @@ impl InstanceEvaluator<'_, '_> {
     ) -> Result<InstanceResult, Stop>
         requires called { IsCallAt self.old position defined defining_scope body }
         requires given { length given.bound.items ≡ length (params_of defined.params.now) }
-        ensures { EvaluatesAt instance_design_of self.old self.new position result (λ evaluator.
+        ensures { EvaluatesAt instance_design_of self.old self.new position.entry result (λ evaluator.
             module_with_arguments evaluator (
               module_of defined.entry,
               env_at self.old
@@ -108,7 +108,7 @@ impl InstanceEvaluator<'_, '_> {
     #[cycle(instances)]
     fn module_made(
         &mut self,
-        position: Position,
+        position: Position<'_, '_>,
         defined: Module<'_>,
         defining_scope: u32,
         values: BoundedValues,
@@ -116,12 +116,12 @@ impl InstanceEvaluator<'_, '_> {
     ) -> Result<InstanceResult, Stop>
         requires called { IsCallAt self.old position defined defining_scope body }
         requires values { length values.items.items ≡ length defined.params.now.items.items }
-        ensures { EvaluatesAt instance_design_of self.old self.new position result
+        ensures { EvaluatesAt instance_design_of self.old self.new position.entry result
             (λ evaluator. module_with_values evaluator
             (module_of defined.entry, env_at self.old defining_scope)
             (values_seen values) (body_seen body.entry)) }
     {
-        let before = self.enter_module(defined, defining_scope, values, body)?;
+        let before = self.enter_module(position.instances, defined, defining_scope, values, body)?;
         let members = self.members_in_scope(position, defined.block, None)?;
         self.evaluation.leave(before);
         Ok(join_members(self.evaluation.alloc, Op::Union, members)?)

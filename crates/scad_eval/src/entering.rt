@@ -11,7 +11,7 @@ ghost use Rattle.scad_eval.specs.Within.{body_seen, IsModuleCall};
 
 use crate::evaluator::InstanceEvaluator;
 use scad_func::BoundedValues;
-use scad_instances::{NumberedBody, count_children};
+use scad_instances::{InstanceTable, NumberedBody, count_children};
 use scad_scope::Module;
 use text_place::NoMemory;
 
@@ -20,19 +20,20 @@ impl InstanceEvaluator<'_, '_> {
     /// and answers the caller's.
     pub(crate) fn enter_module(
         &mut self,
+        instances: &InstanceTable<'_>,
         defined: Module<'_>,
         defining_scope: u32,
         values: BoundedValues,
         body: NumberedBody<'_>,
     ) -> Result<u32, NoMemory>
-        requires called { IsModuleCall self.old defined defining_scope body }
+        requires called { IsModuleCall self.old instances.now defined defining_scope body }
         requires values { length values.items.items ≡ length defined.params.now.items.items }
         ensures { EntersModule self.old self.new result
             (module_scope (env_at self.old defining_scope) (module_of defined.entry)
             (values_seen values)
             (statements_of_body (body_seen body.entry)) (env_here self.old.evaluation)) }
     {
-        let count = count_children(&mut self.evaluation, body.block)?;
+        let count = count_children(&mut self.evaluation, instances, body.block)?;
         let caller = self
             .evaluation
             .enter_activation(defining_scope, defined.block, body.block)?;

@@ -28,11 +28,11 @@ impl InstanceEvaluator<'_, '_> {
     #[cycle(instances)]
     pub(crate) fn instance(
         &mut self,
-        position: Position,
+        position: Position<'_, '_>,
         instance: NumberedInstance<'_>,
     ) -> Result<InstanceResult, Stop>
         requires { IsInstanceAt self.old position instance }
-        ensures { EvaluatesAt instance_design_of self.old self.new position result
+        ensures { EvaluatesAt instance_design_of self.old self.new position.entry result
             (λ evaluator here. evaluator.at_next_depth here (term_of_numbered instance.entry)) }
     {
         self.evaluation.begin_evaluation(instance.instance.place())?;
@@ -45,11 +45,11 @@ impl InstanceEvaluator<'_, '_> {
     #[cycle(instances)]
     fn by_root_modifier(
         &mut self,
-        position: Position,
+        position: Position<'_, '_>,
         instance: NumberedInstance<'_>,
     ) -> Result<InstanceResult, Stop>
         requires { IsInstanceAt self.old position instance }
-        ensures { EvaluatesAt instance_design_of self.old self.new position result
+        ensures { EvaluatesAt instance_design_of self.old self.new position.entry result
             (λ evaluator here. instance_design evaluator here (term_of_numbered instance.entry)) }
     {
         if !has_root_modifier(instance.instance) {
@@ -69,11 +69,11 @@ impl InstanceEvaluator<'_, '_> {
     #[cycle(instances)]
     fn core(
         &mut self,
-        position: Position,
+        position: Position<'_, '_>,
         instance: NumberedInstance<'_>,
     ) -> Result<InstanceResult, Stop>
         requires { IsInstanceAt self.old position instance }
-        ensures { EvaluatesAt instance_design_of self.old self.new position result
+        ensures { EvaluatesAt instance_design_of self.old self.new position.entry result
             (λ evaluator here. core_design evaluator here
             (core_of_instance (term_of_numbered instance.entry))) }
     {
@@ -117,12 +117,12 @@ impl InstanceEvaluator<'_, '_> {
     #[cycle(instances)]
     fn one_or_nothing(
         &mut self,
-        position: Position,
+        position: Position<'_, '_>,
         test: &Expr,
         body: NumberedBody<'_>,
     ) -> Result<InstanceResult, Stop>
         requires { IsBodyAt self.old position body }
-        ensures { EvaluatesAt instance_design_of self.old self.new position result
+        ensures { EvaluatesAt instance_design_of self.old self.new position.entry result
             (λ evaluator here turns leaves. then_with
             (value_at_next_depth (expression_context evaluator.evaluations here) true
             (term_of test.now) turns) (λ turns value.
@@ -141,14 +141,14 @@ impl InstanceEvaluator<'_, '_> {
     #[cycle(instances)]
     fn one_or_other(
         &mut self,
-        position: Position,
+        position: Position<'_, '_>,
         test: &Expr,
         body: NumberedBody<'_>,
         other: NumberedBody<'_>,
     ) -> Result<InstanceResult, Stop>
         requires stands { IsBodyAt self.old position body }
         requires other { IsInBlock (table_in self.old.evaluation.source.now) other }
-        ensures { EvaluatesAt instance_design_of self.old self.new position result
+        ensures { EvaluatesAt instance_design_of self.old self.new position.entry result
             (λ evaluator here turns leaves. then_with
             (value_at_next_depth (expression_context evaluator.evaluations here) true
             (term_of test.now) turns) (λ turns value.
@@ -166,11 +166,11 @@ impl InstanceEvaluator<'_, '_> {
     #[cycle(instances)]
     pub(crate) fn members(
         &mut self,
-        position: Position,
+        position: Position<'_, '_>,
         instances: &[NumberedInstance<'_>],
     ) -> Result<MemberResults, Stop>
         requires { All (IsInstanceAt self.old position) instances.now }
-        ensures { EvaluatesAt member_designs_of self.old self.new position result
+        ensures { EvaluatesAt member_designs_of self.old self.new position.entry result
             (λ evaluator here. each_member evaluator here (map term_of_numbered instances.now)) }
     {
         let mut members = no_members(self.evaluation.alloc);

@@ -38,13 +38,13 @@ impl InstanceEvaluator<'_, '_> {
     /// A shape in the plane, which stands inside an extrusion, as one leaf more.
     pub(crate) fn flat(
         &mut self,
-        position: Position,
+        position: Position<'_, '_>,
         place: Place,
         shape: &FlatShape,
     ) -> Result<InstanceResult, Stop>
         requires position { IsPosition self.old position }
         requires safe { IsSafeFlat (flat_call_of shape.now) }
-        ensures { EvaluatesKeeping instance_design_of self.old self.new position result
+        ensures { EvaluatesKeeping instance_design_of self.old self.new position.entry result
             (Stays self.old self.new)
             (λ evaluator here. flat_design evaluator here.inside place (flat_call_of shape.now)) }
     {

@@ -32,13 +32,13 @@ impl InstanceEvaluator<'_, '_> {
     pub(crate) fn looped(
         &mut self,
         op: Op,
-        position: Position,
+        position: Position<'_, '_>,
         place: Place,
         binders: &Binders,
         body: NumberedBody<'_>,
     ) -> Result<InstanceResult, Stop>
         requires { IsBodyAt self.old position body }
-        ensures { EvaluatesAt instance_design_of self.old self.new position result
+        ensures { EvaluatesAt instance_design_of self.old self.new position.entry result
             (λ evaluator here. loop_design evaluator op here place (binders_of binders.now)
             (body_seen body.entry)) }
     {
@@ -54,13 +54,13 @@ impl InstanceEvaluator<'_, '_> {
     #[cycle(instances)]
     fn iterations(
         &mut self,
-        position: Position,
+        position: Position<'_, '_>,
         place: Place,
         binders: &[Binder],
         body: NumberedBody<'_>,
     ) -> Result<MemberResults, Stop>
         requires { IsBodyAt self.old position body }
-        ensures { EvaluatesAt member_designs_of self.old self.new position result
+        ensures { EvaluatesAt member_designs_of self.old self.new position.entry result
             (λ evaluator. each_iteration evaluator place (map binder_of binders.now)
             (body_seen body.entry)) }
     {
@@ -82,12 +82,12 @@ impl InstanceEvaluator<'_, '_> {
     #[cycle(instances)]
     fn one_iteration(
         &mut self,
-        position: Position,
+        position: Position<'_, '_>,
         place: Place,
         body: NumberedBody<'_>,
     ) -> Result<MemberResults, Stop>
         requires { IsBodyAt self.old position body }
-        ensures { EvaluatesAt member_designs_of self.old self.new position result
+        ensures { EvaluatesAt member_designs_of self.old self.new position.entry result
             (λ evaluator. each_iteration evaluator place [] (body_seen body.entry)) }
     {
         self.evaluation.turn(place)?;
@@ -99,7 +99,7 @@ impl InstanceEvaluator<'_, '_> {
     #[cycle(instances)]
     fn each_item(
         &mut self,
-        position: Position,
+        position: Position<'_, '_>,
         place: Place,
         name: &[u8],
         rest: &[Binder],
@@ -107,7 +107,7 @@ impl InstanceEvaluator<'_, '_> {
         items: Items,
     ) -> Result<MemberResults, Stop>
         requires { IsBodyAt self.old position body }
-        ensures { EvaluatesAt member_designs_of self.old self.new position result (λ evaluator here.
+        ensures { EvaluatesAt member_designs_of self.old self.new position.entry result (λ evaluator here.
             each_step place (λ item. each_iteration evaluator place (map binder_of rest.now)
             (body_seen body.entry)
             (in_loop here name.now item))
@@ -126,7 +126,7 @@ impl InstanceEvaluator<'_, '_> {
     #[cycle(instances)]
     fn step(
         &mut self,
-        position: Position,
+        position: Position<'_, '_>,
         place: Place,
         name: &[u8],
         rest: &[Binder],
@@ -134,7 +134,7 @@ impl InstanceEvaluator<'_, '_> {
         value: BoundedValue,
     ) -> Result<MemberResults, Stop>
         requires { IsBodyAt self.old position body }
-        ensures { EvaluatesAt member_designs_of self.old self.new position result
+        ensures { EvaluatesAt member_designs_of self.old self.new position.entry result
             (λ evaluator. one_step evaluator place name.now (map binder_of rest.now)
             (body_seen body.entry)
             (bounded_val value)) }
@@ -151,7 +151,7 @@ impl InstanceEvaluator<'_, '_> {
     #[cycle(instances)]
     fn iterations_with(
         &mut self,
-        position: Position,
+        position: Position<'_, '_>,
         place: Place,
         name: &[u8],
         rest: &[Binder],
@@ -159,7 +159,7 @@ impl InstanceEvaluator<'_, '_> {
         value: BoundedValue,
     ) -> Result<MemberResults, Stop>
         requires { IsBodyAt self.old position body }
-        ensures { EvaluatesAt member_designs_of self.old self.new position result
+        ensures { EvaluatesAt member_designs_of self.old self.new position.entry result
             (λ evaluator here. each_iteration evaluator place (map binder_of rest.now)
             (body_seen body.entry)
             (in_loop here name.now (bounded_val value))) }

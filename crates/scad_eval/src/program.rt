@@ -10,6 +10,7 @@ ghost use Rattle.scad_func.specs.Definitions.{IsWholeTable};
 ghost use Rattle.scad_design.specs.View.{plain_of};
 ghost use Rattle.scad_meaning.specs.Meaning.{root_or_union};
 ghost use Rattle.scad_meaning.specs.Sources.{IsMeaning, a_tree, IsMeaningStop, HoldsFault};
+ghost use Rattle.scad_instances.specs.Listing.{AreInstancesOf};
 ghost use Rattle.scad_eval.specs.Programs.{MeetsDesign, IsFirstTable};
 
 use crate::evaluator::InstanceEvaluator;
@@ -18,7 +19,7 @@ use plane_predicate::Unit;
 use scad_ast::Program;
 use scad_design::{Design, balanced_join, place};
 use scad_func::{Evaluation, Source};
-use scad_instances::{MemberResults, Position};
+use scad_instances::{InstanceTable, MemberResults, Position};
 use scad_meaning::programs_mean_proper_trees;
 use scad_scope::Scopes;
 use std::alloc::Global;
@@ -35,8 +36,9 @@ pub fn evaluate(alloc: Global, program: &Program, unit: Unit) -> Result<CsgTree,
     // Brings a law alone: the tree that a program means is proper.
     programs_mean_proper_trees();
     let source = Source::of(alloc, program)?;
+    let instances = InstanceTable::of(alloc, &source)?;
     let mut scopes = Scopes::new(alloc)?;
-    let design = design_of(alloc, &source, &mut scopes, unit)?;
+    let design = design_of(alloc, &source, &instances, &mut scopes, unit)?;
     place(alloc, &design)
 }
 
@@ -44,11 +46,13 @@ pub fn evaluate(alloc: Global, program: &Program, unit: Unit) -> Result<CsgTree,
 fn design_of(
     alloc: Global,
     source: &Source<'_>,
+    instances: &InstanceTable<'_>,
     scopes: &mut Scopes,
     unit: Unit,
 ) -> Result<Design, Stop>
     requires table { IsFirstTable scopes.old }
     requires whole { IsWholeTable (table_in source.now) }
+    requires listed { AreInstancesOf (table_in source.now) instances.now }
     ensures { (program : List StatementTerm) → IsTableOf source.now program →
         MeetsDesign unit program result }
 {
@@ -67,6 +71,7 @@ fn design_of(
     };
     evaluator.evaluation.enter_body(0, 0)?;
     let position = Position {
+        instances,
         inside: None,
         under_root: false,
     };

@@ -23,11 +23,11 @@ impl InstanceEvaluator<'_, '_> {
     pub(crate) fn body(
         &mut self,
         op: Op,
-        position: Position,
+        position: Position<'_, '_>,
         body: NumberedBody<'_>,
     ) -> Result<InstanceResult, Stop>
         requires { IsBodyAt self.old position body }
-        ensures { EvaluatesAt instance_design_of self.old self.new position result
+        ensures { EvaluatesAt instance_design_of self.old self.new position.entry result
             (λ evaluator here. body_design evaluator op here (body_seen body.entry)) }
     {
         let outer = self.evaluation.scope;
@@ -42,20 +42,20 @@ impl InstanceEvaluator<'_, '_> {
     #[cycle(instances)]
     pub(crate) fn members_in_scope(
         &mut self,
-        position: Position,
+        position: Position<'_, '_>,
         block: u32,
         chosen: Option<&Chosen>,
     ) -> Result<MemberResults, Stop>
         requires position { IsPosition self.old position }
         requires safe { IsSafeChosen chosen }
         ensures { let statements = statements_at (table_in self.old.evaluation.source.now) block in
-            EvaluatesKeeping member_designs_of self.old self.new position result
+            EvaluatesKeeping member_designs_of self.old self.new position.entry result
             (OnOk result (Binds self.old self.new))
             (λ evaluator. block_members evaluator (chosen_seen chosen.entry) statements) }
     {
         let length = self.evaluation.count_bindings()?;
         self.assign_all(block)?;
-        let instances = chosen_instances(&self.evaluation, block, chosen)?;
+        let instances = chosen_instances(&self.evaluation, position.instances, block, chosen)?;
         let members = self.members(position, &instances)?;
         self.evaluation.pop_bindings(length);
         Ok(members)

@@ -1,12 +1,11 @@
 -- The children among the instances of a block.
-use Rattle.std.proofs.Common.{◌≡◌, ℕ, ◌≤◌, Bool, true, false, List, [], ◌∷◌, length, map, take, ℤ, refl, sym, ap, subst, ◌∙◌, cond}
+use Rattle.std.proofs.Common.{◌≡◌, ℕ, Bool, true, false, List, [], ◌∷◌, length, map, ℤ, refl, sym, ap, subst, ◌∙◌, cond}
 use Rattle.std.specs.Prelude.{All, IfOk, Result, Ok, Err}
 use Rattle.std.specs.declared.vec.Vec.{Vec}
 use Rattle.std.specs.declared.alloc.Global.{Global}
 use Rattle.std.specs.List.{filter}
-use Rattle.std.proofs.lemmas.List.{length-map, take_all}
-use Rattle.std.proofs.lemmas.List.Elements.{All-filter}
-use Rattle.scad_ast.specs.Terms.{StatementTerms, InstanceTerm}
+use Rattle.std.proofs.lemmas.List.{length-map}
+use Rattle.scad_ast.specs.Terms.{InstanceTerm}
 use Rattle.scad_modules.specs.Effects.{ChosenCall}
 use Rattle.scad_value.specs.declared.value.Value.{Number}
 use Rattle.scad_value.specs.declared.value.Value.TheVariants.{rolls-Number}
@@ -20,15 +19,12 @@ use Rattle.scad_func.specs.View.{table_in}
 use Rattle.scad_func.specs.Definitions.{statements_at, block_scope, IsWholeTable}
 use Rattle.scad_func.specs.declared.source.Source.{Source}
 use Rattle.scad_instances.specs.declared.numbered.NumberedInstance.{NumberedInstance}
-use Rattle.scad_meaning.specs.Bodies.{is_child, evaluated_instances, children_in}
+use Rattle.scad_meaning.specs.Bodies.{children_in}
 use Rattle.scad_instances.specs.Positions.{term_of_numbered, HasBlocks, HaveBodyBlocks}
 use Rattle.scad_meaning.specs.Loops.{chosen_among}
 use Rattle.scad_meaning.proofs.Choosing.{map_chosen, all_chosen}
 
-abbrev pub is_child_here : Env → NumberedInstance → Bool
-is_child_here env i = is_child env (term_of_numbered i)
-
-map_filtered : {A B : Type 0} (f : A → B) (p : B → Bool) (xs : List A) → map f (filter (λ x. p (f x)) xs) ≡ filter p (map f xs)
+pub map_filtered : {A B : Type 0} (f : A → B) (p : B → Bool) (xs : List A) → map f (filter (λ x. p (f x)) xs) ≡ filter p (map f xs)
 map_filtered f p [] = refl
 map_filtered f p (x ∷ xs) = by_test (p (f x)) ∙ ap (λ ys. cond (p (f x)) (f x ∷ ys) ys) (map_filtered f p xs)
   where
@@ -36,17 +32,6 @@ map_filtered f p (x ∷ xs) = by_test (p (f x)) ∙ ap (λ ys. cond (p (f x)) (f
         ≡ cond b (f x ∷ map f (filter (λ x. p (f x)) xs)) (map f (filter (λ x. p (f x)) xs))
     by_test true = refl
     by_test false = refl
-
-module _ (env : Env) (xs found : List NumberedInstance) (n : ℕ) (is : found ≡ filter (is_child_here env) (take n xs)) (h : length xs ≤ n) where
-  all_seen : found ≡ filter (is_child_here env) xs
-  all_seen = is ∙ ap (filter (is_child_here env)) (take_all n xs h)
-
-  pub children_numbered : (table : BlockTable) (body : StatementTerms) → HaveBodyBlocks table (evaluated_instances body) xs
-      → HaveBodyBlocks table (children_in env body) found
-  children_numbered table body all = record {
-    found = ap (map term_of_numbered) all_seen ∙ map_filtered term_of_numbered (is_child env) xs ∙ ap (filter (is_child env)) all.found;
-    blocks = subst (All (HasBlocks table)) (sym all_seen) (All-filter (is_child_here env) (HasBlocks table) xs all.blocks);
-  }
 
 -- the chosen ones of some children
 module _ {E : Type 0} (r : Result (Vec NumberedInstance Global) E) (children : List NumberedInstance) (call : ChosenCall)

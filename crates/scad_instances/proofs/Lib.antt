@@ -1,6 +1,7 @@
 mod BoundedItems
 mod Crossing
 mod KeptChildren
+mod Listing
 mod NumberedItems
 mod Numbering
 mod RangeNumbers

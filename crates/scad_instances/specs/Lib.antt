@@ -2,6 +2,7 @@ pub mod BoundedItems
 pub mod Choosing
 pub mod Counting
 pub mod Items
+pub mod Listing
 pub mod Positions
 pub mod Answers
 pub mod Calls

@@ -34,12 +34,12 @@ use text_place::{FaultKind, Place, Stop};
 pub fn effect_of(
     evaluation: &Evaluation<'_, '_>,
     unit: Unit,
-    position: Position,
+    position: Position<'_, '_>,
     place: Place,
     built_in: BuiltinModule,
     bound: Vec<Option<BoundedValue>>,
 ) -> Result<Effect, Stop>
-    ensures effect { MeetsEffectAt result place (effect_of unit (is_some position.inside)
+    ensures effect { MeetsEffectAt result place (effect_of unit (is_some position.entry.inside)
         (find_in (bindings_of evaluation.now.scopes.now) (codes "fn")) built_in
         (bound_arguments_in bound.items)) }
     ensures safe { IfOk result (λ effect. IsSafeCall (effect_call_of effect)) }

@@ -11,10 +11,12 @@ ghost use Rattle.scad_meaning.specs.Bodies.{children_in, is_child};
 ghost use Rattle.scad_meaning.specs.Meaning.{instances_chosen};
 ghost use Rattle.scad_instances.specs.Choosing.{chosen_seen, IsSafeChosen};
 ghost use Rattle.scad_instances.specs.Counting.{CountsChildren};
+ghost use Rattle.scad_instances.specs.Listing.{AreInstancesOf};
 ghost use Rattle.scad_instances.specs.Positions.{HaveBodyBlocks};
 
 use crate::chosen::chosen_among;
-use crate::numbered::{NumberedInstance, numbered_instances};
+use crate::numbered::NumberedInstance;
+use crate::table::InstanceTable;
 use scad_ast::{Core, Instance};
 use scad_func::Evaluation;
 use scad_modules::Chosen;
@@ -43,60 +45,64 @@ fn has_no_geometry(evaluation: &Evaluation<'_, '_>, name: &[u8]) -> bool
     ensures { result ≡ ((bytes_eq name.now (codes "echo") || bytes_eq name.now (codes "assert"))
         && not (is_some (visible_module (env_here evaluation.now) name.now))) }
 {
-    (name == b"echo".as_slice() || name == b"assert".as_slice())
-        && evaluation.module(name).is_none()
+    (name == b"echo".as_slice() || name == b"assert".as_slice()) && has_no_module(evaluation, name)
 }
 
-// The children among the instances of a block, in its scope.
-fn children<'a>(
-    evaluation: &Evaluation<'a, '_>,
-    block: u32,
-) -> Result<Vec<NumberedInstance<'a>>, NoMemory>
-    requires { IsWholeTable (table_in evaluation.now.source.now) }
-    ensures { let table = table_in evaluation.now.source.now in
-        IfOk result (λ found. HaveBodyBlocks table (children_in (env_here evaluation.now)
-        (statements_at table block)) found.items) }
+// Whether the source defines no module of a name, seen from the scope.
+fn has_no_module(evaluation: &Evaluation<'_, '_>, name: &[u8]) -> bool
+    ensures { result ≡ not (is_some (visible_module (env_here evaluation.now) name.now)) }
 {
-    let alloc = evaluation.alloc;
-    let instances = numbered_instances(alloc, evaluation.source, block)?;
-    let mut children = Vec::new(alloc);
-    'each: for instance in &instances {
-        if is_child(evaluation, instance.instance) {
-            children.push(*instance)?;
-        }
-    }
-    Ok(children)
+    evaluation.module(name).is_none()
+}
+
+// The children among the instances of a block, in its scope: all but calls of `echo` and of `assert`, each where the source
+// defines no module of that name.
+fn children<'t, 'a>(
+    evaluation: &Evaluation<'_, '_>,
+    instances: &'t InstanceTable<'a>,
+    block: u32,
+) -> &'t [NumberedInstance<'a>]
+    requires { AreInstancesOf (table_in evaluation.now.source.now) instances.now }
+    ensures { let table = table_in evaluation.now.source.now in
+        HaveBodyBlocks table (children_in (env_here evaluation.now)
+        (statements_at table block)) result.now }
+{
+    let echo = has_no_module(evaluation, b"echo");
+    let assert = has_no_module(evaluation, b"assert");
+    instances.children(block, echo, assert)
 }
 
 /// How many children a call has whose body is a block, in a scope of it inside the one in which is evaluated.
 pub fn count_children(
     evaluation: &mut Evaluation<'_, '_>,
+    instances: &InstanceTable<'_>,
     block: u32,
 ) -> Result<BoundedValue, NoMemory>
-    requires { IsWholeTable (table_in evaluation.old.source.now) }
+    requires whole { IsWholeTable (table_in evaluation.old.source.now) }
+    requires listed { AreInstancesOf (table_in evaluation.old.source.now) instances.now }
     ensures { CountsChildren (statements_at (table_in evaluation.old.source.now) block)
         evaluation.old evaluation.new result }
 {
     let outer = evaluation.scope;
     let before = evaluation.enter_body(outer, block)?;
-    let children = children(evaluation, block);
+    let count = children(evaluation, instances, block).len();
     evaluation.leave(before);
-    let children = children?;
-    if children.len() > CHILDREN {
+    if count > CHILDREN {
         return Err(NoMemory);
     }
     Ok(BoundedValue {
-        value: Value::Number(children.len() as i64),
+        value: Value::Number(count as i64),
     })
 }
 
 /// The instances of a block that are evaluated, or of its children those that are chosen.
 pub fn chosen_instances<'a>(
-    evaluation: &Evaluation<'a, '_>,
+    evaluation: &Evaluation<'_, '_>,
+    instances: &InstanceTable<'a>,
     block: u32,
     chosen: Option<&Chosen>,
 ) -> Result<Vec<NumberedInstance<'a>>, NoMemory>
-    requires whole { IsWholeTable (table_in evaluation.now.source.now) }
+    requires listed { AreInstancesOf (table_in evaluation.now.source.now) instances.now }
     requires safe { IsSafeChosen chosen }
     ensures { let table = table_in evaluation.now.source.now in
         let wanted = instances_chosen (env_here evaluation.now) (chosen_seen chosen.entry)
@@ -105,10 +111,7 @@ pub fn chosen_instances<'a>(
 {
     let alloc = evaluation.alloc;
     match chosen {
-        None => numbered_instances(alloc, evaluation.source, block),
-        Some(chosen) => {
-            let children = children(evaluation, block)?;
-            chosen_among(alloc, children, chosen)
-        }
+        None => Ok(Vec::from_slice(alloc, instances.instances(block))?),
+        Some(chosen) => chosen_among(alloc, children(evaluation, instances, block), chosen),
     }
 }

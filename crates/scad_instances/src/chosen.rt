@@ -17,17 +17,17 @@ use text_place::NoMemory;
 /// chooses nothing.
 pub(crate) fn chosen_among<T: Copy>(
     alloc: Global,
-    children: Vec<T>,
+    children: &[T],
     chosen: &Chosen,
 ) -> Result<Vec<T>, NoMemory>
     requires { IsSafeChoice (chosen_of chosen.now) }
-    ensures { IfOk result (λ found. found.items ≡ chosen_among children.items
+    ensures { IfOk result (λ found. found.items ≡ chosen_among children.now
         (chosen_of chosen.now)) }
 {
     match chosen {
-        Chosen::All => Ok(children),
-        Chosen::Numbered(numbers) => by_numbers(alloc, &children, numbers),
-        Chosen::Range { from, by, upto } => by_range(alloc, &children, *from, *by, *upto),
+        Chosen::All => Ok(Vec::from_slice(alloc, children)?),
+        Chosen::Numbered(numbers) => by_numbers(alloc, children, numbers),
+        Chosen::Range { from, by, upto } => by_range(alloc, children, *from, *by, *upto),
     }
 }
 

@@ -13,6 +13,7 @@ mod numbered;
 mod position;
 mod ranges;
 mod shapes;
+mod table;
 
 pub use arguments::{arguments_for, effect_of, unknown_module, without_geometry};
 pub use children::{chosen_instances, count_children, is_child};
@@ -23,3 +24,4 @@ pub use marks::has_root_modifier;
 pub use numbered::NumberedInstance;
 pub use position::{InstanceResult, MemberResults, NumberedBody, Position};
 pub use shapes::{flat_shape, solid_shape};
+pub use table::InstanceTable;

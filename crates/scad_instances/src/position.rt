@@ -2,14 +2,16 @@
 
 ghost use Rattle.std.specs.Prelude.{◌≡◌, true};
 
+use crate::table::InstanceTable;
 use scad_ast::Body;
 use scad_design::Design;
 use scad_meaning::Extrusion;
 
-/// Where an instance stands, beside its scope: the extrusion that it is inside of, and whether it is inside an instance
-/// that is marked `!`.
+/// Where an instance stands, beside its scope: the instances of the source, the extrusion that it is inside of, and whether
+/// it is inside an instance that is marked `!`.
 #[derive(Clone, Copy)]
-pub struct Position {
+pub struct Position<'t, 'a> {
+    pub instances: &'t InstanceTable<'a>,
     pub inside: Option<Extrusion>,
     pub under_root: bool,
 }
@@ -35,22 +37,32 @@ pub struct MemberResults {
     pub root: Option<Design>,
 }
 
-impl Position {
+impl<'t, 'a> Position<'t, 'a> {
     /// Inside an instance that is marked `!`.
-    pub fn inside_root(self) -> Position
-        ensures { result ≡ record { inside = self.inside; under_root = true } }
+    pub fn inside_root(self) -> Position<'t, 'a>
+        ensures { result ≡ record {
+          instances = self.entry.instances;
+          inside = self.entry.inside;
+          under_root = true;
+        } }
     {
         Position {
+            instances: self.instances,
             inside: self.inside,
             under_root: true,
         }
     }
 
     /// Inside an extrusion.
-    pub fn inside_extrusion(self, through: Extrusion) -> Position
-        ensures { result ≡ record { inside = Some through; under_root = self.under_root } }
+    pub fn inside_extrusion(self, through: Extrusion) -> Position<'t, 'a>
+        ensures { result ≡ record {
+          instances = self.entry.instances;
+          inside = Some through;
+          under_root = self.entry.under_root;
+        } }
     {
         Position {
+            instances: self.instances,
             inside: Some(through),
             under_root: self.under_root,
         }

@@ -1,14 +1,22 @@
+use Rattle.std.proofs.Common.{sym, subst}
 use Rattle.scad_func.specs.View.{table_in}
 use Rattle.scad_func.specs.Evaluations.{env_here}
 use Rattle.scad_func.specs.Definitions.{statements_at}
 use Rattle.scad_modules.specs.View.{chosen_of}
-use Rattle.scad_meaning.specs.Bodies.{children_in}
+use Rattle.scad_meaning.specs.Bodies.{children_in, evaluated_instances}
+use Rattle.scad_instances.specs.Positions.{HaveBodyBlocks}
 use Rattle.scad_instances.proofs.KeptChildren.{chosen_numbered}
 use Rattle.scad_instances.proofs.children.chosen_instances.Goals as goal
 
-pub returns-in_ok-children-in-Some : goal.returns-in_ok-children-in-Some
-returns-in_ok-children-in-Some c =
+pub returns-in_ok-from_slice-in-None : goal.returns-in_ok-from_slice-in-None
+returns-in_ok-from_slice-in-None c =
+    let table = table_in c.args.evaluation.now.source.now in
+    rw (c.in-None.is) (subst (HaveBodyBlocks table (evaluated_instances (statements_at table c.args.block)))
+    (sym c.in_ok-from_slice-in-None.ensures.items) (c.instances.ensures table c.requires.listed))
+
+pub returns-in-Some : goal.returns-in-Some
+returns-in-Some c =
     let e = c.args.evaluation.now in
     let table = table_in e.source.now in
-    rw (c.in-Some.is) (chosen_numbered c.chosen_among.result c.in_ok-children-in-Some.children.items (chosen_of c.in-Some.chosen.now)
-    c.chosen_among.ensures table (children_in (env_here e) (statements_at table c.args.block)) c.in_ok-children-in-Some.ensures)
+    rw (c.in-Some.is) (chosen_numbered c.chosen_among.result c.children.result.now (chosen_of c.in-Some.chosen.now)
+    c.chosen_among.ensures table (children_in (env_here e) (statements_at table c.args.block)) c.children.ensures)

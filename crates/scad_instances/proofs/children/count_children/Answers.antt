@@ -11,9 +11,9 @@ returns c =
     let new = c.enter_body.new.self in
     let entered = c.in_ok-before.ensures.entered in
     let count = children_counted e.source.now new.source.now c.args.block (env_here e)
-    (env_here new) c.in_ok-children.children.items c.requires entered.source c.in_ok-before.ensures.inside c.in_ok-children.ensures.found in
+    (env_here new) c.children-count.result.now c.requires.whole entered.source c.in_ok-before.ensures.inside c.children-count.ensures.found in
     record {
-      count = number_form _ ∙ ap NumberVal (omega (arith, ints, count, c.len.ensures, c.len-2.ensures, c.if-len-gt-CHILDREN.false));
+      count = number_form _ ∙ ap NumberVal (omega (arith, ints, count, c.if-count-gt-CHILDREN.false));
       kept = c.leave.ensures.back e entered;
       turns = c.leave.ensures.turns ∙ c.in_ok-before.ensures.turns;
     }

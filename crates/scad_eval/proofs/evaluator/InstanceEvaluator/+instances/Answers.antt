@@ -34,6 +34,7 @@ use Rattle.scad_instances.specs.declared.position.NumberedBody.{NumberedBody}
 use Rattle.scad_instances.specs.declared.position.Position.{Position}
 use Rattle.scad_instances.specs.Choosing.{chosen_seen}
 use Rattle.scad_instances.specs.Items.{remaining_in}
+use Rattle.scad_instances.specs.Listing.{AreInstancesOf}
 use Rattle.scad_instances.specs.Positions.{term_of_numbered, HasBlocks}
 use Rattle.scad_instances.specs.Seen.{one_member_of, instance_design_of, member_designs_of}
 use Rattle.scad_meaning.specs.Verdicts.{Judge}
@@ -99,10 +100,10 @@ members_in_scope-members-requires t c =
           c.in_ok-instances.ensures.blocks),
     )
 
-pub members_in_scope-chosen_instances-requires-clause-whole : goal.members_in_scope-chosen_instances-requires-clause-whole
-members_in_scope-chosen_instances-requires-clause-whole t c =
+pub members_in_scope-chosen_instances-requires-clause-listed : goal.members_in_scope-chosen_instances-requires-clause-listed
+members_in_scope-chosen_instances-requires-clause-listed t c =
     let a = (c.in_ok-assign_all.ensures c.args.position).kept.older in
-    subst (λ (source : Source). IsWholeTable (table_in source)) (sym a.same.source) c.requires.position.whole
+    subst (λ (source : Source). AreInstancesOf (table_in source) c.args.position.instances.now) (sym a.same.source) c.requires.position.listed
 
 pub members_in_scope-pop_bindings-requires : goal.members_in_scope-pop_bindings-requires
 members_in_scope-pop_bindings-requires t c =
@@ -556,12 +557,12 @@ module_made-members_in_scope-requires t c =
     let e = c.in_ok-before.ensures.entered in
     let called = c.requires.called in (
       omega (arith, work_same c.enter_module.new.self.evaluation.depth m.evaluation.depth e.evaluation.depth, c.decreases),
-      (position_still m _ e.unit e.evaluation.source (record { whole = called.called.whole; inside = called.inside }), tt),
+      (position_still m _ e.unit e.evaluation.source (record { whole = called.called.whole; listed = called.called.listed; inside = called.inside }), tt),
     )
 
 -- a module's body in its scope
 module_meant : (judge : Judge) (m mid : InstanceEvaluator) (position : Position) (before : ℕ) (defined : Module) (defining_scope : ℕ) (values : Vals) (body : NumberedBody)
-    → IsModuleCall m defined defining_scope body → Enters m mid before
+    → IsModuleCall m position.instances.now defined defining_scope body → Enters m mid before
     → env_here mid.evaluation ≡ module_scope (env_at m defining_scope) (module_of defined) values (statements_of_body (body_seen body)) (env_here m.evaluation)
     → mid.evaluation.turns ≡ m.evaluation.turns
     → outcome_at m position judge (λ evaluator. module_with_values evaluator (module_of defined, env_at m defining_scope) values (body_seen body))

@@ -20,7 +20,7 @@ each-preserved c =
     let inv = c.each.invariant in
     let judge = some_judge in
     record {
-      assigns = assigns_then inv.assigns (c.in_ok-assign.ensures some_position).kept;
+      assigns = assigns_then inv.assigns (c.in_ok-assign.ensures (some_position old.evaluation.alloc)).kept;
       told = λ position. assigned_next (each_assignment (evaluations_left old) (context_at old position) (map source_assignment_of xs) old.evaluation.turns)
           (evaluations_left old) (evaluations_left here) (context_at here position) xs i c.assignment-item.result here.evaluation.turns
           (inv.told position) (ap (λ n. most_evaluations - n) inv.assigns.older.same.depth) h c.assignment-item.is
