@@ -4,7 +4,6 @@ use Rattle.scad_definitions.specs.declared.list.NameList.{NameList}
 use Rattle.scad_definitions.specs.ArgumentsView.{special_pairs}
 use Rattle.scad_definitions.specs.Newest.{find_in}
 use Rattle.scad_ast.specs.Names.{is_among}
-use Rattle.scad_definitions.specs.Lookup.{names_of_pairs}
 use Rattle.scad_definitions.proofs.Looking.{told_found, lent_found}
 use Rattle.scad_definitions.proofs.so_far.ArgumentsSoFar.has_special.Goals as goal
 
