@@ -9,3 +9,4 @@ pub mod Begun
 pub mod Numbered
 pub mod Looking
 pub mod Expected
+pub mod Named

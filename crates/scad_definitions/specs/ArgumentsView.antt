@@ -6,6 +6,7 @@ use Rattle.text_place.specs.declared.fault.Stop.TheVariants.{Fault, NoMemory}
 use Rattle.text_place.specs.declared.fault.FaultKind.{FaultKind}
 use Rattle.text_place.specs.declared.fault.Place.{Place}
 use Rattle.scad_ast.specs.StatementView.{param_of}
+use Rattle.scad_definitions.specs.declared.lookup.ParameterNames.{ParameterNames}
 use Rattle.scad_definitions.specs.declared.parameters.Names.{Names}
 use Rattle.scad_definitions.specs.declared.parameters.Names.TheVariants.{Params, Listed}
 use Rattle.scad_definitions.specs.declared.parameters.SpecialArgument.{SpecialArgument}
@@ -24,9 +25,13 @@ IsFaultAt NoMemory kind at = ⊥
 abbrev pub names_seen : List (Bor (List ℕ)) → List (List ℕ)
 names_seen = map (λ name. name.now)
 
+-- the names of a definition's parameters
+abbrev pub names_of_params : ParameterNames → List (List ℕ)
+names_of_params names = parameter_names (map param_of names.params.now)
+
 -- the names of parameters
 abbrev pub names_in : Names → List (List ℕ)
-names_in (Params params) = parameter_names (map param_of params.now)
+names_in (Params names) = names_of_params names.now
 names_in (Listed names) = names_seen names.now
 
 -- a special argument with its name

@@ -12,6 +12,7 @@ use Rattle.scad_definitions.specs.declared.text.Definitions.{Definitions}
 use Rattle.scad_definitions.specs.declared.text.LocalsUnderWay.{LocalsUnderWay}
 use Rattle.scad_definitions.specs.declared.text.LocalDefinitions.{LocalDefinitions}
 use Rattle.scad_definitions.specs.Newest.{Pairs}
+use Rattle.scad_definitions.specs.Arguments.{parameter_names}
 use Rattle.scad_definitions.specs.Names.{oldest_first}
 use Rattle.scad_definitions.specs.declared.text.Entry.{Entry}
 use Rattle.scad_definitions.specs.Blocks.{SourceFunction, SourceModule, SourceAssignment, LocalTerms, SourceBlock, BlockTable}
@@ -32,6 +33,14 @@ function_of function =
 abbrev pub module_of : Module → SourceModule
 module_of defined =
     record { params = params_of defined.params.now; body = body_of defined.body.now }
+
+-- the names of the parameters of a function
+abbrev pub names_of_function : Function → List (List ℕ)
+names_of_function function = parameter_names (function_of function).params
+
+-- the names of the parameters of a module
+abbrev pub names_of_module : Module → List (List ℕ)
+names_of_module defined = parameter_names (module_of defined).params
 
 -- the number of the block of a module's body
 abbrev pub block_of_module : Module → ℕ

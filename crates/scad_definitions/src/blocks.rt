@@ -1,7 +1,10 @@
-ghost use Rattle.std.specs.Prelude.{IsTrue, length, map};
+ghost use Rattle.std.specs.Prelude.{◌≡◌, IsTrue, IfOk, length, map};
 ghost use Rattle.scad_definitions.specs.Numbered.{are_entries_below};
-ghost use Rattle.scad_definitions.specs.TextView.{block_of_entry};
+ghost use Rattle.scad_definitions.specs.TextView.{block_of_entry, names_of_function, names_of_module};
+ghost use Rattle.scad_definitions.specs.ArgumentsView.{names_of_params};
 
+use crate::lookup::ParameterNames;
+use crate::parameters::Names;
 use crate::text::{Assignment, BlockText, Entry, Function, LocalDefinitions, Module};
 use crate::walk::walk_program;
 use scad_ast::Program;
@@ -17,14 +20,24 @@ pub struct Blocks<'a> {
     pub(crate) entries: Vec<Entry<'a>>,
     pub(crate) functions: Vec<Function<'a>>,
     pub(crate) modules: Vec<Module<'a>>,
+    /// The names of each function's parameters.
+    function_names: Vec<ParameterNames<'a>>,
+    /// The names of each module's parameters.
+    module_names: Vec<ParameterNames<'a>>,
     ghost numbered: { IsTrue (are_entries_below (length functions.items) (length modules.items)
         (map block_of_entry entries.items)) },
+    ghost functions_named: { map names_of_params function_names.items
+        ≡ map names_of_function functions.items },
+    ghost modules_named: { map names_of_params module_names.items
+        ≡ map names_of_module modules.items },
 }
 
 impl<'a> Blocks<'a> {
-    ghost use Rattle.std.specs.Prelude.{◌≡◌, ◌<◌, IfOk, slice_index_or};
+    ghost use Rattle.std.specs.Prelude.{◌<◌, slice_index_or};
     ghost use Rattle.scad_ast.specs.ProgramView.{program_of};
-    ghost use Rattle.scad_definitions.specs.Blocks.{block_table, nothing_there, StandsInOrder};
+    ghost use Rattle.scad_definitions.specs.Blocks.{block_table, nothing_there, StandsInOrder, SourceFunction, SourceModule};
+    ghost use Rattle.scad_definitions.specs.Arguments.{parameter_names};
+    ghost use Rattle.scad_definitions.specs.ArgumentsView.{names_in};
     ghost use Rattle.scad_definitions.specs.Numbered.{count_of_functions, count_of_modules};
     ghost use Rattle.scad_definitions.specs.Tables.{block_table_in, source_functions_in, source_modules_in};
     ghost use Rattle.scad_definitions.specs.TextView.{function_of, module_of, source_assignment_of, locals_of, statements_of_text};
@@ -40,10 +53,14 @@ impl<'a> Blocks<'a> {
             ≡ count_of_modules (program_of program.now)) }
     {
         let walk = walk_program(alloc, program)?;
+        let function_names = names_of_functions(alloc, &walk.functions)?;
+        let module_names = names_of_modules(alloc, &walk.modules)?;
         Ok(Blocks {
             entries: walk.entries,
             functions: walk.functions,
             modules: walk.modules,
+            function_names,
+            module_names,
         })
     }
 
@@ -74,6 +91,24 @@ impl<'a> Blocks<'a> {
             ≡ slice_index_or (block_table_in self.now).bodies number result.block }
     {
         self.modules[number as usize]
+    }
+
+    /// The names of the parameters of a function of a number.
+    pub fn function_names(&self, number: u32) -> Names<'_>
+        requires { number < length (source_functions_in self.now) }
+        ensures { (other : SourceFunction) → names_in result ≡ parameter_names
+            (slice_index_or (source_functions_in self.now) number other).params }
+    {
+        Names::Params(&self.function_names[number as usize])
+    }
+
+    /// The names of the parameters of a module of a number.
+    pub fn module_names(&self, number: u32) -> Names<'_>
+        requires { number < length (source_modules_in self.now) }
+        ensures { (other : SourceModule) → names_in result ≡ parameter_names
+            (slice_index_or (source_modules_in self.now) number other).params }
+    {
+        Names::Params(&self.module_names[number as usize])
     }
 
     /// What stands in a block.
@@ -113,4 +148,34 @@ impl<'a> Blocks<'a> {
     {
         &self.entries[number as usize].local.assignments
     }
+}
+
+// The names of the parameters of each function.
+fn names_of_functions<'a>(
+    alloc: Global,
+    functions: &[Function<'a>],
+) -> Result<Vec<ParameterNames<'a>>, NoMemory>
+    ensures { IfOk result (λ names. map names_of_params names.items
+        ≡ map names_of_function functions.now) }
+{
+    let mut names = Vec::new(alloc);
+    for function in functions {
+        names.push(ParameterNames::of(alloc, &function.params.items)?)?;
+    }
+    Ok(names)
+}
+
+// The names of the parameters of each module.
+fn names_of_modules<'a>(
+    alloc: Global,
+    modules: &[Module<'a>],
+) -> Result<Vec<ParameterNames<'a>>, NoMemory>
+    ensures { IfOk result (λ names. map names_of_params names.items
+        ≡ map names_of_module modules.now) }
+{
+    let mut names = Vec::new(alloc);
+    for defined in modules {
+        names.push(ParameterNames::of(alloc, &defined.params.items)?)?;
+    }
+    Ok(names)
 }

@@ -14,6 +14,7 @@ mod walk;
 
 pub use blocks::Blocks;
 pub use list::NameList;
+pub use lookup::ParameterNames;
 pub use name_table::NameTable;
 pub use parameters::{
     CallArguments, Destination, Matching, Names, SpecialArgument, arguments, parameter_name,

@@ -1,10 +1,11 @@
-ghost use Rattle.std.specs.Prelude.{◌≡◌, ℕ, ◌+◌, ◌^◌, ◌<◌, ◌≤◌, length, map, replicate, Some, None, slice_index_or, [], is_some, if◌then◌else◌, IfSome, IfOk};
+ghost use Rattle.std.specs.Prelude.{◌≡◌, ℕ, ◌+◌, ◌^◌, ◌<◌, ◌≤◌, length, map, replicate, Some, None, slice_index_or, is_some, if◌then◌else◌, IfSome, IfOk};
 ghost use Rattle.scad_ast.specs.ExprView.{arg_of};
 ghost use Rattle.scad_ast.specs.StatementView.{param_of};
 ghost use Rattle.scad_definitions.specs.Newest.{find_in};
 ghost use Rattle.scad_definitions.specs.Arguments.{parameter_name, parameter_names, first_named, argument_place, positional_after, matching_of, no_arguments_of, unless_bound, MeetsMatching};
 ghost use Rattle.scad_definitions.specs.ArgumentsView.{names_seen, names_in, special_pairs, call_arguments_of, destination_term_of, IsDestinationThere, IsOneMoreGiven};
 
+use crate::lookup::ParameterNames;
 use crate::so_far::ArgumentsSoFar;
 use scad_ast::{Arg, Param};
 use std::alloc::Global;
@@ -45,7 +46,7 @@ impl Matching {
 /// The names of parameters: those of a definition of the source, or a list of names.
 #[derive(Clone, Copy)]
 pub enum Names<'a> {
-    Params(&'a [Param]),
+    Params(&'a ParameterNames<'a>),
     Listed(&'a [&'a [u8]]),
 }
 
@@ -85,7 +86,8 @@ pub fn arguments(
     ensures value { MeetsMatching result (matching_of (parameter_names (map param_of params.now))
         (map arg_of args.now)) }
 {
-    let mut so_far = ArgumentsSoFar::of(alloc, Names::Params(params), args)?;
+    let names = ParameterNames::of(alloc, params)?;
+    let mut so_far = ArgumentsSoFar::of(alloc, Names::Params(&names), args)?;
     let mut positional: usize = 0;
     'each: for (number, arg) in args.iter().enumerate() {
         let destination = so_far.destination_for(positional, arg)?;
@@ -104,7 +106,7 @@ pub(crate) fn count_of(names: Names<'_>) -> usize
     ensures { result ≡ length (names_in names.entry) }
 {
     match names {
-        Names::Params(params) => params.len(),
+        Names::Params(names) => names.count(),
         Names::Listed(listed) => listed.len(),
     }
 }
@@ -170,13 +172,13 @@ pub(crate) fn first_named(names: Names<'_>, name: &[u8]) -> Option<usize>
     ensures within { IfSome result (λ k. k < length (names_in names.entry)) }
 {
     match names {
-        Names::Params(params) => first_param(params, name),
+        Names::Params(names) => names.first_named(name),
         Names::Listed(listed) => first_listed(listed, name),
     }
 }
 
-// The first parameter of a name, of a definition of the source.
-fn first_param(params: &[Param], name: &[u8]) -> Option<usize>
+/// The first of parameters that has a name.
+pub(crate) fn first_param(params: &[Param], name: &[u8]) -> Option<usize>
     ensures value { result ≡ first_named (parameter_names (map param_of params.now)) name.now }
     ensures within { IfSome result (λ k. k < length params.now) }
 {
@@ -233,17 +235,6 @@ pub fn positional_after(positional: usize, arg: &Arg) -> usize
         Arg::Positional(_) => positional + 1,
         Arg::Named(_, _, _) => positional,
         Arg::Special(_, _, _) => positional,
-    }
-}
-
-/// The name of a number.
-pub(crate) fn name_at<'a>(names: Names<'a>, number: usize) -> &'a [u8]
-    requires { number < length (names_in names) }
-    ensures { result.now ≡ slice_index_or (names_in names.entry) number [] }
-{
-    match names {
-        Names::Params(params) => parameter_name(&params[number]),
-        Names::Listed(listed) => listed[number],
     }
 }
 

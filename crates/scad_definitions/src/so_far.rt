@@ -2,9 +2,10 @@ ghost use Rattle.std.specs.Prelude.{◌≡◌, length};
 ghost use Rattle.std.specs.Option.{ForSome};
 ghost use Rattle.scad_definitions.specs.Names.{newest_first};
 ghost use Rattle.scad_definitions.specs.ArgumentsView.{names_in, special_pairs};
-ghost use Rattle.scad_definitions.specs.Lookup.{names_of_pairs, numbered_from};
+ghost use Rattle.scad_definitions.specs.Lookup.{names_of_pairs};
 
-use crate::lookup::{NameIndex, are_many, index_of};
+use crate::NameList;
+use crate::lookup::{add_special, are_many_special};
 use crate::parameters::{
     CallArguments, Destination, Names, argument_place, count_of, first_named, free_parameter,
     has_special, no_arguments_of, with_argument,
@@ -14,19 +15,17 @@ use std::alloc::Global;
 use text_place::{FaultKind, NoMemory, Stop};
 
 /// What the arguments of a call give so far, with the names of the parameters that they are matched to. What takes the
-/// next argument is found in the logarithm of the number of parameters and of special arguments, where many of the
-/// call's arguments have names.
+/// next argument is found in the logarithm of the number of a definition's parameters and of special arguments.
 #[derive(Drop)]
 pub struct ArgumentsSoFar<'n, 'a, T> {
     pub names: Names<'n>,
     pub given: CallArguments<'a, T>,
-    /// By an index, where many arguments have names. Few are searched one after another.
-    pub(crate) index: Option<Box<NameIndex>>,
+    /// The special names that were given something, where many arguments have special names. Few are searched one after
+    /// another.
+    pub(crate) specials: Option<Box<NameList<()>>>,
     ghost one_each: { length given.bound.items ≡ length (names_in names) },
-    ghost parameters_indexed: { ForSome index (λ index. newest_first index.value.parameters
-        ≡ numbered_from 0 (names_in names)) },
-    ghost specials_indexed: { ForSome index (λ index.
-        names_of_pairs (newest_first index.value.dynamic)
+    ghost specials_indexed: { ForSome specials (λ specials.
+        names_of_pairs (newest_first specials.value)
         ≡ names_of_pairs (special_pairs given.dynamic.items)) },
 }
 
@@ -46,15 +45,15 @@ impl<'n, 'a, T: Drop> ArgumentsSoFar<'n, 'a, T> {
         ensures names { IfOk result (λ so_far. so_far.names ≡ names.entry) }
     {
         let given = no_arguments_of(alloc, count_of(names))?;
-        let index = if are_many(args) {
-            Some(Box::new(alloc, index_of(alloc, names)?)?)
+        let specials = if are_many_special(args) {
+            Some(Box::new(alloc, NameList::new(alloc))?)
         } else {
             None
         };
         Ok(ArgumentsSoFar {
             names,
             given,
-            index,
+            specials,
         })
     }
 
@@ -110,8 +109,8 @@ impl<'n, 'a, T: Drop> ArgumentsSoFar<'n, 'a, T> {
     fn has_special(&self, name: &[u8]) -> bool
         ensures { result ≡ is_some (find_in (special_pairs self.now.given.dynamic.items) name.now) }
     {
-        match &self.index {
-            Some(index) => index.has_special(name),
+        match &self.specials {
+            Some(specials) => specials.find(name).is_some(),
             None => has_special(&self.given.dynamic, name),
         }
     }
@@ -123,7 +122,7 @@ impl<'n, 'a, T: Drop> ArgumentsSoFar<'n, 'a, T> {
         ensures within { IfSome result (λ k. k < length (names_in self.now.names)) }
     {
         match arg {
-            Arg::Named(_, name, _) => self.first_named(name.items()),
+            Arg::Named(_, name, _) => first_named(self.names, name.items()),
             Arg::Special(_, _, _) => None,
             Arg::Positional(_) => {
                 if positional < count_of(self.names) {
@@ -132,17 +131,6 @@ impl<'n, 'a, T: Drop> ArgumentsSoFar<'n, 'a, T> {
                     None
                 }
             }
-        }
-    }
-
-    // The first parameter of a name.
-    fn first_named(&self, name: &[u8]) -> Option<usize>
-        ensures value { result ≡ first_named (names_in self.now.names) name.now }
-        ensures within { IfSome result (λ k. k < length (names_in self.now.names)) }
-    {
-        match &self.index {
-            Some(index) => index.first_named(name),
-            None => first_named(self.names, name),
         }
     }
 
@@ -175,12 +163,12 @@ impl<'n, 'a, T: Drop> ArgumentsSoFar<'n, 'a, T> {
         let ArgumentsSoFar {
             names,
             given,
-            index,
+            specials,
         } = self;
-        let index = match index {
+        let specials = match specials {
             Some(held) => {
                 let mut held = held;
-                held.add_special(alloc, destination)?;
+                add_special(&mut held, alloc, destination)?;
                 Some(held)
             }
             None => None,
@@ -189,7 +177,7 @@ impl<'n, 'a, T: Drop> ArgumentsSoFar<'n, 'a, T> {
         Ok(ArgumentsSoFar {
             names,
             given,
-            index,
+            specials,
         })
     }
 }

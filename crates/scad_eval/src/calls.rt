@@ -16,7 +16,7 @@ use csg_tree::Op;
 use scad_ast::Args;
 use scad_func::{BoundedValues, arguments, parameters_in, with};
 use scad_instances::{InstanceResult, NumberedBody, Position, join_members};
-use scad_scope::{CallArguments, Module, Names};
+use scad_scope::{CallArguments, Module};
 use scad_value::BoundedValue;
 use text_place::{Place, Stop};
 
@@ -38,8 +38,7 @@ impl InstanceEvaluator<'_, '_> {
             (visible_module here.env name.now)) }
     {
         match self.evaluation.module(name) {
-            Some((defined, defining_scope)) => {
-                let names = Names::Params(&defined.params.items);
+            Some((defined, defining_scope, names)) => {
                 let given = arguments(&mut self.evaluation, names, args)?;
                 self.module_called(position, place, defined, defining_scope, given, body)
             }

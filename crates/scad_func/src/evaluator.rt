@@ -349,8 +349,7 @@ fn call(
         (visible_function here.env name.now)) }
 {
     match evaluation.function(name) {
-        Some((function, defining_scope)) => {
-            let names = Names::Params(&function.params.items);
+        Some((function, defining_scope, names)) => {
             let given = arguments(evaluation, names, args)?;
             let scope = evaluation.scope;
             evaluation.scope = defining_scope;

@@ -483,9 +483,9 @@ call-returns-in_err-given-in-Some t c =
     let p = err_from_is_err_and c.from_residual.result c.from_residual.ensures.1 in
     let e = c.args.evaluation.now in
     let args = args_from (args_of c.args.args.now) in
-    let told = subst (λ (l : List Param). MeetsOutcome arguments_of (Err c.in_err-given-in-Some.field-0.0) c.arguments.new.evaluation.turns
-    (each_argument (expression_context_here e) (parameter_names (map param_of l)) 0 args (no_arguments_of (length (parameter_names (map param_of l)))) e.turns))
-    c.deref.ensures.value c.in_err-given-in-Some.ensures.given.value in
+    let told = subst (λ (ns : List (List ℕ)). MeetsOutcome arguments_of (Err c.in_err-given-in-Some.field-0.0) c.arguments.new.evaluation.turns
+    (each_argument (expression_context_here e) ns 0 args (no_arguments_of (length ns)) e.turns))
+    c.in-Some.ensures.named c.in_err-given-in-Some.ensures.given.value in
     record {
       value = rw (p.1, p.2) (meets_along (Err c.in_err-given-in-Some.field-0.0) c.arguments.new.evaluation.turns _ _
           (call_found e c.in-Some.defining_scope (function_of c.in-Some.function) c.args.place c.args.name.now
@@ -497,12 +497,13 @@ call-returns-in_err-given-in-Some t c =
 
 pub call-function_call-value-requires : goal.call-function_call-value-requires
 call-function_call-value-requires t c =
-    let g = c.in_ok-given-in-Some.ensures in (
+    let g = c.in_ok-given-in-Some.ensures in
+    let params = c.in-Some.function.params.now.items.items in (
       omega (arith, g.given.kept.work, c.decreases),
       (
         rw (g.given.kept.source) (deep_enough _ _ c.in-Some.ensures.among),
-        g.count ∙ length-map (map param_of c.deref.result.now) parameter_name ∙ length-map c.deref.result.now param_of
-            ∙ ap (λ (l : List Param). length l) c.deref.ensures.value,
+        g.count ∙ ap (λ (ns : List (List ℕ)). length ns) c.in-Some.ensures.named
+            ∙ length-map (map param_of params) parameter_name ∙ length-map params param_of,
       ),
     )
 

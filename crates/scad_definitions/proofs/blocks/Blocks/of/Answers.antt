@@ -1,9 +1,9 @@
-use Rattle.std.proofs.Common.{◌≡◌, ◌∙◌, length, sym, ap, subst}
+use Rattle.std.proofs.Common.{◌≡◌, ◌∙◌, length, map, sym, ap, subst}
 use Rattle.std.specs.Prelude.{IsTrue}
 use Rattle.scad_ast.specs.ProgramView.{program_of}
 use Rattle.scad_definitions.specs.Blocks.{entities_of_program, block_table, BlockTable, StandsInOrder}
 use Rattle.scad_definitions.specs.Numbered.{are_entries_below}
-use Rattle.scad_definitions.specs.TextView.{function_of, module_of}
+use Rattle.scad_definitions.specs.TextView.{function_of, module_of, names_of_function, names_of_module}
 use Rattle.scad_definitions.specs.Walk.{table_so_far}
 use Rattle.scad_definitions.proofs.Held.{mapped_length}
 use Rattle.scad_definitions.proofs.Numbered.{program_below}
@@ -22,6 +22,8 @@ invariant_of-result c =
       numbered = subst (λ t. IsTrue t)
           (ap (λ n. are_entries_below n (length (table_so_far w).modules) (table_so_far w).entries) (mapped_length function_of w.functions.items)
           ∙ ap (λ n. are_entries_below (length w.functions.items) n (table_so_far w).entries) (mapped_length module_of w.modules.items)) below;
+      functions_named = c.in_ok-function_names.ensures ∙ ap (map names_of_function) c.deref.ensures.value;
+      modules_named = c.in_ok-module_names.ensures ∙ ap (map names_of_module) c.deref-2.ensures.value;
     }
 
 pub returns-clause-text : goal.returns-clause-text

@@ -5,9 +5,9 @@ use Rattle.scad_definitions.specs.Newest.{find_in}
 use Rattle.scad_definitions.specs.Arguments.{first_named}
 use Rattle.scad_definitions.specs.Lookup.{numbered_from}
 use Rattle.scad_definitions.proofs.Looking.{first_found, first_within}
-use Rattle.scad_definitions.proofs.lookup.NameIndex.first_named.Goals as goal
+use Rattle.scad_definitions.proofs.lookup.number_in.Goals as goal
 
-found : (c : goal.After-copied) (names : List (List ℕ)) → newest_first c.args.self.now.parameters ≡ numbered_from 0 names
+found : (c : goal.After-copied) (names : List (List ℕ)) → newest_first c.args.index.now ≡ numbered_from 0 names
     → c.copied.result ≡ first_named names c.args.name.now
 found c names is = c.copied.ensures ∙ c.find.ensures ∙ ap (λ ps. find_in ps c.args.name.now) is ∙ first_found names c.args.name.now
 
