@@ -109,7 +109,7 @@ MAKER_CALLS: dict[str, str] = {
     "scad_meaning": "programs_mean_proper_trees",
     "closed_faces": r"\w+",
     "shape_hulls": r"\w+",
-    "source_solids": r"\w+",
+    "source_laws": r"\w+",
     "watertight": r"\w+",
     "ray_crossings": r"\w+",
 }

@@ -28,7 +28,7 @@ use scad_grammar::{no_program_has_a_fault, one_fault_each, one_program_each, pro
 use scad_lexer::{one_outcome, some_outcome};
 use scad_meaning::programs_mean_proper_trees;
 use script_service::one_ending;
-use source_solids::programs_keep_within_reach;
+use source_laws::programs_keep_within_reach;
 use tree_export::{one_export, some_export, texts_pass_no_limit};
 use watertight::texts_keep_within_reach;
 

@@ -12,7 +12,7 @@ ghost use Rattle.scad_design.specs.Trees.{IsPlacedAs};
 ghost use Rattle.scad_meaning.specs.Verdicts.{Judge, IsRightJudge};
 ghost use Rattle.scad_meaning.specs.Meaning.{design_of};
 ghost use Rattle.scad_meaning.specs.Sources.{a_tree, IsMeaning};
-ghost use Rattle.source_solids.specs.SourceHulls.{AreHullShapes};
+ghost use Rattle.source_laws.specs.SourceHulls.{AreHullShapes};
 
 use csg_tree::joins_keep_within_reach;
 use scad_meaning::shapes_have_one_verdict;

@@ -12,7 +12,7 @@ use Rattle.scad_design.specs.Trees.{IsPlacedAs}
 use Rattle.scad_meaning.specs.Verdicts.{Judge, IsRightJudge}
 use Rattle.scad_meaning.specs.Meaning.{design_of}
 use Rattle.scad_meaning.specs.Sources.{a_tree, IsMeaning, IsMeaningOf, IsMeaningOfDesign}
-use Rattle.source_solids.specs.SourceHulls.{AreHullShapes}
+use Rattle.source_laws.specs.SourceHulls.{AreHullShapes}
 
 same_tree : (f g : Tree) → a_tree f ≡ a_tree g → f ≡ g
 same_tree f g e = cc

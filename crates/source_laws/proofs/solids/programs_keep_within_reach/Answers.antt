@@ -1,5 +1,5 @@
-use Rattle.source_solids.proofs.Programs.{program_kept}
-use Rattle.source_solids.proofs.laws.programs_keep_within_reach.Goals as goal
+use Rattle.source_laws.proofs.Programs.{program_kept}
+use Rattle.source_laws.proofs.solids.programs_keep_within_reach.Goals as goal
 
 pub returns : goal.returns
 returns c =

@@ -26,7 +26,7 @@ use Rattle.scad_meaning.proofs.HeldPlaces.{Keeps}
 use Rattle.scad_meaning.proofs.InstancePlaces.{LetsThrough, shapes_alone, DesignHeld}
 use Rattle.scad_meaning.proofs.ProgramPlaces.{shapes_keep}
 use Rattle.scad_meaning.proofs.SoundShapes.{HasSides, HasFlatSides, outline_is_flat}
-use Rattle.source_solids.specs.SourceHulls.{IsHullShape, AreHullShapes}
+use Rattle.source_laws.specs.SourceHulls.{IsHullShape, AreHullShapes}
 
 design_hulls : (P : Place → Type 0) (design : DesignTree) → DesignHeld P IsHullShape design → AreHullShapes design
 design_hulls P empty h = tt

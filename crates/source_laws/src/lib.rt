@@ -2,6 +2,6 @@
 //! which do nothing when they run.
 #![tactic(auto)]
 
-mod laws;
+mod solids;
 
-pub use laws::{designs_are_of_hulls, placed_hulls_keep_within_reach, programs_keep_within_reach};
+pub use solids::{designs_are_of_hulls, placed_hulls_keep_within_reach, programs_keep_within_reach};

@@ -19,7 +19,7 @@ use Rattle.scad_design.specs.Designs.{DesignTree, empty, a_leaf, joined_designs,
 use Rattle.scad_design.specs.Placing.{PlacingOutcome, placing_tree, placing_fault, placing_of_join, IsPlacedLeaf, PlacesDesign, PlacesRight}
 use Rattle.scad_design.specs.Trees.{IsPlacedAs}
 use Rattle.scad_design.proofs.FacePlanes.{images_are_in_reach}
-use Rattle.source_solids.specs.SourceHulls.{IsHullShape, AreHullShapes}
+use Rattle.source_laws.specs.SourceHulls.{IsHullShape, AreHullShapes}
 
 -- ---- joins
 leaves_joined : (op : Op) (l r : Tree) → LeavesKeepWithinReach l → LeavesKeepWithinReach r → LeavesKeepWithinReach (join_of op l r)

@@ -1,5 +1,5 @@
-use Rattle.source_solids.proofs.ShapeHulls.{designs_of_hulls}
-use Rattle.source_solids.proofs.laws.designs_are_of_hulls.Goals as goal
+use Rattle.source_laws.proofs.ShapeHulls.{designs_of_hulls}
+use Rattle.source_laws.proofs.solids.designs_are_of_hulls.Goals as goal
 
 pub returns : goal.returns
 returns c = λ unit program judge turns design right gives.
