@@ -13,10 +13,10 @@ use crate::evaluation::Evaluation;
 use scad_scope::{Function, Module, Names};
 use text_place::Place;
 
-impl<'a, 's> Evaluation<'a, 's> {
+impl<'a> Evaluation<'a, '_> {
     /// The function that a name stands for, the newest of its name from the scope outward, the
     /// number of the scope in which it stands, and the names of its parameters. None where no scope outward has one.
-    pub fn function(&self, name: &[u8]) -> Option<(Function<'a>, u32, Names<'s>)>
+    pub fn function(&self, name: &[u8]) -> Option<(Function<'a>, u32, Names<'a>)>
         ensures found { IsFunctionFound self.now.source.now (rows_of self.now.scopes.now)
             (visible_function (expression_context_here self.now).env name.now) result }
         ensures there { IfSome result (λ found. found.1 < scopes_there self.now) }
@@ -40,7 +40,7 @@ impl<'a, 's> Evaluation<'a, 's> {
 
     /// The module that a name stands for, the newest of its name from the scope outward, with its body's block,
     /// the number of the scope in which it stands, and the names of its parameters. None where no scope outward has one.
-    pub fn module(&self, name: &[u8]) -> Option<(Module<'a>, u32, Names<'s>)>
+    pub fn module(&self, name: &[u8]) -> Option<(Module<'a>, u32, Names<'a>)>
         ensures found { IsModuleFound self.now.source.now (rows_of self.now.scopes.now)
             (visible_module (env_here self.now) name.now) result }
         ensures there { IfSome result (λ found. found.1 < scopes_there self.now) }
