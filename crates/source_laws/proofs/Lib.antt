@@ -1,3 +1,13 @@
 pub mod ShapeHulls
 pub mod PlacedHulls
 pub mod Programs
+mod Bounds
+mod ChosenSizes
+mod Costs
+mod ExpressionCosts
+mod InstanceCosts
+mod Payments
+mod Runs
+mod Scopes
+mod TextSizes
+mod WrittenSizes

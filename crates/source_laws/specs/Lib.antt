@@ -1,1 +1,4 @@
 pub mod SourceHulls
+pub mod Sizes
+pub mod ExpressionCounts
+pub mod InstanceCounts

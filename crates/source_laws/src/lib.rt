@@ -1,7 +1,13 @@
-//! Solids of sources: each shape of a program is a hull, and the tree that the program means holds only within reach, as laws,
-//! which do nothing when they run.
+//! Laws of sources: each shape of a program is a hull, the tree that it means holds only within reach, and its evaluations are
+//! bounded by its tokens and by what is counted. They do nothing when they run.
 #![tactic(auto)]
 
+mod evaluations;
 mod solids;
 
-pub use solids::{designs_are_of_hulls, placed_hulls_keep_within_reach, programs_keep_within_reach};
+pub use evaluations::{
+    expressions_take_few_evaluations, programs_take_few_evaluations, runs_take_few_evaluations,
+};
+pub use solids::{
+    designs_are_of_hulls, placed_hulls_keep_within_reach, programs_keep_within_reach,
+};

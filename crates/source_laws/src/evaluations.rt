@@ -1,0 +1,52 @@
+//! Laws of how many evaluations a source takes.
+
+ghost use Rattle.std.specs.Prelude.{◌≡◌, ◌≤◌, ◌<◌, ℕ, ◌+◌, ◌-◌, ◌*◌, Bool, List, length};
+ghost use Rattle.plane_predicate.specs.declared.unit.Unit.{Unit as LengthUnit};
+ghost use Rattle.scad_lexer.specs.declared.token.Token.{Token};
+ghost use Rattle.scad_ast.specs.Terms.{Term, StatementTerm, StatementTerms, statements_from};
+ghost use Rattle.scad_grammar.specs.Grammar.{WholeProgram};
+ghost use Rattle.scad_value.specs.Values.{Val};
+ghost use Rattle.scad_scope.specs.Names.{Pairs};
+ghost use Rattle.scad_func.specs.Limits.{most_calls, most_turns};
+ghost use Rattle.scad_func.specs.Meaning.{Gives, then_with, Env, value_within};
+ghost use Rattle.scad_meaning.specs.Verdicts.{Judge};
+ghost use Rattle.scad_meaning.specs.Meaning.{most_leaves, root_or_union, design_of};
+ghost use Rattle.source_laws.specs.Sizes.{size_of_term, size_of_statements, HoldsUpTo};
+ghost use Rattle.source_laws.specs.ExpressionCounts.{count_within, turns_at_end};
+ghost use Rattle.source_laws.specs.InstanceCounts.{count_evaluations, run_of, counted_at_end};
+
+/// The evaluations of an expression are at most as many as its own size, and for each turn that it counts at most as many as
+/// the size of the largest function, module or body that its scope holds.
+pub fn expressions_take_few_evaluations()
+    ensures { (size evaluations calls : ℕ) (env : Env) (bindings : Pairs Val) (counts : Bool)
+        (expression : Term) (turns : ℕ) → HoldsUpTo size env → turns ≤ most_turns →
+        count_within evaluations calls env bindings expression turns ≤ size_of_term expression
+        + size * (turns_at_end (value_within evaluations counts calls env bindings expression turns) - turns) }
+{}
+
+/// The evaluations of a run are at most as many as the size of its program, once, and once more for each turn and each leaf
+/// that it counts and for each call that may stand in others, and one. No way through a source goes on without being counted.
+pub fn runs_take_few_evaluations()
+    ensures run { (unit : LengthUnit) (judge : Judge) (bindings : Pairs Val) (statements : StatementTerms) →
+        design_of unit judge bindings statements
+        ≡ then_with (run_of unit judge bindings statements) (λ turns members.
+        Gives turns (root_or_union members.root members.designs)) }
+    ensures count { (unit : LengthUnit) (judge : Judge) (bindings : Pairs Val) (statements : StatementTerms) →
+        count_evaluations unit judge bindings statements ≤ size_of_statements statements
+        * (1 + (most_calls + 1) * counted_at_end (run_of unit judge bindings statements)) }
+    ensures most { (unit : LengthUnit) (judge : Judge) (bindings : Pairs Val) (statements : StatementTerms) →
+        counted_at_end (run_of unit judge bindings statements) ≤ most_turns + most_leaves + 1 }
+{}
+
+/// A program has fewer expressions, assignments and instances than tokens; so the evaluations of its run are at most as many
+/// as its tokens, once, and once more for each turn and each leaf and for each call that may stand in others, and one.
+pub fn programs_take_few_evaluations()
+    ensures size { (depth : ℕ) (program : List StatementTerm) (tokens : List Token) →
+        WholeProgram depth program tokens →
+        size_of_statements (statements_from program) < length tokens }
+    ensures count { (depth : ℕ) (unit : LengthUnit) (judge : Judge) (bindings : Pairs Val)
+        (program : List StatementTerm) (tokens : List Token) → WholeProgram depth program tokens →
+        count_evaluations unit judge bindings (statements_from program) ≤ length tokens
+        * (1 + (most_calls + 1)
+        * counted_at_end (run_of unit judge bindings (statements_from program))) }
+{}
