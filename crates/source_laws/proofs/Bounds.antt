@@ -13,7 +13,7 @@ use Rattle.scad_func.specs.Limits.{most_calls}
 use Rattle.scad_func.specs.Meaning.{then_with}
 use Rattle.scad_meaning.specs.Verdicts.{Judge}
 use Rattle.scad_meaning.specs.Meaning.{MemberDesigns, most_leaves, root_or_union, design_of}
-use Rattle.source_laws.specs.InstanceCounts.{count_evaluations, run_of, counted_at_end}
+use Rattle.source_laws.specs.InstanceCounts.{count_evaluations, members_of_program, counted_at_end}
 use Rattle.source_laws.specs.Sizes.{size_of_term, size_of_statements, HoldsUpTo}
 use Rattle.source_laws.specs.ExpressionCounts.{count_within, turns_at_end}
 use Rattle.source_laws.proofs.Costs.{nothing, Rate, Costs, listed}
@@ -69,21 +69,21 @@ module _ (unit : LengthUnit) (judge : Judge) (bindings : Pairs Val) (statements 
       subst (λ n. count + paid size most_calls (0 + 0) ≤ size + paid size most_calls n) end_is h in (omega arith, omega arith)
 
   all_bounded : (count_evaluations unit judge bindings statements
-      ≤ size_of_statements statements * (1 + (most_calls + 1) * counted_at_end (run_of unit judge bindings statements)))
-      × (counted_at_end (run_of unit judge bindings statements) ≤ most_turns + most_leaves + 1)
-  all_bounded = program_by (size_of_statements statements) (count_evaluations unit judge bindings statements) (run_of unit judge bindings statements)
+      ≤ size_of_statements statements * (1 + (most_calls + 1) * counted_at_end (members_of_program unit judge bindings statements)))
+      × (counted_at_end (members_of_program unit judge bindings statements) ≤ most_turns + most_leaves + 1)
+  all_bounded = program_by (size_of_statements statements) (count_evaluations unit judge bindings statements) (members_of_program unit judge bindings statements)
       (program_cost (size_of_statements statements) unit judge bindings statements (omega arith))
 
   pub runs_bounded : count_evaluations unit judge bindings statements
-      ≤ size_of_statements statements * (1 + (most_calls + 1) * counted_at_end (run_of unit judge bindings statements))
+      ≤ size_of_statements statements * (1 + (most_calls + 1) * counted_at_end (members_of_program unit judge bindings statements))
   runs_bounded = all_bounded.0
 
-  pub counted_bounded : counted_at_end (run_of unit judge bindings statements) ≤ most_turns + most_leaves + 1
+  pub counted_bounded : counted_at_end (members_of_program unit judge bindings statements) ≤ most_turns + most_leaves + 1
   counted_bounded = all_bounded.1
 
   pub run_is_design : design_of unit judge bindings statements
-      ≡ then_with (run_of unit judge bindings statements) (λ turns members. Gives turns (root_or_union members.root members.designs))
-  unfolding design_of run_of
+      ≡ then_with (members_of_program unit judge bindings statements) (λ turns members. Gives turns (root_or_union members.root members.designs))
+  unfolding design_of members_of_program
   run_is_design = refl
 
 -- programs by their tokens
@@ -96,9 +96,9 @@ written_bounded depth program tokens h = written_size depth program tokens h
 
 pub tokens_bounded : (depth : ℕ) (unit : LengthUnit) (judge : Judge) (bindings : Pairs Val) (program : List StatementTerm) (tokens : List Token) → WholeProgram depth program tokens
     → count_evaluations unit judge bindings (statements_from program)
-    ≤ length tokens * (1 + (most_calls + 1) * counted_at_end (run_of unit judge bindings (statements_from program)))
+    ≤ length tokens * (1 + (most_calls + 1) * counted_at_end (members_of_program unit judge bindings (statements_from program)))
 tokens_bounded depth unit judge bindings program tokens h =
     let written = written_size depth program tokens h in
     let all = runs_bounded unit judge bindings (statements_from program) in
     let more = scaled (size_of_statements (statements_from program)) (length tokens)
-    (1 + (most_calls + 1) * counted_at_end (run_of unit judge bindings (statements_from program))) (omega arith) in omega arith
+    (1 + (most_calls + 1) * counted_at_end (members_of_program unit judge bindings (statements_from program))) (omega arith) in omega arith

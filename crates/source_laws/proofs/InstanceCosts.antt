@@ -31,7 +31,7 @@ use Rattle.scad_meaning.specs.Meaning.{Context, inside_scope, with_bindings, wit
 use Rattle.scad_meaning.proofs.Choosing.{all_chosen}
 use Rattle.source_laws.specs.Sizes.{size_of_term, size_of_args, size_of_params, size_of_binders, size_of_statements, size_of_instance, size_of_core, size_of_body, size_of_module, HoldsUpTo, CallHoldsUpTo}
 use Rattle.source_laws.specs.ExpressionCounts.{CountsExpression, count_in_call, count_at_next_depth, count_each_argument, count_each_parameter, count_within}
-use Rattle.source_laws.specs.InstanceCounts.{CountsInstance, count_expression, count_assigned, count_each_assignment, count_each_member, count_block, count_in_scope, count_body, count_each_step, count_each_iteration, count_module_with_values, count_module_with_arguments, count_module, count_each_echo_argument, count_arguments_for, count_children, count_chosen_children, count_effect, count_built_in_with_arguments, count_built_in, count_module_call, count_core, count_root, count_instance, count_design_within, count_evaluations, run_of}
+use Rattle.source_laws.specs.InstanceCounts.{CountsInstance, count_expression, count_assigned, count_each_assignment, count_each_member, count_block, count_in_scope, count_body, count_each_step, count_each_iteration, count_module_with_values, count_module_with_arguments, count_module, count_each_echo_argument, count_arguments_for, count_children, count_chosen_children, count_effect, count_built_in_with_arguments, count_built_in, count_module_call, count_core, count_root, count_instance, count_design_within, count_evaluations, members_of_program}
 use Rattle.source_laws.proofs.Costs.{nothing, turn_within, Rate, Costs, let_go, one_more, skip_costs, free_value, option_costs, left_of_bound}
 use Rattle.source_laws.proofs.Scopes.{SmallModule, module_found, call_found, variable_held, functions_small, modules_small, entered_small, body_size}
 use Rattle.source_laws.proofs.ExpressionCosts.{left_of_given, Sits, value_cost, call_arguments_cost, parameters_cost, expressions_cost}
@@ -587,8 +587,8 @@ module _ (largest : ℕ) where
     -- the instances of a program
     pub program_cost : (bindings : Pairs Val) (statements : StatementTerms) → size_of_statements statements ≤ largest
         → Runs largest member_leaves nothing most_calls 0 0 (size_of_statements statements)
-        (count_evaluations unit judge bindings statements) (run_of unit judge bindings statements)
-    unfolding count_evaluations run_of
+        (count_evaluations unit judge bindings statements) (members_of_program unit judge bindings statements)
+    unfolding count_evaluations members_of_program
     program_cost bindings statements small =
         scope_cost most_evaluations (count_design_within unit judge most_evaluations) (design_within unit judge most_evaluations) (instances_cost most_evaluations)
         most_calls (program_context bindings statements) statements 0 0

@@ -242,8 +242,8 @@ count_evaluations unit judge bindings statements =
     (program_context bindings statements) statements 0 0
 
 -- what a program's instances give, with the turns and the leaves that a run counts
-unfoldable pub run_of : LengthUnit → Judge → Pairs Val → StatementTerms → Outcome MemberDesigns
-run_of unit judge bindings statements =
+unfoldable pub members_of_program : LengthUnit → Judge → Pairs Val → StatementTerms → Outcome MemberDesigns
+members_of_program unit judge bindings statements =
     each_in_scope (evaluator_with unit judge most_evaluations) (program_context bindings statements) statements 0 0
 
 -- the turns and the leaves that a run counts; a run that ends in a fault has none of its own, so one more than there can be stand

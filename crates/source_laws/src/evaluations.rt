@@ -13,7 +13,7 @@ ghost use Rattle.scad_meaning.specs.Verdicts.{Judge};
 ghost use Rattle.scad_meaning.specs.Meaning.{most_leaves, root_or_union, design_of};
 ghost use Rattle.source_laws.specs.Sizes.{size_of_term, size_of_statements, HoldsUpTo};
 ghost use Rattle.source_laws.specs.ExpressionCounts.{count_within, turns_at_end};
-ghost use Rattle.source_laws.specs.InstanceCounts.{count_evaluations, run_of, counted_at_end};
+ghost use Rattle.source_laws.specs.InstanceCounts.{count_evaluations, members_of_program, counted_at_end};
 
 /// The evaluations of an expression are at most as many as its own size, and for each turn that it counts at most as many as
 /// the size of the largest function, module or body that its scope holds.
@@ -29,13 +29,13 @@ pub fn expressions_take_few_evaluations()
 pub fn runs_take_few_evaluations()
     ensures run { (unit : LengthUnit) (judge : Judge) (bindings : Pairs Val) (statements : StatementTerms) →
         design_of unit judge bindings statements
-        ≡ then_with (run_of unit judge bindings statements) (λ turns members.
+        ≡ then_with (members_of_program unit judge bindings statements) (λ turns members.
         Gives turns (root_or_union members.root members.designs)) }
     ensures count { (unit : LengthUnit) (judge : Judge) (bindings : Pairs Val) (statements : StatementTerms) →
         count_evaluations unit judge bindings statements ≤ size_of_statements statements
-        * (1 + (most_calls + 1) * counted_at_end (run_of unit judge bindings statements)) }
+        * (1 + (most_calls + 1) * counted_at_end (members_of_program unit judge bindings statements)) }
     ensures most { (unit : LengthUnit) (judge : Judge) (bindings : Pairs Val) (statements : StatementTerms) →
-        counted_at_end (run_of unit judge bindings statements) ≤ most_turns + most_leaves + 1 }
+        counted_at_end (members_of_program unit judge bindings statements) ≤ most_turns + most_leaves + 1 }
 {}
 
 /// A program has fewer expressions, assignments and instances than tokens; so the evaluations of its run are at most as many
@@ -48,5 +48,5 @@ pub fn programs_take_few_evaluations()
         (program : List StatementTerm) (tokens : List Token) → WholeProgram depth program tokens →
         count_evaluations unit judge bindings (statements_from program) ≤ length tokens
         * (1 + (most_calls + 1)
-        * counted_at_end (run_of unit judge bindings (statements_from program))) }
+        * counted_at_end (members_of_program unit judge bindings (statements_from program))) }
 {}
