@@ -13,9 +13,9 @@ use Rattle.scad_func.specs.Limits.{most_calls}
 use Rattle.scad_func.specs.Meaning.{then_with}
 use Rattle.scad_meaning.specs.Verdicts.{Judge}
 use Rattle.scad_meaning.specs.Meaning.{MemberDesigns, most_leaves, root_or_union, design_of}
-use Rattle.source_laws.specs.InstanceCounts.{count_evaluations, members_of_program, counted_at_end}
-use Rattle.source_laws.specs.Sizes.{size_of_term, size_of_statements, HoldsUpTo}
-use Rattle.source_laws.specs.ExpressionCounts.{count_within, turns_at_end}
+use Rattle.source_laws.specs.InstanceCounts.{evaluations_of_program, members_of_program, counted_at_end}
+use Rattle.source_laws.specs.Sizes.{size_of_term, size_of_statements, HoldsTextsUpTo}
+use Rattle.source_laws.specs.ExpressionCounts.{evaluations_within, turns_at_end}
 use Rattle.source_laws.proofs.Costs.{nothing, Rate, Costs, listed}
 use Rattle.source_laws.proofs.ExpressionCosts.{expressions_cost}
 use Rattle.source_laws.proofs.Payments.{end_is, paid, paid_all, more_product, product_up_to}
@@ -46,12 +46,12 @@ module _ (size turns own count : ℕ) (counts : Bool) (below : turns ≤ most_tu
   by_outcome (Faults kind at) h = let e = difference size turns most_turns below in omega arith
 
 pub expressions_bounded : (size n calls : ℕ) (env : Env) (bindings : Pairs Val) (counts : Bool) (expression : Term) (turns : ℕ)
-    → HoldsUpTo size env → turns ≤ most_turns
-    → count_within n calls env bindings expression turns
+    → HoldsTextsUpTo size env → turns ≤ most_turns
+    → evaluations_within n calls env bindings expression turns
     ≤ size_of_term expression + size * (turns_at_end (value_within n counts calls env bindings expression turns) - turns)
 unfolding plain_rate
 expressions_bounded size n calls env bindings counts expression turns held below =
-    by_outcome size turns (size_of_term expression) (count_within n calls env bindings expression turns) counts below
+    by_outcome size turns (size_of_term expression) (evaluations_within n calls env bindings expression turns) counts below
     (value_within n counts calls env bindings expression turns)
     (expressions_cost (plain_rate size) n counts calls env bindings expression turns held below)
 
@@ -68,13 +68,13 @@ module _ (unit : LengthUnit) (judge : Judge) (bindings : Pairs Val) (statements 
       let cost : count + paid size most_calls (0 + 0) ≤ size + paid size most_calls (most_turns + most_leaves + 1) =
       subst (λ n. count + paid size most_calls (0 + 0) ≤ size + paid size most_calls n) end_is h in (omega arith, omega arith)
 
-  all_bounded : (count_evaluations unit judge bindings statements
+  all_bounded : (evaluations_of_program unit judge bindings statements
       ≤ size_of_statements statements * (1 + (most_calls + 1) * counted_at_end (members_of_program unit judge bindings statements)))
       × (counted_at_end (members_of_program unit judge bindings statements) ≤ most_turns + most_leaves + 1)
-  all_bounded = program_by (size_of_statements statements) (count_evaluations unit judge bindings statements) (members_of_program unit judge bindings statements)
+  all_bounded = program_by (size_of_statements statements) (evaluations_of_program unit judge bindings statements) (members_of_program unit judge bindings statements)
       (program_cost (size_of_statements statements) unit judge bindings statements (omega arith))
 
-  pub runs_bounded : count_evaluations unit judge bindings statements
+  pub runs_bounded : evaluations_of_program unit judge bindings statements
       ≤ size_of_statements statements * (1 + (most_calls + 1) * counted_at_end (members_of_program unit judge bindings statements))
   runs_bounded = all_bounded.0
 
@@ -95,7 +95,7 @@ pub written_bounded : (depth : ℕ) (program : List StatementTerm) (tokens : Lis
 written_bounded depth program tokens h = written_size depth program tokens h
 
 pub tokens_bounded : (depth : ℕ) (unit : LengthUnit) (judge : Judge) (bindings : Pairs Val) (program : List StatementTerm) (tokens : List Token) → WholeProgram depth program tokens
-    → count_evaluations unit judge bindings (statements_from program)
+    → evaluations_of_program unit judge bindings (statements_from program)
     ≤ length tokens * (1 + (most_calls + 1) * counted_at_end (members_of_program unit judge bindings (statements_from program)))
 tokens_bounded depth unit judge bindings program tokens h =
     let written = written_size depth program tokens h in

@@ -9,7 +9,7 @@ use Rattle.scad_value.specs.Values.{Val, NumberVal, TruthVal, TextVal, ListVal, 
 use Rattle.scad_value.specs.Operators.{AnswerOrFault}
 use Rattle.scad_func.specs.Limits.{most_turns}
 use Rattle.scad_func.specs.Meaning.{Outcome, Gives, Faults, then_with, or_fault, outcome_of_answer, turn, one_call_fewer, count_elements, count_elements_if}
-use Rattle.source_laws.specs.ExpressionCounts.{count_after, count_where, count_after_turn, count_in_call}
+use Rattle.source_laws.specs.ExpressionCounts.{evaluations_after, evaluations_where, evaluations_after_turn, evaluations_in_call}
 
 -- nothing is left over
 abbrev pub nothing : {A : Type 0} → A → ℕ
@@ -76,7 +76,7 @@ module _ (rate : Rate) where
   pub then_costs : {A B : Type 0} (left : A → ℕ) (kept : B → ℕ) (turns s t c : ℕ) (out : Outcome A) (counted : ℕ → A → ℕ) (go : ℕ → A → Outcome B)
       → Costs left turns s c out
       → ((after : ℕ) (x : A) → after ≤ most_turns → Costs kept after (t + left x) (counted after x) (go after x))
-      → Costs kept turns (s + t) (c + count_after out counted) (then_with out go)
+      → Costs kept turns (s + t) (c + evaluations_after out counted) (then_with out go)
   then_costs left kept turns s t c (Gives after x) counted go h g =
       joined kept turns after s t c (counted after x) (left x) (go after x) h.0 h.2 (g after x h.1)
   then_costs left kept turns s t c (Faults kind at) counted go h g = omega arith
@@ -84,7 +84,7 @@ module _ (rate : Rate) where
   pub skip_costs : {A B : Type 0} (kept : B → ℕ) (turns s t c : ℕ) (out : Outcome A) (counted : ℕ → A → ℕ) (go : ℕ → A → Outcome B)
       → Costs nothing turns s c out
       → ((after : ℕ) (x : A) → after ≤ most_turns → Costs kept after t (counted after x) (go after x))
-      → Costs kept turns (s + t) (c + count_after out counted) (then_with out go)
+      → Costs kept turns (s + t) (c + evaluations_after out counted) (then_with out go)
   skip_costs kept turns s t c out counted go h g =
       then_costs nothing kept turns s t c out counted go h (λ after x k.
       larger kept after t (t + 0) (counted after x) (go after x) (omega arith) (g after x k))
@@ -116,7 +116,7 @@ module _ (rate : Rate) where
   -- what is there or not
   pub some_costs : {A B : Type 0} (P : A → Type 0) (left : B → ℕ) (turns size : ℕ) (o : Option A) (kind : FaultKind) (at : Place) (counted : A → ℕ) (go : A → Outcome B)
       → turns ≤ most_turns → IfSome o P → ((x : A) → P x → Costs left turns size (counted x) (go x))
-      → Costs left turns size (count_where o counted) (or_fault o kind at go)
+      → Costs left turns size (evaluations_where o counted) (or_fault o kind at go)
   some_costs P left turns size None kind at counted go k h g = free_fault turns size k
   some_costs P left turns size (Some x) kind at counted go k h g = g x h
 
@@ -129,7 +129,7 @@ module _ (rate : Rate) where
 
   pub option_costs : {A B : Type 0} (left : B → ℕ) (turns size : ℕ) (o : Option A) (kind : FaultKind) (at : Place) (counted : A → ℕ) (go : A → Outcome B)
       → turns ≤ most_turns → ((x : A) → Costs left turns size (counted x) (go x))
-      → Costs left turns size (count_where o counted) (or_fault o kind at go)
+      → Costs left turns size (evaluations_where o counted) (or_fault o kind at go)
   option_costs left turns size o kind at counted go k g = some_costs Whatever left turns size o kind at counted go k (whatever o) (λ x h. g x)
 
   -- by a test
@@ -154,7 +154,7 @@ module _ (rate : Rate) where
 
   pub turn_costs : {A : Type 0} (left : A → ℕ) (turns size : ℕ) (at : Place) (counted : ℕ → ℕ) (go : ℕ → Outcome A)
       → turns ≤ most_turns → (turns + 1 ≤ most_turns → Costs left (turns + 1) (size + rate.largest) (counted (turns + 1)) (go (turns + 1)))
-      → Costs left turns size (count_after_turn turns counted) (turn at turns go)
+      → Costs left turns size (evaluations_after_turn turns counted) (turn at turns go)
   turn_costs left turns size at counted go k g =
       turn_by left turns size (nat_lt turns most_turns) at (counted (turns + 1)) (go (turns + 1)) k (λ b.
       later left turns size (counted (turns + 1)) (go (turns + 1)) (g (turn_within turns b)))
@@ -162,7 +162,7 @@ module _ (rate : Rate) where
   -- one call deeper
   pub call_costs : {A : Type 0} (left : A → ℕ) (turns size calls : ℕ) (at : Place) (counted : ℕ → ℕ) (go : ℕ → Outcome A)
       → turns ≤ most_turns → ((n : ℕ) → calls ≡ suc n → Costs left turns size (counted n) (go n))
-      → Costs left turns size (count_in_call calls counted) (one_call_fewer calls at go)
+      → Costs left turns size (evaluations_in_call calls counted) (one_call_fewer calls at go)
   call_costs left turns size zero at counted go k g = free_fault turns size k
   call_costs left turns size (suc calls) at counted go k g = g calls refl
 

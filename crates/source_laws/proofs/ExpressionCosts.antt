@@ -14,8 +14,8 @@ use Rattle.scad_builtin.specs.declared.function.Builtin.{Builtin}
 use Rattle.scad_builtin.specs.Builtins.{builtin_of, takes_count, builtin_value}
 use Rattle.scad_func.specs.Limits.{most_turns}
 use Rattle.scad_func.specs.Meaning.{Outcome, Gives, Faults, then_with, or_fault, outcome_of_answer, Env, InnerScope, no_activation, visible_variable, visible_function, EvaluatesExpression, ExpressionContext, value_at_next_depth, expression_with_calls_left, in_scope, with_more_bindings, each_value, with_first_term, only_values, count_of_terms, BoundArguments, Arguments, each_argument, parameter_value, each_parameter, with_pairs, function_value, function_call_value, built_in_call_value, call_value, value_here, each_suffix, each_link, value_within}
-use Rattle.source_laws.specs.Sizes.{size_of_term, size_of_terms, size_of_args, size_of_suffixes, size_of_links, size_of_param, size_of_params, size_of_function, HoldsUpTo}
-use Rattle.source_laws.specs.ExpressionCounts.{CountsExpression, count_after, count_at_next_depth, count_each_value, count_each_argument, count_parameter, count_each_parameter, count_function, count_function_call, count_built_in_call, count_call, count_inside, count_each_suffix, count_each_link, count_within}
+use Rattle.source_laws.specs.Sizes.{size_of_term, size_of_terms, size_of_args, size_of_suffixes, size_of_links, size_of_param, size_of_params, size_of_function, HoldsTextsUpTo}
+use Rattle.source_laws.specs.ExpressionCounts.{CountsExpression, evaluations_after, evaluations_at_next_depth, evaluations_of_each_value, evaluations_of_each_argument, evaluations_of_parameter, evaluations_of_each_parameter, evaluations_of_function, evaluations_of_function_call, evaluations_of_built_in_call, evaluations_of_call, evaluations_inside, evaluations_of_each_suffix, evaluations_of_each_link, evaluations_within}
 use Rattle.source_laws.proofs.Costs.{nothing, Rate, Costs, larger, let_go, one_more, then_costs, skip_costs, end_costs, free_fault, free_value, answered, some_costs, option_costs, test_costs, turn_costs, call_costs, listed, elements_cost, left_of_bound, bound_more}
 use Rattle.source_laws.proofs.Scopes.{SmallFunction, function_found}
 
@@ -32,29 +32,29 @@ module _ (rate : Rate) where
   -- expressions one evaluation deeper cost what their texts and the turns meanwhile pay
   abbrev pub Good : CountsExpression → EvaluatesExpression → Type 0
   Good counting at_next_depth = (counts : Bool) (calls : ℕ) (env : Env) (bindings : Pairs Val) (e : Term) (turns : ℕ)
-      → HoldsUpTo rate.largest env → turns ≤ most_turns
+      → HoldsTextsUpTo rate.largest env → turns ≤ most_turns
       → Costs rate (listed rate counts) turns (size_of_term e) (counting calls env bindings e turns) (at_next_depth counts calls env bindings e turns)
 
   abbrev pub Sits : CountsExpression → ExpressionContext → Type 0
-  Sits counting here = Good counting here.at_next_depth × HoldsUpTo rate.largest here.env
+  Sits counting here = Good counting here.at_next_depth × HoldsTextsUpTo rate.largest here.env
 
   pub listed_cost : (counting : CountsExpression) (here : ExpressionContext) → Sits counting here → (counts : Bool) (e : Term) (turns : ℕ) → turns ≤ most_turns
-      → Costs rate (listed rate counts) turns (size_of_term e) (count_at_next_depth counting here e turns) (value_at_next_depth here counts e turns)
+      → Costs rate (listed rate counts) turns (size_of_term e) (evaluations_at_next_depth counting here e turns) (value_at_next_depth here counts e turns)
   listed_cost counting here s counts e turns k = s.0 counts here.calls_left here.env here.bindings e turns s.1 k
 
   pub value_cost : (counting : CountsExpression) (here : ExpressionContext) → Sits counting here → (counts : Bool) (e : Term) (turns : ℕ) → turns ≤ most_turns
-      → Costs rate nothing turns (size_of_term e) (count_at_next_depth counting here e turns) (value_at_next_depth here counts e turns)
+      → Costs rate nothing turns (size_of_term e) (evaluations_at_next_depth counting here e turns) (value_at_next_depth here counts e turns)
   value_cost counting here s counts e turns k =
-      let_go rate (listed rate counts) turns (size_of_term e) (count_at_next_depth counting here e turns) (value_at_next_depth here counts e turns)
+      let_go rate (listed rate counts) turns (size_of_term e) (evaluations_at_next_depth counting here e turns) (value_at_next_depth here counts e turns)
       (listed_cost counting here s counts e turns k)
 
   values_cost : (counting : CountsExpression) (here : ExpressionContext) → Sits counting here → (es : Terms) (turns : ℕ) → turns ≤ most_turns
-      → Costs rate nothing turns (size_of_terms es) (count_each_value counting here es turns) (each_value here es turns)
+      → Costs rate nothing turns (size_of_terms es) (evaluations_of_each_value counting here es turns) (each_value here es turns)
   values_cost counting here s no_terms turns k = free_value rate turns 0 k
   values_cost counting here s (and_term e es) turns k =
-      skip_costs rate nothing turns (size_of_term e) (size_of_terms es) (count_at_next_depth counting here e turns) (value_at_next_depth here true e turns) _ _
+      skip_costs rate nothing turns (size_of_term e) (size_of_terms es) (evaluations_at_next_depth counting here e turns) (value_at_next_depth here true e turns) _ _
       (value_cost counting here s true e turns k) (λ turns v k.
-      end_costs rate nothing turns (size_of_terms es) (count_each_value counting here es turns) (each_value here es turns) _
+      end_costs rate nothing turns (size_of_terms es) (evaluations_of_each_value counting here es turns) (each_value here es turns) _
       (values_cost counting here s es turns k) (λ turns vs k. free_value rate turns 0 k))
 
   -- the terms of arguments without names are no larger
@@ -76,13 +76,13 @@ module _ (rate : Rate) where
       → ((v : Val) (turns : ℕ) → turns ≤ most_turns
       → Costs rate left_of_given turns (rest + left_of_given (with_argument given target v)) (counted v turns) (go v turns))
       → Costs rate left_of_given turns ((size_of_term e + rest) + left_of_given given)
-      (count_at_next_depth counting here e turns + count_after (value_at_next_depth here true e turns) (λ turns v. counted v turns))
+      (evaluations_at_next_depth counting here e turns + evaluations_after (value_at_next_depth here true e turns) (λ turns v. counted v turns))
       (then_with (value_at_next_depth here true e turns) (λ turns v. go v turns))
   argument_cost counting here s given target e rest turns counted go k g =
       larger rate left_of_given turns (size_of_term e + (rest + left_of_given given)) ((size_of_term e + rest) + left_of_given given)
-      (count_at_next_depth counting here e turns + count_after (value_at_next_depth here true e turns) (λ turns v. counted v turns))
+      (evaluations_at_next_depth counting here e turns + evaluations_after (value_at_next_depth here true e turns) (λ turns v. counted v turns))
       (then_with (value_at_next_depth here true e turns) (λ turns v. go v turns)) (omega arith)
-      (then_costs rate (listed rate true) left_of_given turns (size_of_term e) (rest + left_of_given given) (count_at_next_depth counting here e turns)
+      (then_costs rate (listed rate true) left_of_given turns (size_of_term e) (rest + left_of_given given) (evaluations_at_next_depth counting here e turns)
       (value_at_next_depth here true e turns) (λ turns v. counted v turns) (λ turns v. go v turns)
       (listed_cost counting here s true e turns k) (λ turns v k.
       larger rate left_of_given turns (rest + left_of_given (with_argument given target v)) ((rest + left_of_given given) + listed rate true v) (counted v turns) (go v turns)
@@ -91,27 +91,27 @@ module _ (rate : Rate) where
   pub arguments_cost : (counting : CountsExpression) (here : ExpressionContext) → Sits counting here
       → (names : List (List ℕ)) (positional : ℕ) (args : ArgTerms) (given : Arguments) (turns : ℕ) → turns ≤ most_turns
       → Costs rate left_of_given turns (size_of_args args + left_of_given given)
-      (count_each_argument counting here names positional args given turns) (each_argument here names positional args given turns)
+      (evaluations_of_each_argument counting here names positional args given turns) (each_argument here names positional args given turns)
   arguments_cost counting here s names positional no_args given turns k = (omega arith, k, omega arith)
   arguments_cost counting here s names positional (and_named at name value rest) given turns k =
       option_costs rate left_of_given turns ((size_of_term value + size_of_args rest) + left_of_given given)
       (destination_of names positional given (NamedTerm at name value)) BadArgument at _ _ k (λ target.
       argument_cost counting here s given target value (size_of_args rest) turns
-      (λ v turns. count_each_argument counting here names positional rest (with_argument given target v) turns)
+      (λ v turns. evaluations_of_each_argument counting here names positional rest (with_argument given target v) turns)
       (λ v turns. each_argument here names positional rest (with_argument given target v) turns) k (λ v turns k.
       arguments_cost counting here s names positional rest (with_argument given target v) turns k))
   arguments_cost counting here s names positional (and_special at name value rest) given turns k =
       option_costs rate left_of_given turns ((size_of_term value + size_of_args rest) + left_of_given given)
       (destination_of names positional given (SpecialArgTerm at name value)) BadArgument at _ _ k (λ target.
       argument_cost counting here s given target value (size_of_args rest) turns
-      (λ v turns. count_each_argument counting here names positional rest (with_argument given target v) turns)
+      (λ v turns. evaluations_of_each_argument counting here names positional rest (with_argument given target v) turns)
       (λ v turns. each_argument here names positional rest (with_argument given target v) turns) k (λ v turns k.
       arguments_cost counting here s names positional rest (with_argument given target v) turns k))
   arguments_cost counting here s names positional (and_positional value rest) given turns k =
       option_costs rate left_of_given turns ((size_of_term value + size_of_args rest) + left_of_given given)
       (destination_of names positional given (PositionalTerm value)) BadArgument (place_of_term value) _ _ k (λ target.
       argument_cost counting here s given target value (size_of_args rest) turns
-      (λ v turns. count_each_argument counting here names (positional + 1) rest (with_argument given target v) turns)
+      (λ v turns. evaluations_of_each_argument counting here names (positional + 1) rest (with_argument given target v) turns)
       (λ v turns. each_argument here names (positional + 1) rest (with_argument given target v) turns) k (λ v turns k.
       arguments_cost counting here s names (positional + 1) rest (with_argument given target v) turns k))
 
@@ -123,17 +123,17 @@ module _ (rate : Rate) where
   pub call_arguments_cost : (counting : CountsExpression) (here : ExpressionContext) → Sits counting here
       → (names : List (List ℕ)) (count : ℕ) (args : ArgTerms) (turns : ℕ) → turns ≤ most_turns
       → Costs rate left_of_given turns (size_of_args args)
-      (count_each_argument counting here names 0 args (no_arguments_of count) turns) (each_argument here names 0 args (no_arguments_of count) turns)
+      (evaluations_of_each_argument counting here names 0 args (no_arguments_of count) turns) (each_argument here names 0 args (no_arguments_of count) turns)
   call_arguments_cost counting here s names count args turns k =
       larger rate left_of_given turns (size_of_args args + left_of_given (no_arguments_of count)) (size_of_args args)
-      (count_each_argument counting here names 0 args (no_arguments_of count) turns) (each_argument here names 0 args (no_arguments_of count) turns)
+      (evaluations_of_each_argument counting here names 0 args (no_arguments_of count) turns) (each_argument here names 0 args (no_arguments_of count) turns)
       (let none = none_left count in omega arith)
       (arguments_cost counting here s names 0 args (no_arguments_of count) turns k)
 
   -- parameters
   parameter_cost : (counting : CountsExpression) (here : ExpressionContext) → Sits counting here → (p : ParamTerm) (bound_argument : Option Val) (turns : ℕ)
       → turns ≤ most_turns
-      → Costs rate nothing turns (size_of_param p) (count_parameter counting here p bound_argument turns) (parameter_value here p bound_argument turns)
+      → Costs rate nothing turns (size_of_param p) (evaluations_of_parameter counting here p bound_argument turns) (parameter_value here p bound_argument turns)
   parameter_cost counting here s (PlainTerm at name) (Some v) turns k = free_value rate turns 0 k
   parameter_cost counting here s (PlainTerm at name) None turns k = free_value rate turns 0 k
   parameter_cost counting here s (DefaultTerm at name value) (Some v) turns k = free_value rate turns (size_of_term value) k
@@ -141,22 +141,22 @@ module _ (rate : Rate) where
 
   pub parameters_cost : (counting : CountsExpression) (here : ExpressionContext) → Sits counting here → (ps : List ParamTerm) (bound : BoundArguments) (turns : ℕ)
       → turns ≤ most_turns
-      → Costs rate nothing turns (size_of_params ps) (count_each_parameter counting here ps bound turns) (each_parameter here ps bound turns)
+      → Costs rate nothing turns (size_of_params ps) (evaluations_of_each_parameter counting here ps bound turns) (each_parameter here ps bound turns)
   parameters_cost counting here s [] bound turns k = free_value rate turns 0 k
   parameters_cost counting here s (p ∷ ps) [] turns k = free_value rate turns (size_of_param p + size_of_params ps) k
   parameters_cost counting here s (p ∷ ps) (bound_argument ∷ bound) turns k =
-      skip_costs rate nothing turns (size_of_param p) (size_of_params ps) (count_parameter counting here p bound_argument turns)
+      skip_costs rate nothing turns (size_of_param p) (size_of_params ps) (evaluations_of_parameter counting here p bound_argument turns)
       (parameter_value here p bound_argument turns) _ _ (parameter_cost counting here s p bound_argument turns k) (λ turns v k.
-      end_costs rate nothing turns (size_of_params ps) (count_each_parameter counting here ps bound turns) (each_parameter here ps bound turns) _
+      end_costs rate nothing turns (size_of_params ps) (evaluations_of_each_parameter counting here ps bound turns) (each_parameter here ps bound turns) _
       (parameters_cost counting here s ps bound turns k) (λ turns vs k. free_value rate turns 0 k))
 
   -- calls
   function_cost : (counting : CountsExpression) (defining_scope : ExpressionContext) → Sits counting defining_scope → (f : SourceFunction) (given : Arguments) (turns : ℕ)
       → turns ≤ most_turns
-      → Costs rate nothing turns (size_of_function f) (count_function counting defining_scope f given turns) (function_value defining_scope f given turns)
+      → Costs rate nothing turns (size_of_function f) (evaluations_of_function counting defining_scope f given turns) (function_value defining_scope f given turns)
   function_cost counting defining_scope s f given turns k =
       skip_costs rate nothing turns (size_of_params f.params) (size_of_term f.value)
-      (count_each_parameter counting (with_more_bindings defining_scope given.dynamic) f.params given.bound turns)
+      (evaluations_of_each_parameter counting (with_more_bindings defining_scope given.dynamic) f.params given.bound turns)
       (each_parameter (with_more_bindings defining_scope given.dynamic) f.params given.bound turns) _ _
       (parameters_cost counting (with_more_bindings defining_scope given.dynamic) s f.params given.bound turns k) (λ turns vs k.
       value_cost counting (in_scope (with_more_bindings defining_scope given.dynamic) (InnerScope (with_pairs (parameter_names f.params) vs []) [] [] no_activation defining_scope.env))
@@ -164,36 +164,36 @@ module _ (rate : Rate) where
 
   function_call_cost : (counting : CountsExpression) (defining_scope : ExpressionContext) → Sits counting defining_scope → (at : Place) (f : SourceFunction) (given : Arguments) (turns : ℕ)
       → SmallFunction rate.largest f → turns ≤ most_turns
-      → Costs rate nothing turns 0 (count_function_call counting defining_scope f given turns) (function_call_value defining_scope at f given turns)
+      → Costs rate nothing turns 0 (evaluations_of_function_call counting defining_scope f given turns) (function_call_value defining_scope at f given turns)
   function_call_cost counting defining_scope s at f given turns small k =
       call_costs rate nothing turns 0 defining_scope.calls_left at _ _ k (λ calls e.
-      turn_costs rate nothing turns 0 at (λ turns. count_function counting (expression_with_calls_left defining_scope calls) f given turns)
+      turn_costs rate nothing turns 0 at (λ turns. evaluations_of_function counting (expression_with_calls_left defining_scope calls) f given turns)
       (λ turns. function_value (expression_with_calls_left defining_scope calls) f given turns) k (λ k.
-      larger rate nothing (turns + 1) (size_of_function f) (0 + rate.largest) (count_function counting (expression_with_calls_left defining_scope calls) f given (turns + 1))
+      larger rate nothing (turns + 1) (size_of_function f) (0 + rate.largest) (evaluations_of_function counting (expression_with_calls_left defining_scope calls) f given (turns + 1))
       (function_value (expression_with_calls_left defining_scope calls) f given (turns + 1)) (omega arith)
       (function_cost counting (expression_with_calls_left defining_scope calls) s f given (turns + 1) k)))
 
   built_in_cost : (counting : CountsExpression) (here : ExpressionContext) → Sits counting here → (at : Place) (name : List ℕ) (args : ArgTerms) (turns : ℕ) (found : Option Builtin)
       → turns ≤ most_turns
-      → Costs rate nothing turns (size_of_args args) (count_built_in_call counting here args turns found) (built_in_call_value here at name args turns found)
+      → Costs rate nothing turns (size_of_args args) (evaluations_of_built_in_call counting here args turns found) (built_in_call_value here at name args turns found)
   built_in_cost counting here s at name args turns None k = free_fault rate turns (size_of_args args) k
   built_in_cost counting here s at name args turns (Some builtin) k =
       some_costs rate (λ es. size_of_terms es ≤ size_of_args args) nothing turns (size_of_args args) (only_values args) BadArgument at _ _ k (only_size args) (λ es small.
-      test_costs rate nothing turns (size_of_args args) (takes_count builtin (count_of_terms es)) (count_each_value counting here es turns) 0
+      test_costs rate nothing turns (size_of_args args) (takes_count builtin (count_of_terms es)) (evaluations_of_each_value counting here es turns) 0
       (then_with (each_value here es turns) (λ turns vs. outcome_of_answer (builtin_value builtin vs) at turns)) (Faults BadArgument at)
-      (end_costs rate nothing turns (size_of_args args) (count_each_value counting here es turns) (each_value here es turns) _
-      (larger rate nothing turns (size_of_terms es) (size_of_args args) (count_each_value counting here es turns) (each_value here es turns) small
+      (end_costs rate nothing turns (size_of_args args) (evaluations_of_each_value counting here es turns) (each_value here es turns) _
+      (larger rate nothing turns (size_of_terms es) (size_of_args args) (evaluations_of_each_value counting here es turns) (each_value here es turns) small
       (values_cost counting here s es turns k)) (λ turns vs k. answered rate (builtin_value builtin vs) at turns k))
       (free_fault rate turns (size_of_args args) k))
 
   called_cost : (counting : CountsExpression) (here : ExpressionContext) → Sits counting here → (at : Place) (name : List ℕ) (args : ArgTerms) (turns : ℕ) (found : Option (SourceFunction × Env))
-      → turns ≤ most_turns → IfSome found (λ f. SmallFunction rate.largest f.0 × HoldsUpTo rate.largest f.1)
-      → Costs rate nothing turns (size_of_args args) (count_call counting here name args turns found) (call_value here at name args turns found)
+      → turns ≤ most_turns → IfSome found (λ f. SmallFunction rate.largest f.0 × HoldsTextsUpTo rate.largest f.1)
+      → Costs rate nothing turns (size_of_args args) (evaluations_of_call counting here name args turns found) (call_value here at name args turns found)
   called_cost counting here s at name args turns None k g = built_in_cost counting here s at name args turns (builtin_of name) k
   called_cost counting here s at name args turns (Some f) k g =
       let names = parameter_names f.0.params in
       let given = no_arguments_of (length names) in
-      let counted = count_each_argument counting here names 0 args given turns in
+      let counted = evaluations_of_each_argument counting here names 0 args given turns in
       let out = each_argument here names 0 args given turns in
       larger rate nothing turns (size_of_args args + 0) (size_of_args args) _ _ (omega arith)
       (skip_costs rate nothing turns (size_of_args args) 0 counted out _ _
@@ -238,10 +238,10 @@ module _ (rate : Rate) where
   free_first : {A B : Type 0} (turns size : ℕ) (out : Outcome A) (counted : ℕ → A → ℕ) (go : ℕ → A → Outcome B)
       → Costs rate nothing turns 0 0 out
       → ((after : ℕ) (x : A) → after ≤ most_turns → Costs rate nothing after size (counted after x) (go after x))
-      → Costs rate nothing turns size (count_after out counted) (then_with out go)
+      → Costs rate nothing turns size (evaluations_after out counted) (then_with out go)
   free_first turns size out counted go h g =
       let all = skip_costs rate nothing turns 0 size 0 out counted go h g in
-      free_sum turns size (count_after out counted) (then_with out go) all
+      free_sum turns size (evaluations_after out counted) (then_with out go) all
 
   chosen_size : (b : Bool) (one other : Term) → size_of_term (cond b one other) ≤ size_of_term one + size_of_term other
   chosen_size true one other = omega arith
@@ -250,7 +250,7 @@ module _ (rate : Rate) where
   -- an expression at its own depth
   mutual
     pub operand_cost : (counting : CountsExpression) (here : ExpressionContext) → Sits counting here → (e : Term) (turns : ℕ) → turns ≤ most_turns
-        → Costs rate nothing turns (size_of_term e) (suc (count_inside counting here e turns)) (value_here here e turns)
+        → Costs rate nothing turns (size_of_term e) (suc (evaluations_inside counting here e turns)) (value_here here e turns)
     operand_cost counting here s (NumberTerm at n) turns k = one_free turns k
     operand_cost counting here s (TextTerm at bytes) turns k = one_free turns k
     operand_cost counting here s (TruthTerm at truth) turns k = one_free turns k
@@ -265,46 +265,46 @@ module _ (rate : Rate) where
         one_more rate nothing turns (size_of_term inner) _ _ (value_cost counting here s true inner turns k)
     operand_cost counting here s (ListTerm at items) turns k =
         one_more rate nothing turns (size_of_terms items) _ _
-        (end_costs rate nothing turns (size_of_terms items) (count_each_value counting here items turns) (each_value here items turns) _
+        (end_costs rate nothing turns (size_of_terms items) (evaluations_of_each_value counting here items turns) (each_value here items turns) _
         (values_cost counting here s items turns k) (λ turns vs k. answered rate (value_or_long_list (Ok (ListVal vs))) at turns k))
     operand_cost counting here s (RangeTerm at from to) turns k =
         one_more rate nothing turns (size_of_term from + size_of_term to) _ _
-        (skip_costs rate nothing turns (size_of_term from) (size_of_term to) (count_at_next_depth counting here from turns) (value_at_next_depth here true from turns) _ _
+        (skip_costs rate nothing turns (size_of_term from) (size_of_term to) (evaluations_at_next_depth counting here from turns) (value_at_next_depth here true from turns) _ _
         (value_cost counting here s true from turns k) (λ turns a k.
-        end_costs rate nothing turns (size_of_term to) (count_at_next_depth counting here to turns) (value_at_next_depth here true to turns) _
+        end_costs rate nothing turns (size_of_term to) (evaluations_at_next_depth counting here to turns) (value_at_next_depth here true to turns) _
         (value_cost counting here s true to turns k) (λ turns b k. answered rate (range_of a b) at turns k)))
     operand_cost counting here s (SteppedRangeTerm at from step to) turns k =
         one_more rate nothing turns (size_of_term from + (size_of_term step + size_of_term to)) _ _
-        (skip_costs rate nothing turns (size_of_term from) (size_of_term step + size_of_term to) (count_at_next_depth counting here from turns) (value_at_next_depth here true from turns) _ _
+        (skip_costs rate nothing turns (size_of_term from) (size_of_term step + size_of_term to) (evaluations_at_next_depth counting here from turns) (value_at_next_depth here true from turns) _ _
         (value_cost counting here s true from turns k) (λ turns a k.
-        skip_costs rate nothing turns (size_of_term step) (size_of_term to) (count_at_next_depth counting here step turns) (value_at_next_depth here true step turns) _ _
+        skip_costs rate nothing turns (size_of_term step) (size_of_term to) (evaluations_at_next_depth counting here step turns) (value_at_next_depth here true step turns) _ _
         (value_cost counting here s true step turns k) (λ turns b k.
-        end_costs rate nothing turns (size_of_term to) (count_at_next_depth counting here to turns) (value_at_next_depth here true to turns) _
+        end_costs rate nothing turns (size_of_term to) (evaluations_at_next_depth counting here to turns) (value_at_next_depth here true to turns) _
         (value_cost counting here s true to turns k) (λ turns c k. answered rate (stepped_range_of a b c) at turns k))))
     operand_cost counting here s (PostfixTerm at of rest) turns k =
         one_more rate nothing turns (size_of_term of + size_of_suffixes rest) _ _
-        (skip_costs rate nothing turns (size_of_term of) (size_of_suffixes rest) (suc (count_inside counting here of turns)) (value_here here of turns) _ _
+        (skip_costs rate nothing turns (size_of_term of) (size_of_suffixes rest) (suc (evaluations_inside counting here of turns)) (value_here here of turns) _ _
         (operand_cost counting here s of turns k) (λ turns v k. suffixes_cost counting here s v rest turns k))
     operand_cost counting here s (UnaryTerm at op of) turns k =
         one_more rate nothing turns (size_of_term of) _ _
-        (end_costs rate nothing turns (size_of_term of) (count_at_next_depth counting here of turns) (value_at_next_depth here false of turns) _
+        (end_costs rate nothing turns (size_of_term of) (evaluations_at_next_depth counting here of turns) (value_at_next_depth here false of turns) _
         (value_cost counting here s false of turns k) (λ turns v k. answered rate (unary_of op v) at turns k))
     operand_cost counting here s (ChainTerm at first rest) turns k =
         one_more rate nothing turns (size_of_term first + size_of_links rest) _ _
-        (skip_costs rate nothing turns (size_of_term first) (size_of_links rest) (suc (count_inside counting here first turns)) (value_here here first turns) _ _
+        (skip_costs rate nothing turns (size_of_term first) (size_of_links rest) (suc (evaluations_inside counting here first turns)) (value_here here first turns) _ _
         (operand_cost counting here s first turns k) (λ turns v k. links_cost counting here s v rest turns k))
     operand_cost counting here s (ChoiceTerm at test mark one other) turns k =
         one_more rate nothing turns (size_of_term test + (size_of_term one + size_of_term other)) _ _
-        (skip_costs rate nothing turns (size_of_term test) (size_of_term one + size_of_term other) (suc (count_inside counting here test turns)) (value_here here test turns) _ _
+        (skip_costs rate nothing turns (size_of_term test) (size_of_term one + size_of_term other) (suc (evaluations_inside counting here test turns)) (value_here here test turns) _ _
         (operand_cost counting here s test turns k) (λ turns v k.
         larger rate nothing turns (size_of_term (cond (truth_of v) one other)) (size_of_term one + size_of_term other) _ _ (chosen_size (truth_of v) one other)
         (value_cost counting here s true (cond (truth_of v) one other) turns k)))
 
     suffixes_cost : (counting : CountsExpression) (here : ExpressionContext) → Sits counting here → (v : Val) (rest : SuffixTerms) (turns : ℕ) → turns ≤ most_turns
-        → Costs rate nothing turns (size_of_suffixes rest) (count_each_suffix counting here v rest turns) (each_suffix here v rest turns)
+        → Costs rate nothing turns (size_of_suffixes rest) (evaluations_of_each_suffix counting here v rest turns) (each_suffix here v rest turns)
     suffixes_cost counting here s v no_suffixes turns k = free_value rate turns 0 k
     suffixes_cost counting here s v (and_index at index rest) turns k =
-        skip_costs rate nothing turns (size_of_term index) (size_of_suffixes rest) (count_at_next_depth counting here index turns) (value_at_next_depth here true index turns) _ _
+        skip_costs rate nothing turns (size_of_term index) (size_of_suffixes rest) (evaluations_at_next_depth counting here index turns) (value_at_next_depth here true index turns) _ _
         (value_cost counting here s true index turns k) (λ turns w k.
         free_first turns (size_of_suffixes rest) (outcome_of_answer (index_of v w) at turns) _ _ (answered rate (index_of v w) at turns k) (λ turns x k.
         suffixes_cost counting here s x rest turns k))
@@ -314,22 +314,22 @@ module _ (rate : Rate) where
         suffixes_cost counting here s x rest turns k))
 
     links_cost : (counting : CountsExpression) (here : ExpressionContext) → Sits counting here → (v : Val) (rest : LinkTerms) (turns : ℕ) → turns ≤ most_turns
-        → Costs rate nothing turns (size_of_links rest) (count_each_link counting here v rest turns) (each_link here v rest turns)
+        → Costs rate nothing turns (size_of_links rest) (evaluations_of_each_link counting here v rest turns) (each_link here v rest turns)
     links_cost counting here s v no_links turns k = free_value rate turns 0 k
     links_cost counting here s v (and_link op at right rest) turns k =
-        skip_costs rate nothing turns (size_of_term right) (size_of_links rest) (if wants_right op v then suc (count_inside counting here right turns) else 0)
+        skip_costs rate nothing turns (size_of_term right) (size_of_links rest) (if wants_right op v then suc (evaluations_inside counting here right turns) else 0)
         (if wants_right op v then then_with (value_here here right turns) (λ turns w. outcome_of_answer (binary_of op v w) at turns) else Gives turns (TruthVal (truth_of v))) _ _
-        (test_costs rate nothing turns (size_of_term right) (wants_right op v) (suc (count_inside counting here right turns)) 0
+        (test_costs rate nothing turns (size_of_term right) (wants_right op v) (suc (evaluations_inside counting here right turns)) 0
         (then_with (value_here here right turns) (λ turns w. outcome_of_answer (binary_of op v w) at turns)) (Gives turns (TruthVal (truth_of v)))
-        (end_costs rate nothing turns (size_of_term right) (suc (count_inside counting here right turns)) (value_here here right turns) _
+        (end_costs rate nothing turns (size_of_term right) (suc (evaluations_inside counting here right turns)) (value_here here right turns) _
         (operand_cost counting here s right turns k) (λ turns w k. answered rate (binary_of op v w) at turns k))
         (free_value rate turns (size_of_term right) k)) (λ turns x k.
         links_cost counting here s x rest turns k)
 
-  pub expressions_cost : (n : ℕ) → Good (count_within n) (value_within n)
-  unfolding count_within value_within
+  pub expressions_cost : (n : ℕ) → Good (evaluations_within n) (value_within n)
+  unfolding evaluations_within value_within
   expressions_cost zero counts calls env bindings e turns s k = refused_cost e turns k
   expressions_cost (suc n) counts calls env bindings e turns s k =
       let here : ExpressionContext = record { at_next_depth = value_within n; calls_left = calls; env = env; bindings = bindings } in
-      elements_cost rate counts (place_of_term e) turns (size_of_term e) (suc (count_inside (count_within n) here e turns)) (value_here here e turns)
-      (operand_cost (count_within n) here (expressions_cost n, s) e turns k)
+      elements_cost rate counts (place_of_term e) turns (size_of_term e) (suc (evaluations_inside (evaluations_within n) here e turns)) (value_here here e turns)
+      (operand_cost (evaluations_within n) here (expressions_cost n, s) e turns k)

@@ -29,9 +29,9 @@ use Rattle.scad_meaning.specs.Bodies.{instances_in, evaluated_instances, is_chil
 use Rattle.scad_meaning.specs.Loops.{iterated_values, chosen_among}
 use Rattle.scad_meaning.specs.Meaning.{Context, inside_scope, with_bindings, with_calls_left, inside_root, inside_extrusion, expression_context, InstanceDesign, MemberDesigns, no_design, as_member, and_members, joined_members, moved_design, EvaluatesInstance, Evaluator, assigned_value, with_assignment, each_assignment, core_of_instance, each_member, instances_chosen, block_members, each_in_scope, each_in_body, body_design, turn_after_step, counted_step, each_step, in_loop, each_iteration, loop_design, most_leaves, leaf_design, unless_refused, with_leaf_of, hull_design, module_scope, module_with_values, module_with_arguments, module_design, each_echo_argument, arguments_for, children_design, counted_call, flat_design, effect_design, built_in_with_arguments, built_in_design, call_design, core_design, as_root, root_design, instance_design, design_within, program_context}
 use Rattle.scad_meaning.proofs.Choosing.{all_chosen}
-use Rattle.source_laws.specs.Sizes.{size_of_term, size_of_args, size_of_params, size_of_binders, size_of_statements, size_of_instance, size_of_core, size_of_body, size_of_module, HoldsUpTo, CallHoldsUpTo}
-use Rattle.source_laws.specs.ExpressionCounts.{CountsExpression, count_in_call, count_at_next_depth, count_each_argument, count_each_parameter, count_within}
-use Rattle.source_laws.specs.InstanceCounts.{CountsInstance, count_expression, count_assigned, count_each_assignment, count_each_member, count_block, count_in_scope, count_body, count_each_step, count_each_iteration, count_module_with_values, count_module_with_arguments, count_module, count_each_echo_argument, count_arguments_for, count_children, count_chosen_children, count_effect, count_built_in_with_arguments, count_built_in, count_module_call, count_core, count_root, count_instance, count_design_within, count_evaluations, members_of_program}
+use Rattle.source_laws.specs.Sizes.{size_of_term, size_of_args, size_of_params, size_of_binders, size_of_statements, size_of_instance, size_of_core, size_of_body, size_of_module, HoldsTextsUpTo, CallHoldsTextsUpTo}
+use Rattle.source_laws.specs.ExpressionCounts.{CountsExpression, evaluations_in_call, evaluations_at_next_depth, evaluations_of_each_argument, evaluations_of_each_parameter, evaluations_within}
+use Rattle.source_laws.specs.InstanceCounts.{CountsInstance, evaluations_of_expression, evaluations_of_assigned, evaluations_of_each_assignment, evaluations_of_each_member, evaluations_of_block, evaluations_of_in_scope, evaluations_of_body, evaluations_of_each_step, evaluations_of_each_iteration, evaluations_of_module_with_values, evaluations_of_module_with_arguments, evaluations_of_module, evaluations_of_each_echo_argument, evaluations_of_arguments_for, evaluations_of_children, evaluations_of_chosen_children, evaluations_of_effect, evaluations_of_built_in_with_arguments, evaluations_of_built_in, evaluations_of_module_call, evaluations_of_core, evaluations_of_root, evaluations_of_instance, instance_evaluations_within, evaluations_of_program, members_of_program}
 use Rattle.source_laws.proofs.Costs.{nothing, turn_within, Rate, Costs, let_go, one_more, skip_costs, free_value, option_costs, left_of_bound}
 use Rattle.source_laws.proofs.Scopes.{SmallModule, module_found, call_found, variable_held, functions_small, modules_small, entered_small, body_size}
 use Rattle.source_laws.proofs.ExpressionCosts.{left_of_given, Sits, value_cost, call_arguments_cost, parameters_cost, expressions_cost}
@@ -62,20 +62,20 @@ leaf_within leaves h = let below = ltb-true leaves most_leaves h in omega arith
 module _ (largest : ℕ) where
   -- where so many calls are left, and the scope holds nothing larger than the largest body
   abbrev pub Stands : ℕ → Context → Type 0
-  Stands calls here = (here.calls_left ≡ calls) × HoldsUpTo largest here.env
+  Stands calls here = (here.calls_left ≡ calls) × HoldsTextsUpTo largest here.env
 
   sits : (calls leaves : ℕ) (l : leaves ≤ most_leaves) (evaluations : ℕ) (here : Context) → Stands calls here
-      → Sits (rate_with largest calls leaves l) (count_within evaluations) (expression_context evaluations here)
+      → Sits (rate_with largest calls leaves l) (evaluations_within evaluations) (expression_context evaluations here)
   sits calls leaves l evaluations here s = (expressions_cost (rate_with largest calls leaves l) evaluations, s.1)
 
   -- assignments
   assigned_cost : (calls leaves : ℕ) (l : leaves ≤ most_leaves) (evaluations : ℕ) (here : Context) → Stands calls here → (a : SourceAssignment) (turns : ℕ) → turns ≤ most_turns
-      → Costs (rate_with largest calls leaves l) nothing turns (suc (size_of_term a.value)) (count_assigned evaluations here a turns) (assigned_value evaluations here a turns)
+      → Costs (rate_with largest calls leaves l) nothing turns (suc (size_of_term a.value)) (evaluations_of_assigned evaluations here a turns) (assigned_value evaluations here a turns)
   assigned_cost calls leaves l zero here s a turns k = let all = paid_in_run largest calls turns leaves k l in omega arith
   assigned_cost calls leaves l (suc evaluations) here s a turns k =
-      one_more (rate_with largest calls leaves l) nothing turns (size_of_term a.value) (count_expression evaluations here a.value turns)
+      one_more (rate_with largest calls leaves l) nothing turns (size_of_term a.value) (evaluations_of_expression evaluations here a.value turns)
       (value_at_next_depth (expression_context evaluations here) true a.value turns)
-      (value_cost (rate_with largest calls leaves l) (count_within evaluations) (expression_context evaluations here) (sits calls leaves l evaluations here s) true a.value turns k)
+      (value_cost (rate_with largest calls leaves l) (evaluations_within evaluations) (expression_context evaluations here) (sits calls leaves l evaluations here s) true a.value turns k)
 
   stands_with : (calls : ℕ) (b : Bool) (one other : Context) → Stands calls one → Stands calls other → Stands calls (if b then one else other)
   stands_with calls true one other h g = h
@@ -87,11 +87,11 @@ module _ (largest : ℕ) where
       (s.0, variable_held largest a.name v here.env s.1)
 
   assignments_cost : (calls leaves : ℕ) (l : leaves ≤ most_leaves) (evaluations : ℕ) (here : Context) → Stands calls here → (as_ : List SourceAssignment) (turns : ℕ) → turns ≤ most_turns
-      → Costs (rate_with largest calls leaves l) nothing turns (size_of_assignments as_) (count_each_assignment evaluations here as_ turns) (each_assignment evaluations here as_ turns)
+      → Costs (rate_with largest calls leaves l) nothing turns (size_of_assignments as_) (evaluations_of_each_assignment evaluations here as_ turns) (each_assignment evaluations here as_ turns)
   assignments_cost calls leaves l evaluations here s [] turns k = free_value (rate_with largest calls leaves l) turns 0 k
   assignments_cost calls leaves l evaluations here s (a ∷ as_) turns k =
       skip_costs (rate_with largest calls leaves l) nothing turns (suc (size_of_term a.value)) (size_of_assignments as_)
-      (count_assigned evaluations here a turns) (assigned_value evaluations here a turns) _ _
+      (evaluations_of_assigned evaluations here a turns) (assigned_value evaluations here a turns) _ _
       (assigned_cost calls leaves l evaluations here s a turns k) (λ turns v k.
       assignments_cost calls leaves l evaluations (with_assignment a v here) (still_stands calls a v here s) as_ turns k)
 
@@ -108,17 +108,17 @@ module _ (largest : ℕ) where
 
   -- arguments of built-in modules
   echo_cost : (rate : Rate) (counting : CountsExpression) (here : ExpressionContext) → Sits rate counting here → (args : ArgTerms) (given : Arguments) (turns : ℕ) → turns ≤ most_turns
-      → Costs rate nothing turns (size_of_args args) (count_each_echo_argument counting here args given turns) (each_echo_argument here args given turns)
+      → Costs rate nothing turns (size_of_args args) (evaluations_of_each_echo_argument counting here args given turns) (each_echo_argument here args given turns)
   echo_cost rate counting here s no_args given turns k = free_value rate turns 0 k
   echo_cost rate counting here s (and_named at name value rest) given turns k =
-      skip_costs rate nothing turns (size_of_term value) (size_of_args rest) (count_at_next_depth counting here value turns) (value_at_next_depth here true value turns) _ _
+      skip_costs rate nothing turns (size_of_term value) (size_of_args rest) (evaluations_at_next_depth counting here value turns) (value_at_next_depth here true value turns) _ _
       (value_cost rate counting here s true value turns k) (λ turns v k. echo_cost rate counting here s rest given turns k)
   echo_cost rate counting here s (and_special at name value rest) given turns k =
       option_costs rate nothing turns (size_of_term value + size_of_args rest) (destination_of [] 0 given (SpecialArgTerm at name value)) BadArgument at _ _ k (λ target.
-      skip_costs rate nothing turns (size_of_term value) (size_of_args rest) (count_at_next_depth counting here value turns) (value_at_next_depth here true value turns) _ _
+      skip_costs rate nothing turns (size_of_term value) (size_of_args rest) (evaluations_at_next_depth counting here value turns) (value_at_next_depth here true value turns) _ _
       (value_cost rate counting here s true value turns k) (λ turns v k. echo_cost rate counting here s rest (with_argument given target v) turns k))
   echo_cost rate counting here s (and_positional value rest) given turns k =
-      skip_costs rate nothing turns (size_of_term value) (size_of_args rest) (count_at_next_depth counting here value turns) (value_at_next_depth here true value turns) _ _
+      skip_costs rate nothing turns (size_of_term value) (size_of_args rest) (evaluations_at_next_depth counting here value turns) (value_at_next_depth here true value turns) _ _
       (value_cost rate counting here s true value turns k) (λ turns v k. echo_cost rate counting here s rest given turns k)
 
   -- of a call of the built-in `echo` nothing is left over, and it makes no children
@@ -127,7 +127,7 @@ module _ (largest : ℕ) where
   left_for rate builtin given = left_of_given rate given
 
   built_in_arguments_cost : (rate : Rate) (builtin : BuiltinModule) (counting : CountsExpression) (here : ExpressionContext) → Sits rate counting here → (args : ArgTerms) (turns : ℕ) → turns ≤ most_turns
-      → Costs rate (left_for rate builtin) turns (size_of_args args) (count_arguments_for builtin counting here args turns) (arguments_for builtin here args turns)
+      → Costs rate (left_for rate builtin) turns (size_of_args args) (evaluations_of_arguments_for builtin counting here args turns) (arguments_for builtin here args turns)
   built_in_arguments_cost rate Echo counting here s args turns k = echo_cost rate counting here s args (no_arguments_of 0) turns k
   built_in_arguments_cost rate builtin counting here s args turns k =
       call_arguments_cost rate counting here s (parameters_of builtin) (length (parameters_of builtin)) args turns k
@@ -222,53 +222,53 @@ module _ (largest : ℕ) where
       evaluator = record { unit = unit; judge = judge; evaluations = evaluations; at_next_depth = at_next_depth }
 
       members_cost : (calls : ℕ) (here : Context) (is : List InstanceTerm) (turns leaves : ℕ) → Stands calls here → All Small is → turns ≤ most_turns → leaves ≤ most_leaves
-          → Runs largest member_leaves nothing calls turns leaves (size_of_instances is) (count_each_member counting evaluator here is turns leaves) (each_member evaluator here is turns leaves)
+          → Runs largest member_leaves nothing calls turns leaves (size_of_instances is) (evaluations_of_each_member counting evaluator here is turns leaves) (each_member evaluator here is turns leaves)
       members_cost calls here [] turns leaves s h k l = run_nothing largest calls turns leaves 0 k l
       members_cost calls here (i ∷ is) turns leaves s h k l =
           run_skip largest design_leaves member_leaves nothing calls turns leaves (size_of_instance i) (size_of_instances is) (counting here i turns leaves) (at_next_depth here i turns leaves) _ _
           (good calls here i turns leaves s (All-head Small i is h) k l) (λ turns m k l.
-          run_map largest member_leaves nothing member_leaves nothing calls turns m.leaves (size_of_instances is) (count_each_member counting evaluator here is turns m.leaves)
+          run_map largest member_leaves nothing member_leaves nothing calls turns m.leaves (size_of_instances is) (evaluations_of_each_member counting evaluator here is turns m.leaves)
           (each_member evaluator here is turns m.leaves)
           (λ ms. and_members (as_member (if has_no_geometry here.env (core_of_instance i) then false else true) m) ms)
           (λ ms. (refl, omega arith)) (members_cost calls here is turns m.leaves s (All-tail Small i is h) k l))
 
       block_cost : (calls : ℕ) (chosen : Option ChosenCall) (here : Context) (statements : StatementTerms) (turns leaves over : ℕ) → Stands calls here → size_of_statements statements ≤ largest → turns ≤ most_turns → leaves ≤ most_leaves
           → ((env : Env) → size_of_instances (instances_chosen env chosen statements) ≤ size_of_instances (instances_in statements) + over)
-          → Runs largest member_leaves nothing calls turns leaves (size_of_statements statements + over) (count_block counting evaluator chosen statements here turns leaves)
+          → Runs largest member_leaves nothing calls turns leaves (size_of_statements statements + over) (evaluations_of_block counting evaluator chosen statements here turns leaves)
           (block_members evaluator chosen statements here turns leaves)
       block_cost calls chosen here statements turns leaves over s h k l g =
           let assigned = size_of_assignments (assignments_of statements) in
           let standing = size_of_instances (instances_in statements) in
           run_larger largest member_leaves nothing calls turns leaves (assigned + (standing + over)) (size_of_statements statements + over)
-          (count_block counting evaluator chosen statements here turns leaves) (block_members evaluator chosen statements here turns leaves)
+          (evaluations_of_block counting evaluator chosen statements here turns leaves) (block_members evaluator chosen statements here turns leaves)
           (let all = scope_size statements in omega arith)
           (value_then largest (Stands calls) nothing member_leaves nothing calls turns leaves assigned (standing + over)
-          (count_each_assignment evaluations here (assignments_of statements) turns) l (each_assignment evaluations here (assignments_of statements) turns) _ _
+          (evaluations_of_each_assignment evaluations here (assignments_of statements) turns) l (each_assignment evaluations here (assignments_of statements) turns) _ _
           (assignments_cost calls leaves l evaluations here s (assignments_of statements) turns k)
           (assignments_stand calls evaluations here s (assignments_of statements) turns) (λ turns there k p.
           run_larger largest member_leaves nothing calls turns leaves (size_of_instances (instances_chosen there.env chosen statements)) ((standing + over) + 0)
-          (count_each_member counting evaluator there (instances_chosen there.env chosen statements) turns leaves)
+          (evaluations_of_each_member counting evaluator there (instances_chosen there.env chosen statements) turns leaves)
           (each_member evaluator there (instances_chosen there.env chosen statements) turns leaves)
           (let few = g there.env in omega arith)
           (members_cost calls there (instances_chosen there.env chosen statements) turns leaves p (chosen_small there.env chosen statements h) k l)))
 
       scope_cost : (calls : ℕ) (here : Context) (statements : StatementTerms) (turns leaves : ℕ) → Stands calls here → size_of_statements statements ≤ largest → turns ≤ most_turns → leaves ≤ most_leaves
-          → Runs largest member_leaves nothing calls turns leaves (size_of_statements statements) (count_in_scope counting evaluator here statements turns leaves)
+          → Runs largest member_leaves nothing calls turns leaves (size_of_statements statements) (evaluations_of_in_scope counting evaluator here statements turns leaves)
           (each_in_scope evaluator here statements turns leaves)
       scope_cost calls here statements turns leaves s h k l =
           run_larger largest member_leaves nothing calls turns leaves (size_of_statements statements + 0) (size_of_statements statements)
-          (count_in_scope counting evaluator here statements turns leaves) (each_in_scope evaluator here statements turns leaves) (omega arith)
+          (evaluations_of_in_scope counting evaluator here statements turns leaves) (each_in_scope evaluator here statements turns leaves) (omega arith)
           (block_cost calls None here statements turns leaves 0 s h k l (λ env. let all = evaluated_size statements in omega arith))
 
       body_cost : (calls : ℕ) (op : Op) (here : Context) (body : BodyTerm) (turns leaves : ℕ) → Stands calls here → size_of_body body ≤ largest → turns ≤ most_turns → leaves ≤ most_leaves
-          → Runs largest design_leaves nothing calls turns leaves (size_of_body body) (count_body counting evaluator here body turns leaves) (body_design evaluator op here body turns leaves)
+          → Runs largest design_leaves nothing calls turns leaves (size_of_body body) (evaluations_of_body counting evaluator here body turns leaves) (body_design evaluator op here body turns leaves)
       body_cost calls op here body turns leaves s small k l =
           let there = inside_scope here (entered_scope (statements_of_body body) no_activation here.env) in
           let size = body_size body in
-          run_map largest member_leaves nothing design_leaves nothing calls turns leaves (size_of_body body) (count_body counting evaluator here body turns leaves)
+          run_map largest member_leaves nothing design_leaves nothing calls turns leaves (size_of_body body) (evaluations_of_body counting evaluator here body turns leaves)
           (each_in_body evaluator here body turns leaves) (λ ms. joined_members op ms) (λ ms. (refl, omega arith))
           (run_larger largest member_leaves nothing calls turns leaves (size_of_statements (statements_of_body body)) (size_of_body body)
-          (count_body counting evaluator here body turns leaves) (each_in_body evaluator here body turns leaves) size
+          (evaluations_of_body counting evaluator here body turns leaves) (each_in_body evaluator here body turns leaves) size
           (scope_cost calls there (statements_of_body body) turns leaves
           (s.0, entered_small largest (statements_of_body body) no_activation here.env (omega arith) tt s.1) (omega arith) k l))
 
@@ -300,42 +300,42 @@ module _ (largest : ℕ) where
         -- a step and those behind it, which pay for themselves
         steps_more : (v : Val) (vs : Vals) (turns leaves : ℕ) → turns ≤ most_turns → leaves ≤ most_leaves
             → ((turns leaves : ℕ) → turns ≤ most_turns → leaves ≤ most_leaves
-            → Runs largest member_leaves (always size) calls turns leaves size (count_each_step at step count vs turns leaves) (each_step at step vs turns leaves))
-            → Runs largest member_leaves (always largest) calls turns leaves size (count_each_step at step count (and_val v vs) turns leaves) (each_step at step (and_val v vs) turns leaves)
+            → Runs largest member_leaves (always size) calls turns leaves size (evaluations_of_each_step at step count vs turns leaves) (each_step at step vs turns leaves))
+            → Runs largest member_leaves (always largest) calls turns leaves size (evaluations_of_each_step at step count (and_val v vs) turns leaves) (each_step at step (and_val v vs) turns leaves)
         steps_more v vs turns leaves k l rest =
             run_larger largest member_leaves (always largest) calls turns leaves (size + 0) size
-            (count_each_step at step count (and_val v vs) turns leaves) (each_step at step (and_val v vs) turns leaves) (omega arith)
+            (evaluations_of_each_step at step count (and_val v vs) turns leaves) (each_step at step (and_val v vs) turns leaves) (omega arith)
             (run_then largest member_leaves (always largest) member_leaves (always largest) calls turns leaves size 0 (count v turns leaves) (counted_step at (step v turns leaves)) _ _
             (step_cost calls turns leaves size (count v turns leaves) at (step v turns leaves) (each v turns leaves k l)) (λ turns members k l.
-            run_map largest member_leaves (always largest) member_leaves (always largest) calls turns members.leaves (0 + largest) (count_each_step at step count vs turns members.leaves)
+            run_map largest member_leaves (always largest) member_leaves (always largest) calls turns members.leaves (0 + largest) (evaluations_of_each_step at step count vs turns members.leaves)
             (each_step at step vs turns members.leaves) (λ more. and_members members more) (λ more. (refl, omega arith))
-            (run_larger largest member_leaves (always largest) calls turns members.leaves largest (0 + largest) (count_each_step at step count vs turns members.leaves)
+            (run_larger largest member_leaves (always largest) calls turns members.leaves largest (0 + largest) (evaluations_of_each_step at step count vs turns members.leaves)
             (each_step at step vs turns members.leaves) (omega arith)
-            (run_shift largest member_leaves calls turns members.leaves size largest (count_each_step at step count vs turns members.leaves)
+            (run_shift largest member_leaves calls turns members.leaves size largest (evaluations_of_each_step at step count vs turns members.leaves)
             (each_step at step vs turns members.leaves) small (rest turns members.leaves k l)))))
 
         steps_even : (vs : Vals) (turns leaves : ℕ) → turns ≤ most_turns → leaves ≤ most_leaves
-            → Runs largest member_leaves (always size) calls turns leaves size (count_each_step at step count vs turns leaves) (each_step at step vs turns leaves)
+            → Runs largest member_leaves (always size) calls turns leaves size (evaluations_of_each_step at step count vs turns leaves) (each_step at step vs turns leaves)
         steps_even no_vals turns leaves k l = (omega arith, k, omega arith, l, omega arith)
         steps_even (and_val v vs) turns leaves k l =
-            run_let_go largest member_leaves (always largest) (always size) calls turns leaves size (count_each_step at step count (and_val v vs) turns leaves)
+            run_let_go largest member_leaves (always largest) (always size) calls turns leaves size (evaluations_of_each_step at step count (and_val v vs) turns leaves)
             (each_step at step (and_val v vs) turns leaves) (λ members. small) (steps_more v vs turns leaves k l (λ turns leaves k l. steps_even vs turns leaves k l))
 
         steps_cost : (vs : Vals) (turns leaves : ℕ) → turns ≤ most_turns → leaves ≤ most_leaves
-            → Runs largest member_leaves spare calls turns leaves size (count_each_step at step count vs turns leaves) (each_step at step vs turns leaves)
+            → Runs largest member_leaves spare calls turns leaves size (evaluations_of_each_step at step count vs turns leaves) (each_step at step vs turns leaves)
         steps_cost no_vals turns leaves k l = run_nothing largest calls turns leaves size k l
         steps_cost (and_val v vs) turns leaves k l =
-            run_let_go largest member_leaves (always largest) spare calls turns leaves size (count_each_step at step count (and_val v vs) turns leaves)
+            run_let_go largest member_leaves (always largest) spare calls turns leaves size (evaluations_of_each_step at step count (and_val v vs) turns leaves)
             (each_step at step (and_val v vs) turns leaves) (λ members. spare_size largest members.designs) (steps_more v vs turns leaves k l (λ turns leaves k l. steps_even vs turns leaves k l))
 
       iterations_cost : (calls : ℕ) (at : Place) (binders : List BinderTerm) (body : BodyTerm) (here : Context) (turns leaves : ℕ) → Stands calls here
           → size_of_binders binders + size_of_body body ≤ largest → turns ≤ most_turns → leaves ≤ most_leaves
           → Runs largest member_leaves spare calls turns leaves (size_of_binders binders + size_of_body body)
-          (count_each_iteration counting evaluator at binders body here turns leaves) (each_iteration evaluator at binders body here turns leaves)
+          (evaluations_of_each_iteration counting evaluator at binders body here turns leaves) (each_iteration evaluator at binders body here turns leaves)
       iterations_cost calls at [] body here turns leaves s small k l =
-          run_turn largest member_leaves spare calls turns leaves (0 + size_of_body body) at (λ turns. count_body counting evaluator here body turns leaves)
+          run_turn largest member_leaves spare calls turns leaves (0 + size_of_body body) at (λ turns. evaluations_of_body counting evaluator here body turns leaves)
           (λ turns. then_with (body_design evaluator Union here body turns leaves) (λ turns result. Gives turns (as_member true result))) k l (λ below.
-          let counted = count_body counting evaluator here body (turns + 1) leaves in
+          let counted = evaluations_of_body counting evaluator here body (turns + 1) leaves in
           let out = body_design evaluator Union here body (turns + 1) leaves in
           let member : Outcome MemberDesigns = then_with out (λ turns result. Gives turns (as_member true result)) in
           run_let_go largest member_leaves (always largest) spare calls turns leaves (0 + size_of_body body) counted member (λ members. spare_size largest members.designs)
@@ -347,12 +347,12 @@ module _ (largest : ℕ) where
           let size = size_of_binders binders + size_of_body body in
           let context = expression_context evaluations here in
           let deeper = λ (item : Val). each_iteration evaluator at binders body (in_loop here binder.name item) in
-          let counted = λ (item : Val). count_each_iteration counting evaluator at binders body (in_loop here binder.name item) in
+          let counted = λ (item : Val). evaluations_of_each_iteration counting evaluator at binders body (in_loop here binder.name item) in
           run_larger largest member_leaves spare calls turns leaves (size_of_term binder.values + size) ((size_of_term binder.values + size_of_binders binders) + size_of_body body)
-          (count_each_iteration counting evaluator at (binder ∷ binders) body here turns leaves) (each_iteration evaluator at (binder ∷ binders) body here turns leaves) (omega arith)
-          (value_skip largest member_leaves spare calls turns leaves (size_of_term binder.values) size (count_expression evaluations here binder.values turns) l
+          (evaluations_of_each_iteration counting evaluator at (binder ∷ binders) body here turns leaves) (each_iteration evaluator at (binder ∷ binders) body here turns leaves) (omega arith)
+          (value_skip largest member_leaves spare calls turns leaves (size_of_term binder.values) size (evaluations_of_expression evaluations here binder.values turns) l
           (value_at_next_depth context true binder.values turns) _ _
-          (value_cost (rate_with largest calls leaves l) (count_within evaluations) context (sits calls leaves l evaluations here s) true binder.values turns k) (λ turns v k.
+          (value_cost (rate_with largest calls leaves l) (evaluations_within evaluations) context (sits calls leaves l evaluations here s) true binder.values turns k) (λ turns v k.
           run_option largest member_leaves spare calls turns leaves size (iterated_values v) TypeMismatch at _ _ k l (λ items.
           steps_cost calls at deeper counted size (omega arith) (λ item turns leaves k l.
           iterations_cost calls at binders body (in_loop here binder.name item) turns leaves (s.0, (tt, tt, tt, s.1)) (omega arith) k l) items turns leaves k l)))
@@ -360,16 +360,16 @@ module _ (largest : ℕ) where
       loop_cost : (calls : ℕ) (op : Op) (here : Context) (at : Place) (binders : List BinderTerm) (body : BodyTerm) (turns leaves : ℕ) → Stands calls here
           → size_of_binders binders + size_of_body body ≤ largest → turns ≤ most_turns → leaves ≤ most_leaves
           → Runs largest design_leaves nothing calls turns leaves (size_of_binders binders + size_of_body body)
-          (count_each_iteration counting evaluator at binders body here turns leaves) (loop_design evaluator op here at binders body turns leaves)
+          (evaluations_of_each_iteration counting evaluator at binders body here turns leaves) (loop_design evaluator op here at binders body turns leaves)
       loop_cost calls op here at binders body turns leaves s small k l =
           run_map largest member_leaves spare design_leaves nothing calls turns leaves (size_of_binders binders + size_of_body body)
-          (count_each_iteration counting evaluator at binders body here turns leaves) (each_iteration evaluator at binders body here turns leaves)
+          (evaluations_of_each_iteration counting evaluator at binders body here turns leaves) (each_iteration evaluator at binders body here turns leaves)
           (λ members. joined_members op members) (λ members. (refl, omega arith)) (iterations_cost calls at binders body here turns leaves s small k l)
 
       -- modules of the source
       module_values_cost : (calls : ℕ) (found : SourceModule × Env) (values : Vals) (body : BodyTerm) (here : Context) (turns leaves : ℕ) → Stands calls here
-          → SmallModule largest found.0 → HoldsUpTo largest found.1 → size_of_body body ≤ largest → turns ≤ most_turns → leaves ≤ most_leaves
-          → Runs largest design_leaves nothing calls turns leaves (size_of_body found.0.body) (count_module_with_values counting evaluator found values body here turns leaves)
+          → SmallModule largest found.0 → HoldsTextsUpTo largest found.1 → size_of_body body ≤ largest → turns ≤ most_turns → leaves ≤ most_leaves
+          → Runs largest design_leaves nothing calls turns leaves (size_of_body found.0.body) (evaluations_of_module_with_values counting evaluator found values body here turns leaves)
           (module_with_values evaluator found values body here turns leaves)
       module_values_cost calls found values body here turns leaves s m o small k l =
           let inner = inside_scope here (module_scope found.1 found.0 values (statements_of_body body) here.env) in
@@ -377,48 +377,48 @@ module _ (largest : ℕ) where
           let size = body_size found.0.body in
           let children = body_size body in
           run_map largest member_leaves nothing design_leaves nothing calls turns leaves (size_of_body found.0.body)
-          (count_module_with_values counting evaluator found values body here turns leaves) (each_in_scope evaluator inner own turns leaves)
+          (evaluations_of_module_with_values counting evaluator found values body here turns leaves) (each_in_scope evaluator inner own turns leaves)
           (λ members. joined_members Union members) (λ members. (refl, omega arith))
           (run_larger largest member_leaves nothing calls turns leaves (size_of_statements own) (size_of_body found.0.body)
-          (count_module_with_values counting evaluator found values body here turns leaves) (each_in_scope evaluator inner own turns leaves) size
+          (evaluations_of_module_with_values counting evaluator found values body here turns leaves) (each_in_scope evaluator inner own turns leaves) size
           (scope_cost calls inner own turns leaves
           (s.0, (functions_small largest own (omega arith), modules_small largest own (omega arith), (omega arith, s.1), o)) (omega arith) k l))
 
       module_arguments_cost : (calls : ℕ) (found : SourceModule × Env) (given : Arguments) (body : BodyTerm) (here : Context) (turns leaves : ℕ) → Stands calls here
-          → SmallModule largest found.0 → HoldsUpTo largest found.1 → size_of_body body ≤ largest → turns ≤ most_turns → leaves ≤ most_leaves
-          → Runs largest design_leaves nothing calls turns leaves (size_of_module found.0) (count_module_with_arguments counting evaluator found given body here turns leaves)
+          → SmallModule largest found.0 → HoldsTextsUpTo largest found.1 → size_of_body body ≤ largest → turns ≤ most_turns → leaves ≤ most_leaves
+          → Runs largest design_leaves nothing calls turns leaves (size_of_module found.0) (evaluations_of_module_with_arguments counting evaluator found given body here turns leaves)
           (module_with_arguments evaluator found given body here turns leaves)
       module_arguments_cost calls found given body here turns leaves s m o small k l =
           let there = with_bindings here (given.dynamic ++ here.bindings) in
           let context = expression_context evaluations (inside_scope there found.1) in
           value_skip largest design_leaves nothing calls turns leaves (size_of_params found.0.params) (size_of_body found.0.body)
-          (count_each_parameter (count_within evaluations) context found.0.params given.bound turns) l (each_parameter context found.0.params given.bound turns) _ _
-          (parameters_cost (rate_with largest calls leaves l) (count_within evaluations) context (sits calls leaves l evaluations (inside_scope there found.1) (s.0, o)) found.0.params given.bound turns k)
+          (evaluations_of_each_parameter (evaluations_within evaluations) context found.0.params given.bound turns) l (each_parameter context found.0.params given.bound turns) _ _
+          (parameters_cost (rate_with largest calls leaves l) (evaluations_within evaluations) context (sits calls leaves l evaluations (inside_scope there found.1) (s.0, o)) found.0.params given.bound turns k)
           (λ turns values k. module_values_cost calls found values body there turns leaves s m o small k l)
 
       module_cost : (calls : ℕ) (here : Context) (at : Place) (found : SourceModule × Env) (given : Arguments) (body : BodyTerm) (turns leaves : ℕ) → Stands calls here
-          → SmallModule largest found.0 → HoldsUpTo largest found.1 → size_of_body body ≤ largest → turns ≤ most_turns → leaves ≤ most_leaves
-          → Runs largest design_leaves nothing calls turns leaves 0 (count_module counting evaluator here found given body turns leaves) (module_design evaluator here at found given body turns leaves)
+          → SmallModule largest found.0 → HoldsTextsUpTo largest found.1 → size_of_body body ≤ largest → turns ≤ most_turns → leaves ≤ most_leaves
+          → Runs largest design_leaves nothing calls turns leaves 0 (evaluations_of_module counting evaluator here found given body turns leaves) (module_design evaluator here at found given body turns leaves)
       module_cost calls here at found given body turns leaves s m o small k l =
           run_call largest design_leaves nothing calls turns leaves 0 here.calls_left at _ _ s.0 k l (λ n e.
           run_turn largest design_leaves nothing calls turns leaves 0 at
-          (λ turns. count_module_with_arguments counting evaluator found given body (with_calls_left here n) turns leaves)
+          (λ turns. evaluations_of_module_with_arguments counting evaluator found given body (with_calls_left here n) turns leaves)
           (λ turns. module_with_arguments evaluator found given body (with_calls_left here n) turns leaves) k l (λ below.
-          let counted = count_module_with_arguments counting evaluator found given body (with_calls_left here n) (turns + 1) leaves in
+          let counted = evaluations_of_module_with_arguments counting evaluator found given body (with_calls_left here n) (turns + 1) leaves in
           let out = module_with_arguments evaluator found given body (with_calls_left here n) (turns + 1) leaves in
           run_deeper largest design_leaves n calls turns leaves 0 counted out e k l
           (run_larger largest design_leaves nothing n (turns + 1) leaves (size_of_module found.0) (0 + largest) counted out (omega arith)
           (module_arguments_cost n found given body (with_calls_left here n) (turns + 1) leaves (refl, s.1) m o small below l))))
 
       -- calls of `children`
-      children_cost : (calls : ℕ) (here : Context) (call : Activation) (chosen : ChosenCall) (turns leaves over : ℕ) → here.calls_left ≡ calls → CallHoldsUpTo largest call
+      children_cost : (calls : ℕ) (here : Context) (call : Activation) (chosen : ChosenCall) (turns leaves over : ℕ) → here.calls_left ≡ calls → CallHoldsTextsUpTo largest call
           → ChoosesUpTo over chosen → turns ≤ most_turns → leaves ≤ most_leaves
-          → Runs largest design_leaves nothing calls turns leaves (largest * over + largest) (count_children counting evaluator here call chosen turns leaves)
+          → Runs largest design_leaves nothing calls turns leaves (largest * over + largest) (evaluations_of_children counting evaluator here call chosen turns leaves)
           (children_design evaluator here call chosen turns leaves)
       children_cost calls here no_activation chosen turns leaves over e c g k l = run_nothing largest calls turns leaves (largest * over + largest) k l
       children_cost calls here (activation children caller) chosen turns leaves over e c g k l =
           let there = inside_scope here (entered_scope children no_activation caller) in
-          let counted = count_block counting evaluator (Some chosen) children there turns leaves in
+          let counted = evaluations_of_block counting evaluator (Some chosen) children there turns leaves in
           let out = block_members evaluator (Some chosen) children there turns leaves in
           let small = c.0 in
           run_map largest member_leaves nothing design_leaves nothing calls turns leaves (largest * over + largest) counted out
@@ -429,7 +429,7 @@ module _ (largest : ℕ) where
 
       counted_call_cost : (calls turns leaves size there : ℕ) (at : Place) (counted : ℕ → ℕ) (go : ℕ → Outcome InstanceDesign) → there ≡ calls → turns ≤ most_turns → leaves ≤ most_leaves
           → ((n : ℕ) → calls ≡ suc n → Runs largest design_leaves nothing n turns leaves (size + largest) (counted n) (go n))
-          → Runs largest design_leaves nothing calls turns leaves size (count_in_call there counted) (counted_call at turns leaves (one_call_fewer there at go))
+          → Runs largest design_leaves nothing calls turns leaves size (evaluations_in_call there counted) (counted_call at turns leaves (one_call_fewer there at go))
       counted_call_cost calls turns leaves size zero at counted go e k l g = run_fault largest calls turns leaves size k l
       counted_call_cost calls turns leaves size (suc n) at counted go e k l g = run_counted largest n calls turns leaves size (counted n) at (go n) (sym e) k l (g n (sym e))
 
@@ -442,14 +442,14 @@ module _ (largest : ℕ) where
           (leaf_cost calls turns leaves at (extrusion_mesh unit through call) k l)
 
       with_over : (calls : ℕ) (op : Op) (here : Context) (body : BodyTerm) (turns leaves over : ℕ) → Stands calls here → size_of_body body ≤ largest → turns ≤ most_turns → leaves ≤ most_leaves
-          → Runs largest design_leaves nothing calls turns leaves (size_of_body body + largest * over) (count_body counting evaluator here body turns leaves) (body_design evaluator op here body turns leaves)
+          → Runs largest design_leaves nothing calls turns leaves (size_of_body body + largest * over) (evaluations_of_body counting evaluator here body turns leaves) (body_design evaluator op here body turns leaves)
       with_over calls op here body turns leaves over s small k l =
-          run_larger largest design_leaves nothing calls turns leaves (size_of_body body) (size_of_body body + largest * over) (count_body counting evaluator here body turns leaves)
+          run_larger largest design_leaves nothing calls turns leaves (size_of_body body) (size_of_body body + largest * over) (evaluations_of_body counting evaluator here body turns leaves)
           (body_design evaluator op here body turns leaves) (omega arith) (body_cost calls op here body turns leaves s small k l)
 
       effect_cost : (calls : ℕ) (here : Context) (at : Place) (effect : EffectCall) (body : BodyTerm) (turns leaves over : ℕ) → Stands calls here
           → EffectFits over effect → size_of_body body ≤ largest → turns ≤ most_turns → leaves ≤ most_leaves
-          → Runs largest design_leaves nothing calls turns leaves (size_of_body body + largest * over) (count_effect counting evaluator here effect body turns leaves)
+          → Runs largest design_leaves nothing calls turns leaves (size_of_body body + largest * over) (evaluations_of_effect counting evaluator here effect body turns leaves)
           (effect_design evaluator here at effect body turns leaves)
       effect_cost calls here at (a_solid call) body turns leaves over s fits small k l =
           run_larger largest design_leaves nothing calls turns leaves 0 (size_of_body body + largest * over) 0 (effect_design evaluator here at (a_solid call) body turns leaves) (omega arith)
@@ -459,17 +459,17 @@ module _ (largest : ℕ) where
           run_larger largest design_leaves nothing calls turns leaves 0 (size_of_body body + largest * over) 0 (flat_design evaluator here.inside at call turns leaves) (omega arith)
           (flat_cost calls turns leaves here.inside at call k l)
       effect_cost calls here at (a_move steps) body turns leaves over s fits small k l =
-          run_map largest design_leaves nothing design_leaves nothing calls turns leaves (size_of_body body + largest * over) (count_body counting evaluator here body turns leaves)
+          run_map largest design_leaves nothing design_leaves nothing calls turns leaves (size_of_body body + largest * over) (evaluations_of_body counting evaluator here body turns leaves)
           (body_design evaluator Union here body turns leaves) (λ result. moved_design (moved_design_tree steps) result) (λ result. (refl, omega arith))
           (with_over calls Union here body turns leaves over s small k l)
       effect_cost calls here at (a_join op) body turns leaves over s fits small k l = with_over calls op here body turns leaves over s small k l
       effect_cost calls here at a_hull body turns leaves over s fits small k l =
-          run_end largest design_leaves design_leaves nothing calls turns leaves (size_of_body body + largest * over) (count_body counting evaluator here body turns leaves)
+          run_end largest design_leaves design_leaves nothing calls turns leaves (size_of_body body + largest * over) (evaluations_of_body counting evaluator here body turns leaves)
           (body_design evaluator Union here body turns leaves) _ (with_over calls Union here body turns leaves over s small k l) (λ turns result k l.
           hull_cost calls turns (judge.hull result.design) at result k l)
       effect_cost calls here at (an_extrusion center height) body turns leaves over s fits small k l =
           let there = inside_extrusion here (record { center = center; height = height }) in
-          run_checked largest design_leaves nothing calls turns leaves (size_of_body body + largest * over) (count_body counting evaluator there body turns leaves)
+          run_checked largest design_leaves nothing calls turns leaves (size_of_body body + largest * over) (evaluations_of_body counting evaluator there body turns leaves)
           (judge.height unit center height) at (body_design evaluator Union there body turns leaves) k l
           (with_over calls Union there body turns leaves over s small k l)
       effect_cost calls here at no_geometry body turns leaves over s fits small k l =
@@ -477,15 +477,15 @@ module _ (largest : ℕ) where
           (run_nothing largest calls turns leaves (size_of_body body + largest * over) k l) (run_fault largest calls turns leaves (size_of_body body + largest * over) k l)
       effect_cost calls here at (some_children chosen) body turns leaves over s fits small k l =
           run_larger largest design_leaves nothing calls turns leaves (largest * over) (size_of_body body + largest * over)
-          (count_chosen_children counting evaluator chosen here turns leaves) (effect_design evaluator here at (some_children chosen) body turns leaves) (omega arith)
+          (evaluations_of_chosen_children counting evaluator chosen here turns leaves) (effect_design evaluator here at (some_children chosen) body turns leaves) (omega arith)
           (counted_call_cost calls turns leaves (largest * over) here.calls_left at
-          (λ n. count_children counting evaluator (with_calls_left here n) (activation_in here.env) chosen turns leaves)
+          (λ n. evaluations_of_children counting evaluator (with_calls_left here n) (activation_in here.env) chosen turns leaves)
           (λ n. children_design evaluator (with_calls_left here n) (activation_in here.env) chosen turns leaves) s.0 k l (λ n e.
           children_cost n (with_calls_left here n) (activation_in here.env) chosen turns leaves over refl (call_found largest here.env s.1) fits k l))
 
       built_in_cost : (calls : ℕ) (here : Context) (at : Place) (name : List ℕ) (args : List ArgTerm) (body : BodyTerm) (found : Option BuiltinModule) (turns leaves : ℕ) → Stands calls here
           → size_of_body body ≤ largest → turns ≤ most_turns → leaves ≤ most_leaves
-          → Runs largest design_leaves nothing calls turns leaves (size_of_args (args_from args) + size_of_body body) (count_built_in counting evaluator here args body found turns leaves)
+          → Runs largest design_leaves nothing calls turns leaves (size_of_args (args_from args) + size_of_body body) (evaluations_of_built_in counting evaluator here args body found turns leaves)
           (built_in_design evaluator here at name args body found turns leaves)
       built_in_cost calls here at name args body None turns leaves s small k l =
           run_fault largest calls turns leaves (size_of_args (args_from args) + size_of_body body) k l
@@ -493,10 +493,10 @@ module _ (largest : ℕ) where
           let rate = rate_with largest calls leaves l in
           let context = expression_context evaluations here in
           value_left largest (left_for rate builtin) design_leaves nothing calls turns leaves (size_of_args (args_from args)) (size_of_body body)
-          (count_arguments_for builtin (count_within evaluations) context (args_from args) turns) l (arguments_for builtin context (args_from args) turns) _ _
-          (built_in_arguments_cost rate builtin (count_within evaluations) context (sits calls leaves l evaluations here s) (args_from args) turns k) (λ turns given k.
+          (evaluations_of_arguments_for builtin (evaluations_within evaluations) context (args_from args) turns) l (arguments_for builtin context (args_from args) turns) _ _
+          (built_in_arguments_cost rate builtin (evaluations_within evaluations) context (sits calls leaves l evaluations here s) (args_from args) turns k) (λ turns given k.
           let there = with_bindings here (given.dynamic ++ here.bindings) in
-          let counted = count_built_in_with_arguments counting evaluator builtin given body here turns leaves in
+          let counted = evaluations_of_built_in_with_arguments counting evaluator builtin given body here turns leaves in
           let out = built_in_with_arguments evaluator at builtin given body here turns leaves in
           run_larger largest design_leaves nothing calls turns leaves (size_of_body body + largest * chosen_over builtin given) (size_of_body body + left_for rate builtin given) counted out
           (let enough = over_left rate builtin given in omega arith)
@@ -506,8 +506,8 @@ module _ (largest : ℕ) where
           effect_cost calls there at effect body turns leaves (chosen_over builtin given) s fits small k l)))
 
       called_cost : (calls : ℕ) (here : Context) (at : Place) (name : List ℕ) (args : List ArgTerm) (body : BodyTerm) (found : Option (SourceModule × Env)) (turns leaves : ℕ) → Stands calls here
-          → IfSome found (λ f. SmallModule largest f.0 × HoldsUpTo largest f.1) → size_of_body body ≤ largest → turns ≤ most_turns → leaves ≤ most_leaves
-          → Runs largest design_leaves nothing calls turns leaves (size_of_args (args_from args) + size_of_body body) (count_module_call counting evaluator here name args body found turns leaves)
+          → IfSome found (λ f. SmallModule largest f.0 × HoldsTextsUpTo largest f.1) → size_of_body body ≤ largest → turns ≤ most_turns → leaves ≤ most_leaves
+          → Runs largest design_leaves nothing calls turns leaves (size_of_args (args_from args) + size_of_body body) (evaluations_of_module_call counting evaluator here name args body found turns leaves)
           (call_design evaluator here at name args body found turns leaves)
       called_cost calls here at name args body None turns leaves s f small k l = built_in_cost calls here at name args body (builtin_module_of name) turns leaves s small k l
       called_cost calls here at name args body (Some found) turns leaves s f small k l =
@@ -515,33 +515,33 @@ module _ (largest : ℕ) where
           let context = expression_context evaluations here in
           let names = parameter_names found.0.params in
           let given = no_arguments_of (length found.0.params) in
-          let counted = count_each_argument (count_within evaluations) context names 0 (args_from args) given turns in
+          let counted = evaluations_of_each_argument (evaluations_within evaluations) context names 0 (args_from args) given turns in
           let out = each_argument context names 0 (args_from args) given turns in
           run_larger largest design_leaves nothing calls turns leaves (size_of_args (args_from args) + 0) (size_of_args (args_from args) + size_of_body body)
-          (count_module_call counting evaluator here name args body (Some found) turns leaves) (call_design evaluator here at name args body (Some found) turns leaves) (omega arith)
+          (evaluations_of_module_call counting evaluator here name args body (Some found) turns leaves) (call_design evaluator here at name args body (Some found) turns leaves) (omega arith)
           (value_skip largest design_leaves nothing calls turns leaves (size_of_args (args_from args)) 0 counted l out _ _
           (let_go rate (left_of_given rate) turns (size_of_args (args_from args)) counted out
-          (call_arguments_cost rate (count_within evaluations) context (sits calls leaves l evaluations here s) names (length found.0.params) (args_from args) turns k)) (λ turns given k.
+          (call_arguments_cost rate (evaluations_within evaluations) context (sits calls leaves l evaluations here s) names (length found.0.params) (args_from args) turns k)) (λ turns given k.
           module_cost calls here at found given body turns leaves s f.0 f.1 small k l))
 
       core_cost : (calls : ℕ) (here : Context) (core : CoreTerm) (turns leaves : ℕ) → Stands calls here → size_of_core core ≤ largest → turns ≤ most_turns → leaves ≤ most_leaves
-          → Runs largest design_leaves nothing calls turns leaves (size_of_core core) (count_core counting evaluator here core turns leaves) (core_design evaluator here core turns leaves)
+          → Runs largest design_leaves nothing calls turns leaves (size_of_core core) (evaluations_of_core counting evaluator here core turns leaves) (core_design evaluator here core turns leaves)
       core_cost calls here (IfTerm at test body) turns leaves s small k l =
           let context = expression_context evaluations here in
-          value_skip largest design_leaves nothing calls turns leaves (size_of_term test) (size_of_body body) (count_expression evaluations here test turns) l
+          value_skip largest design_leaves nothing calls turns leaves (size_of_term test) (size_of_body body) (evaluations_of_expression evaluations here test turns) l
           (value_at_next_depth context true test turns) _ _
-          (value_cost (rate_with largest calls leaves l) (count_within evaluations) context (sits calls leaves l evaluations here s) true test turns k) (λ turns v k.
-          run_test largest design_leaves nothing calls turns leaves (size_of_body body) (truth_of v) (count_body counting evaluator here body turns leaves) 0
+          (value_cost (rate_with largest calls leaves l) (evaluations_within evaluations) context (sits calls leaves l evaluations here s) true test turns k) (λ turns v k.
+          run_test largest design_leaves nothing calls turns leaves (size_of_body body) (truth_of v) (evaluations_of_body counting evaluator here body turns leaves) 0
           (body_design evaluator Union here body turns leaves) (Gives turns (no_design leaves))
           (body_cost calls Union here body turns leaves s (omega arith) k l) (run_nothing largest calls turns leaves (size_of_body body) k l))
       core_cost calls here (IfElseTerm at test body other) turns leaves s small k l =
           let context = expression_context evaluations here in
-          value_skip largest design_leaves nothing calls turns leaves (size_of_term test) (size_of_body body + size_of_body other) (count_expression evaluations here test turns) l
+          value_skip largest design_leaves nothing calls turns leaves (size_of_term test) (size_of_body body + size_of_body other) (evaluations_of_expression evaluations here test turns) l
           (value_at_next_depth context true test turns) _ _
-          (value_cost (rate_with largest calls leaves l) (count_within evaluations) context (sits calls leaves l evaluations here s) true test turns k) (λ turns v k.
+          (value_cost (rate_with largest calls leaves l) (evaluations_within evaluations) context (sits calls leaves l evaluations here s) true test turns k) (λ turns v k.
           let taken = if truth_of v then body else other in
           let size = taken_body_size (truth_of v) body other in
-          run_larger largest design_leaves nothing calls turns leaves (size_of_body taken) (size_of_body body + size_of_body other) (count_body counting evaluator here taken turns leaves)
+          run_larger largest design_leaves nothing calls turns leaves (size_of_body taken) (size_of_body body + size_of_body other) (evaluations_of_body counting evaluator here taken turns leaves)
           (body_design evaluator Union here taken turns leaves) size
           (body_cost calls Union here taken turns leaves s (omega arith) k l))
       core_cost calls here (ForTerm at binders body) turns leaves s small k l = loop_cost calls Union here at binders body turns leaves s small k l
@@ -550,46 +550,46 @@ module _ (largest : ℕ) where
           called_cost calls here at name args body (visible_module here.env name) turns leaves s (module_found largest here.env name s.1) (omega arith) k l
 
       root_cost : (calls : ℕ) (here : Context) (core : CoreTerm) (turns leaves : ℕ) → Stands calls here → size_of_core core ≤ largest → turns ≤ most_turns → leaves ≤ most_leaves
-          → Runs largest design_leaves nothing calls turns leaves (size_of_core core) (count_root counting evaluator here core turns leaves) (root_design evaluator here core turns leaves)
+          → Runs largest design_leaves nothing calls turns leaves (size_of_core core) (evaluations_of_root counting evaluator here core turns leaves) (root_design evaluator here core turns leaves)
       root_cost calls here core turns leaves s small k l =
-          run_test largest design_leaves nothing calls turns leaves (size_of_core core) here.under_root (count_core counting evaluator here core turns leaves)
-          (count_core counting evaluator (inside_root here) core turns leaves) (core_design evaluator here core turns leaves)
+          run_test largest design_leaves nothing calls turns leaves (size_of_core core) here.under_root (evaluations_of_core counting evaluator here core turns leaves)
+          (evaluations_of_core counting evaluator (inside_root here) core turns leaves) (core_design evaluator here core turns leaves)
           (then_with (core_design evaluator (inside_root here) core turns leaves) (λ turns result. Gives turns (as_root result)))
           (core_cost calls here core turns leaves s small k l)
-          (run_map largest design_leaves nothing design_leaves nothing calls turns leaves (size_of_core core) (count_core counting evaluator (inside_root here) core turns leaves)
+          (run_map largest design_leaves nothing design_leaves nothing calls turns leaves (size_of_core core) (evaluations_of_core counting evaluator (inside_root here) core turns leaves)
           (core_design evaluator (inside_root here) core turns leaves) (λ result. as_root result) (λ result. (refl, omega arith))
           (core_cost calls (inside_root here) core turns leaves s small k l))
 
       instance_cost : (calls : ℕ) (here : Context) (at : Place) (marks : List ModifierTerm) (core : CoreTerm) (turns leaves : ℕ) → Stands calls here → size_of_core core ≤ largest
           → turns ≤ most_turns → leaves ≤ most_leaves
-          → Runs largest design_leaves nothing calls turns leaves (size_of_core core) (count_instance counting evaluator here (AnInstance at marks core) turns leaves)
+          → Runs largest design_leaves nothing calls turns leaves (size_of_core core) (evaluations_of_instance counting evaluator here (AnInstance at marks core) turns leaves)
           (instance_design evaluator here (AnInstance at marks core) turns leaves)
       instance_cost calls here at marks core turns leaves s small k l =
           run_test largest design_leaves nothing calls turns leaves (size_of_core core) (has_root_modifier (AnInstance at marks core))
-          (if is_some here.inside then 0 else count_root counting evaluator here core turns leaves) (count_core counting evaluator here core turns leaves)
+          (if is_some here.inside then 0 else evaluations_of_root counting evaluator here core turns leaves) (evaluations_of_core counting evaluator here core turns leaves)
           (if is_some here.inside then Faults WrongDimension (place_of_core core) else root_design evaluator here core turns leaves) (core_design evaluator here core turns leaves)
-          (run_test largest design_leaves nothing calls turns leaves (size_of_core core) (is_some here.inside) 0 (count_root counting evaluator here core turns leaves)
+          (run_test largest design_leaves nothing calls turns leaves (size_of_core core) (is_some here.inside) 0 (evaluations_of_root counting evaluator here core turns leaves)
           (Faults WrongDimension (place_of_core core)) (root_design evaluator here core turns leaves)
           (run_fault largest calls turns leaves (size_of_core core) k l) (root_cost calls here core turns leaves s small k l))
           (core_cost calls here core turns leaves s small k l)
 
-    instances_cost : (evaluations : ℕ) → IsGood (count_design_within unit judge evaluations) (design_within unit judge evaluations)
-    unfolding count_design_within design_within
+    instances_cost : (evaluations : ℕ) → IsGood (instance_evaluations_within unit judge evaluations) (design_within unit judge evaluations)
+    unfolding instance_evaluations_within design_within
     instances_cost zero calls here (AnInstance at marks core) turns leaves s small k l =
         let all = paid_in_run largest calls turns leaves k l in omega arith
     instances_cost (suc evaluations) calls here (AnInstance at marks core) turns leaves s small k l =
         let made : Evaluator = record { unit = unit; judge = judge; evaluations = evaluations; at_next_depth = design_within unit judge evaluations } in
         run_one_more largest design_leaves nothing calls turns leaves (size_of_core core)
-        (count_instance (count_design_within unit judge evaluations) made here (AnInstance at marks core) turns leaves) (instance_design made here (AnInstance at marks core) turns leaves)
-        (instance_cost evaluations (count_design_within unit judge evaluations) (design_within unit judge evaluations) (instances_cost evaluations)
+        (evaluations_of_instance (instance_evaluations_within unit judge evaluations) made here (AnInstance at marks core) turns leaves) (instance_design made here (AnInstance at marks core) turns leaves)
+        (instance_cost evaluations (instance_evaluations_within unit judge evaluations) (design_within unit judge evaluations) (instances_cost evaluations)
         calls here at marks core turns leaves s (omega arith) k l)
 
     -- the instances of a program
     pub program_cost : (bindings : Pairs Val) (statements : StatementTerms) → size_of_statements statements ≤ largest
         → Runs largest member_leaves nothing most_calls 0 0 (size_of_statements statements)
-        (count_evaluations unit judge bindings statements) (members_of_program unit judge bindings statements)
-    unfolding count_evaluations members_of_program
+        (evaluations_of_program unit judge bindings statements) (members_of_program unit judge bindings statements)
+    unfolding evaluations_of_program members_of_program
     program_cost bindings statements small =
-        scope_cost most_evaluations (count_design_within unit judge most_evaluations) (design_within unit judge most_evaluations) (instances_cost most_evaluations)
+        scope_cost most_evaluations (instance_evaluations_within unit judge most_evaluations) (design_within unit judge most_evaluations) (instances_cost most_evaluations)
         most_calls (program_context bindings statements) statements 0 0
         (refl, entered_small largest statements no_activation (InnerScope [] [] [] no_activation NoScope) small tt (tt, tt, tt, tt)) small (omega arith) (omega arith)

@@ -10,8 +10,8 @@ use Rattle.scad_func.specs.Limits.{most_turns}
 use Rattle.scad_func.specs.Meaning.{Outcome, Gives, Faults, then_with, or_fault, turn, one_call_fewer}
 use Rattle.scad_meaning.specs.Verdicts.{Verdict}
 use Rattle.scad_meaning.specs.Meaning.{most_leaves, InstanceDesign, MemberDesigns, unless_refused, answered_with, turn_after_call, counted_call}
-use Rattle.source_laws.specs.ExpressionCounts.{count_after, count_where, count_after_turn, count_in_call}
-use Rattle.source_laws.specs.InstanceCounts.{count_answered, count_unless_refused}
+use Rattle.source_laws.specs.ExpressionCounts.{evaluations_after, evaluations_where, evaluations_after_turn, evaluations_in_call}
+use Rattle.source_laws.specs.InstanceCounts.{evaluations_where_answered, evaluations_unless_refused}
 use Rattle.source_laws.proofs.Costs.{nothing, Costs, turn_within}
 use Rattle.source_laws.proofs.Payments.{end_of_run, before_end, paid, paid_deeper, paid_by, paid_up_to, product_up_to, paid_in_run, rate_with}
 
@@ -85,7 +85,7 @@ module _ (largest : ℕ) where
   pub run_then : {A B : Type 0} (from left : A → ℕ) (of kept : B → ℕ) (calls turns leaves s t c : ℕ) (out : Outcome A) (counted : ℕ → A → ℕ) (go : ℕ → A → Outcome B)
       → Runs from left calls turns leaves s c out
       → ((after : ℕ) (x : A) → after ≤ most_turns → from x ≤ most_leaves → Runs of kept calls after (from x) (t + left x) (counted after x) (go after x))
-      → Runs of kept calls turns leaves (s + t) (c + count_after out counted) (then_with out go)
+      → Runs of kept calls turns leaves (s + t) (c + evaluations_after out counted) (then_with out go)
   run_then from left of kept calls turns leaves s t c (Gives after x) counted go h g =
       run_joined of kept calls turns leaves after (from x) s t c (counted after x) (left x) (go after x) h.0 h.2 h.4 (g after x h.1 h.3)
   run_then from left of kept calls turns leaves s t c (Faults kind at) counted go h g = omega arith
@@ -93,7 +93,7 @@ module _ (largest : ℕ) where
   pub run_skip : {A B : Type 0} (from : A → ℕ) (of kept : B → ℕ) (calls turns leaves s t c : ℕ) (out : Outcome A) (counted : ℕ → A → ℕ) (go : ℕ → A → Outcome B)
       → Runs from nothing calls turns leaves s c out
       → ((after : ℕ) (x : A) → after ≤ most_turns → from x ≤ most_leaves → Runs of kept calls after (from x) t (counted after x) (go after x))
-      → Runs of kept calls turns leaves (s + t) (c + count_after out counted) (then_with out go)
+      → Runs of kept calls turns leaves (s + t) (c + evaluations_after out counted) (then_with out go)
   run_skip from of kept calls turns leaves s t c out counted go h g =
       run_then from nothing of kept calls turns leaves s t c out counted go h (λ after x k l.
       run_larger of kept calls after (from x) t (t + 0) (counted after x) (go after x) (omega arith) (g after x k l))
@@ -130,7 +130,7 @@ module _ (largest : ℕ) where
       (out : Outcome A) (counted : ℕ → A → ℕ) (go : ℕ → A → Outcome B)
       → Costs (rate_with largest calls leaves l) left turns s c out → Given P out
       → ((after : ℕ) (x : A) → after ≤ most_turns → P x → Runs of kept calls after leaves (t + left x) (counted after x) (go after x))
-      → Runs of kept calls turns leaves (s + t) (c + count_after out counted) (then_with out go)
+      → Runs of kept calls turns leaves (s + t) (c + evaluations_after out counted) (then_with out go)
   value_then P left of kept calls turns leaves s t c l (Gives after x) counted go h p g =
       run_joined of kept calls turns leaves after leaves s t c (counted after x) (left x) (go after x) h.0 (omega arith) h.2 (g after x h.1 p)
   value_then P left of kept calls turns leaves s t c l (Faults kind at) counted go h p g = omega arith
@@ -146,7 +146,7 @@ module _ (largest : ℕ) where
       (out : Outcome A) (counted : ℕ → A → ℕ) (go : ℕ → A → Outcome B)
       → Costs (rate_with largest calls leaves l) left turns s c out
       → ((after : ℕ) (x : A) → after ≤ most_turns → Runs of kept calls after leaves (t + left x) (counted after x) (go after x))
-      → Runs of kept calls turns leaves (s + t) (c + count_after out counted) (then_with out go)
+      → Runs of kept calls turns leaves (s + t) (c + evaluations_after out counted) (then_with out go)
   value_left left of kept calls turns leaves s t c l out counted go h g =
       value_then Whatever left of kept calls turns leaves s t c l out counted go h (whatever out) (λ after x k p. g after x k)
 
@@ -154,7 +154,7 @@ module _ (largest : ℕ) where
       (out : Outcome A) (counted : ℕ → A → ℕ) (go : ℕ → A → Outcome B)
       → Costs (rate_with largest calls leaves l) nothing turns s c out
       → ((after : ℕ) (x : A) → after ≤ most_turns → Runs of kept calls after leaves t (counted after x) (go after x))
-      → Runs of kept calls turns leaves (s + t) (c + count_after out counted) (then_with out go)
+      → Runs of kept calls turns leaves (s + t) (c + evaluations_after out counted) (then_with out go)
   value_skip of kept calls turns leaves s t c l out counted go h g =
       value_left nothing of kept calls turns leaves s t c l out counted go h (λ after x k.
       run_larger of kept calls after leaves t (t + 0) (counted after x) (go after x) (omega arith) (g after x k))
@@ -171,19 +171,19 @@ module _ (largest : ℕ) where
 
   pub run_option : {A B : Type 0} (of left : B → ℕ) (calls turns leaves size : ℕ) (o : Option A) (kind : FaultKind) (at : Place) (counted : A → ℕ) (go : A → Outcome B)
       → turns ≤ most_turns → leaves ≤ most_leaves → ((x : A) → Runs of left calls turns leaves size (counted x) (go x))
-      → Runs of left calls turns leaves size (count_where o counted) (or_fault o kind at go)
+      → Runs of left calls turns leaves size (evaluations_where o counted) (or_fault o kind at go)
   run_option of left calls turns leaves size None kind at counted go k l g = run_fault calls turns leaves size k l
   run_option of left calls turns leaves size (Some x) kind at counted go k l g = g x
 
   pub run_answered : {A B : Type 0} (R : A → Type 0) (of left : B → ℕ) (calls turns leaves size : ℕ) (answer : AnswerOrFault A) (at : Place) (counted : A → ℕ) (go : A → Outcome B)
       → turns ≤ most_turns → leaves ≤ most_leaves → IfOk answer R → ((x : A) → R x → Runs of left calls turns leaves size (counted x) (go x))
-      → Runs of left calls turns leaves size (count_answered answer counted) (answered_with answer at go)
+      → Runs of left calls turns leaves size (evaluations_where_answered answer counted) (answered_with answer at go)
   run_answered R of left calls turns leaves size (Ok x) at counted go k l r g = g x r
   run_answered R of left calls turns leaves size (Err kind) at counted go k l r g = run_fault calls turns leaves size k l
 
   pub run_checked : {A : Type 0} (of left : A → ℕ) (calls turns leaves size count : ℕ) (v : Verdict) (at : Place) (out : Outcome A)
       → turns ≤ most_turns → leaves ≤ most_leaves → Runs of left calls turns leaves size count out
-      → Runs of left calls turns leaves size (count_unless_refused v count) (unless_refused v at out)
+      → Runs of left calls turns leaves size (evaluations_unless_refused v count) (unless_refused v at out)
   run_checked of left calls turns leaves size count None at out k l h = h
   run_checked of left calls turns leaves size count (Some kind) at out k l h = run_fault calls turns leaves size k l
 
@@ -208,7 +208,7 @@ module _ (largest : ℕ) where
 
   pub run_turn : {A : Type 0} (of left : A → ℕ) (calls turns leaves size : ℕ) (at : Place) (counted : ℕ → ℕ) (go : ℕ → Outcome A)
       → turns ≤ most_turns → leaves ≤ most_leaves → (turns + 1 ≤ most_turns → Runs of left calls turns leaves size (counted (turns + 1)) (go (turns + 1)))
-      → Runs of left calls turns leaves size (count_after_turn turns counted) (turn at turns go)
+      → Runs of left calls turns leaves size (evaluations_after_turn turns counted) (turn at turns go)
   run_turn of left calls turns leaves size at counted go k l g =
       turn_by of left calls turns leaves size (nat_lt turns most_turns) at (counted (turns + 1)) (go (turns + 1)) k l (λ b. g (turn_within turns b))
 
@@ -225,7 +225,7 @@ module _ (largest : ℕ) where
   pub run_call : {A : Type 0} (of left : A → ℕ) (calls turns leaves size there : ℕ) (at : Place) (counted : ℕ → ℕ) (go : ℕ → Outcome A)
       → there ≡ calls → turns ≤ most_turns → leaves ≤ most_leaves
       → ((n : ℕ) → calls ≡ suc n → Runs of left calls turns leaves size (counted n) (go n))
-      → Runs of left calls turns leaves size (count_in_call there counted) (one_call_fewer there at go)
+      → Runs of left calls turns leaves size (evaluations_in_call there counted) (one_call_fewer there at go)
   run_call of left calls turns leaves size zero at counted go e k l g = run_fault calls turns leaves size k l
   run_call of left calls turns leaves size (suc n) at counted go e k l g = g n (sym e)
 

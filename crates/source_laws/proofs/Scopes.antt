@@ -8,7 +8,7 @@ use Rattle.scad_value.specs.Values.{Val}
 use Rattle.scad_scope.specs.Names.{Pairs, find_in, or_found_outside}
 use Rattle.scad_definitions.specs.Blocks.{SourceFunction, SourceModule, statements_of_body}
 use Rattle.scad_func.specs.Meaning.{Env, NoScope, InnerScope, Activation, no_activation, activation, with_defining_scope, visible_function, visible_module, or_outer_activation, activation_in, functions_standing_in, function_in_statement, modules_standing_in, module_in_statement, entered_scope, with_value}
-use Rattle.source_laws.specs.Sizes.{size_of_statement, size_of_statements, size_of_body, size_of_function, size_of_module, HoldsUpTo, CallHoldsUpTo}
+use Rattle.source_laws.specs.Sizes.{size_of_statement, size_of_statements, size_of_body, size_of_function, size_of_module, HoldsTextsUpTo, CallHoldsTextsUpTo}
 
 every_joined : {A : Type 0} (Q : A → Type 0) (xs ys : List A) → AllByRecursion Q xs → AllByRecursion Q ys → AllByRecursion Q (xs ++ ys)
 every_joined Q [] ys h g = g
@@ -33,36 +33,36 @@ module _ (size : ℕ) where
   abbrev pub SmallModule : SourceModule → Type 0
   SmallModule m = size_of_module m ≤ size
 
-  standing : {A : Type 0} (Q : A → Type 0) (env : Env) (o : Option A) → HoldsUpTo size env → IfSome o Q
-      → IfSome (with_defining_scope env o) (λ found. Q found.0 × HoldsUpTo size found.1)
+  standing : {A : Type 0} (Q : A → Type 0) (env : Env) (o : Option A) → HoldsTextsUpTo size env → IfSome o Q
+      → IfSome (with_defining_scope env o) (λ found. Q found.0 × HoldsTextsUpTo size found.1)
   standing Q env None s h = tt
   standing Q env (Some x) s h = (h, s)
 
-  pub function_found : (env : Env) (name : List ℕ) → HoldsUpTo size env
-      → IfSome (visible_function env name) (λ found. SmallFunction found.0 × HoldsUpTo size found.1)
+  pub function_found : (env : Env) (name : List ℕ) → HoldsTextsUpTo size env
+      → IfSome (visible_function env name) (λ found. SmallFunction found.0 × HoldsTextsUpTo size found.1)
   function_found NoScope name s = tt
   function_found (InnerScope vs fs ms call outer) name s =
-      or_some (λ found. SmallFunction found.0 × HoldsUpTo size found.1) (with_defining_scope (InnerScope vs fs ms call outer) (find_in fs name)) (visible_function outer name)
+      or_some (λ found. SmallFunction found.0 × HoldsTextsUpTo size found.1) (with_defining_scope (InnerScope vs fs ms call outer) (find_in fs name)) (visible_function outer name)
       (standing SmallFunction (InnerScope vs fs ms call outer) (find_in fs name) s (find_some SmallFunction fs name s.0))
       (function_found outer name s.3)
 
-  pub module_found : (env : Env) (name : List ℕ) → HoldsUpTo size env
-      → IfSome (visible_module env name) (λ found. SmallModule found.0 × HoldsUpTo size found.1)
+  pub module_found : (env : Env) (name : List ℕ) → HoldsTextsUpTo size env
+      → IfSome (visible_module env name) (λ found. SmallModule found.0 × HoldsTextsUpTo size found.1)
   module_found NoScope name s = tt
   module_found (InnerScope vs fs ms call outer) name s =
-      or_some (λ found. SmallModule found.0 × HoldsUpTo size found.1) (with_defining_scope (InnerScope vs fs ms call outer) (find_in ms name)) (visible_module outer name)
+      or_some (λ found. SmallModule found.0 × HoldsTextsUpTo size found.1) (with_defining_scope (InnerScope vs fs ms call outer) (find_in ms name)) (visible_module outer name)
       (standing SmallModule (InnerScope vs fs ms call outer) (find_in ms name) s (find_some SmallModule ms name s.1))
       (module_found outer name s.3)
 
-  outer_call : (call outer : Activation) → CallHoldsUpTo size call → CallHoldsUpTo size outer → CallHoldsUpTo size (or_outer_activation call outer)
+  outer_call : (call outer : Activation) → CallHoldsTextsUpTo size call → CallHoldsTextsUpTo size outer → CallHoldsTextsUpTo size (or_outer_activation call outer)
   outer_call no_activation outer h g = g
   outer_call (activation children caller) outer h g = h
 
-  pub call_found : (env : Env) → HoldsUpTo size env → CallHoldsUpTo size (activation_in env)
+  pub call_found : (env : Env) → HoldsTextsUpTo size env → CallHoldsTextsUpTo size (activation_in env)
   call_found NoScope s = tt
   call_found (InnerScope vs fs ms call outer) s = outer_call call (activation_in outer) s.2 (call_found outer s.3)
 
-  pub variable_held : (name : List ℕ) (value : Val) (env : Env) → HoldsUpTo size env → HoldsUpTo size (with_value name value env)
+  pub variable_held : (name : List ℕ) (value : Val) (env : Env) → HoldsTextsUpTo size env → HoldsTextsUpTo size (with_value name value env)
   variable_held name value NoScope s = tt
   variable_held name value (InnerScope vs fs ms call outer) s = s
 
@@ -97,8 +97,8 @@ module _ (size : ℕ) where
     module_small (FunctionTerm at name name_at params value) h = tt
     module_small (InstanceStatement instance) h = tt
 
-  pub entered_small : (ss : StatementTerms) (call : Activation) (outer : Env) → size_of_statements ss ≤ size → CallHoldsUpTo size call → HoldsUpTo size outer
-      → HoldsUpTo size (entered_scope ss call outer)
+  pub entered_small : (ss : StatementTerms) (call : Activation) (outer : Env) → size_of_statements ss ≤ size → CallHoldsTextsUpTo size call → HoldsTextsUpTo size outer
+      → HoldsTextsUpTo size (entered_scope ss call outer)
   entered_small ss call outer h c o = (functions_small ss h, modules_small ss h, c, o)
 
 -- the statements of a body are as large as the body

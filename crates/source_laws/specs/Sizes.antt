@@ -5,7 +5,7 @@ use Rattle.scad_ast.specs.Terms.{Term, NumberTerm, TextTerm, TruthTerm, UndefTer
 use Rattle.scad_definitions.specs.Blocks.{SourceFunction, SourceModule}
 use Rattle.scad_func.specs.Meaning.{Env, NoScope, InnerScope, Activation, no_activation, activation}
 
--- the expressions in an expression, with itself
+-- how many expressions stand in an expression, itself one
 abbrev mutual
   pub size_of_term : Term → ℕ
   size_of_term (NumberTerm at n) = 1
@@ -63,7 +63,7 @@ abbrev pub size_of_binders : List BinderTerm → ℕ
 size_of_binders [] = 0
 size_of_binders (binder ∷ binders) = size_of_term binder.values + size_of_binders binders
 
--- the expressions, assignments and instances in a statement
+-- how many expressions, assignments and instances stand in a statement
 abbrev mutual
   pub size_of_statement : StatementTerm → ℕ
   size_of_statement (EmptyStatement at) = 0
@@ -79,7 +79,7 @@ abbrev mutual
   size_of_statements no_statements = 0
   size_of_statements (and_statement first rest) = size_of_statement first + size_of_statements rest
 
-  -- in an instance, with itself
+  -- in an instance, itself one
   pub size_of_instance : InstanceTerm → ℕ
   size_of_instance (AnInstance at marks core) = suc (size_of_core core)
 
@@ -97,24 +97,24 @@ abbrev mutual
   size_of_body (BlockBody at statements) = size_of_statements statements
   size_of_body (InstanceBody instance) = size_of_instance instance
 
--- a function: its defaults and its value
+-- in a function: in its defaults and its value
 abbrev pub size_of_function : SourceFunction → ℕ
 size_of_function function = size_of_params function.params + size_of_term function.value
 
--- a module: its defaults and its body
+-- in a module: in its defaults and its body
 abbrev pub size_of_module : SourceModule → ℕ
 size_of_module defined = size_of_params defined.params + size_of_body defined.body
 
 -- a scope in which, and around which, no function, no module and no body of children is larger than this
 abbrev mutual
-  pub HoldsUpTo : ℕ → Env → Type 0
-  HoldsUpTo size NoScope = Unit {0}
-  HoldsUpTo size (InnerScope variables functions modules call outer) =
+  pub HoldsTextsUpTo : ℕ → Env → Type 0
+  HoldsTextsUpTo size NoScope = Unit {0}
+  HoldsTextsUpTo size (InnerScope variables functions modules call outer) =
       AllByRecursion (λ pair. size_of_function pair.1 ≤ size) functions
       × AllByRecursion (λ pair. size_of_module pair.1 ≤ size) modules
-      × CallHoldsUpTo size call × HoldsUpTo size outer
+      × CallHoldsTextsUpTo size call × HoldsTextsUpTo size outer
 
   -- a call whose children are no larger, and whose caller's scope holds nothing larger
-  pub CallHoldsUpTo : ℕ → Activation → Type 0
-  CallHoldsUpTo size no_activation = Unit {0}
-  CallHoldsUpTo size (activation children caller) = (size_of_statements children ≤ size) × HoldsUpTo size caller
+  pub CallHoldsTextsUpTo : ℕ → Activation → Type 0
+  CallHoldsTextsUpTo size no_activation = Unit {0}
+  CallHoldsTextsUpTo size (activation children caller) = (size_of_statements children ≤ size) × HoldsTextsUpTo size caller

@@ -1,5 +1,5 @@
-//! Laws of sources: each shape of a program is a hull, the tree that it means holds only within reach, and its evaluations are
-//! bounded by its tokens and by what is counted. They do nothing when they run.
+//! Laws of sources: each shape of a program is a hull, the tree that it means holds only within reach, and the evaluations of
+//! its run are bounded by its tokens and by the turns and leaves that it counts. They do nothing when they run.
 #![tactic(auto)]
 
 mod evaluations;
