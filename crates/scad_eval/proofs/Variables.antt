@@ -1,5 +1,5 @@
 -- A loop that goes on inside variables that have values.
-use Rattle.std.proofs.Common.{◌≡◌, ℕ, List, [], ◌∷◌, ◌++◌, map, length, true, Option, None, Some, Ok, Err, refl, sym, ap, subst, ◌∙◌, append-nil, arith}
+use Rattle.std.proofs.Common.{◌≡◌, ℕ, List, [], ◌∷◌, ◌++◌, map, length, true, Option, None, Some, Result, Ok, Err, refl, sym, ap, subst, ◌∙◌, append-nil, arith}
 use Rattle.std.proofs.lemmas.List.{length_push, same_from_push, length-map}
 use Rattle.text_place.specs.declared.fault.Stop.{Stop}
 use Rattle.text_place.specs.declared.fault.Stop.TheVariants.{Fault, NoMemory}
@@ -29,11 +29,11 @@ use Rattle.scad_eval.specs.declared.open_variable.OpenVariable.{OpenVariable}
 use Rattle.scad_eval.specs.declared.open_variable.Inside.{Inside}
 use Rattle.scad_eval.specs.declared.open_variable.Inside.TheVariants.{Variable, Members}
 use Rattle.scad_eval.specs.Keeping.{evaluator_at, context_at, Stays, Enters, outcome_at, EvaluatesAt}
-use Rattle.scad_eval.specs.Variables.{IsSameVariable, EndsStep, steps_left, left_inside, MeetsLeft, IsPaused, OpensVariable, GoesInside}
+use Rattle.scad_eval.specs.Variables.{IsSameVariable, EndsStep, steps_left, left_inside, IsStopOf, IsPaused, OpensVariable, GoesInside, BeginsStep, TakesStep, no_step, a_step, no_memory}
 use Rattle.scad_func.proofs.Kept.{scope_kept}
 use Rattle.scad_eval.proofs.Contexts.{stays_then, stays_kept, meant_after}
 use Rattle.scad_eval.proofs.Equations.{entered_meant, begun_front}
-use Rattle.scad_eval.proofs.Outcomes.{front_twice}
+use Rattle.scad_eval.proofs.Outcomes.{front_twice, no_memory as without_memory}
 
 -- the variables in whose scopes a loop goes on, each with where its values were evaluated
 pub data Opened : Type 0 where
@@ -90,13 +90,9 @@ pub resumed_faults : (judge : Judge) (position : Position) (at : Place) (body : 
 resumed_faults judge position at body outermost kind place = refl
 resumed_faults judge position at body (inside_of outer variable mid) kind place = resumed_faults judge position at body outer kind place
 
--- a stop inside, where it is the fault of what is meant there
-abbrev pub IsStop : {B : Type 0} → Stop → Outcome B → Type 0
-IsStop (Fault fault) out = out ≡ Faults fault.kind fault.place
-IsStop NoMemory out = Unit {0}
-
+-- a stop inside is the whole loop's
 pub resumed_stops : (judge : Judge) (position : Position) (at : Place) (body : BodyTerm) (opened : Opened) (stop : Stop) (start out : Outcome MemberDesigns) (turns leaves : ℕ)
-    → start ≡ resumed judge position at body opened out → IsStop stop out → HasOutcome member_designs_of (Err stop) turns leaves start
+    → start ≡ resumed judge position at body opened out → IsStopOf out stop → HasOutcome member_designs_of (Err stop) turns leaves start
 resumed_stops judge position at body opened (Fault fault) start out turns leaves told is =
     record { is = told ∙ ap (resumed judge position at body opened) is ∙ resumed_faults judge position at body opened fault.kind fault.place }
 resumed_stops judge position at body opened NoMemory start out turns leaves told is = record { is = tt }
@@ -109,7 +105,7 @@ front_then before (Gives turns ms) go = front_twice before ms (go turns ms.leave
 front_then before (Faults kind place) go = refl
 
 -- a variable's next value
-pub next_step : (evaluator : Evaluator) (here : Context) (at : Place) (body : BodyTerm) (variable : OpenVariable) (items : Items) (value : Val) (turns leaves : ℕ)
+next_step : (evaluator : Evaluator) (here : Context) (at : Place) (body : BodyTerm) (variable : OpenVariable) (items : Items) (value : Val) (turns leaves : ℕ)
     → remaining_in variable.items.remaining ≡ and_val value (remaining_in items.remaining)
     → left_inside evaluator here at body (Variable variable) turns leaves
     ≡ behind_step evaluator here at body (record variable { items = items })
@@ -124,10 +120,10 @@ first_or_none None = refl
 first_or_none (Some design) = refl
 
 -- a variable without a further value
-pub no_step : (evaluator : Evaluator) (here : Context) (at : Place) (body : BodyTerm) (variable : OpenVariable) (turns leaves : ℕ)
+no_more : (evaluator : Evaluator) (here : Context) (at : Place) (body : BodyTerm) (variable : OpenVariable) (turns leaves : ℕ)
     → remaining_in variable.items.remaining ≡ no_vals
     → left_inside evaluator here at body (Variable variable) turns leaves ≡ left_inside evaluator here at body (Members variable.members) turns leaves
-no_step evaluator here at body variable turns leaves remaining =
+no_more evaluator here at body variable turns leaves remaining =
     let step : Val → ℕ → ℕ → Outcome MemberDesigns = λ item. each_iteration evaluator at (map binder_of variable.rest.now) body (in_loop here variable.binder.now.name item) in
     let before = member_designs_of leaves variable.members in
     ap (λ vals. members_in_front before (each_step at step vals turns leaves)) remaining
@@ -170,7 +166,7 @@ value_meant judge mid now position at rest body name value e inside turns =
 pub record IsUnderWay (old : InstanceEvaluator) (position : Position) (at : Place) (binders : List BinderTerm) (body : BodyTerm) (outer : List OpenVariable)
     (inside : Inside) (now : InstanceEvaluator) : Type 0 where
   pub opened : Opened
-  pub outer : variables_in opened ≡ outer
+  pub variables : variables_in opened ≡ outer
   pub stands : AreOpened old opened now
   pub paused : IsPaused now.evaluation.scope inside
   pub told : (judge : Judge) → IsRightJudge judge → outcome_at old position judge (λ evaluator. each_iteration evaluator at binders body)
@@ -182,26 +178,22 @@ pub record IsPopped (old : InstanceEvaluator) (position : Position) (at : Place)
     (variable : OpenVariable) (members : MemberResults) (now : InstanceEvaluator) : Type 0 where
   pub opened : Opened
   pub mid : InstanceEvaluator
-  pub outer : variables_in opened ≡ outer
+  pub variables : variables_in opened ≡ outer
   pub stands : AreOpened old opened mid
   pub scope : IsInScope mid now variable.outside
   pub told : (judge : Judge) → IsRightJudge judge → outcome_at old position judge (λ evaluator. each_iteration evaluator at binders body)
       ≡ resumed judge position at body opened
       (behind_step (evaluator_at mid judge) (context_at mid position) at body variable (Gives now.evaluation.turns (member_designs_of now.leaves members)))
 
-stop_met : {A B : Type 0} (see : A → B) (stop : Stop) (turns : ℕ) (out : Outcome B) → MeetsOutcome see (Err stop) turns out → IsStop stop out
+stop_met : {A B : Type 0} (see : A → B) (stop : Stop) (turns : ℕ) (out : Outcome B) → MeetsOutcome see (Err stop) turns out → IsStopOf out stop
 stop_met see (Fault fault) turns out h = h
 stop_met see NoMemory turns out h = tt
 
-stop_left : {A B : Type 0} (left : A → Outcome B) (stop : Stop) (out : Outcome B) → MeetsLeft left (Err stop) out → IsStop stop out
-stop_left left (Fault fault) out h = h
-stop_left left NoMemory out h = tt
+stop_from : {B : Type 0} (stop : Stop) {start out : Outcome B} → start ≡ out → IsStopOf out stop → IsStopOf start stop
+stop_from (Fault fault) same h = same ∙ h
+stop_from NoMemory same h = tt
 
-stopped_left : {A B : Type 0} (left : A → Outcome B) (stop : Stop) {start out : Outcome B} → start ≡ out → IsStop stop out → MeetsLeft left (Err stop) start
-stopped_left left (Fault fault) same h = same ∙ h
-stopped_left left NoMemory same h = tt
-
-stop_behind : {A B : Type 0} (stop : Stop) (out : Outcome A) (go : ℕ → A → Outcome B) → IsStop stop out → IsStop stop (then_with out go)
+stop_behind : {A B : Type 0} (stop : Stop) (out : Outcome A) (go : ℕ → A → Outcome B) → IsStopOf out stop → IsStopOf (then_with out go) stop
 stop_behind (Fault fault) out go h = ap (λ o. then_with o go) h
 stop_behind NoMemory out go h = tt
 
@@ -213,56 +205,68 @@ module _ (old : InstanceEvaluator) (position : Position) (at : Place) (binders :
   start judge = outcome_at old position judge (λ evaluator. each_iteration evaluator at binders body)
 
   pub begun : {now : InstanceEvaluator} {inside : Inside} → GoesInside old now position at binders body (Ok inside) → UnderWay [] inside now
-  begun f = record { opened = outermost; outer = refl; stands = f.kept; paused = f.paused; told = f.equation }
+  begun f = record { opened = outermost; variables = refl; stands = f.kept; paused = f.paused; told = f.equation }
 
   -- the innermost variable has no further value
-  pub no_value : {outer : List OpenVariable} {now : InstanceEvaluator} (variable : OpenVariable) → UnderWay outer (Variable variable) now
+  no_value : {outer : List OpenVariable} {now : InstanceEvaluator} (variable : OpenVariable) → UnderWay outer (Variable variable) now
       → remaining_in variable.items.remaining ≡ no_vals → UnderWay outer (Members variable.members) now
   no_value {now = now} variable u remaining = record {
     opened = u.opened;
-    outer = u.outer;
+    variables = u.variables;
     stands = u.stands;
     paused = tt;
     told = λ judge right. u.told judge right
         ∙ ap (resumed judge position at body u.opened)
-        (no_step (evaluator_at now judge) (context_at now position) at body variable now.evaluation.turns now.leaves remaining);
+        (no_more (evaluator_at now judge) (context_at now position) at body variable now.evaluation.turns now.leaves remaining);
   }
 
   -- the innermost variable has a further value, whose scope was entered
-  module _ {outer : List OpenVariable} {now entered : InstanceEvaluator} (variable : OpenVariable) (items : Items) (value : Val) (u : UnderWay outer (Variable variable) now)
-      (remaining : remaining_in variable.items.remaining ≡ and_val value (remaining_in items.remaining)) (unit : entered.unit ≡ now.unit) (leaves : entered.leaves ≡ now.leaves)
-      (more : OneScopeMore now.evaluation entered.evaluation now.evaluation.scope)
-      (env : env_here entered.evaluation ≡ InnerScope ((variable.binder.now.name, value) ∷ []) [] [] no_activation (env_here now.evaluation))
-      (turns : entered.evaluation.turns ≡ now.evaluation.turns) where
+  module _ {outer : List OpenVariable} (now new : InstanceEvaluator) (variable : OpenVariable) {after : List OpenVariable} {result : Result Inside Stop}
+      (u : UnderWay outer (Variable variable) now) (b : BeginsStep now new position at body variable outer after result) where
     abbrev opened_more : Opened
-    opened_more = inside_of u.opened (record variable { items = items }) now
+    opened_more = inside_of u.opened (record variable { items = b.items }) now
 
     entered_told : (judge : Judge) → IsRightJudge judge → start judge
-        ≡ resumed judge position at body opened_more (outcome_at entered position judge (λ evaluator. each_iteration evaluator at (map binder_of variable.rest.now) body))
+        ≡ resumed judge position at body opened_more (outcome_at b.entered position judge (λ evaluator. each_iteration evaluator at (map binder_of variable.rest.now) body))
     entered_told judge right = u.told judge right
         ∙ ap (resumed judge position at body u.opened)
-        (next_step (evaluator_at now judge) (context_at now position) at body variable items value now.evaluation.turns now.leaves remaining)
+        (next_step (evaluator_at now judge) (context_at now position) at body variable b.items b.value now.evaluation.turns now.leaves b.remaining)
         ∙ ap (resumed judge position at body opened_more)
-        (value_meant judge now entered position at (map binder_of variable.rest.now) body variable.binder.now.name value
-        (record { unit = unit; leaves = leaves; evaluation = more }) env turns)
+        (value_meant judge now b.entered position at (map binder_of variable.rest.now) body variable.binder.now.name b.value b.enters b.scope b.turns)
 
-    pub value_begun : {new : InstanceEvaluator} {inside : Inside} → GoesInside entered new position at (map binder_of variable.rest.now) body (Ok inside)
-        → UnderWay (outer ++ (record variable { items = items } ∷ [])) inside new
-    value_begun {new = new} f = record {
-      opened = opened_more;
-      outer = ap (λ (vs : List OpenVariable). vs ++ (record variable { items = items } ∷ [])) u.outer;
-      stands = (u.stands, record {
-        unit = f.kept.unit ∙ unit;
-        evaluation = scope_kept now.evaluation variable.outside (subst (λ n. OneScopeMore now.evaluation entered.evaluation n) (sym u.paused) more) f.kept.evaluation;
-      });
-      paused = f.paused;
-      told = λ judge right. entered_told judge right ∙ ap (resumed judge position at body opened_more) (f.equation judge right);
-    }
+  value_begun : {outer after : List OpenVariable} (now new : InstanceEvaluator) (variable : OpenVariable) {inside : Inside} → UnderWay outer (Variable variable) now
+      → BeginsStep now new position at body variable outer after (Ok inside) → UnderWay after inside new
+  value_begun now new variable u b = record {
+    opened = opened_more now new variable u b;
+    variables = ap (λ (vs : List OpenVariable). vs ++ (record variable { items = b.items } ∷ [])) u.variables ∙ sym b.waits;
+    stands = (u.stands, record {
+      unit = b.goes.kept.unit ∙ b.enters.unit;
+      evaluation = scope_kept now.evaluation variable.outside (subst (λ n. OneScopeMore now.evaluation b.entered.evaluation n) (sym u.paused) b.enters.evaluation) b.goes.kept.evaluation;
+    });
+    paused = b.goes.paused;
+    told = λ judge right. entered_told now new variable u b judge right ∙ ap (resumed judge position at body (opened_more now new variable u b)) (b.goes.equation judge right);
+  }
 
-    pub value_stops : {new : InstanceEvaluator} (stop : Stop) (turns leaves : ℕ) → GoesInside entered new position at (map binder_of variable.rest.now) body (Err stop)
-        → (judge : Judge) → IsRightJudge judge → HasOutcome member_designs_of (Err stop) turns leaves (start judge)
-    value_stops stop turns leaves f judge right =
-        resumed_stops judge position at body opened_more stop (start judge) _ turns leaves (entered_told judge right) (stop_left _ stop _ (f.equation judge right))
+  -- the next step of the innermost variable
+  pub taken : {outer after : List OpenVariable} (now new : InstanceEvaluator) (variable : OpenVariable) (inside : Inside) → UnderWay outer (Variable variable) now
+      → TakesStep now new position at body variable outer after (Ok inside) → UnderWay after inside new
+  taken {outer = outer} {after = after} now new variable inside u (no_step remaining is same here) =
+      let given : inside ≡ Members variable.members = cc in
+      subst (λ (x : InstanceEvaluator). UnderWay after inside x) (sym here)
+      (subst (λ (vs : List OpenVariable). UnderWay vs inside now) (sym same)
+      (subst (λ (x : Inside). UnderWay outer x now) (sym given) (no_value variable u remaining)))
+  taken now new variable inside u (a_step b) = value_begun now new variable u b
+  taken now new variable inside u (no_memory is) = absurd (cc)
+
+  pub taken_stops : {outer after : List OpenVariable} (now new : InstanceEvaluator) (variable : OpenVariable) (stop : Stop) (turns leaves : ℕ) → UnderWay outer (Variable variable) now
+      → TakesStep now new position at body variable outer after (Err stop)
+      → (judge : Judge) → IsRightJudge judge → HasOutcome member_designs_of (Err stop) turns leaves (start judge)
+  taken_stops now new variable stop turns leaves u (no_step remaining is same here) judge right = absurd (cc)
+  taken_stops now new variable stop turns leaves u (a_step b) judge right =
+      resumed_stops judge position at body (opened_more now new variable u b) stop (start judge) _ turns leaves (entered_told now new variable u b judge right) (b.goes.equation judge right)
+  taken_stops now new variable stop turns leaves u (no_memory is) judge right =
+      let ran_out : stop ≡ NoMemory = cc in
+      without_memory ran_out
 
   -- the innermost variable, taken from the others
   popped_from : (front : List OpenVariable) (variable : OpenVariable) (members : MemberResults) (now : InstanceEvaluator) (opened : Opened)
@@ -274,22 +278,22 @@ module _ (old : InstanceEvaluator) (position : Position) (at : Place) (binders :
   popped_from front variable members now (inside_of outer v mid) same stands told =
       let p = same_from_push (variables_in outer) front v variable same in
       subst (λ (w : OpenVariable). IsPopped old position at binders body front w members now) p.1
-      (record { opened = outer; mid = mid; outer = p.0; stands = stands.0; scope = stands.1; told = told })
+      (record { opened = outer; mid = mid; variables = p.0; stands = stands.0; scope = stands.1; told = told })
 
   pub popped : {outer front : List OpenVariable} {variable : OpenVariable} {members : MemberResults} {now : InstanceEvaluator} → UnderWay outer (Members members) now
       → outer ≡ front ++ (variable ∷ []) → IsPopped old position at binders body front variable members now
   popped {front = front} {variable = variable} {members = members} {now = now} u same =
-      popped_from front variable members now u.opened (u.outer ∙ same) u.stands u.told
+      popped_from front variable members now u.opened (u.variables ∙ same) u.stands u.told
 
   -- a step has ended
-  module _ {front : List OpenVariable} {variable : OpenVariable} {members : MemberResults} {now new : InstanceEvaluator}
+  module _ {front : List OpenVariable} {variable : OpenVariable} {members : MemberResults} (now new : InstanceEvaluator)
       (p : IsPopped old position at binders body front variable members now) (unit : new.unit ≡ now.unit) (leaves : new.leaves ≡ now.leaves) where
     pub step_ended : {after : OpenVariable} → EndsStep now.evaluation new.evaluation at variable members (Ok after) → UnderWay front (Variable after) new
     step_ended {after = after} e =
         let stays : Stays p.mid new = stays_kept p.mid new (unit ∙ p.scope.unit) (e.back p.mid.evaluation p.scope.evaluation) in
         record {
           opened = p.opened;
-          outer = p.outer;
+          variables = p.variables;
           stands = opened_still old p.opened p.mid new p.stands stays;
           paused = e.same.outside ∙ p.scope.evaluation.from ∙ sym stays.evaluation.stands;
           told = λ judge right. p.told judge right
@@ -302,7 +306,7 @@ module _ (old : InstanceEvaluator) (position : Position) (at : Place) (binders :
         → (judge : Judge) → IsRightJudge judge → HasOutcome member_designs_of (Err stop) turns leaves (start judge)
     step_stops stop turns leaves e judge right =
         resumed_stops judge position at body p.opened stop (start judge) _ turns leaves (p.told judge right)
-        (stop_behind stop _ _ (stop_met _ stop new.evaluation.turns _ (e.value 0 now.leaves)))
+        (stop_behind stop _ _ (stop_met (λ (after : OpenVariable). member_designs_of now.leaves after.members) stop new.evaluation.turns _ (e.value 0 now.leaves)))
 
   -- no variable is left
   closed_from : (members : MemberResults) (now : InstanceEvaluator) (opened : Opened) → variables_in opened ≡ [] → AreOpened old opened now
@@ -314,7 +318,7 @@ module _ (old : InstanceEvaluator) (position : Position) (at : Place) (binders :
 
   pub closed : {outer : List OpenVariable} {members : MemberResults} {now : InstanceEvaluator} → UnderWay outer (Members members) now → outer ≡ []
       → EvaluatesAt member_designs_of old now position (Ok members) (λ evaluator. each_iteration evaluator at binders body)
-  closed {members = members} {now = now} u same = closed_from members now u.opened (u.outer ∙ same) u.stands u.told
+  closed {members = members} {now = now} u same = closed_from members now u.opened (u.variables ∙ same) u.stands u.told
 
 -- the values of a variable, and what is done with them
 values_then : {B : Type 0} (out : Outcome Val) (at : Place) (go : ℕ → Vals → Outcome B)
@@ -341,7 +345,7 @@ module _ {old new : InstanceEvaluator} {position : Position} {at : Place} {body 
   pub no_variable_stops : {stop : Stop} → EvaluatesAt member_designs_of old new position (Err stop) (λ evaluator. each_iteration evaluator at [] body)
       → GoesInside old new position at binders body (Err stop)
   no_variable_stops {stop = stop} f = record {
-    equation = λ judge right. stopped_left _ stop (ap (λ (bs : List BinderTerm). outcome_at old position judge (λ evaluator. each_iteration evaluator at bs body)) none)
+    equation = λ judge right. stop_from stop (ap (λ (bs : List BinderTerm). outcome_at old position judge (λ evaluator. each_iteration evaluator at bs body)) none)
         (stop_met (member_designs_of new.leaves) stop new.evaluation.turns _ (f.equation judge right).is);
     kept = tt;
     paused = tt;
@@ -349,7 +353,7 @@ module _ {old new : InstanceEvaluator} {position : Position} {at : Place} {body 
   }
 
 -- the next variable
-module _ {old new : InstanceEvaluator} {at : Place} {binder : Binder} {rest : List Binder} {binders : List Binder} (position : Position) (body : BodyTerm)
+module _ (old new : InstanceEvaluator) (at : Place) {binder : Binder} {rest : List Binder} {binders : List Binder} (position : Position) (body : BodyTerm)
     (same : binders ≡ binder ∷ rest) (unit : new.unit ≡ old.unit) (leaves : new.leaves ≡ old.leaves) where
   variable_then : (judge : Judge) → outcome_at old position judge (λ evaluator. each_iteration evaluator at (map binder_of binders) body)
       ≡ then_with (then_with (value_at_next_depth (expression_context_here old.evaluation) true (term_of binder.values) old.evaluation.turns) (λ turns value.
@@ -386,8 +390,8 @@ module _ {old new : InstanceEvaluator} {at : Place} {binder : Binder} {rest : Li
   pub next_variable_stops : {stop : Stop} → OpensVariable old.evaluation new.evaluation at binder rest (Err stop)
       → GoesInside old new position at (map binder_of binders) body (Err stop)
   next_variable_stops {stop = stop} o = record {
-    equation = λ judge right. stopped_left _ stop (variable_then judge)
-        (stop_behind stop _ _ (stop_met _ stop new.evaluation.turns _ o.values.value));
+    equation = λ judge right. stop_from stop (variable_then judge)
+        (stop_behind stop _ _ (stop_met (λ (variable : OpenVariable). remaining_in variable.items.remaining) stop new.evaluation.turns _ o.values.value));
     kept = tt;
     paused = tt;
     next = tt;

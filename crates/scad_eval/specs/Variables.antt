@@ -1,5 +1,5 @@
 -- The variables of a loop that have values, and what is left of a loop.
-use Rattle.std.specs.Prelude.{◌≡◌, ℕ, ◌+◌, ◌^◌, ◌≤◌, true, [], ◌∷◌, List, length, map, Result, Ok, Err, OnOk, IfOk}
+use Rattle.std.specs.Prelude.{◌≡◌, ℕ, ◌+◌, ◌^◌, ◌≤◌, true, [], ◌∷◌, ◌++◌, List, length, map, Result, Ok, Err, OnOk, IfOk}
 use Rattle.text_place.specs.declared.fault.Stop.{Stop}
 use Rattle.text_place.specs.declared.fault.Stop.TheVariants.{Fault, NoMemory}
 use Rattle.text_place.specs.declared.fault.Place.{Place}
@@ -8,14 +8,15 @@ use Rattle.scad_ast.specs.declared.statement.Binder.{Binder}
 use Rattle.scad_ast.specs.Terms.{BodyTerm, BinderTerm}
 use Rattle.scad_ast.specs.ExprView.{term_of}
 use Rattle.scad_ast.specs.StatementView.{binder_of}
-use Rattle.scad_value.specs.Values.{Val, count_of}
+use Rattle.scad_value.specs.Values.{Val, no_vals, and_val, count_of}
 use Rattle.scad_func.specs.Meaning.{Outcome, Gives, Faults, InnerScope, no_activation, then_with, or_fault, value_at_next_depth}
-use Rattle.scad_func.specs.Evaluations.{EvaluatesTo, KeepsEvaluation, OneScopeMore, env_here}
+use Rattle.scad_func.specs.Evaluations.{EvaluatesTo, KeepsEvaluation, OneScopeMore, env_here, scopes_there}
 use Rattle.scad_func.specs.View.{MeetsOutcome}
 use Rattle.scad_func.specs.declared.evaluation.Evaluation.{Evaluation}
 use Rattle.scad_meaning.specs.Loops.{iterated_values}
 use Rattle.scad_meaning.specs.Verdicts.{Judge, IsRightJudge}
 use Rattle.scad_meaning.specs.Meaning.{Context, MemberDesigns, Evaluator, no_members, counted_step, each_step, each_iteration, in_loop}
+use Rattle.scad_instances.specs.declared.items.Items.{Items}
 use Rattle.scad_instances.specs.Items.{remaining_in}
 use Rattle.scad_instances.specs.Seen.{member_designs_of, members_in_front}
 use Rattle.scad_instances.specs.declared.position.MemberResults.{MemberResults}
@@ -24,7 +25,7 @@ use Rattle.scad_eval.specs.declared.evaluator.InstanceEvaluator.{InstanceEvaluat
 use Rattle.scad_eval.specs.declared.open_variable.OpenVariable.{OpenVariable}
 use Rattle.scad_eval.specs.declared.open_variable.Inside.{Inside}
 use Rattle.scad_eval.specs.declared.open_variable.Inside.TheVariants.{Variable, Members}
-use Rattle.scad_eval.specs.Keeping.{evaluator_at, context_at, Stays, outcome_at}
+use Rattle.scad_eval.specs.Keeping.{evaluator_at, context_at, Stays, Enters, outcome_at}
 
 -- more values than any variable has: a list is bounded, and a range has two numbers of the profile as its ends
 abbrev pub most_values : ℕ
@@ -45,10 +46,11 @@ pub record OpensVariable (old new : Evaluation) (place : Place) (binder : Binder
       or_fault (iterated_values value) TypeMismatch place (Gives turns)))
   pub begun : IfOk result (IsBegun old.scope binder rest)
 
--- what enters the scope in which a variable has a value, unless memory ran out
+-- What enters the scope in which a variable has a value, unless memory ran out. The scope in which is evaluated stays the newest.
 pub record EntersVariable {A E : Type 0} (old new : Evaluation) (result : Result A E) (name : List ℕ) (value : Val) : Type 0 where
   pub entered : OnOk result (OneScopeMore old new old.scope)
   pub inside : OnOk result (env_here new ≡ InnerScope ((name, value) ∷ []) [] [] no_activation (env_here old))
+  pub newest : old.scope + 1 ≡ scopes_there old → new.scope + 1 ≡ scopes_there new
   pub turns : new.turns ≡ old.turns
 
 -- the same variable, whose steps gave other members
@@ -78,11 +80,15 @@ left_inside evaluator here at body (Variable variable) turns leaves =
     members_in_front (member_designs_of leaves variable.members) (steps_left evaluator here at body variable turns leaves)
 left_inside evaluator here at body (Members members) turns leaves = Gives turns (member_designs_of leaves members)
 
+-- a stop is the fault that is meant, unless memory ran out
+abbrev pub IsStopOf : {B : Type 0} → Outcome B → Stop → Type 0
+IsStopOf out (Fault fault) = out ≡ Faults fault.kind fault.place
+IsStopOf out NoMemory = Unit {0}
+
 -- an outcome is that of what is left, or the fault, unless memory ran out
 abbrev pub MeetsLeft : {A B : Type 0} → (A → Outcome B) → Result A Stop → Outcome B → Type 0
 MeetsLeft left (Ok x) out = out ≡ left x
-MeetsLeft left (Err (Fault fault)) out = out ≡ Faults fault.kind fault.place
-MeetsLeft left (Err NoMemory) out = Unit {0}
+MeetsLeft left (Err stop) out = IsStopOf out stop
 
 -- the values of a variable were evaluated in the scope in which is evaluated
 abbrev pub IsPaused : ℕ → Inside → Type 0
@@ -104,3 +110,26 @@ pub record GoesInside (old new : InstanceEvaluator) (position : Position) (place
   pub kept : OnOk result (Stays old new)
   pub paused : IfOk result (IsPaused new.evaluation.scope)
   pub next : IfOk result (IsNext (length binders))
+
+-- a step of a variable that begins: its next value is in the scope that was entered, and it waits while what stands inside is
+-- evaluated
+pub record BeginsStep (old new : InstanceEvaluator) (position : Position) (place : Place) (body : BodyTerm) (variable : OpenVariable)
+    (before after : List OpenVariable) (result : Result Inside Stop) : Type 0 where
+  pub items : Items
+  pub value : Val
+  pub entered : InstanceEvaluator
+  pub remaining : remaining_in variable.items.remaining ≡ and_val value (remaining_in items.remaining)
+  pub enters : Enters old entered old.evaluation.scope
+  pub scope : env_here entered.evaluation ≡ InnerScope ((variable.binder.now.name, value) ∷ []) [] [] no_activation (env_here old.evaluation)
+  pub turns : entered.evaluation.turns ≡ old.evaluation.turns
+  pub waits : after ≡ before ++ (record variable { items = items } ∷ [])
+  pub goes : GoesInside entered new position place (map binder_of variable.rest.now) body result
+
+-- What takes the next step of a variable: there is none, and its members are given; or it begins, and gives what stands inside;
+-- or memory ran out.
+pub data TakesStep (old new : InstanceEvaluator) (position : Position) (place : Place) (body : BodyTerm) (variable : OpenVariable)
+    (before after : List OpenVariable) (result : Result Inside Stop) : Type 0 where
+  no_step : remaining_in variable.items.remaining ≡ no_vals → result ≡ Ok (Members variable.members) → after ≡ before → new ≡ old
+      → TakesStep old new position place body variable before after result
+  a_step : BeginsStep old new position place body variable before after result → TakesStep old new position place body variable before after result
+  no_memory : result ≡ Err NoMemory → TakesStep old new position place body variable before after result

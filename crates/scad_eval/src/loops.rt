@@ -6,7 +6,7 @@ ghost use Rattle.scad_ast.specs.StatementView.{binder_of, binders_of};
 ghost use Rattle.scad_meaning.specs.Meaning.{loop_design, each_iteration};
 ghost use Rattle.scad_instances.specs.Seen.{instance_design_of, member_designs_of};
 ghost use Rattle.scad_eval.specs.Keeping.{EvaluatesAt};
-ghost use Rattle.scad_eval.specs.Variables.{GoesInside};
+ghost use Rattle.scad_eval.specs.Variables.{GoesInside, TakesStep};
 ghost use Rattle.scad_eval.specs.Within.{body_seen, IsBodyAt};
 
 use crate::evaluator::InstanceEvaluator;
@@ -57,24 +57,42 @@ impl InstanceEvaluator<'_, '_> {
         let mut inside = self.inside(position, place, binders, body)?;
         'each: loop {
             inside = match inside {
-                Inside::Variable(mut variable) => match variable.items.next() {
-                    Some(value) => {
-                        variable.enter(&mut self.evaluation, value)?;
-                        let rest = variable.rest;
-                        if outer.push(variable).is_err() {
-                            return Err(Stop::NoMemory);
-                        }
-                        self.inside(position, place, rest, body)?
-                    }
-                    None => Inside::Members(variable.members),
-                },
+                Inside::Variable(variable) => {
+                    self.next_step(position, place, body, variable, &mut outer)?
+                }
                 Inside::Members(members) => match outer.pop() {
+                    None => return Ok(members),
                     Some(variable) => {
                         Inside::Variable(variable.with_step(&mut self.evaluation, place, members)?)
                     }
-                    None => return Ok(members),
                 },
             };
+        }
+    }
+
+    // The next step of a variable: what stands inside its next value, while it waits, or what its steps gave where it has
+    // none.
+    #[cycle(instances)]
+    fn next_step<'b>(
+        &mut self,
+        position: Position,
+        place: Place,
+        body: NumberedBody<'_>,
+        mut variable: OpenVariable<'b>,
+        outer: &mut Vec<OpenVariable<'b>>,
+    ) -> Result<Inside<'b>, Stop>
+        requires { IsBodyAt self.old position body }
+        ensures { TakesStep self.old self.new position place (body_seen body.entry) variable.entry
+            outer.old.items outer.new.items result }
+    {
+        match variable.items.next() {
+            None => Ok(Inside::Members(variable.members)),
+            Some(value) => {
+                variable.enter(&mut self.evaluation, value)?;
+                let rest = variable.rest;
+                variable.wait(outer)?;
+                self.inside(position, place, rest, body)
+            }
         }
     }
 

@@ -1,6 +1,6 @@
 //! The variables of a loop that have values.
 
-ghost use Rattle.std.specs.Prelude.{◌<◌};
+ghost use Rattle.std.specs.Prelude.{◌≡◌, ◌<◌, [], ◌∷◌, ◌++◌, OnOk};
 ghost use Rattle.scad_value.specs.BoundedView.{bounded_val};
 ghost use Rattle.scad_eval.specs.Variables.{OpensVariable, EntersVariable, EndsStep};
 
@@ -65,6 +65,14 @@ impl<'b> OpenVariable<'b> {
     {
         evaluation.enter_empty()?;
         evaluation.bind(self.binder.name.items(), value)
+    }
+
+    /// Waits behind the variables outside it.
+    pub(crate) fn wait(self, outer: &mut Vec<OpenVariable<'b>>) -> Result<(), NoMemory>
+        ensures { OnOk result (outer.new.items ≡ outer.old.items ++ (self.entry ∷ [])) }
+    {
+        outer.push(self)?;
+        Ok(())
     }
 
     /// The variable behind a step, whose scope is left, with what it gave. Where that is nothing, the step counts one

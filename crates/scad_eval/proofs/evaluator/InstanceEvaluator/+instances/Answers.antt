@@ -42,6 +42,7 @@ use Rattle.scad_meaning.specs.Loops.{iterated_values}
 use Rattle.scad_meaning.specs.Meaning.{Context, MemberDesigns, InstanceDesign, Evaluator, joined_members, moved_design, no_design, as_member, and_members, body_design, core_design, core_of_instance, hull_design, loop_design, built_in_design, children_design, effect_design, turn_after_step, turn_after_call, each_member, each_step, each_iteration, in_loop, module_design, module_scope, with_calls_left, with_bindings, inside_scope, expression_context, as_root, block_members, built_in_with_arguments, instances_chosen, module_with_values, module_with_arguments}
 use Rattle.scad_eval.specs.declared.evaluator.InstanceEvaluator.{InstanceEvaluator}
 use Rattle.scad_eval.specs.Keeping.{evaluator_at, env_at, context_at, Stays, Enters, outcome_at}
+use Rattle.scad_eval.specs.declared.open_variable.OpenVariable.{OpenVariable}
 use Rattle.scad_eval.specs.Within.{body_seen, IsInstanceAt, IsModuleCall}
 use Rattle.scad_func.proofs.Kept.{keeps_same, keeps_trans, specials_kept, scope_kept}
 use Rattle.scad_eval.proofs.Work.{work_falls, work_same}
@@ -55,6 +56,7 @@ use Rattle.scad_eval.proofs.Beginning.{evaluation_kept, call_kept, specials_ther
 use Rattle.scad_eval.proofs.Standing.{position_still, instance_still, body_still, call_still, instances_stand, scope_bound, block_bound}
 use Rattle.scad_eval.proofs.Newest.{with_more_bindings, specials_began, slots_lent}
 use Rattle.scad_eval.proofs.Equations.{refused_outcome, entered_meant, body_meant, block_meant, entered_block, instances_meant, deeper_meant, call_meant, children_meant, specials_meant, specials_setting, built_in_refused, built_in_meant, marked_form, begun_front, lengthened_kept, first_outcome, OnOk-at_ok}
+use Rattle.scad_eval.proofs.Variables.{IsUnderWay, begun, next_variable, next_variable_stops}
 use Rattle.scad_eval.proofs.evaluator.InstanceEvaluator.+instances.Goals as goal
 
 pub body-members_in_scope-requires : goal.body-members_in_scope-requires
@@ -745,3 +747,18 @@ one_iteration-returns t c =
           (as_member_outcome true (f.equation judge right)));
       kept = lengthened_kept (one_member_of true) c.no_members.result c.body-made.result c.with_made.result _ c.with_made.ensures f.kept;
     }
+
+pub inside-returns-in_err-variable-in-Some : goal.inside-returns-in_err-variable-in-Some
+inside-returns-in_err-variable-in-Some t c =
+    let p = err_from_is_err_and c.from_residual-in_err-variable-in-Some.result c.from_residual-in_err-variable-in-Some.ensures.1 in
+    rw (p.1, p.2) (next_variable_stops c.args.self.now _ c.args.place c.args.position (body_seen c.args.body) c.in-Some.ensures.cases.0 refl refl c.in_err-variable-in-Some.ensures)
+
+pub inside-returns-in_ok-variable-in-Some : goal.inside-returns-in_ok-variable-in-Some
+inside-returns-in_ok-variable-in-Some t c =
+    next_variable c.args.self.now _ c.args.place c.args.position (body_seen c.args.body) c.in-Some.ensures.cases.0 refl refl c.in_ok-variable-in-Some.ensures
+
+pub iterations-each-init : goal.iterations-each-init
+iterations-each-init t c =
+    subst (λ (outer : List OpenVariable). IsUnderWay c.args.self.now c.args.position c.args.place (map binder_of c.args.binders.now) (body_seen c.args.body) outer c.in_ok-inside.inside c.inside.new.self)
+    (sym c.new-outer.ensures.items)
+    (begun c.args.self.now c.args.position c.args.place (map binder_of c.args.binders.now) (body_seen c.args.body) c.in_ok-inside.ensures)

@@ -1,15 +1,14 @@
 -- The evaluations that are left count first; at one depth each step calls those of a lower rank.
-use Rattle.std.proofs.Common.{◌≡◌, ℕ, ◌+◌, ◌*◌, length, map, drop}
+use Rattle.std.proofs.Common.{◌≡◌, ◌+◌, ◌*◌, map, drop}
 use Rattle.scad_ast.specs.StatementView.{binder_of}
 use Rattle.scad_meaning.specs.Verdicts.{Judge, IsRightJudge}
-use Rattle.scad_meaning.specs.Meaning.{MemberDesigns, each_member, each_step, each_iteration, in_loop}
+use Rattle.scad_meaning.specs.Meaning.{each_member}
 use Rattle.scad_instances.specs.Positions.{term_of_numbered}
-use Rattle.scad_value.specs.Values.{Val, count_of}
-use Rattle.scad_func.specs.Meaning.{Outcome}
-use Rattle.scad_instances.specs.Items.{remaining_in}
 use Rattle.scad_instances.specs.Seen.{member_designs_of, members_in_front}
 use Rattle.scad_eval.specs.Keeping.{evaluator_at, context_at, Stays, outcome_at}
 use Rattle.scad_eval.specs.Within.{body_seen}
+use Rattle.scad_eval.proofs.Lasting.{loop_work}
+use Rattle.scad_eval.proofs.Variables.{IsUnderWay}
 use Rattle.scad_eval.proofs.Work.{work}
 use Rattle.scad_eval.proofs.evaluator.InstanceEvaluator.+instances.Given as goal
 
@@ -31,11 +30,14 @@ decreases-one_iteration l = work l.self.now.evaluation.depth + 5
 abbrev pub decreases-inside : goal.decreases-inside
 decreases-inside l = work l.self.now.evaluation.depth + 6
 
+abbrev pub decreases-next_step : goal.decreases-next_step
+decreases-next_step l = work l.self.now.evaluation.depth + 7
+
 abbrev pub decreases-iterations : goal.decreases-iterations
-decreases-iterations l = work l.self.now.evaluation.depth + 7
+decreases-iterations l = work l.self.now.evaluation.depth + 8
 
 abbrev pub decreases-looped : goal.decreases-looped
-decreases-looped l = work l.self.now.evaluation.depth + 8
+decreases-looped l = work l.self.now.evaluation.depth + 9
 
 abbrev pub decreases-one_or_nothing : goal.decreases-one_or_nothing
 decreases-one_or_nothing l = work l.self.now.evaluation.depth + 5
