@@ -1,5 +1,5 @@
 -- A loop that goes on inside variables that have values.
-use Rattle.std.proofs.Common.{◌≡◌, ℕ, List, [], ◌∷◌, ◌++◌, map, length, true, Option, None, Some, Result, Ok, Err, refl, sym, ap, subst, ◌∙◌, append-nil, arith}
+use Rattle.std.proofs.Common.{◌≡◌, ℕ, ◌+◌, ◌<◌, List, [], ◌∷◌, ◌++◌, map, length, true, Option, None, Some, Result, Ok, Err, refl, sym, ap, subst, ◌∙◌, append-nil, arith}
 use Rattle.std.proofs.lemmas.List.{length_push, same_from_push, length-map}
 use Rattle.text_place.specs.declared.fault.Stop.{Stop}
 use Rattle.text_place.specs.declared.fault.Stop.TheVariants.{Fault, NoMemory}
@@ -13,8 +13,9 @@ use Rattle.scad_ast.specs.StatementView.{binder_of}
 use Rattle.scad_value.specs.Values.{Val, Vals, no_vals, and_val}
 use Rattle.scad_design.specs.Designs.{DesignTree}
 use Rattle.scad_func.specs.Meaning.{Outcome, Gives, Faults, InnerScope, no_activation, then_with, or_fault, value_at_next_depth}
-use Rattle.scad_func.specs.Evaluations.{OneScopeMore, env_here, expression_context_here}
+use Rattle.scad_func.specs.Evaluations.{OneScopeMore, env_here, expression_context_here, scopes_there}
 use Rattle.scad_func.specs.View.{MeetsOutcome}
+use Rattle.scad_func.specs.declared.evaluation.Evaluation.{Evaluation}
 use Rattle.scad_func.specs.declared.source.Source.{Source}
 use Rattle.scad_meaning.specs.Loops.{iterated_values}
 use Rattle.scad_meaning.specs.Verdicts.{Judge, IsRightJudge}
@@ -204,6 +205,10 @@ module _ (old : InstanceEvaluator) (position : Position) (at : Place) (binders :
   abbrev start : Judge → Outcome MemberDesigns
   start judge = outcome_at old position judge (λ evaluator. each_iteration evaluator at binders body)
 
+  -- the same of what is next in the loop
+  pub next_is : {outer : List OpenVariable} {next inside : Inside} {now : InstanceEvaluator} → UnderWay outer next now → next ≡ inside → UnderWay outer inside now
+  next_is {outer = outer} {now = now} u is = subst (λ (x : Inside). UnderWay outer x now) is u
+
   pub begun : {now : InstanceEvaluator} {inside : Inside} → GoesInside old now position at binders body (Ok inside) → UnderWay [] inside now
   begun f = record { opened = outermost; variables = refl; stands = f.kept; paused = f.paused; told = f.equation }
 
@@ -286,10 +291,11 @@ module _ (old : InstanceEvaluator) (position : Position) (at : Place) (binders :
       popped_from front variable members now u.opened (u.variables ∙ same) u.stands u.told
 
   -- a step has ended
-  module _ {front : List OpenVariable} {variable : OpenVariable} {members : MemberResults} (now new : InstanceEvaluator)
-      (p : IsPopped old position at binders body front variable members now) (unit : new.unit ≡ now.unit) (leaves : new.leaves ≡ now.leaves) where
-    pub step_ended : {after : OpenVariable} → EndsStep now.evaluation new.evaluation at variable members (Ok after) → UnderWay front (Variable after) new
-    step_ended {after = after} e =
+  module _ {front : List OpenVariable} {variable : OpenVariable} {members : MemberResults} (now : InstanceEvaluator)
+      (p : IsPopped old position at binders body front variable members now) where
+    pub step_ended : (new : InstanceEvaluator) → new.unit ≡ now.unit → new.leaves ≡ now.leaves → {after : OpenVariable}
+        → EndsStep now.evaluation new.evaluation at variable members (Ok after) → UnderWay front (Variable after) new
+    step_ended new unit leaves {after = after} e =
         let stays : Stays p.mid new = stays_kept p.mid new (unit ∙ p.scope.unit) (e.back p.mid.evaluation p.scope.evaluation) in
         record {
           opened = p.opened;
@@ -302,11 +308,18 @@ module _ (old : InstanceEvaluator) (position : Position) (at : Place) (binders :
               (e.value 0 now.leaves ∙ ap (λ n. Gives new.evaluation.turns (member_designs_of n after.members)) (sym leaves)) e.same stays);
         }
 
-    pub step_stops : (stop : Stop) (turns leaves : ℕ) → EndsStep now.evaluation new.evaluation at variable members (Err stop)
+    pub step_stops : {new : Evaluation} (stop : Stop) (turns leaves : ℕ) → EndsStep now.evaluation new at variable members (Err stop)
         → (judge : Judge) → IsRightJudge judge → HasOutcome member_designs_of (Err stop) turns leaves (start judge)
-    step_stops stop turns leaves e judge right =
+    step_stops {new = new} stop turns leaves e judge right =
         resumed_stops judge position at body p.opened stop (start judge) _ turns leaves (p.told judge right)
-        (stop_behind stop _ _ (stop_met (λ (after : OpenVariable). member_designs_of now.leaves after.members) stop new.evaluation.turns _ (e.value 0 now.leaves)))
+        (stop_behind stop _ _ (stop_met (λ (after : OpenVariable). member_designs_of now.leaves after.members) stop new.turns _ (e.value 0 now.leaves)))
+
+    -- the scope that is left is inside another one, and the newest is still the one in which is evaluated
+    pub inside_another : variable.outside < now.evaluation.scope
+    inside_another = let e = p.scope.evaluation in omega (arith, e.from, e.number, p.mid.evaluation.there)
+
+    pub newest_still : {new : Evaluation} {result : Result OpenVariable Stop} → EndsStep now.evaluation new at variable members result → new.scope + 1 ≡ scopes_there new
+    newest_still e = let k = e.back p.mid.evaluation p.scope.evaluation in omega (arith, k.stands, k.count, p.mid.newest)
 
   -- no variable is left
   closed_from : (members : MemberResults) (now : InstanceEvaluator) (opened : Opened) → variables_in opened ≡ [] → AreOpened old opened now
@@ -319,6 +332,11 @@ module _ (old : InstanceEvaluator) (position : Position) (at : Place) (binders :
   pub closed : {outer : List OpenVariable} {members : MemberResults} {now : InstanceEvaluator} → UnderWay outer (Members members) now → outer ≡ []
       → EvaluatesAt member_designs_of old now position (Ok members) (λ evaluator. each_iteration evaluator at binders body)
   closed {members = members} {now = now} u same = closed_from members now u.opened (u.variables ∙ same) u.stands u.told
+
+-- where what stands inside began
+abbrev pub gone_from : {old new : InstanceEvaluator} {position : Position} {at : Place} {binders : List BinderTerm} {body : BodyTerm} {result : Result Inside Stop}
+    → GoesInside old new position at binders body result → InstanceEvaluator
+gone_from {old = old} f = old
 
 -- the values of a variable, and what is done with them
 values_then : {B : Type 0} (out : Outcome Val) (at : Place) (go : ℕ → Vals → Outcome B)

@@ -43,6 +43,7 @@ use Rattle.scad_meaning.specs.Meaning.{Context, MemberDesigns, InstanceDesign, E
 use Rattle.scad_eval.specs.declared.evaluator.InstanceEvaluator.{InstanceEvaluator}
 use Rattle.scad_eval.specs.Keeping.{evaluator_at, env_at, context_at, Stays, Enters, outcome_at}
 use Rattle.scad_eval.specs.declared.open_variable.OpenVariable.{OpenVariable}
+use Rattle.scad_eval.specs.Variables.{a_step}
 use Rattle.scad_eval.specs.Within.{body_seen, IsInstanceAt, IsModuleCall}
 use Rattle.scad_func.proofs.Kept.{keeps_same, keeps_trans, specials_kept, scope_kept}
 use Rattle.scad_eval.proofs.Work.{work_falls, work_same}
@@ -56,7 +57,8 @@ use Rattle.scad_eval.proofs.Beginning.{evaluation_kept, call_kept, specials_ther
 use Rattle.scad_eval.proofs.Standing.{position_still, instance_still, body_still, call_still, instances_stand, scope_bound, block_bound}
 use Rattle.scad_eval.proofs.Newest.{with_more_bindings, specials_began, slots_lent}
 use Rattle.scad_eval.proofs.Equations.{refused_outcome, entered_meant, body_meant, block_meant, entered_block, instances_meant, deeper_meant, call_meant, children_meant, specials_meant, specials_setting, built_in_refused, built_in_meant, marked_form, begun_front, lengthened_kept, first_outcome, OnOk-at_ok}
-use Rattle.scad_eval.proofs.Variables.{IsUnderWay, begun, next_variable, next_variable_stops}
+use Rattle.scad_eval.proofs.Lasting.{loop_work, taken_less, ended_less}
+use Rattle.scad_eval.proofs.Variables.{IsUnderWay, begun, next_variable, next_variable_stops, gone_from, same_place, next_is, taken, taken_stops, closed, popped, inside_another, newest_still, step_ended, step_stops}
 use Rattle.scad_eval.proofs.evaluator.InstanceEvaluator.+instances.Goals as goal
 
 pub body-members_in_scope-requires : goal.body-members_in_scope-requires
@@ -762,3 +764,95 @@ iterations-each-init t c =
     subst (λ (outer : List OpenVariable). IsUnderWay c.args.self.now c.args.position c.args.place (map binder_of c.args.binders.now) (body_seen c.args.body) outer c.in_ok-inside.inside c.inside.new.self)
     (sym c.new-outer.ensures.items)
     (begun c.args.self.now c.args.position c.args.place (map binder_of c.args.binders.now) (body_seen c.args.body) c.in_ok-inside.ensures)
+
+pub iterations-next_step-requires : goal.iterations-next_step-requires
+iterations-next_step-requires t c =
+    let m = c.args.self.now in
+    let p = same_place m c.each.invariant.opened c.each.self c.each.invariant.stands in (
+      omega (arith, work_same c.each.self.evaluation.depth m.evaluation.depth p.depth, c.decreases),
+      body_still m _ p.unit p.source c.requires,
+    )
+
+pub iterations-returns-in_err-inside-in-Variable : goal.iterations-returns-in_err-inside-in-Variable
+iterations-returns-in_err-inside-in-Variable t c =
+    let p = err_from_is_err_and c.from_residual-in_err-inside-in-Variable.result c.from_residual-in_err-inside-in-Variable.ensures.1 in
+    let binders = map binder_of c.args.binders.now in
+    let new = c.next_step.new.self in
+    rw (p.1, p.2) (record {
+      equation = taken_stops c.args.self.now c.args.position c.args.place binders (body_seen c.args.body) c.each.self new c.in-Variable.variable
+          c.in_err-inside-in-Variable.field-0.0 new.evaluation.turns new.leaves
+          (next_is c.args.self.now c.args.position c.args.place binders (body_seen c.args.body) c.each.invariant c.in-Variable.is) c.in_err-inside-in-Variable.ensures;
+      kept = tt;
+    })
+
+pub iterations-each-smaller-in_ok-inside-in-Variable : goal.iterations-each-smaller-in_ok-inside-in-Variable
+iterations-each-smaller-in_ok-inside-in-Variable t c =
+    omega (arith, taken_less c.in-Variable.variable c.in_ok-inside-in-Variable.inside c.in_ok-inside-in-Variable.ensures, ap (loop_work c.each.outer.items) c.in-Variable.is)
+
+pub iterations-each-preserved-in_ok-inside-in-Variable : goal.iterations-each-preserved-in_ok-inside-in-Variable
+iterations-each-preserved-in_ok-inside-in-Variable t c =
+    let binders = map binder_of c.args.binders.now in
+    taken c.args.self.now c.args.position c.args.place binders (body_seen c.args.body) c.each.self c.next_step.new.self c.in-Variable.variable c.in_ok-inside-in-Variable.inside
+    (next_is c.args.self.now c.args.position c.args.place binders (body_seen c.args.body) c.each.invariant c.in-Variable.is) c.in_ok-inside-in-Variable.ensures
+
+pub iterations-returns-in-None : goal.iterations-returns-in-None
+iterations-returns-in-None t c =
+    let binders = map binder_of c.args.binders.now in
+    closed c.args.self.now c.args.position c.args.place binders (body_seen c.args.body)
+    (next_is c.args.self.now c.args.position c.args.place binders (body_seen c.args.body) c.each.invariant c.in-Members.is) (let none = c.in-None.ensures.cases in first_of (none.0, none, ?))
+
+pub iterations-with_step-requires : goal.iterations-with_step-requires
+iterations-with_step-requires t c =
+    let binders = map binder_of c.args.binders.now in
+    inside_another c.args.self.now c.args.position c.args.place binders (body_seen c.args.body) c.each.self
+    (popped c.args.self.now c.args.position c.args.place binders (body_seen c.args.body)
+    (next_is c.args.self.now c.args.position c.args.place binders (body_seen c.args.body) c.each.invariant c.in-Members.is) c.in-Some.ensures.items)
+
+pub iterations-invariant_of-self : goal.iterations-invariant_of-self
+iterations-invariant_of-self t c =
+    let binders = map binder_of c.args.binders.now in
+    record {
+      few_leaves = c.each.self.few_leaves;
+      newest = newest_still c.args.self.now c.args.position c.args.place binders (body_seen c.args.body) c.each.self
+          (popped c.args.self.now c.args.position c.args.place binders (body_seen c.args.body)
+          (next_is c.args.self.now c.args.position c.args.place binders (body_seen c.args.body) c.each.invariant c.in-Members.is) c.in-Some.ensures.items)
+          c.with_step.ensures;
+    }
+
+pub iterations-returns-in_err-with_step-in-Some : goal.iterations-returns-in_err-with_step-in-Some
+iterations-returns-in_err-with_step-in-Some t c =
+    let p = err_from_is_err_and c.from_residual-in_err-with_step-in-Some.result c.from_residual-in_err-with_step-in-Some.ensures.1 in
+    let binders = map binder_of c.args.binders.now in
+    rw (p.1, p.2) (record {
+      equation = step_stops c.args.self.now c.args.position c.args.place binders (body_seen c.args.body) c.each.self
+          (popped c.args.self.now c.args.position c.args.place binders (body_seen c.args.body)
+          (next_is c.args.self.now c.args.position c.args.place binders (body_seen c.args.body) c.each.invariant c.in-Members.is) c.in-Some.ensures.items)
+          c.in_err-with_step-in-Some.field-0.0 c.with_step.new.evaluation.turns c.each.self.leaves c.in_err-with_step-in-Some.ensures;
+      kept = tt;
+    })
+
+pub iterations-each-smaller : goal.iterations-each-smaller
+iterations-each-smaller t c =
+    ended_less c.each.outer.items c.pop.new.self.items c.each.inside c.in-Some.variable c.in_ok-with_step-in-Some.field-0 c.in-Some.ensures.items c.in_ok-with_step-in-Some.ensures.same
+
+pub iterations-each-preserved : goal.iterations-each-preserved
+iterations-each-preserved t c =
+    let binders = map binder_of c.args.binders.now in
+    step_ended c.args.self.now c.args.position c.args.place binders (body_seen c.args.body) c.each.self
+    (popped c.args.self.now c.args.position c.args.place binders (body_seen c.args.body)
+    (next_is c.args.self.now c.args.position c.args.place binders (body_seen c.args.body) c.each.invariant c.in-Members.is) c.in-Some.ensures.items)
+    _ refl refl c.in_ok-with_step-in-Some.ensures
+
+pub next_step-returns : goal.next_step-returns
+next_step-returns t c =
+    a_step (record {
+      items = c.next.new.self;
+      value = bounded_val c.in-Some.value;
+      entered = gone_from c.inside.ensures;
+      remaining = c.in-Some.ensures.next;
+      enters = record { unit = refl; leaves = refl; evaluation = c.in_ok-enter-in-Some.ensures.entered };
+      scope = c.in_ok-enter-in-Some.ensures.inside;
+      turns = c.enter.ensures.turns;
+      waits = c.in_ok-wait-in-Some.ensures;
+      goes = c.inside.ensures;
+    })
