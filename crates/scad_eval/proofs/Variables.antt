@@ -322,16 +322,16 @@ module _ (old : InstanceEvaluator) (position : Position) (at : Place) (binders :
     newest_still e = let k = e.back p.mid.evaluation p.scope.evaluation in omega (arith, k.stands, k.count, p.mid.newest)
 
   -- no variable is left
-  closed_from : (members : MemberResults) (now : InstanceEvaluator) (opened : Opened) → variables_in opened ≡ [] → AreOpened old opened now
+  closed_from : (members : MemberResults) (now : InstanceEvaluator) (opened : Opened) → length (variables_in opened) ≡ 0 → AreOpened old opened now
       → ((judge : Judge) → IsRightJudge judge → start judge
       ≡ resumed judge position at body opened (Gives now.evaluation.turns (member_designs_of now.leaves members)))
       → EvaluatesAt member_designs_of old now position (Ok members) (λ evaluator. each_iteration evaluator at binders body)
-  closed_from members now outermost same stands told = record { equation = λ judge right. record { is = told judge right }; kept = stands }
-  closed_from members now (inside_of outer v mid) same stands told = absurd (omega (arith, ap length same, length_push (variables_in outer) v))
+  closed_from members now outermost none stands told = record { equation = λ judge right. record { is = told judge right }; kept = stands }
+  closed_from members now (inside_of outer v mid) none stands told = absurd (omega (arith, none, length_push (variables_in outer) v))
 
-  pub closed : {outer : List OpenVariable} {members : MemberResults} {now : InstanceEvaluator} → UnderWay outer (Members members) now → outer ≡ []
+  pub closed : {outer : List OpenVariable} {members : MemberResults} {now : InstanceEvaluator} → UnderWay outer (Members members) now → length outer ≡ 0
       → EvaluatesAt member_designs_of old now position (Ok members) (λ evaluator. each_iteration evaluator at binders body)
-  closed {members = members} {now = now} u same = closed_from members now u.opened (u.variables ∙ same) u.stands u.told
+  closed {members = members} {now = now} u none = closed_from members now u.opened (ap length u.variables ∙ none) u.stands u.told
 
 -- where what stands inside began
 abbrev pub gone_from : {old new : InstanceEvaluator} {position : Position} {at : Place} {binders : List BinderTerm} {body : BodyTerm} {result : Result Inside Stop}

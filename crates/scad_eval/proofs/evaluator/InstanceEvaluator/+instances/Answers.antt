@@ -799,7 +799,7 @@ pub iterations-returns-in-None : goal.iterations-returns-in-None
 iterations-returns-in-None t c =
     let binders = map binder_of c.args.binders.now in
     closed c.args.self.now c.args.position c.args.place binders (body_seen c.args.body)
-    (next_is c.args.self.now c.args.position c.args.place binders (body_seen c.args.body) c.each.invariant c.in-Members.is) (let none = c.in-None.ensures.cases in first_of (none.0, none, ?))
+    (next_is c.args.self.now c.args.position c.args.place binders (body_seen c.args.body) c.each.invariant c.in-Members.is) (omega (arith, c.in-None.ensures.cases.0))
 
 pub iterations-with_step-requires : goal.iterations-with_step-requires
 iterations-with_step-requires t c =
