@@ -126,7 +126,7 @@ STATUSES: dict[int, str] = {
     125: ", without an answer",
 }
 
-NO_MEMORY = ("memory ran out", "convert fewer files at once, or put fewer loops in one another")
+NO_MEMORY = ("memory ran out", "convert fewer files at once")
 EMPTY = (
     "this source makes no solid at all",
     "look for a * or %, an if, or a difference that leaves nothing; or use --allow-empty",

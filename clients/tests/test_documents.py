@@ -34,7 +34,7 @@ WORDS = {
     "crates/script_service/src/status.rt": r"^    (\w+),$",
 }
 # Answers that no source is known to have.
-UNKNOWN = {"corners", "vertices", "NoMemory"}
+UNKNOWN = {"corners", "vertices", "nomem", "NoMemory"}
 
 
 class Section(NamedTuple):

@@ -12,4 +12,7 @@ mod Binding
 mod ModuleScopes
 mod Programs
 mod Newest
+mod Bounds
+pub mod Lasting
+pub mod Variables
 pub mod Work

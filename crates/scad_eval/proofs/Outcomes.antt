@@ -61,7 +61,7 @@ pub front_of_none : (leaves : ℕ) (out : Outcome MemberDesigns) → members_in_
 front_of_none leaves (Gives turns ms) = refl
 front_of_none leaves (Faults kind at) = refl
 
-front_twice : (before more : MemberDesigns) (out : Outcome MemberDesigns) → members_in_front before (members_in_front more out) ≡ members_in_front (and_members before more) out
+pub front_twice : (before more : MemberDesigns) (out : Outcome MemberDesigns) → members_in_front before (members_in_front more out) ≡ members_in_front (and_members before more) out
 front_twice before more (Gives turns ms) = ap (Gives turns) (sym (and_three before more ms))
 front_twice before more (Faults kind at) = refl
 

@@ -3,9 +3,9 @@ use Rattle.std.proofs.Common.{◌≡◌, ℕ, ◌+◌, ◌-◌, ◌*◌, ◌<◌
 use Rattle.scad_func.specs.Limits.{most_evaluations}
 
 unfoldable pub work : ℕ → ℕ
-work depth = (most_evaluations - depth) * 1125899906842624
+work depth = (most_evaluations - depth) * 16
 
-pub work_falls : (depth : ℕ) → depth < most_evaluations → work (depth + 1) + 1125899906842624 ≤ work depth
+pub work_falls : (depth : ℕ) → depth < most_evaluations → work (depth + 1) + 16 ≤ work depth
 unfolding work
 work_falls depth h = omega arith
 

@@ -1,4 +1,4 @@
 pub mod Keeping
-pub mod Steps
+pub mod Variables
 pub mod Within
 pub mod Programs

@@ -13,6 +13,7 @@ mod evaluator;
 mod instances;
 mod leaves;
 mod loops;
+mod open_variable;
 mod program;
 mod scopes;
 

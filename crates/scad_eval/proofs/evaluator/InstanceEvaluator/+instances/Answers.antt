@@ -43,7 +43,8 @@ use Rattle.scad_meaning.specs.Loops.{iterated_values}
 use Rattle.scad_meaning.specs.Meaning.{Context, MemberDesigns, InstanceDesign, Evaluator, joined_members, moved_design, no_design, as_member, and_members, body_design, core_design, core_of_instance, hull_design, loop_design, built_in_design, children_design, effect_design, turn_after_step, turn_after_call, each_member, each_step, each_iteration, in_loop, module_design, module_scope, with_calls_left, with_bindings, inside_scope, expression_context, as_root, block_members, built_in_with_arguments, instances_chosen, module_with_values, module_with_arguments}
 use Rattle.scad_eval.specs.declared.evaluator.InstanceEvaluator.{InstanceEvaluator}
 use Rattle.scad_eval.specs.Keeping.{evaluator_at, env_at, context_at, Stays, Enters, outcome_at}
-use Rattle.scad_eval.specs.Steps.{one_step}
+use Rattle.scad_eval.specs.declared.open_variable.OpenVariable.{OpenVariable}
+use Rattle.scad_eval.specs.Variables.{a_step}
 use Rattle.scad_eval.specs.Within.{body_seen, IsInstanceAt, IsModuleCall}
 use Rattle.scad_func.proofs.Kept.{keeps_same, keeps_trans, specials_kept, scope_kept}
 use Rattle.scad_eval.proofs.Work.{work_falls, work_same}
@@ -57,6 +58,8 @@ use Rattle.scad_eval.proofs.Beginning.{evaluation_kept, call_kept, specials_ther
 use Rattle.scad_eval.proofs.Standing.{position_still, instance_still, body_still, call_still, instances_stand, scope_bound, block_bound}
 use Rattle.scad_eval.proofs.Newest.{with_more_bindings, specials_began, slots_lent}
 use Rattle.scad_eval.proofs.Equations.{refused_outcome, entered_meant, body_meant, block_meant, entered_block, instances_meant, deeper_meant, call_meant, children_meant, specials_meant, specials_setting, built_in_refused, built_in_meant, marked_form, begun_front, lengthened_kept, first_outcome, OnOk-at_ok}
+use Rattle.scad_eval.proofs.Lasting.{loop_work, taken_less, ended_less}
+use Rattle.scad_eval.proofs.Variables.{IsUnderWay, begun, next_variable, next_variable_stops, gone_from, same_place, next_is, taken, taken_stops, closed, popped, inside_another, newest_still, step_ended, step_stops}
 use Rattle.scad_eval.proofs.evaluator.InstanceEvaluator.+instances.Goals as goal
 
 pub body-members_in_scope-requires : goal.body-members_in_scope-requires
@@ -748,123 +751,109 @@ one_iteration-returns t c =
       kept = lengthened_kept (one_member_of true) c.no_members.result c.body-made.result c.with_made.result _ c.with_made.ensures f.kept;
     }
 
-pub iterations-returns-in-Some-of : goal.iterations-returns-in-Some-of
-iterations-returns-in-Some-of t c =
-    let m = c.args.self.now in
-    let n = c.evaluate.new.evaluation.turns in
-    let binder = c.in-Some.binder.now in
-    told_after (stays_kept m _ refl c.evaluate.ensures.kept) c.each_item.ensures (λ judge right.
-    let evaluator = evaluator_at m judge in
-    let here = context_at m c.args.position in
-    let quarter_turns_about : List ℕ → Val → ℕ → ℕ → Outcome MemberDesigns = λ name item. each_iteration evaluator c.args.place (map binder_of c.in-Some.rest.now) (body_seen c.args.body) (in_loop here name item) in
-    ap (λ (bs : List Binder). each_iteration evaluator c.args.place (map binder_of bs) (body_seen c.args.body) here m.evaluation.turns m.leaves) c.in-Some.ensures.cases.0
-    ∙ ap (λ o. then_with o (λ turns value. or_fault (iterated_values value) TypeMismatch c.args.place (λ items. each_step c.args.place (quarter_turns_about binder.name) items turns m.leaves))) c.in_ok-value-in-Some.ensures.value
-    ∙ ap (λ (o : Option Vals). or_fault o TypeMismatch c.args.place (λ items. each_step c.args.place (quarter_turns_about binder.name) items n m.leaves)) (sym c.in-Some-of.ensures)
-    ∙ ap (λ (name : List ℕ). each_step c.args.place (quarter_turns_about name) (remaining_in c.in-Some-of.items.remaining) n m.leaves) (sym c.items.ensures))
+pub inside-returns-in_err-variable-in-Some : goal.inside-returns-in_err-variable-in-Some
+inside-returns-in_err-variable-in-Some t c =
+    let p = err_from_is_err_and c.from_residual-in_err-variable-in-Some.result c.from_residual-in_err-variable-in-Some.ensures.1 in
+    rw (p.1, p.2) (next_variable_stops c.args.self.now _ c.args.place c.args.position (body_seen c.args.body) c.in-Some.ensures.cases.0 refl refl c.in_err-variable-in-Some.ensures)
 
-pub each_item-each-init : goal.each_item-each-init
-each_item-each-init t c = record {
-  stays = stays_same c.args.self.now;
-  told = λ judge right. begun_front c.no_members-members.result c.args.self.now.leaves _ (c.no_members-members.ensures c.args.self.now.leaves);
-}
+pub inside-returns-in_ok-variable-in-Some : goal.inside-returns-in_ok-variable-in-Some
+inside-returns-in_ok-variable-in-Some t c =
+    next_variable c.args.self.now _ c.args.place c.args.position (body_seen c.args.body) c.in-Some.ensures.cases.0 refl refl c.in_ok-variable-in-Some.ensures
 
-pub each_item-step-next-requires : goal.each_item-step-next-requires
-each_item-step-next-requires t c =
+pub iterations-each-init : goal.iterations-each-init
+iterations-each-init t c =
+    subst (λ (outer : List OpenVariable). IsUnderWay c.args.self.now c.args.position c.args.place (map binder_of c.args.binders.now) (body_seen c.args.body) outer c.in_ok-inside.inside c.inside.new.self)
+    (sym c.new-outer.ensures.items)
+    (begun c.args.self.now c.args.position c.args.place (map binder_of c.args.binders.now) (body_seen c.args.body) c.in_ok-inside.ensures)
+
+pub iterations-next_step-requires : goal.iterations-next_step-requires
+iterations-next_step-requires t c =
     let m = c.args.self.now in
-    let k = c.each.invariant.stays in (
-      omega (arith, work_same c.each.self.evaluation.depth m.evaluation.depth k.evaluation.depth, c.decreases),
-      body_still m _ k.unit k.evaluation.source c.requires,
+    let p = same_place m c.each.invariant.opened c.each.self c.each.invariant.stands in (
+      omega (arith, work_same c.each.self.evaluation.depth m.evaluation.depth p.depth, c.decreases),
+      body_still m _ p.unit p.source c.requires,
     )
 
-pub each_item-returns-in_err-members : goal.each_item-returns-in_err-members
-each_item-returns-in_err-members t c =
-    let p = err_from_is_err_and c.from_residual.result c.from_residual.ensures.1 in
-    let m = c.args.self.now in
-    let mid = c.each.self in
-    let inv = c.each.invariant in
-    let f = told_there inv.stays c.step-next.ensures in
+pub iterations-returns-in_err-inside-in-Variable : goal.iterations-returns-in_err-inside-in-Variable
+iterations-returns-in_err-inside-in-Variable t c =
+    let p = err_from_is_err_and c.from_residual-in_err-inside-in-Variable.result c.from_residual-in_err-inside-in-Variable.ensures.1 in
+    let binders = map binder_of c.args.binders.now in
+    let new = c.next_step.new.self in
     rw (p.1, p.2) (record {
-      equation = λ judge right.
-          let evaluator = evaluator_at m judge in
-          let here = context_at m c.args.position in
-          let quarter_turns_about : Val → ℕ → ℕ → Outcome MemberDesigns = λ item. each_iteration evaluator c.args.place (map binder_of c.args.rest.now) (body_seen c.args.body) (in_loop here c.args.name.now item) in
-          let go : ℕ → ℕ → Outcome MemberDesigns = λ turns leaves. each_step c.args.place quarter_turns_about (remaining_in c.next.new.self.remaining) turns leaves in
-          lengthening_stops member_designs_of (λ leaves x. refl) (each_step c.args.place quarter_turns_about (remaining_in c.args.items.remaining) m.evaluation.turns m.leaves) c.each.members m.leaves
-          (each_step c.args.place quarter_turns_about (remaining_in c.each.remaining.remaining) mid.evaluation.turns mid.leaves)
-          (one_step evaluator c.args.place c.args.name.now (map binder_of c.args.rest.now) (body_seen c.args.body) (bounded_val c.in-Some.value) here mid.evaluation.turns mid.leaves) go
-          (inv.told judge right)
-          (ap (λ vs. each_step c.args.place quarter_turns_about vs mid.evaluation.turns mid.leaves) c.in-Some.ensures.next)
-          c.step-next.result c.in_err-members.field-0.0 _ _ _ _ c.in_err-members.ensures
-          (f.equation judge right);
+      equation = taken_stops c.args.self.now c.args.position c.args.place binders (body_seen c.args.body) c.each.self new c.in-Variable.variable
+          c.in_err-inside-in-Variable.field-0.0 new.evaluation.turns new.leaves
+          (next_is c.args.self.now c.args.position c.args.place binders (body_seen c.args.body) c.each.invariant c.in-Variable.is) c.in_err-inside-in-Variable.ensures;
       kept = tt;
     })
 
-pub each_item-each-preserved : goal.each_item-each-preserved
-each_item-each-preserved t c =
-    let m = c.args.self.now in
-    let mid = c.each.self in
-    let inv = c.each.invariant in
-    let f = told_there inv.stays c.step-next.ensures in
+pub iterations-each-smaller-in_ok-inside-in-Variable : goal.iterations-each-smaller-in_ok-inside-in-Variable
+iterations-each-smaller-in_ok-inside-in-Variable t c =
+    omega (arith, taken_less c.in-Variable.variable c.in_ok-inside-in-Variable.inside c.in_ok-inside-in-Variable.ensures, ap (loop_work c.each.outer.items) c.in-Variable.is)
+
+pub iterations-each-preserved-in_ok-inside-in-Variable : goal.iterations-each-preserved-in_ok-inside-in-Variable
+iterations-each-preserved-in_ok-inside-in-Variable t c =
+    let binders = map binder_of c.args.binders.now in
+    taken c.args.self.now c.args.position c.args.place binders (body_seen c.args.body) c.each.self c.next_step.new.self c.in-Variable.variable c.in_ok-inside-in-Variable.inside
+    (next_is c.args.self.now c.args.position c.args.place binders (body_seen c.args.body) c.each.invariant c.in-Variable.is) c.in_ok-inside-in-Variable.ensures
+
+pub iterations-returns-in-None : goal.iterations-returns-in-None
+iterations-returns-in-None t c =
+    let binders = map binder_of c.args.binders.now in
+    closed c.args.self.now c.args.position c.args.place binders (body_seen c.args.body)
+    (next_is c.args.self.now c.args.position c.args.place binders (body_seen c.args.body) c.each.invariant c.in-Members.is) (omega (arith, c.in-None.ensures.cases.0))
+
+pub iterations-with_step-requires : goal.iterations-with_step-requires
+iterations-with_step-requires t c =
+    let binders = map binder_of c.args.binders.now in
+    inside_another c.args.self.now c.args.position c.args.place binders (body_seen c.args.body) c.each.self
+    (popped c.args.self.now c.args.position c.args.place binders (body_seen c.args.body)
+    (next_is c.args.self.now c.args.position c.args.place binders (body_seen c.args.body) c.each.invariant c.in-Members.is) c.in-Some.ensures.items)
+
+pub iterations-invariant_of-self : goal.iterations-invariant_of-self
+iterations-invariant_of-self t c =
+    let binders = map binder_of c.args.binders.now in
     record {
-      stays = lengthened_kept member_designs_of c.each.members c.step-next.result (Ok c.in_ok-members.members) _ c.in_ok-members.ensures f.kept;
-      told = λ judge right.
-          let evaluator = evaluator_at m judge in
-          let here = context_at m c.args.position in
-          let quarter_turns_about : Val → ℕ → ℕ → Outcome MemberDesigns = λ item. each_iteration evaluator c.args.place (map binder_of c.args.rest.now) (body_seen c.args.body) (in_loop here c.args.name.now item) in
-          let go : ℕ → ℕ → Outcome MemberDesigns = λ turns leaves. each_step c.args.place quarter_turns_about (remaining_in c.next.new.self.remaining) turns leaves in
-          lengthened member_designs_of (λ leaves x. refl) (each_step c.args.place quarter_turns_about (remaining_in c.args.items.remaining) m.evaluation.turns m.leaves) c.each.members m.leaves
-          (each_step c.args.place quarter_turns_about (remaining_in c.each.remaining.remaining) mid.evaluation.turns mid.leaves)
-          (one_step evaluator c.args.place c.args.name.now (map binder_of c.args.rest.now) (body_seen c.args.body) (bounded_val c.in-Some.value) here mid.evaluation.turns mid.leaves) go
-          (inv.told judge right)
-          (ap (λ vs. each_step c.args.place quarter_turns_about vs mid.evaluation.turns mid.leaves) c.in-Some.ensures.next)
-          c.step-next.result c.in_ok-members.members _ _ c.in_ok-members.ensures
-          (f.equation judge right);
+      few_leaves = c.each.self.few_leaves;
+      newest = newest_still c.args.self.now c.args.position c.args.place binders (body_seen c.args.body) c.each.self
+          (popped c.args.self.now c.args.position c.args.place binders (body_seen c.args.body)
+          (next_is c.args.self.now c.args.position c.args.place binders (body_seen c.args.body) c.each.invariant c.in-Members.is) c.in-Some.ensures.items)
+          c.with_step.ensures;
     }
 
-pub step-returns-in_err-members : goal.step-returns-in_err-members
-step-returns-in_err-members t c =
-    let p = err_from_is_err_and c.from_residual.result c.from_residual.ensures.1 in
-    rw (p.1, p.2) (stops (λ judge turns ms. turn_after_step c.args.place ms.designs turns (λ turns. Gives turns ms)) c.in_err-members.ensures (λ judge right. refl) tt)
+pub iterations-returns-in_err-with_step-in-Some : goal.iterations-returns-in_err-with_step-in-Some
+iterations-returns-in_err-with_step-in-Some t c =
+    let p = err_from_is_err_and c.from_residual-in_err-with_step-in-Some.result c.from_residual-in_err-with_step-in-Some.ensures.1 in
+    let binders = map binder_of c.args.binders.now in
+    rw (p.1, p.2) (record {
+      equation = step_stops c.args.self.now c.args.position c.args.place binders (body_seen c.args.body) c.each.self
+          (popped c.args.self.now c.args.position c.args.place binders (body_seen c.args.body)
+          (next_is c.args.self.now c.args.position c.args.place binders (body_seen c.args.body) c.each.invariant c.in-Members.is) c.in-Some.ensures.items)
+          c.in_err-with_step-in-Some.field-0.0 c.with_step.new.evaluation.turns c.each.self.leaves c.in_err-with_step-in-Some.ensures;
+      kept = tt;
+    })
 
-pub iterations_with-iterations-requires : goal.iterations_with-iterations-requires
-iterations_with-iterations-requires t c =
-    let m = c.args.self.now in
-    let e = c.bind.ensures.binds.entered m.evaluation c.in_ok-before.before c.in_ok-before.ensures.entered in (
-      omega (arith, work_same c.bind.new.self.depth m.evaluation.depth e.depth, c.decreases),
-      body_still m _ refl e.source c.requires,
-    )
+pub iterations-each-smaller : goal.iterations-each-smaller
+iterations-each-smaller t c =
+    ended_less c.each.outer.items c.pop.new.self.items c.each.inside c.in-Some.variable c.in_ok-with_step-in-Some.field-0 c.in-Some.ensures.items c.in_ok-with_step-in-Some.ensures.same
 
--- the iterations of a loop in the scope of a variable
-variable_meant : (judge : Judge) (m mid : InstanceEvaluator) (position : Position) (before : ℕ) (place : Place) (name : List ℕ) (rest : List BinderTerm) (body : BodyTerm) (value : Val)
-    {empty : Env} → Enters m mid before → env_here mid.evaluation ≡ with_value name value empty → empty ≡ InnerScope [] [] [] no_activation (env_here m.evaluation)
-    → mid.evaluation.turns ≡ m.evaluation.turns
-    → outcome_at m position judge (λ evaluator here. each_iteration evaluator place rest body (in_loop here name value)) ≡ outcome_at mid position judge (λ evaluator. each_iteration evaluator place rest body)
-variable_meant judge m mid position before place name rest body value e bound inside turns =
-    entered_meant (λ (x : Source) evaluator. each_iteration evaluator place rest body) judge m mid position before
-    (InnerScope ((name, value) ∷ []) [] [] no_activation (env_here m.evaluation)) e (bound ∙ ap (λ (x : Env). with_value name value x) inside) turns
+pub iterations-each-preserved : goal.iterations-each-preserved
+iterations-each-preserved t c =
+    let binders = map binder_of c.args.binders.now in
+    step_ended c.args.self.now c.args.position c.args.place binders (body_seen c.args.body) c.each.self
+    (popped c.args.self.now c.args.position c.args.place binders (body_seen c.args.body)
+    (next_is c.args.self.now c.args.position c.args.place binders (body_seen c.args.body) c.each.invariant c.in-Members.is) c.in-Some.ensures.items)
+    _ refl refl c.in_ok-with_step-in-Some.ensures
 
-pub iterations_with-returns-in_err-members : goal.iterations_with-returns-in_err-members
-iterations_with-returns-in_err-members t c =
-    let p = err_from_is_err_and c.from_residual-in_err-members.result c.from_residual-in_err-members.ensures.1 in
-    let m = c.args.self.now in
-    let e = c.bind.ensures.binds.entered m.evaluation c.in_ok-before.before c.in_ok-before.ensures.entered in
-    rw (p.1, p.2) (told_from c.in_err-members.ensures
-    (λ judge right. variable_meant judge m (begun_at c.in_err-members.ensures) c.args.position c.in_ok-before.before c.args.place c.args.name.now (map binder_of c.args.rest.now) (body_seen c.args.body) (bounded_val c.args.value)
-    (record { unit = refl; leaves = refl; evaluation = e }) c.in_ok-bind.ensures.binds.bound c.in_ok-before.ensures.inside (c.bind.ensures.binds.turns ∙ c.enter_empty.ensures.turns)) refl refl tt)
-
-pub iterations_with-returns : goal.iterations_with-returns
-iterations_with-returns t c =
-    let m = c.args.self.now in
-    let e = c.bind.ensures.binds.entered m.evaluation c.in_ok-before.before c.in_ok-before.ensures.entered in
-    let k = c.in_ok-members.ensures.kept in
-    told_from c.in_ok-members.ensures
-    (λ judge right. variable_meant judge m (begun_at c.in_ok-members.ensures) c.args.position c.in_ok-before.before c.args.place c.args.name.now (map binder_of c.args.rest.now) (body_seen c.args.body) (bounded_val c.args.value)
-    (record { unit = refl; leaves = refl; evaluation = e }) c.in_ok-bind.ensures.binds.bound c.in_ok-before.ensures.inside (c.bind.ensures.binds.turns ∙ c.enter_empty.ensures.turns))
-    c.leave.ensures.turns refl
-    (stays_kept m _ k.unit (c.leave.ensures.back m.evaluation (scope_kept m.evaluation c.in_ok-before.before e k.evaluation)))
-
-pub iterations_with-leave-requires : goal.iterations_with-leave-requires
-iterations_with-leave-requires t c =
-    let m = c.args.self.now in
-    let e = c.bind.ensures.binds.entered m.evaluation c.in_ok-before.before c.in_ok-before.ensures.entered in
-    omega (arith, e.from, e.number, c.in_ok-members.ensures.kept.evaluation.stands, m.evaluation.there)
+pub next_step-returns : goal.next_step-returns
+next_step-returns t c =
+    a_step (record {
+      items = c.next.new.self;
+      value = bounded_val c.in-Some.value;
+      entered = gone_from c.inside.ensures;
+      remaining = c.in-Some.ensures.next;
+      enters = record { unit = refl; leaves = refl; evaluation = c.in_ok-enter-in-Some.ensures.entered };
+      scope = c.in_ok-enter-in-Some.ensures.inside;
+      turns = c.enter.ensures.turns;
+      waits = c.in_ok-wait-in-Some.ensures;
+      goes = c.inside.ensures;
+    })

@@ -1,15 +1,14 @@
 -- The evaluations that are left count first; at one depth each step calls those of a lower rank.
-use Rattle.std.proofs.Common.{◌≡◌, ℕ, ◌+◌, ◌*◌, length, map, drop}
+use Rattle.std.proofs.Common.{◌≡◌, ◌+◌, ◌*◌, map, drop}
 use Rattle.scad_ast.specs.StatementView.{binder_of}
 use Rattle.scad_meaning.specs.Verdicts.{Judge, IsRightJudge}
-use Rattle.scad_meaning.specs.Meaning.{MemberDesigns, each_member, each_step, each_iteration, in_loop}
+use Rattle.scad_meaning.specs.Meaning.{each_member}
 use Rattle.scad_instances.specs.Positions.{term_of_numbered}
-use Rattle.scad_value.specs.Values.{Val, count_of}
-use Rattle.scad_func.specs.Meaning.{Outcome}
-use Rattle.scad_instances.specs.Items.{remaining_in}
 use Rattle.scad_instances.specs.Seen.{member_designs_of, members_in_front}
 use Rattle.scad_eval.specs.Keeping.{evaluator_at, context_at, Stays, outcome_at}
 use Rattle.scad_eval.specs.Within.{body_seen}
+use Rattle.scad_eval.proofs.Lasting.{loop_work}
+use Rattle.scad_eval.proofs.Variables.{IsUnderWay}
 use Rattle.scad_eval.proofs.Work.{work}
 use Rattle.scad_eval.proofs.evaluator.InstanceEvaluator.+instances.Given as goal
 
@@ -28,20 +27,17 @@ decreases-body l = work l.self.now.evaluation.depth + 4
 abbrev pub decreases-one_iteration : goal.decreases-one_iteration
 decreases-one_iteration l = work l.self.now.evaluation.depth + 5
 
+abbrev pub decreases-inside : goal.decreases-inside
+decreases-inside l = work l.self.now.evaluation.depth + 6
+
+abbrev pub decreases-next_step : goal.decreases-next_step
+decreases-next_step l = work l.self.now.evaluation.depth + 7
+
 abbrev pub decreases-iterations : goal.decreases-iterations
-decreases-iterations l = work l.self.now.evaluation.depth + (4 * length l.binders.now + 6)
-
-abbrev pub decreases-iterations_with : goal.decreases-iterations_with
-decreases-iterations_with l = work l.self.now.evaluation.depth + (4 * length l.rest.now + 7)
-
-abbrev pub decreases-step : goal.decreases-step
-decreases-step l = work l.self.now.evaluation.depth + (4 * length l.rest.now + 8)
-
-abbrev pub decreases-each_item : goal.decreases-each_item
-decreases-each_item l = work l.self.now.evaluation.depth + (4 * length l.rest.now + 9)
+decreases-iterations l = work l.self.now.evaluation.depth + 8
 
 abbrev pub decreases-looped : goal.decreases-looped
-decreases-looped l = work l.self.now.evaluation.depth + 1099511627776
+decreases-looped l = work l.self.now.evaluation.depth + 9
 
 abbrev pub decreases-one_or_nothing : goal.decreases-one_or_nothing
 decreases-one_or_nothing l = work l.self.now.evaluation.depth + 5
@@ -86,10 +82,10 @@ abbrev pub decreases-called : goal.decreases-called
 decreases-called l = work l.self.now.evaluation.depth + 9
 
 abbrev pub decreases-core : goal.decreases-core
-decreases-core l = work l.self.now.evaluation.depth + 1099511627777
+decreases-core l = work l.self.now.evaluation.depth + 10
 
 abbrev pub decreases-by_root_modifier : goal.decreases-by_root_modifier
-decreases-by_root_modifier l = work l.self.now.evaluation.depth + 1099511627778
+decreases-by_root_modifier l = work l.self.now.evaluation.depth + 11
 
 abbrev pub invariant-members-each : goal.invariant-members-each
 invariant-members-each l =
@@ -102,16 +98,9 @@ invariant-members-each l =
           (each_member (evaluator_at old judge) (context_at old l.position) (map term_of_numbered (drop l.instance-index l.instances)) l.self.evaluation.turns l.self.leaves);
     }
 
-abbrev pub invariant-each_item-each : goal.invariant-each_item-each
-invariant-each_item-each l =
-    let old = l.fn.self in
-    record {
-      stays : Stays old l.self;
-      told : (judge : Judge) → IsRightJudge judge →
-          let quarter_turns_about : Val → ℕ → ℕ → Outcome MemberDesigns = λ item. each_iteration (evaluator_at old judge) l.place (map binder_of l.rest) (body_seen l.body) (in_loop (context_at old l.position) l.name item) in
-          each_step l.place quarter_turns_about (remaining_in l.fn.items.remaining) old.evaluation.turns old.leaves
-          ≡ members_in_front (member_designs_of old.leaves l.members) (each_step l.place quarter_turns_about (remaining_in l.remaining.remaining) l.self.evaluation.turns l.self.leaves);
-    }
+abbrev pub invariant-iterations-each : goal.invariant-iterations-each
+invariant-iterations-each l =
+    IsUnderWay l.fn.self l.position l.place (map binder_of l.binders) (body_seen l.body) l.outer.items l.inside l.self
 
-abbrev pub decreases-each_item-each : goal.decreases-each_item-each
-decreases-each_item-each l = count_of (remaining_in l.remaining.remaining)
+abbrev pub decreases-iterations-each : goal.decreases-iterations-each
+decreases-iterations-each l = loop_work l.outer.items l.inside
