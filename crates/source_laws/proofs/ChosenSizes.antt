@@ -40,7 +40,8 @@ elements_in None = 0
 elements_in (Some v) = elements v
 
 -- numbers of a list are no more than its elements
-first_fits : (n : ℕ) (o : Option ℤ) (rest : Option (List ℤ)) → IfSome rest (λ ns. length ns ≤ n) → IfSome (with_first o rest) (λ ns. length ns ≤ suc n)
+first_fits : (n : ℕ) (o : Option ℤ) (rest : Option (List ℤ)) → IfSome rest (λ ns. length ns ≤ n)
+    → IfSome (with_first o rest) (λ ns. length ns ≤ suc n)
 first_fits n None rest h = tt
 first_fits n (Some z) None h = tt
 first_fits n (Some z) (Some ns) h = omega arith
@@ -61,13 +62,15 @@ numbers_fit : (vs : Vals) → IfSome (each_in number_in_value vs) (λ ns. length
 numbers_fit no_vals = omega arith
 numbers_fit (and_val v vs) =
     let one = some_element v in
-    fewer (suc (element_count_in vs)) (element_count v + element_count_in vs) (with_first (number_in_value v) (each_in number_in_value vs)) (omega arith)
+    fewer (suc (element_count_in vs)) (element_count v + element_count_in vs)
+    (with_first (number_in_value v) (each_in number_in_value vs)) (omega arith)
     (first_fits (element_count_in vs) (number_in_value v) (each_in number_in_value vs) (numbers_fit vs))
 
 product_fits : (a n m : ℕ) → n ≤ m → a * n ≤ a * m
 product_fits a n m h = grind arith
 
-list_fits : (n : ℕ) (o : Option (List ℤ)) → IfSome o (λ ns. length ns ≤ n) → IfSome (option_map numbered_children o) (ChoosesUpTo (suc n))
+list_fits : (n : ℕ) (o : Option (List ℤ)) → IfSome o (λ ns. length ns ≤ n)
+    → IfSome (option_map numbered_children o) (ChoosesUpTo (suc n))
 list_fits n None h = tt
 list_fits n (Some ns) h = λ xs.
     let all = items_size xs ns in
@@ -82,13 +85,16 @@ chosen_fits (RangeVal from by upto) = λ xs. let all = ranged_size xs from by up
 chosen_fits UndefVal = tt
 
 -- what is read of arguments
-type_ok : {A : Type 0} (Q : EffectCall → Type 0) (P : A → Type 0) (o : Option A) (go : A → AnswerOrFault EffectCall) → IfSome o P → ((x : A) → P x → IfOk (go x) Q) → IfOk (of_type o go) Q
+type_ok : {A : Type 0} (Q : EffectCall → Type 0) (P : A → Type 0) (o : Option A) (go : A → AnswerOrFault EffectCall) → IfSome o P
+    → ((x : A) → P x → IfOk (go x) Q) → IfOk (of_type o go) Q
 type_ok Q P None go h g = tt
 type_ok Q P (Some x) go h g = g x h
 
-children_fits : (o : Option Val) → IfOk (of_type (or_default all_children chosen_in o) (λ chosen. Ok (some_children chosen))) (EffectFits (elements_in o))
+children_fits : (o : Option Val) → IfOk (of_type (or_default all_children chosen_in o) (λ chosen. Ok (some_children chosen)))
+    (EffectFits (elements_in o))
 children_fits None = λ xs. omega arith
-children_fits (Some v) = type_ok (EffectFits (elements v)) (ChoosesUpTo (elements v)) (chosen_in v) (λ chosen. Ok (some_children chosen)) (chosen_fits v) (λ chosen h. h)
+children_fits (Some v) = type_ok (EffectFits (elements v)) (ChoosesUpTo (elements v)) (chosen_in v)
+    (λ chosen. Ok (some_children chosen)) (chosen_fits v) (λ chosen h. h)
 
 module _ (n : ℕ) where
   abbrev Fits : AnswerOrFault EffectCall → Type 0
@@ -116,15 +122,18 @@ module _ (n : ℕ) where
   module _ (unit : LengthUnit) (inside : Bool) (fragments : Option Val) (bound : BoundArguments) where
     cube_fits : Fits (cube_effect inside bound)
     cube_fits = typed (or_default (pos 1 ∷ pos 1 ∷ pos 1 ∷ []) (sides_in 3) (bound_argument bound 0)) _ (λ size.
-        typed (or_default false truth_in (bound_argument bound 1)) _ (λ center. refused inside WrongDimension (Ok (a_solid (cube_call center size))) tt))
+        typed (or_default false truth_in (bound_argument bound 1)) _
+        (λ center. refused inside WrongDimension (Ok (a_solid (cube_call center size))) tt))
 
     polyhedron_fits : Fits (polyhedron_effect inside bound)
     polyhedron_fits = required (bound_argument bound 0) _ (λ v. required (bound_argument bound 1) _ (λ w.
-        typed (points_in 3 v) _ (λ points. typed (faces_in w) _ (λ faces. refused inside WrongDimension (Ok (a_solid (polyhedron_call points faces))) tt))))
+        typed (points_in 3 v) _ (λ points. typed (faces_in w) _
+        (λ faces. refused inside WrongDimension (Ok (a_solid (polyhedron_call points faces))) tt))))
 
     square_fits : Fits (square_effect inside bound)
     square_fits = typed (or_default (pos 1 ∷ pos 1 ∷ []) (sides_in 2) (bound_argument bound 0)) _ (λ size.
-        typed (or_default false truth_in (bound_argument bound 1)) _ (λ center. refused (not inside) WrongDimension (Ok (a_flat (square_call center size))) tt))
+        typed (or_default false truth_in (bound_argument bound 1)) _
+        (λ center. refused (not inside) WrongDimension (Ok (a_flat (square_call center size))) tt))
 
     polygon_fits : Fits (polygon_effect inside bound)
     polygon_fits = required (bound_argument bound 0) _ (λ v. refused (is_some (bound_argument bound 1)) NotInProfile _ (
@@ -140,7 +149,8 @@ module _ (n : ℕ) where
         refused (is_some (bound_argument bound 5)) NotInProfile _ (
         refused (is_some (bound_argument bound 6)) NotInProfile _ (
         refused (is_some (bound_argument bound 7)) NotInProfile _ (
-        refused (is_some (bound_argument bound 4) && (is_some (bound_argument bound 1) || is_some (bound_argument bound 2))) BadArgument _ (
+        refused (is_some (bound_argument bound 4) && (is_some (bound_argument bound 1) || is_some (bound_argument bound 2)))
+        BadArgument _ (
         typed (or_default (pos 1) number_in_value (bound_argument bound 0)) _ (λ height.
         typed (or_default (pos 1) number_in_value (bound_argument bound 4)) _ (λ radius.
         typed (or_default radius number_in_value (bound_argument bound 1)) _ (λ low.
@@ -159,7 +169,8 @@ module _ (n : ℕ) where
 
     translate_fits : Fits (translate_effect unit inside bound)
     translate_fits = required (bound_argument bound 0) _ (λ v. typed (coordinates_in (pos 0) v) _ (λ by.
-        refused (leaves_plane inside by) WrongDimension _ (refused (some_component is_past_safe_size (vector_on_grid unit by)) TooLarge _ tt)))
+        refused (leaves_plane inside by) WrongDimension _ (refused
+        (some_component is_past_safe_size (vector_on_grid unit by)) TooLarge _ tt)))
 
     rotate_fits : Fits (rotate_effect inside bound)
     rotate_fits = required (bound_argument bound 0) _ (λ v. refused (is_some (bound_argument bound 1)) NotInProfile _ (
@@ -191,17 +202,21 @@ module _ (n : ℕ) where
 pub effect_fits : (unit : LengthUnit) (inside : Bool) (fragments : Option Val) (builtin : BuiltinModule) (bound : BoundArguments)
     → IfOk (effect_of unit inside fragments builtin bound) (EffectFits (elements_in (bound_argument bound 0)))
 effect_fits unit inside fragments Cube bound = cube_fits (elements_in (bound_argument bound 0)) unit inside fragments bound
-effect_fits unit inside fragments Polyhedron bound = polyhedron_fits (elements_in (bound_argument bound 0)) unit inside fragments bound
+effect_fits unit inside fragments Polyhedron bound = polyhedron_fits
+    (elements_in (bound_argument bound 0)) unit inside fragments bound
 effect_fits unit inside fragments Cylinder bound = cylinder_fits (elements_in (bound_argument bound 0)) unit inside fragments bound
 effect_fits unit inside fragments Square bound = square_fits (elements_in (bound_argument bound 0)) unit inside fragments bound
 effect_fits unit inside fragments Polygon bound = polygon_fits (elements_in (bound_argument bound 0)) unit inside fragments bound
 effect_fits unit inside fragments Circle bound = circle_fits (elements_in (bound_argument bound 0)) unit inside fragments bound
-effect_fits unit inside fragments LinearExtrude bound = extrude_fits (elements_in (bound_argument bound 0)) unit inside fragments bound
-effect_fits unit inside fragments Translate bound = translate_fits (elements_in (bound_argument bound 0)) unit inside fragments bound
+effect_fits unit inside fragments LinearExtrude bound = extrude_fits
+    (elements_in (bound_argument bound 0)) unit inside fragments bound
+effect_fits unit inside fragments Translate bound = translate_fits
+    (elements_in (bound_argument bound 0)) unit inside fragments bound
 effect_fits unit inside fragments Rotate bound = rotate_fits (elements_in (bound_argument bound 0)) unit inside fragments bound
 effect_fits unit inside fragments Mirror bound = mirror_fits (elements_in (bound_argument bound 0)) unit inside fragments bound
 effect_fits unit inside fragments Scale bound = scale_fits (elements_in (bound_argument bound 0)) unit inside fragments bound
-effect_fits unit inside fragments Multmatrix bound = multmatrix_fits (elements_in (bound_argument bound 0)) unit inside fragments bound
+effect_fits unit inside fragments Multmatrix bound = multmatrix_fits
+    (elements_in (bound_argument bound 0)) unit inside fragments bound
 effect_fits unit inside fragments Union bound = tt
 effect_fits unit inside fragments Difference bound = tt
 effect_fits unit inside fragments Intersection bound = tt

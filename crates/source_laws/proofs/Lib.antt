@@ -4,6 +4,7 @@ pub mod Programs
 mod Bounds
 mod ChosenSizes
 mod Costs
+mod Examples
 mod ExpressionCosts
 mod InstanceCosts
 mod Payments

@@ -21,13 +21,15 @@ joined_instances : (xs ys : List InstanceTerm) → size_of_instances (xs ++ ys) 
 joined_instances [] ys = omega arith
 joined_instances (x ∷ xs) ys = let rest = joined_instances xs ys in omega arith
 
-joined_assignments : (xs ys : List SourceAssignment) → size_of_assignments (xs ++ ys) ≡ size_of_assignments xs + size_of_assignments ys
+joined_assignments : (xs ys : List SourceAssignment) → size_of_assignments
+    (xs ++ ys) ≡ size_of_assignments xs + size_of_assignments ys
 joined_assignments [] ys = omega arith
 joined_assignments (x ∷ xs) ys = let rest = joined_assignments xs ys in omega arith
 
 -- a block's assignments and instances stand in it
 mutual
-  block_size : (ss : StatementTerms) → size_of_assignments (assignments_in ss) + size_of_instances (instances_in ss) ≤ size_of_statements ss
+  block_size : (ss : StatementTerms) → size_of_assignments (assignments_in ss) + size_of_instances
+      (instances_in ss) ≤ size_of_statements ss
   block_size no_statements = omega arith
   block_size (and_statement s rest) =
       let first = statement_size s in
@@ -35,7 +37,8 @@ mutual
       let a = joined_assignments (assignments_by s) (assignments_in rest) in
       let b = joined_instances (instances_of s) (instances_in rest) in omega arith
 
-  statement_size : (s : StatementTerm) → size_of_assignments (assignments_by s) + size_of_instances (instances_of s) ≤ size_of_statement s
+  statement_size : (s : StatementTerm) → size_of_assignments (assignments_by s) + size_of_instances
+      (instances_of s) ≤ size_of_statement s
   statement_size (EmptyStatement at) = omega arith
   statement_size (BlockStatement at inner) = block_size inner
   statement_size (AssignmentTerm at name value) = omega arith
@@ -56,12 +59,14 @@ with_size (known ∷ others) a = by (same_assigned_name known a) (with_size othe
     by true rest = omega arith
     by false rest = omega arith
 
-all_size : (before rest : List SourceAssignment) → size_of_assignments (assignments_with_all before rest) ≤ size_of_assignments before + size_of_assignments rest
+all_size : (before rest : List SourceAssignment) → size_of_assignments
+    (assignments_with_all before rest) ≤ size_of_assignments before + size_of_assignments rest
 all_size before [] = omega arith
 all_size before (a ∷ rest) =
     let first = with_size before a in let others = all_size (with_assigned before a) rest in omega arith
 
-pub scope_size : (ss : StatementTerms) → size_of_assignments (assignments_of ss) + size_of_instances (instances_in ss) ≤ size_of_statements ss
+pub scope_size : (ss : StatementTerms) → size_of_assignments (assignments_of ss) + size_of_instances
+    (instances_in ss) ≤ size_of_statements ss
 scope_size ss = let all = all_size [] (assignments_in ss) in let block = block_size ss in omega arith
 
 -- those that pass a test
@@ -91,7 +96,8 @@ item_size : (xs : List InstanceTerm) (z : ℤ) → size_of_instances (item_numbe
 item_size xs (pos n) = nth_size xs n
 item_size xs (negsuc n) = omega arith
 
-pub items_size : (xs : List InstanceTerm) (ns : List ℤ) → size_of_instances (items_numbered xs ns) ≤ size_of_instances xs * length ns
+pub items_size : (xs : List InstanceTerm) (ns : List ℤ) → size_of_instances
+    (items_numbered xs ns) ≤ size_of_instances xs * length ns
 items_size xs [] = omega arith
 items_size xs (n ∷ ns) =
     let one = item_size xs n in
@@ -104,7 +110,8 @@ dropped_size xs zero = omega arith
 dropped_size [] (suc m) = omega arith
 dropped_size (x ∷ xs) (suc m) = let rest = dropped_size xs m in omega arith
 
-nth_before : (xs : List InstanceTerm) (n m : ℕ) → n < m → size_of_instances (nth_item xs n) + size_of_instances (drop m xs) ≤ size_of_instances (drop n xs)
+nth_before : (xs : List InstanceTerm) (n m : ℕ) → n < m → size_of_instances (nth_item xs n) + size_of_instances
+    (drop m xs) ≤ size_of_instances (drop n xs)
 nth_before [] zero zero h = omega arith
 nth_before [] zero (suc m) h = omega arith
 nth_before [] (suc n) zero h = omega arith
@@ -122,17 +129,20 @@ behind_size : (xs : List InstanceTerm) (z : ℤ) → size_of_instances (behind x
 behind_size xs (pos n) = dropped_size xs n
 behind_size xs (negsuc n) = omega arith
 
-later_behind : (xs : List InstanceTerm) (z w : ℤ) → z <ℤ w → size_of_instances (item_numbered xs z) + size_of_instances (behind xs w) ≤ size_of_instances (behind xs z)
+later_behind : (xs : List InstanceTerm) (z w : ℤ) → z <ℤ w → size_of_instances (item_numbered xs z) + size_of_instances
+    (behind xs w) ≤ size_of_instances (behind xs z)
 later_behind xs (pos n) (pos m) h = nth_before xs n m (omega (arith, ints))
 later_behind xs (pos n) (negsuc m) h = absurd (omega (arith, ints))
 later_behind xs (negsuc n) w h = let all = behind_size xs w in omega arith
 
-rising_size : (xs : List InstanceTerm) (count s : ℕ) (z : ℤ) → size_of_instances (items_numbered xs (numbers_by count z (pos (suc s)))) ≤ size_of_instances (behind xs z)
+rising_size : (xs : List InstanceTerm) (count s : ℕ) (z : ℤ)
+    → size_of_instances (items_numbered xs (numbers_by count z (pos (suc s)))) ≤ size_of_instances (behind xs z)
 rising_size xs zero s z = omega arith
 rising_size xs (suc count) s z =
     let rest = rising_size xs count s (z +ℤ pos (suc s)) in
     let first = later_behind xs z (z +ℤ pos (suc s)) (omega (arith, ints)) in
-    let all = joined_instances (item_numbered xs z) (items_numbered xs (numbers_by count (z +ℤ pos (suc s)) (pos (suc s)))) in omega arith
+    let all = joined_instances (item_numbered xs z) (items_numbered xs (numbers_by count (z +ℤ pos (suc s)) (pos (suc s)))) in
+    omega arith
 
 -- downwards: each number stands before it
 taken_size : (xs : List InstanceTerm) (n : ℕ) → size_of_instances (take n xs) ≤ size_of_instances xs
@@ -145,7 +155,8 @@ nth_in_front [] n = omega arith
 nth_in_front (x ∷ xs) zero = omega arith
 nth_in_front (x ∷ xs) (suc n) = let rest = nth_in_front xs n in omega arith
 
-nth_last : (xs : List InstanceTerm) (n m : ℕ) → m < n → size_of_instances (nth_item xs n) + size_of_instances (take (suc m) xs) ≤ size_of_instances (take (suc n) xs)
+nth_last : (xs : List InstanceTerm) (n m : ℕ) → m < n → size_of_instances (nth_item xs n) + size_of_instances
+    (take (suc m) xs) ≤ size_of_instances (take (suc n) xs)
 nth_last [] n m h = omega arith
 nth_last (x ∷ xs) zero m h = absurd (omega arith)
 nth_last (x ∷ xs) (suc n) zero h = let rest = nth_in_front xs n in omega arith
@@ -155,13 +166,15 @@ abbrev up_to : List InstanceTerm → ℤ → List InstanceTerm
 up_to xs (pos n) = take (suc n) xs
 up_to xs (negsuc n) = []
 
-earlier_up_to : (xs : List InstanceTerm) (z w : ℤ) → w <ℤ z → size_of_instances (item_numbered xs z) + size_of_instances (up_to xs w) ≤ size_of_instances (up_to xs z)
+earlier_up_to : (xs : List InstanceTerm) (z w : ℤ) → w <ℤ z → size_of_instances (item_numbered xs z) + size_of_instances
+    (up_to xs w) ≤ size_of_instances (up_to xs z)
 earlier_up_to xs (pos n) (pos m) h = nth_last xs n m (omega (arith, ints))
 earlier_up_to xs (pos n) (negsuc m) h = let one = nth_in_front xs n in omega arith
 earlier_up_to xs (negsuc n) (pos m) h = absurd (omega (arith, ints))
 earlier_up_to xs (negsuc n) (negsuc m) h = omega arith
 
-falling_size : (xs : List InstanceTerm) (count s : ℕ) (z : ℤ) → size_of_instances (items_numbered xs (numbers_by count z (negsuc s))) ≤ size_of_instances (up_to xs z)
+falling_size : (xs : List InstanceTerm) (count s : ℕ) (z : ℤ)
+    → size_of_instances (items_numbered xs (numbers_by count z (negsuc s))) ≤ size_of_instances (up_to xs z)
 falling_size xs zero s z = omega arith
 falling_size xs (suc count) s z =
     let rest = falling_size xs count s (z +ℤ negsuc s) in

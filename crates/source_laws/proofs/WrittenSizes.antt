@@ -23,22 +23,28 @@ no_count L = record { at = λ x s h. omega arith }
 one_count : (test : Token → Bool) → Counts one (SingleToken test)
 one_count test = record { at = λ x s h. omega (arith, ap length h.1) }
 
-both_count : {A B C : Type 0} (f : A → B → C) (ca : A → ℕ) (cb : B → ℕ) (cc : C → ℕ) {La : Language A} {Lb : Language B} → ((a : A) (b : B) → cc (f a b) ≤ ca a + cb b)
+both_count : {A B C : Type 0} (f : A → B → C) (ca : A → ℕ) (cb : B → ℕ) (cc : C → ℕ) {La : Language A} {Lb : Language B}
+    → ((a : A) (b : B) → cc (f a b) ≤ ca a + cb b)
     → Counts ca La → Counts cb Lb → Counts cc (Concatenation f La Lb)
 both_count f ca cb count less h k = record {
   at = λ c s x. subst (λ c. count c ≤ length s) (sym x.6)
       (omega (arith, less x.0 x.1, h.at x.0 x.2 x.4, k.at x.1 x.3 x.5, ap length x.7, length-append x.2 x.3));
 }
 
-both_if_count : {A B C : Type 0} (f : A → B → C) (Fit : A → B → Type 0) (ca : A → ℕ) (cb : B → ℕ) (cc : C → ℕ) {La : Language A} {Lb : Language B} → ((a : A) (b : B) → cc (f a b) ≤ ca a + cb b)
+both_if_count : {A B C : Type 0} (f : A → B → C) (Fit : A → B → Type 0) (ca : A → ℕ) (cb : B → ℕ)
+    (cc : C → ℕ) {La : Language A} {Lb : Language B} → ((a : A) (b : B) → cc (f a b) ≤ ca a + cb b)
     → Counts ca La → Counts cb Lb → Counts cc (ConcatenationIf f Fit La Lb)
 both_if_count f Fit ca cb count less h k = record {
   at = λ c s x. subst (λ c. count c ≤ length s) (sym x.7)
       (omega (arith, less x.0 x.1, h.at x.0 x.2 x.4, k.at x.1 x.3 x.5, ap length x.8, length-append x.2 x.3));
 }
 
-mapped_count : {A B : Type 0} (f : A → B) (ca : A → ℕ) (cb : B → ℕ) {L : Language A} → ((a : A) → cb (f a) ≤ ca a) → Counts ca L → Counts cb (ImageOf f L)
-mapped_count f ca cb less h = record { at = λ b s x. subst (λ b. cb b ≤ length s) (sym x.2) (omega (arith, less x.0, h.at x.0 s x.1)) }
+mapped_count : {A B : Type 0} (f : A → B) (ca : A → ℕ) (cb : B → ℕ) {L : Language A} → ((a : A) → cb (f a) ≤ ca a) → Counts ca L
+    → Counts cb (ImageOf f L)
+mapped_count f ca cb less h = record {
+  at = λ b s x. subst (λ b. cb b ≤ length s) (sym x.2)
+      (omega (arith, less x.0, h.at x.0 s x.1));
+}
 
 either_count : {A : Type 0} {count : A → ℕ} {L M : Language A} → Counts count L → Counts count M → Counts count (Alternation L M)
 either_count h k = record { at = λ x s y. elim y [ inl z ↦ h.at x s z | inr z ↦ k.at x s z ] }
@@ -47,7 +53,8 @@ abbrev of_maybe : {A : Type 0} → (A → ℕ) → Option A → ℕ
 of_maybe count None = 0
 of_maybe count (Some x) = count x
 
-maybe_at : {A : Type 0} (count : A → ℕ) (L : Language A) → Counts count L → (x : Option A) (s : List Token) → OptionalSequence L x s → of_maybe count x ≤ length s
+maybe_at : {A : Type 0} (count : A → ℕ) (L : Language A) → Counts count L → (x : Option A) (s : List Token)
+    → OptionalSequence L x s → of_maybe count x ≤ length s
 maybe_at count L h None s x = omega arith
 maybe_at count L h (Some y) s x = h.at y s x
 
@@ -64,32 +71,39 @@ abbrev total : {A : Type 0} → (A → ℕ) → List A → ℕ
 total count [] = 0
 total count (x ∷ xs) = count x + total count xs
 
-many_at : {A : Type 0} (count : A → ℕ) (L : Language A) → Counts count L → (xs : List A) (s : List Token) → Repetition L xs s → total count xs ≤ length s
+many_at : {A : Type 0} (count : A → ℕ) (L : Language A) → Counts count L → (xs : List A) (s : List Token) → Repetition L xs s
+    → total count xs ≤ length s
 many_at count L h [] s x = omega arith
 many_at count L h (y ∷ ys) s x = omega (arith, h.at y x.0 x.2, many_at count L h ys x.1 x.3, ap length x.4, length-append x.0 x.1)
 
 many_count : {A : Type 0} (count : A → ℕ) {L : Language A} → Counts count L → Counts (total count) (Repetition L)
 many_count count {L} h = record { at = many_at count L h }
 
-after_count : {A : Type 0} (count : A → ℕ) (test : Token → Bool) {L : Language A} → Counts count L → Counts count (AfterToken test L)
+after_count : {A : Type 0} (count : A → ℕ) (test : Token → Bool) {L : Language A} → Counts count L
+    → Counts count (AfterToken test L)
 after_count count test h = both_count second_of none count count (λ t x. omega arith) (no_count (SingleToken test)) h
 
-before_count : {A : Type 0} (count : A → ℕ) (test : Token → Bool) {L : Language A} → Counts count L → Counts count (BeforeToken L test)
+before_count : {A : Type 0} (count : A → ℕ) (test : Token → Bool) {L : Language A} → Counts count L
+    → Counts count (BeforeToken L test)
 before_count count test h = both_count first_of count none count (λ x t. omega arith) h (no_count (SingleToken test))
 
 in_parentheses : {A : Type 0} (count : A → ℕ) {L : Language A} → Counts count L → Counts count (InParentheses L)
-in_parentheses count h = after_count count (has_class open_parenthesis_sign) (before_count count (has_class close_parenthesis_sign) h)
+in_parentheses count h = after_count count (has_class open_parenthesis_sign)
+    (before_count count (has_class close_parenthesis_sign) h)
 
-separated_count : {A : Type 0} (count : A → ℕ) (mark : Token → Bool) {L : Language A} → Counts count L → Counts (total count) (SeparatedList mark L)
+separated_count : {A : Type 0} (count : A → ℕ) (mark : Token → Bool) {L : Language A} → Counts count L
+    → Counts (total count) (SeparatedList mark L)
 separated_count count mark {L} h =
     both_count first_of (total count) none (total count) (λ xs o. omega arith)
-    (both_count cons count (total count) (total count) (λ x xs. omega arith) h (many_count count (after_count count mark h))) (no_count (OptionalSequence (SingleToken mark)))
+    (both_count cons count (total count) (total count) (λ x xs. omega arith) h (many_count count (after_count count mark h)))
+    (no_count (OptionalSequence (SingleToken mark)))
 
 -- both of a pair
 abbrev of_pair : {A B : Type 0} → (A → ℕ) → (B → ℕ) → A × B → ℕ
 of_pair ca cb p = ca p.0 + cb p.1
 
-pair_count : {A B : Type 0} (ca : A → ℕ) (cb : B → ℕ) {La : Language A} {Lb : Language B} → Counts ca La → Counts cb Lb → Counts (of_pair ca cb) (Concatenation pair_of La Lb)
+pair_count : {A B : Type 0} (ca : A → ℕ) (cb : B → ℕ) {La : Language A} {Lb : Language B} → Counts ca La → Counts cb Lb
+    → Counts (of_pair ca cb) (Concatenation pair_of La Lb)
 pair_count ca cb h k = both_count pair_of ca cb (of_pair ca cb) (λ a b. omega arith) h k
 
 weaker : {A : Type 0} (count less : A → ℕ) {L : Language A} → ((x : A) → less x ≤ count x) → Counts count L → Counts less L
@@ -155,7 +169,8 @@ chain_less x (link ∷ links) = let more = links_size links in omega arith
 abbrev of_choice : Token × (Term × Term) → ℕ
 of_choice = of_pair one (of_pair size_of_term size_of_term)
 
-choice_less : (x : Term) (o : Option (Token × (Term × Term))) → size_of_term (choice_term x o) ≤ size_of_term x + of_maybe of_choice o
+choice_less : (x : Term) (o : Option (Token × (Term × Term)))
+    → size_of_term (choice_term x o) ≤ size_of_term x + of_maybe of_choice o
 choice_less x None = omega arith
 choice_less x (Some parts) = omega arith
 
@@ -164,7 +179,8 @@ of_rest (items more) = total size_of_term more
 of_rest (range to) = size_of_term to
 of_rest (stepped_range step to) = size_of_term step + size_of_term to
 
-bracket_less : (t : Token) (o : Option (Term × Rest)) → size_of_term (bracket_term t o) ≤ 1 + of_maybe (of_pair size_of_term of_rest) o
+bracket_less : (t : Token) (o : Option (Term × Rest)) → size_of_term (bracket_term t o) ≤ 1 + of_maybe
+    (of_pair size_of_term of_rest) o
 bracket_less t None = omega arith
 bracket_less t (Some parts) = by parts.0 parts.1
   where
@@ -177,14 +193,16 @@ range_less : (next : Term) (o : Option Term) → of_rest (range_rest next o) ≤
 range_less next None = omega arith
 range_less next (Some to) = omega arith
 
-name_less : (t : Token) (o : Option (List ArgTerm)) → size_of_term (name_term t o) ≤ 1 + of_maybe (λ args. size_of_args (args_from args)) o
+name_less : (t : Token) (o : Option (List ArgTerm)) → size_of_term (name_term t o) ≤ 1 + of_maybe
+    (λ args. size_of_args (args_from args)) o
 name_less t None = omega arith
 name_less t (Some args) = omega arith
 
 named_less : (t : Token) (value : Term) → of_arg (named_argument_term t value) ≤ 0 + size_of_term value
 named_less t value = by (has_class special_class t)
   where
-    by : (b : Bool) → of_arg (cond b (SpecialArgTerm t.place (bytes_of t.kind) value) (NamedTerm t.place (bytes_of t.kind) value)) ≤ 0 + size_of_term value
+    by : (b : Bool) → of_arg (cond b (SpecialArgTerm t.place (bytes_of t.kind) value)
+        (NamedTerm t.place (bytes_of t.kind) value)) ≤ 0 + size_of_term value
     by true = omega arith
     by false = omega arith
 
@@ -200,7 +218,8 @@ chain_count [] X x = x
 chain_count (first ∷ ops) X x =
     let inner = chain_count ops X x in
     both_count chain_term size_of_term (total of_link) size_of_term chain_less inner
-    (many_count of_link (both_count link_term one size_of_term of_link (λ t right. omega arith) (one_count (has_class_in first)) inner))
+    (many_count of_link (both_count link_term one size_of_term of_link (λ t right. omega arith)
+    (one_count (has_class_in first)) inner))
 
 -- expressions, over those one deeper
 module _ (E : Language Term) (e : Counts size_of_term E) where
@@ -208,7 +227,8 @@ module _ (E : Language Term) (e : Counts size_of_term E) where
   args_count =
       either_count
       (weaker (total of_arg) of_args args_size (separated_count of_arg (has_class comma_sign)
-      (either_count (both_count named_argument_term none size_of_term of_arg named_less (no_count _) (after_count size_of_term (has_class assign_sign) e))
+      (either_count (both_count named_argument_term none size_of_term of_arg named_less (no_count _)
+      (after_count size_of_term (has_class assign_sign) e))
       (mapped_count PositionalTerm size_of_term of_arg (λ x. omega arith) e))))
       (empty_count of_args [] (omega arith))
 
@@ -216,54 +236,71 @@ module _ (E : Language Term) (e : Counts size_of_term E) where
   params_count =
       either_count
       (weaker (total size_of_param) size_of_params params_size (separated_count size_of_param (has_class comma_sign)
-      (both_count param_term none (of_maybe size_of_term) size_of_param param_less (no_count _) (maybe_count (after_count size_of_term (has_class assign_sign) e)))))
+      (both_count param_term none (of_maybe size_of_term) size_of_param param_less (no_count _)
+      (maybe_count (after_count size_of_term (has_class assign_sign) e)))))
       (empty_count size_of_params [] (omega arith))
 
   binders_count : Counts size_of_binders (Binders E)
   binders_count = weaker (total of_binder) size_of_binders binders_size (separated_count of_binder (has_class comma_sign)
-      (both_count binder_term none size_of_term of_binder (λ t x. omega arith) (no_count _) (after_count size_of_term (has_class assign_sign) e)))
+      (both_count binder_term none size_of_term of_binder (λ t x. omega arith) (no_count _)
+      (after_count size_of_term (has_class assign_sign) e)))
 
   bracket_count : Counts size_of_term (Bracket E)
   bracket_count =
-      both_count bracket_term one (of_maybe (of_pair size_of_term of_rest)) size_of_term bracket_less (one_count (has_class open_bracket_sign))
+      both_count bracket_term one (of_maybe (of_pair size_of_term of_rest)) size_of_term bracket_less
+      (one_count (has_class open_bracket_sign))
       (before_count (of_maybe (of_pair size_of_term of_rest)) (has_class close_bracket_sign)
       (maybe_count (pair_count size_of_term of_rest e
       (either_count
       (after_count of_rest (has_class colon_sign)
-      (both_count range_rest size_of_term (of_maybe size_of_term) of_rest range_less e (maybe_count (after_count size_of_term (has_class colon_sign) e))))
+      (both_count range_rest size_of_term (of_maybe size_of_term) of_rest range_less e
+      (maybe_count (after_count size_of_term (has_class colon_sign) e))))
       (mapped_count items (total size_of_term) of_rest (λ more. omega arith)
-      (both_count first_of (total size_of_term) none (total size_of_term) (λ xs o. omega arith) (many_count size_of_term (after_count size_of_term (has_class comma_sign) e)) (no_count _)))))))
+      (both_count first_of (total size_of_term) none (total size_of_term) (λ xs o. omega arith)
+      (many_count size_of_term (after_count size_of_term (has_class comma_sign) e)) (no_count _)))))))
 
   suffix_count : Counts of_suffix (Suffix E)
   suffix_count =
       either_count
-      (both_count index_term one size_of_term of_suffix (λ t x. omega arith) (one_count (has_class open_bracket_sign)) (before_count size_of_term (has_class close_bracket_sign) e))
+      (both_count index_term one size_of_term of_suffix (λ t x. omega arith) (one_count (has_class open_bracket_sign))
+      (before_count size_of_term (has_class close_bracket_sign) e))
       (both_count member_term one none of_suffix (λ t x. omega arith) (one_count (has_class dot_sign)) (no_count _))
 
   module _ (As : Language (List ArgTerm)) (as_ : Counts of_args As) where
     primary_count : Counts size_of_term (Primary E As)
     primary_count =
-        either_count (mapped_count (λ t. NumberTerm t.place (numeral_value t.kind)) one size_of_term (λ t. omega arith) (one_count (has_class numeral_class)))
-        (either_count (mapped_count (λ t. TextTerm t.place (bytes_of t.kind)) one size_of_term (λ t. omega arith) (one_count (has_class text_class)))
-        (either_count (mapped_count (λ t. TruthTerm t.place true) one size_of_term (λ t. omega arith) (one_count (has_class true_word)))
-        (either_count (mapped_count (λ t. TruthTerm t.place false) one size_of_term (λ t. omega arith) (one_count (has_class false_word)))
+        either_count (mapped_count (λ t. NumberTerm t.place (numeral_value t.kind)) one size_of_term (λ t. omega arith)
+        (one_count (has_class numeral_class)))
+        (either_count (mapped_count (λ t. TextTerm t.place (bytes_of t.kind)) one size_of_term (λ t. omega arith)
+        (one_count (has_class text_class)))
+        (either_count (mapped_count (λ t. TruthTerm t.place true) one size_of_term (λ t. omega arith)
+        (one_count (has_class true_word)))
+        (either_count (mapped_count (λ t. TruthTerm t.place false) one size_of_term (λ t. omega arith)
+        (one_count (has_class false_word)))
         (either_count (mapped_count (λ t. UndefTerm t.place) one size_of_term (λ t. omega arith) (one_count (has_class undef_word)))
-        (either_count (mapped_count (λ t. ChildCountTerm t.place) one size_of_term (λ t. omega arith) (one_count (has_class child_count_class)))
-        (either_count (mapped_count (λ t. SpecialTerm t.place (bytes_of t.kind)) one size_of_term (λ t. omega arith) (one_count (has_class special_class)))
-        (either_count (both_count name_term one (of_maybe of_args) size_of_term name_less (one_count (has_class name_class)) (maybe_count (in_parentheses of_args as_)))
-        (either_count (both_count paren_term one size_of_term size_of_term (λ t x. omega arith) (one_count (has_class open_parenthesis_sign)) (before_count size_of_term (has_class close_parenthesis_sign) e))
+        (either_count (mapped_count (λ t. ChildCountTerm t.place) one size_of_term (λ t. omega arith)
+        (one_count (has_class child_count_class)))
+        (either_count (mapped_count (λ t. SpecialTerm t.place (bytes_of t.kind)) one size_of_term (λ t. omega arith)
+        (one_count (has_class special_class)))
+        (either_count (both_count name_term one (of_maybe of_args) size_of_term name_less (one_count (has_class name_class))
+        (maybe_count (in_parentheses of_args as_)))
+        (either_count (both_count paren_term one size_of_term size_of_term (λ t x. omega arith)
+        (one_count (has_class open_parenthesis_sign)) (before_count size_of_term (has_class close_parenthesis_sign) e))
         bracket_count))))))))
 
     postfix_count : Counts size_of_term (Postfix E As)
-    postfix_count = both_count postfix_term size_of_term (total of_suffix) size_of_term postfix_less primary_count (many_count of_suffix suffix_count)
+    postfix_count = both_count postfix_term size_of_term (total of_suffix) size_of_term postfix_less primary_count
+        (many_count of_suffix suffix_count)
 
     unary_count : (U : Language Term) → Counts size_of_term U → Counts size_of_term (Unary E As U)
     unary_count U u =
-        either_count (both_count unary_term one size_of_term size_of_term (λ t x. omega arith) (one_count (has_class_in (minus_sign ∷ plus_sign ∷ not_sign ∷ []))) u) postfix_count
+        either_count (both_count unary_term one size_of_term size_of_term (λ t x. omega arith)
+        (one_count (has_class_in (minus_sign ∷ plus_sign ∷ not_sign ∷ []))) u) postfix_count
 
     choice_count : (U : Language Term) → Counts size_of_term U → Counts size_of_term (Choice E As U)
     choice_count U u =
-        both_count choice_term size_of_term (of_maybe of_choice) size_of_term choice_less (chain_count levels (Unary E As U) (unary_count U u))
+        both_count choice_term size_of_term (of_maybe of_choice) size_of_term choice_less
+        (chain_count levels (Unary E As U) (unary_count U u))
         (maybe_count (pair_count one (of_pair size_of_term size_of_term) (one_count (has_class question_sign))
         (pair_count size_of_term size_of_term e (after_count size_of_term (has_class colon_sign) e))))
 
@@ -285,18 +322,23 @@ expr_count zero = (never_count size_of_term, never_count size_of_term)
 expr_count (suc d) =
     let below = expr_count d in
     let E = Expr without_gaps d in
-    let as_ = args_in_count d E below.0 in
-    (choice_count E below.0 (ArgsIn d E) as_ (Operand without_gaps d) below.1, unary_count E below.0 (ArgsIn d E) as_ (Operand without_gaps d) below.1)
+    let as_ = args_in_count d E below.0 in (
+      choice_count E below.0 (ArgsIn d E) as_ (Operand without_gaps d) below.1,
+      unary_count E below.0 (ArgsIn d E) as_
+          (Operand without_gaps d) below.1,
+    )
 
 -- statements
 abbrev more_than_core : CoreTerm → ℕ
 more_than_core core = suc (size_of_core core)
 
-if_less : (p : Token × (Term × BodyTerm)) (o : Option BodyTerm) → more_than_core (if_term p o) ≤ of_pair one (of_pair size_of_term size_of_body) p + of_maybe size_of_body o
+if_less : (p : Token × (Term × BodyTerm)) (o : Option BodyTerm)
+    → more_than_core (if_term p o) ≤ of_pair one (of_pair size_of_term size_of_body) p + of_maybe size_of_body o
 if_less p None = omega arith
 if_less p (Some other) = omega arith
 
-loop_less : (t : Token) (p : List BinderTerm × BodyTerm) → more_than_core (loop_term t p) ≤ 1 + of_pair size_of_binders size_of_body p
+loop_less : (t : Token) (p : List BinderTerm × BodyTerm) → more_than_core
+    (loop_term t p) ≤ 1 + of_pair size_of_binders size_of_body p
 loop_less t p = go (has_class for_word t) refl
   where
     go : (b : Bool) → has_class for_word t ≡ b → more_than_core (loop_term t p) ≤ 1 + of_pair size_of_binders size_of_body p
@@ -315,40 +357,56 @@ module _ (E : Language Term) (As : Language (List ArgTerm)) (Ns : Language (List
   core_count : Counts more_than_core (CoreOf E As Ns B)
   core_count =
       either_count
-      (both_if_count if_term IsNearest (of_pair one (of_pair size_of_term size_of_body)) (of_maybe size_of_body) more_than_core if_less
-      (pair_count one (of_pair size_of_term size_of_body) (one_count (has_class if_word)) (pair_count size_of_term size_of_body (in_parentheses size_of_term e) b))
+      (both_if_count if_term IsNearest (of_pair one (of_pair size_of_term size_of_body))
+      (of_maybe size_of_body) more_than_core if_less
+      (pair_count one (of_pair size_of_term size_of_body) (one_count (has_class if_word))
+      (pair_count size_of_term size_of_body (in_parentheses size_of_term e) b))
       (maybe_count (after_count size_of_body (has_class else_word) b)))
       (either_count
-      (both_count loop_term one (of_pair size_of_binders size_of_body) more_than_core loop_less (one_count (has_class_in (for_word ∷ intersection_for_word ∷ [])))
+      (both_count loop_term one (of_pair size_of_binders size_of_body) more_than_core loop_less
+      (one_count (has_class_in (for_word ∷ intersection_for_word ∷ [])))
       (pair_count size_of_binders size_of_body (in_parentheses size_of_binders ns) b))
-      (both_count call_term one (of_pair of_args size_of_body) more_than_core (λ t p. omega arith) (one_count (has_class name_class))
+      (both_count call_term one (of_pair of_args size_of_body) more_than_core (λ t p. omega arith)
+      (one_count (has_class name_class))
       (pair_count of_args size_of_body (in_parentheses of_args as_) b)))
 
   instance_count : Counts size_of_instance (Instance E As Ns B)
   instance_count = both_count instance_term none more_than_core size_of_instance instance_less (no_count _) core_count
 
-module _ (I : Language InstanceTerm) (Ss : Language (List StatementTerm)) (i : Counts size_of_instance I) (ss : Counts of_statements Ss) where
+module _ (I : Language InstanceTerm) (Ss : Language (List StatementTerm)) (i : Counts size_of_instance I)
+    (ss : Counts of_statements Ss) where
   body_count : Counts size_of_body (BodyOf I Ss)
   body_count =
-      either_count (mapped_count (λ t. EmptyBody t.place) one size_of_body (λ t. omega arith) (one_count (has_class semicolon_sign)))
-      (either_count (both_count block_term none of_statements size_of_body (λ t x. omega arith) (no_count _) (before_count of_statements (has_class close_brace_sign) ss))
+      either_count (mapped_count (λ t. EmptyBody t.place) one size_of_body (λ t. omega arith)
+      (one_count (has_class semicolon_sign)))
+      (either_count (both_count block_term none of_statements size_of_body (λ t x. omega arith) (no_count _)
+      (before_count of_statements (has_class close_brace_sign) ss))
       (mapped_count InstanceBody size_of_instance size_of_body (λ x. omega arith) i))
 
-  statement_count : (X : Language Term) (Ps : Language (List ParamTerm)) (B : Language BodyTerm) → Counts size_of_term X → Counts size_of_params Ps → Counts size_of_body B
+  statement_count : (X : Language Term) (Ps : Language (List ParamTerm)) (B : Language BodyTerm) → Counts size_of_term X
+      → Counts size_of_params Ps → Counts size_of_body B
       → Counts size_of_statement (StatementOf X Ps I Ss B)
   statement_count X Ps B x ps b =
-      either_count (mapped_count (λ t. EmptyStatement t.place) one size_of_statement (λ t. omega arith) (one_count (has_class semicolon_sign)))
-      (either_count (both_count bare_block_term none of_statements size_of_statement (λ t x. omega arith) (no_count _) (before_count of_statements (has_class close_brace_sign) ss))
-      (either_count (both_count special_assignment_term one size_of_term size_of_statement (λ t x. omega arith) (one_count (has_class special_class))
+      either_count (mapped_count (λ t. EmptyStatement t.place) one size_of_statement (λ t. omega arith)
+      (one_count (has_class semicolon_sign)))
+      (either_count (both_count bare_block_term none of_statements size_of_statement (λ t x. omega arith) (no_count _)
+      (before_count of_statements (has_class close_brace_sign) ss))
+      (either_count (both_count special_assignment_term one size_of_term size_of_statement (λ t x. omega arith)
+      (one_count (has_class special_class))
       (after_count size_of_term (has_class assign_sign) (before_count size_of_term (has_class semicolon_sign) x)))
-      (either_count (both_count assignment_term one size_of_term size_of_statement (λ t x. omega arith) (one_count (has_class name_class))
+      (either_count (both_count assignment_term one size_of_term size_of_statement (λ t x. omega arith)
+      (one_count (has_class name_class))
       (after_count size_of_term (has_class assign_sign) (before_count size_of_term (has_class semicolon_sign) x)))
       (either_count
-      (both_count module_term none (of_pair none (of_pair size_of_params size_of_body)) size_of_statement (λ t p. omega arith) (no_count _)
-      (pair_count none (of_pair size_of_params size_of_body) (no_count _) (pair_count size_of_params size_of_body (in_parentheses size_of_params ps) b)))
+      (both_count module_term none (of_pair none (of_pair size_of_params size_of_body)) size_of_statement (λ t p. omega arith)
+      (no_count _)
+      (pair_count none (of_pair size_of_params size_of_body) (no_count _)
+      (pair_count size_of_params size_of_body (in_parentheses size_of_params ps) b)))
       (either_count
-      (both_count function_term none (of_pair none (of_pair size_of_params size_of_term)) size_of_statement (λ t p. omega arith) (no_count _)
-      (pair_count none (of_pair size_of_params size_of_term) (no_count _) (pair_count size_of_params size_of_term (in_parentheses size_of_params ps)
+      (both_count function_term none (of_pair none (of_pair size_of_params size_of_term)) size_of_statement (λ t p. omega arith)
+      (no_count _)
+      (pair_count none (of_pair size_of_params size_of_term) (no_count _)
+      (pair_count size_of_params size_of_term (in_parentheses size_of_params ps)
       (after_count size_of_term (has_class assign_sign) (before_count size_of_term (has_class semicolon_sign) x)))))
       (mapped_count InstanceStatement size_of_instance size_of_statement (λ x. omega arith) i))))))
 
@@ -363,15 +421,19 @@ counts_at (suc d) =
     let below = counts_at d in
     let E = Expr without_gaps d in
     let e = (expr_count d).0 in
-    let i = instance_count E (ArgsIn d E) (BindersIn without_gaps d E) (Body without_gaps d) e (args_in_count d E e) (binders_in_count d E e) below.1 in
+    let i = instance_count E (ArgsIn d E) (BindersIn without_gaps d E) (Body without_gaps d) e (args_in_count d E e)
+    (binders_in_count d E e) below.1 in
     let ss = statements_count d (Statement without_gaps d) below.0 in
     let I = InstanceIn without_gaps d (Body without_gaps d) in
     let Ss = StatementsIn d (Statement without_gaps d) in (
-      statement_count I Ss i ss (Expr without_gaps (suc d)) (ParamsIn d E) (Body without_gaps d) (expr_count (suc d)).0 (params_in_count d E e) below.1,
+      statement_count I Ss i ss (Expr without_gaps (suc d)) (ParamsIn d E) (Body without_gaps d) (expr_count (suc d)).0
+          (params_in_count d E e) below.1,
       body_count I Ss i ss,
     )
 
-pub written_size : (d : ℕ) (program : List StatementTerm) (s : List Token) → WholeProgram d program s → suc (of_statements program) ≤ length s
+pub written_size : (d : ℕ) (program : List StatementTerm) (s : List Token) → WholeProgram d program s
+    → suc (of_statements program) ≤ length s
 written_size d program s h =
     (both_count first_of of_statements one (λ ss. suc (of_statements ss)) (λ ss t. omega arith)
-    (weaker (total size_of_statement) of_statements statements_size (many_count size_of_statement (counts_at d).0)) (one_count (has_class end_class))).at program s h
+    (weaker (total size_of_statement) of_statements statements_size (many_count size_of_statement (counts_at d).0))
+    (one_count (has_class end_class))).at program s h

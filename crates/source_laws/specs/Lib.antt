@@ -1,4 +1,5 @@
 pub mod SourceHulls
+pub mod CostsOfExpressions
+pub mod CostsOfInstances
 pub mod Sizes
-pub mod ExpressionCounts
-pub mod InstanceCounts
+pub mod EvaluationCosts
