@@ -9,7 +9,7 @@ use Rattle.scad_value.specs.Values.{Val, NumberVal, TruthVal, TextVal, ListVal, 
 use Rattle.scad_value.specs.Operators.{AnswerOrFault}
 use Rattle.scad_func.specs.Limits.{most_turns}
 use Rattle.scad_func.specs.Meaning.{Outcome, Gives, Faults, then_with, or_fault, outcome_of_answer, turn, one_call_fewer, count_elements, count_elements_if}
-use Rattle.source_laws.specs.EvaluationCosts.{Cost, ◌⊕◌, no_cost, one_evaluation, so_many_counted, cost_after, cost_where, cost_of_turn, cost_in_call}
+use Rattle.source_laws.specs.EvaluationCosts.{Cost, and_later, no_cost, one_evaluation, so_many_counted, cost_then, cost_where, cost_of_turn, cost_in_call}
 use Rattle.source_laws.specs.CostsOfExpressions.{elements_counted}
 
 -- nothing is left over
@@ -68,7 +68,7 @@ module _ (rate : Rate) where
 
   -- an evaluation more
   pub one_more : {A : Type 0} (left : A → ℕ) (turns size : ℕ) (taken : Cost) (out : Outcome A) → Costs left turns size taken out
-      → Costs left turns (suc size) (one_evaluation ⊕ taken) out
+      → Costs left turns (suc size) (and_later one_evaluation taken) out
   one_more left turns size taken (Gives after x) h = (h.0, h.1, let cost = h.2 in omega arith, let same = h.3 in omega arith)
   one_more left turns size taken (Faults kind at) h = (
     let within = h.0 in
@@ -79,7 +79,7 @@ module _ (rate : Rate) where
   joined : {A : Type 0} (left : A → ℕ) (turns after s t over : ℕ) (c d : Cost) (out : Outcome A) → turns ≤ after
       → after ≡ turns + c.counted
       → c.evaluations + rate.paid turns + over ≤ s + rate.paid after → Costs left after (t + over) d out
-      → Costs left turns (s + t) (c ⊕ d) out
+      → Costs left turns (s + t) (and_later c d) out
   joined left turns after s t over c d (Gives later x) k e h g =
       (let first = g.0 in omega arith, g.1, let cost = g.2 in omega arith, let same = g.3 in omega arith)
   joined left turns after s t over c d (Faults kind at) k e h g =
@@ -90,7 +90,7 @@ module _ (rate : Rate) where
       (counted : ℕ → A → Cost) (go : ℕ → A → Outcome B)
       → Costs left turns s c out
       → ((after : ℕ) (x : A) → after ≤ most_turns → Costs kept after (t + left x) (counted after x) (go after x))
-      → Costs kept turns (s + t) (c ⊕ cost_after out counted) (then_with out go)
+      → Costs kept turns (s + t) (cost_then c out counted) (then_with out go)
   then_costs left kept turns s t c (Gives after x) counted go h g =
       joined kept turns after s t (left x) c (counted after x) (go after x) h.0 h.3 h.2 (g after x h.1)
   then_costs left kept turns s t c (Faults kind at) counted go h g =
@@ -100,7 +100,7 @@ module _ (rate : Rate) where
       (go : ℕ → A → Outcome B)
       → Costs nothing turns s c out
       → ((after : ℕ) (x : A) → after ≤ most_turns → Costs kept after t (counted after x) (go after x))
-      → Costs kept turns (s + t) (c ⊕ cost_after out counted) (then_with out go)
+      → Costs kept turns (s + t) (cost_then c out counted) (then_with out go)
   skip_costs kept turns s t c out counted go h g =
       then_costs nothing kept turns s t c out counted go h (λ after x k.
       larger kept after t (t + 0) (counted after x) (go after x) (omega arith) (g after x k))
@@ -166,7 +166,7 @@ module _ (rate : Rate) where
 
   -- a turn pays for a body
   later : {A : Type 0} (left : A → ℕ) (turns size : ℕ) (taken : Cost) (out : Outcome A)
-      → Costs left (turns + 1) (size + rate.largest) taken out → Costs left turns size (so_many_counted 1 ⊕ taken) out
+      → Costs left (turns + 1) (size + rate.largest) taken out → Costs left turns size (and_later (so_many_counted 1) taken) out
   later left turns size taken (Gives after x) h =
       let step = rate.pays turns 1 in let first = h.0 in let cost = h.2 in let same = h.3 in
       (omega arith, h.1, omega arith, omega arith)
@@ -174,8 +174,9 @@ module _ (rate : Rate) where
       let step = rate.pays turns 1 in (let within = h.0 in omega arith, λ all l. let cost = h.1 all (omega arith) in omega arith)
 
   turn_by : {A : Type 0} (left : A → ℕ) (turns size : ℕ) (b : Bool) (at : Place) (counted : Cost) (go : Outcome A)
-      → turns ≤ most_turns → (b ≡ true → Costs left turns size (so_many_counted 1 ⊕ counted) go)
-      → Costs left turns size (if b then so_many_counted 1 ⊕ counted else no_cost) (if b then go else Faults TooManyTurns at)
+      → turns ≤ most_turns → (b ≡ true → Costs left turns size (and_later (so_many_counted 1) counted) go)
+      → Costs left turns size (if b then and_later (so_many_counted 1) counted else no_cost)
+      (if b then go else Faults TooManyTurns at)
   turn_by left turns size true at counted go k g = g refl
   turn_by left turns size false at counted go k g = free_fault turns size k
 
@@ -202,7 +203,7 @@ module _ (rate : Rate) where
   elements_by : (turns after size : ℕ) (taken : Cost) (b : Bool) (at : Place) (v : Val)
       → nat_lt most_turns (after + elements v) ≡ b
       → Costs nothing turns size taken (Gives after v)
-      → Costs (listed true) turns size (taken ⊕ (if b then no_cost else so_many_counted (elements v)))
+      → Costs (listed true) turns size (and_later taken (if b then no_cost else so_many_counted (elements v)))
       (if b then Faults TooManyTurns at else Gives (after + elements v) v)
   elements_by turns after size taken true at v e h = (
     let same = h.3 in let below = h.1 in omega arith,
@@ -219,9 +220,9 @@ module _ (rate : Rate) where
       )
 
   unlisted : (turns after size : ℕ) (taken : Cost) (v : Val) → Costs nothing turns size taken (Gives after v)
-      → (turns ≤ after) × (after ≤ most_turns) × ((taken ⊕ no_cost).evaluations + rate.paid
+      → (turns ≤ after) × (after ≤ most_turns) × ((and_later taken no_cost).evaluations + rate.paid
       turns + rate.largest * 0 ≤ size + rate.paid after)
-      × (after ≡ turns + (taken ⊕ no_cost).counted)
+      × (after ≡ turns + (and_later taken no_cost).counted)
   unlisted turns after size taken v h = (h.0, h.1, let cost = h.2 in omega arith, let same = h.3 in omega arith)
 
   no_elements : (turns size : ℕ) (taken : Cost) → ((turns + taken.counted ≤ most_turns) × ((all : ℕ) → turns + taken.counted ≤ all
@@ -231,7 +232,7 @@ module _ (rate : Rate) where
   no_elements turns size taken h = (let within = h.0 in omega arith, λ all l. let cost = h.1 all (omega arith) in omega arith)
 
   counted_elements : (at : Place) (turns size : ℕ) (taken : Cost) (out : Outcome Val) → Costs nothing turns size taken out
-      → Costs (listed true) turns size (taken ⊕ elements_counted true out) (count_elements at out)
+      → Costs (listed true) turns size (and_later taken (elements_counted true out)) (count_elements at out)
   counted_elements at turns size taken (Gives after (NumberVal n)) h = unlisted turns after size taken (NumberVal n) h
   counted_elements at turns size taken (Gives after (TruthVal truth)) h = unlisted turns after size taken (TruthVal truth) h
   counted_elements at turns size taken (Gives after (TextVal bytes)) h = unlisted turns after size taken (TextVal bytes) h
@@ -244,7 +245,7 @@ module _ (rate : Rate) where
 
   pub elements_cost : (counts : Bool) (at : Place) (turns size : ℕ) (taken : Cost) (out : Outcome Val)
       → Costs nothing turns size taken out
-      → Costs (listed counts) turns size (taken ⊕ elements_counted counts out) (count_elements_if counts at out)
+      → Costs (listed counts) turns size (and_later taken (elements_counted counts out)) (count_elements_if counts at out)
   elements_cost true at turns size taken out h = counted_elements at turns size taken out h
   elements_cost false at turns size taken (Gives after v) h = (
     h.0,

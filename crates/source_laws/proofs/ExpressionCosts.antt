@@ -15,7 +15,7 @@ use Rattle.scad_builtin.specs.Builtins.{builtin_of, takes_count, builtin_value}
 use Rattle.scad_func.specs.Limits.{most_turns}
 use Rattle.scad_func.specs.Meaning.{Outcome, Gives, Faults, then_with, or_fault, outcome_of_answer, Env, InnerScope, no_activation, visible_variable, visible_function, EvaluatesExpression, ExpressionContext, value_at_next_depth, expression_with_calls_left, in_scope, with_more_bindings, each_value, with_first_term, only_values, count_of_terms, BoundArguments, Arguments, each_argument, parameter_value, each_parameter, with_pairs, function_value, function_call_value, built_in_call_value, call_value, value_here, each_suffix, each_link, value_within}
 use Rattle.source_laws.specs.Sizes.{size_of_term, size_of_terms, size_of_args, size_of_suffixes, size_of_links, size_of_param, size_of_params, size_of_function, HoldsTextsUpTo}
-use Rattle.source_laws.specs.EvaluationCosts.{Cost, ◌⊕◌, no_cost, one_evaluation, cost_after}
+use Rattle.source_laws.specs.EvaluationCosts.{Cost, and_later, no_cost, one_evaluation, cost_after, cost_then}
 use Rattle.source_laws.specs.CostsOfExpressions.{ExpressionCost, cost_at_next_depth, cost_of_each_value, cost_of_each_argument, cost_of_parameter, cost_of_each_parameter, cost_of_function, cost_of_function_call, cost_of_built_in_call, cost_of_call, cost_inside, cost_of_each_suffix, cost_of_each_link, cost_within}
 use Rattle.source_laws.proofs.Costs.{nothing, Rate, Costs, larger, let_go, one_more, then_costs, skip_costs, end_costs, free_fault, free_value, answered, some_costs, option_costs, test_costs, turn_costs, call_costs, listed, elements_cost, left_of_bound, bound_more}
 use Rattle.source_laws.proofs.Scopes.{SmallFunction, function_found}
@@ -85,13 +85,13 @@ module _ (rate : Rate) where
       → ((v : Val) (turns : ℕ) → turns ≤ most_turns
       → Costs rate left_of_given turns (rest + left_of_given (with_argument given target v)) (counted v turns) (go v turns))
       → Costs rate left_of_given turns ((size_of_term e + rest) + left_of_given given)
-      (cost_at_next_depth counting here true e turns ⊕ cost_after (value_at_next_depth here true e turns)
+      (cost_then (cost_at_next_depth counting here true e turns) (value_at_next_depth here true e turns)
       (λ turns v. counted v turns))
       (then_with (value_at_next_depth here true e turns) (λ turns v. go v turns))
   argument_cost counting here s given target e rest turns counted go k g =
       larger rate left_of_given turns (size_of_term e + (rest + left_of_given given))
       ((size_of_term e + rest) + left_of_given given)
-      (cost_at_next_depth counting here true e turns ⊕ cost_after (value_at_next_depth here true e turns)
+      (cost_then (cost_at_next_depth counting here true e turns) (value_at_next_depth here true e turns)
       (λ turns v. counted v turns))
       (then_with (value_at_next_depth here true e turns) (λ turns v. go v turns)) (omega arith)
       (then_costs rate (listed rate true) left_of_given turns (size_of_term e) (rest + left_of_given given)
@@ -243,7 +243,7 @@ module _ (rate : Rate) where
   one_free turns k = (omega arith, k, omega arith, omega arith)
 
   one_found : (turns : ℕ) (o : Option Val) (at : Place) → turns ≤ most_turns
-      → Costs rate nothing turns 1 (one_evaluation ⊕ no_cost) (or_fault o UnknownName at (Gives turns))
+      → Costs rate nothing turns 1 (and_later one_evaluation no_cost) (or_fault o UnknownName at (Gives turns))
   one_found turns None at k = (omega arith, λ all l. let more = rate.grows turns all (omega arith) in omega arith)
   one_found turns (Some v) at k = one_free turns k
 
@@ -276,7 +276,7 @@ module _ (rate : Rate) where
 
   -- what costs nothing, and what follows from its value
   free_sum : {A : Type 0} (turns size : ℕ) (taken : Cost) (out : Outcome A)
-      → Costs rate nothing turns (0 + size) (no_cost ⊕ taken) out → Costs rate nothing turns size taken out
+      → Costs rate nothing turns (0 + size) (and_later no_cost taken) out → Costs rate nothing turns size taken out
   free_sum turns size taken (Gives after x) h = (h.0, h.1, let cost = h.2 in omega arith, let same = h.3 in omega arith)
   free_sum turns size taken (Faults kind at) h = (
     let within = h.0 in omega arith,
@@ -300,7 +300,8 @@ module _ (rate : Rate) where
   mutual
     pub operand_cost : (counting : ExpressionCost) (here : ExpressionContext) → Sits counting here → (e : Term) (turns : ℕ)
         → turns ≤ most_turns
-        → Costs rate nothing turns (size_of_term e) (one_evaluation ⊕ cost_inside counting here e turns) (value_here here e turns)
+        → Costs rate nothing turns (size_of_term e) (and_later one_evaluation (cost_inside counting here e turns))
+        (value_here here e turns)
     operand_cost counting here s (NumberTerm at n) turns k = one_free turns k
     operand_cost counting here s (TextTerm at bytes) turns k = one_free turns k
     operand_cost counting here s (TruthTerm at truth) turns k = one_free turns k
@@ -341,7 +342,7 @@ module _ (rate : Rate) where
     operand_cost counting here s (PostfixTerm at of rest) turns k =
         one_more rate nothing turns (size_of_term of + size_of_suffixes rest) _ _
         (skip_costs rate nothing turns (size_of_term of) (size_of_suffixes rest)
-        (one_evaluation ⊕ (cost_inside counting here of turns)) (value_here here of turns) _ _
+        (and_later one_evaluation (cost_inside counting here of turns)) (value_here here of turns) _ _
         (operand_cost counting here s of turns k) (λ turns v k. suffixes_cost counting here s v rest turns k))
     operand_cost counting here s (UnaryTerm at op of) turns k =
         one_more rate nothing turns (size_of_term of) _ _
@@ -351,12 +352,12 @@ module _ (rate : Rate) where
     operand_cost counting here s (ChainTerm at first rest) turns k =
         one_more rate nothing turns (size_of_term first + size_of_links rest) _ _
         (skip_costs rate nothing turns (size_of_term first) (size_of_links rest)
-        (one_evaluation ⊕ (cost_inside counting here first turns)) (value_here here first turns) _ _
+        (and_later one_evaluation (cost_inside counting here first turns)) (value_here here first turns) _ _
         (operand_cost counting here s first turns k) (λ turns v k. links_cost counting here s v rest turns k))
     operand_cost counting here s (ChoiceTerm at test mark one other) turns k =
         one_more rate nothing turns (size_of_term test + (size_of_term one + size_of_term other)) _ _
         (skip_costs rate nothing turns (size_of_term test) (size_of_term one + size_of_term other)
-        (one_evaluation ⊕ (cost_inside counting here test turns)) (value_here here test turns) _ _
+        (and_later one_evaluation (cost_inside counting here test turns)) (value_here here test turns) _ _
         (operand_cost counting here s test turns k) (λ turns v k.
         larger rate nothing turns (size_of_term (cond (truth_of v) one other)) (size_of_term one + size_of_term other) _ _
         (chosen_size (truth_of v) one other)
@@ -386,14 +387,14 @@ module _ (rate : Rate) where
     links_cost counting here s v no_links turns k = free_value rate turns 0 k
     links_cost counting here s v (and_link op at right rest) turns k =
         skip_costs rate nothing turns (size_of_term right) (size_of_links rest)
-        (if wants_right op v then (one_evaluation ⊕ cost_inside counting here right turns) else no_cost)
+        (if wants_right op v then (and_later one_evaluation (cost_inside counting here right turns)) else no_cost)
         (if wants_right op v then then_with (value_here here right turns)
         (λ turns w. outcome_of_answer (binary_of op v w) at turns) else Gives turns (TruthVal (truth_of v))) _ _
         (test_costs rate nothing turns (size_of_term right) (wants_right op v)
-        (one_evaluation ⊕ (cost_inside counting here right turns)) no_cost
+        (and_later one_evaluation (cost_inside counting here right turns)) no_cost
         (then_with (value_here here right turns) (λ turns w. outcome_of_answer (binary_of op v w) at turns))
         (Gives turns (TruthVal (truth_of v)))
-        (end_costs rate nothing turns (size_of_term right) (one_evaluation ⊕ (cost_inside counting here right turns))
+        (end_costs rate nothing turns (size_of_term right) (and_later one_evaluation (cost_inside counting here right turns))
         (value_here here right turns) _
         (operand_cost counting here s right turns k) (λ turns w k. answered rate (binary_of op v w) at turns k))
         (free_value rate turns (size_of_term right) k)) (λ turns x k.
@@ -406,5 +407,5 @@ module _ (rate : Rate) where
       let here : ExpressionContext = record { at_next_depth = value_within n; calls_left = calls; env = env; bindings = bindings }
       in
       elements_cost rate counts (place_of_term e) turns (size_of_term e)
-      (one_evaluation ⊕ cost_inside (cost_within n) here e turns) (value_here here e turns)
+      (and_later one_evaluation (cost_inside (cost_within n) here e turns)) (value_here here e turns)
       (operand_cost (cost_within n) here (expressions_cost n, s) e turns k)

@@ -30,7 +30,7 @@ use Rattle.scad_meaning.specs.Loops.{iterated_values, chosen_among}
 use Rattle.scad_meaning.specs.Meaning.{Context, inside_scope, with_bindings, with_calls_left, inside_root, inside_extrusion, expression_context, InstanceDesign, MemberDesigns, no_design, as_member, and_members, joined_members, moved_design, EvaluatesInstance, Evaluator, assigned_value, with_assignment, each_assignment, core_of_instance, each_member, instances_chosen, block_members, each_in_scope, each_in_body, body_design, turn_after_step, counted_step, each_step, in_loop, each_iteration, loop_design, most_leaves, leaf_design, unless_refused, with_leaf_of, hull_design, module_scope, module_with_values, module_with_arguments, module_design, each_echo_argument, arguments_for, children_design, counted_call, flat_design, effect_design, built_in_with_arguments, built_in_design, call_design, core_design, as_root, root_design, instance_design, design_within, program_context}
 use Rattle.scad_meaning.proofs.Choosing.{all_chosen}
 use Rattle.source_laws.specs.Sizes.{size_of_term, size_of_args, size_of_params, size_of_binders, size_of_statements, size_of_instance, size_of_core, size_of_body, size_of_module, HoldsTextsUpTo, CallHoldsTextsUpTo}
-use Rattle.source_laws.specs.EvaluationCosts.{Cost, ◌⊕◌, no_cost, so_many_counted, cost_after, cost_of_turn, cost_in_call}
+use Rattle.source_laws.specs.EvaluationCosts.{Cost, and_later, no_cost, so_many_counted, cost_then, cost_of_turn, cost_in_call}
 use Rattle.source_laws.specs.CostsOfExpressions.{ExpressionCost, cost_at_next_depth, cost_of_each_argument, cost_of_each_parameter, cost_within}
 use Rattle.source_laws.specs.CostsOfInstances.{InstanceCost, cost_of_expression, cost_of_assigned, cost_of_each_assignment, cost_of_each_member, cost_of_block, cost_of_in_scope, cost_of_body, cost_of_each_step, cost_of_each_iteration, cost_of_module_with_values, cost_of_module_with_arguments, cost_of_module, cost_of_each_echo_argument, cost_of_arguments_for, cost_of_children, cost_of_effect, cost_of_built_in_with_arguments, cost_of_built_in, cost_of_module_call, cost_of_core, cost_of_root, cost_of_instance, cost_of_design_within, cost_of_step_end, cost_of_counted_children, cost_of_leaf, cost_of_hull, cost_of_flat, cost_unless_refused, cost_of_program, members_of_program}
 use Rattle.source_laws.proofs.Costs.{nothing, turn_within, Rate, Costs, let_go, one_more, skip_costs, free_value, option_costs, left_of_bound}
@@ -338,7 +338,7 @@ module _ (largest : ℕ) where
       step_by : (calls turns leaves after size : ℕ) (taken : Cost) (at : Place) (members : MemberDesigns)
           (designs : List DesignTree)
           → Runs largest member_leaves (always (spare_of_some largest designs)) calls turns leaves size taken (Gives after members)
-          → Runs largest member_leaves (always largest) calls turns leaves size (taken ⊕ cost_of_step_end designs after)
+          → Runs largest member_leaves (always largest) calls turns leaves size (and_later taken (cost_of_step_end designs after))
           (turn_after_step at designs after (λ turns. Gives turns members))
       step_by calls turns leaves after size taken at members (design ∷ designs) h =
           (h.0, h.1, h.2, h.3, let cost = h.4 in omega arith, let same = h.5 in omega arith)
@@ -346,7 +346,7 @@ module _ (largest : ℕ) where
         where
           ended_by : (b : Bool) → nat_lt after most_turns ≡ b
               → Runs largest member_leaves (always largest) calls turns leaves size
-              (taken ⊕ (if b then so_many_counted 1 ⊕ no_cost else no_cost))
+              (and_later taken (if b then and_later (so_many_counted 1) no_cost else no_cost))
               (if b then Gives (after + 1) members else Faults TooManyTurns at)
           ended_by true b =
               let more = paid_by largest calls (after + members.leaves) 1 ((after + 1) + members.leaves) (omega arith) in
@@ -359,7 +359,7 @@ module _ (largest : ℕ) where
       step_cost : (calls turns leaves size : ℕ) (taken : Cost) (at : Place) (out : Outcome MemberDesigns)
           → Runs largest member_leaves spare calls turns leaves size taken out
           → Runs largest member_leaves (always largest) calls turns leaves size
-          (taken ⊕ cost_after out (λ turns members. cost_of_step_end members.designs turns)) (counted_step at out)
+          (cost_then taken out (λ turns members. cost_of_step_end members.designs turns)) (counted_step at out)
       step_cost calls turns leaves size taken at (Gives after members) h = step_by calls turns leaves after size taken at members
           members.designs h
       step_cost calls turns leaves size taken at (Faults kind place) h =
@@ -381,7 +381,7 @@ module _ (largest : ℕ) where
             (cost_of_each_step at step count (and_val v vs) turns leaves) (each_step at step (and_val v vs) turns leaves)
             (omega arith)
             (run_then largest member_leaves (always largest) member_leaves (always largest) calls turns leaves size 0
-            (count v turns leaves ⊕ cost_after (step v turns leaves) (λ turns members. cost_of_step_end members.designs turns))
+            (cost_then (count v turns leaves) (step v turns leaves) (λ turns members. cost_of_step_end members.designs turns))
             (counted_step at (step v turns leaves)) _ _
             (step_cost calls turns leaves size (count v turns leaves) at (step v turns leaves) (each v turns leaves k l))
             (λ turns members k l.
@@ -430,7 +430,7 @@ module _ (largest : ℕ) where
           let out = body_design evaluator Union here body (turns + 1) leaves in
           let member : Outcome MemberDesigns = then_with out (λ turns result. Gives turns (as_member true result)) in
           run_let_go largest member_leaves (always largest) spare calls turns leaves (0 + size_of_body body)
-          (so_many_counted 1 ⊕ counted) member (λ members. spare_size largest members.designs)
+          (and_later (so_many_counted 1) counted) member (λ members. spare_size largest members.designs)
           (run_later largest member_leaves calls turns leaves (0 + size_of_body body) counted member
           (run_map largest design_leaves nothing member_leaves nothing calls (turns + 1) leaves (0 + size_of_body body) counted out
           (λ result. as_member true result) (λ result. (refl, omega arith))
@@ -556,7 +556,7 @@ module _ (largest : ℕ) where
           → there ≡ calls → turns ≤ most_turns → leaves ≤ most_leaves
           → ((n : ℕ) → calls ≡ suc n → Runs largest design_leaves nothing n turns leaves (size + largest) (counted n) (go n))
           → Runs largest design_leaves nothing calls turns leaves size
-          (cost_in_call there counted ⊕ cost_after (one_call_fewer there at go) (λ after result.
+          (cost_then (cost_in_call there counted) (one_call_fewer there at go) (λ after result.
           if nat_eq after turns && nat_eq result.leaves leaves then cost_of_turn after (λ turns. no_cost) else no_cost))
           (counted_call at turns leaves (one_call_fewer there at go))
       counted_call_cost calls turns leaves size zero at counted go e k l g = run_fault largest calls turns leaves size k l

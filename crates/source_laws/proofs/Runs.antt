@@ -10,7 +10,7 @@ use Rattle.scad_func.specs.Limits.{most_turns}
 use Rattle.scad_func.specs.Meaning.{Outcome, Gives, Faults, then_with, or_fault, turn, one_call_fewer}
 use Rattle.scad_meaning.specs.Verdicts.{Verdict}
 use Rattle.scad_meaning.specs.Meaning.{most_leaves, InstanceDesign, MemberDesigns, unless_refused, answered_with, turn_after_call, counted_call}
-use Rattle.source_laws.specs.EvaluationCosts.{Cost, ◌⊕◌, no_cost, one_evaluation, so_many_counted, cost_after, cost_where, cost_of_turn, cost_in_call}
+use Rattle.source_laws.specs.EvaluationCosts.{Cost, and_later, no_cost, one_evaluation, so_many_counted, cost_then, cost_where, cost_of_turn, cost_in_call}
 use Rattle.source_laws.specs.CostsOfInstances.{cost_answered, cost_unless_refused}
 use Rattle.source_laws.proofs.Costs.{nothing, Costs, turn_within}
 use Rattle.source_laws.proofs.Payments.{paid, paid_deeper, paid_by, paid_up_to, product_up_to, rate_with}
@@ -71,7 +71,8 @@ module _ (largest : ℕ) where
   run_larger of left calls turns leaves size more taken (Faults kind at) k h = (h.0, λ all e. let cost = h.1 all e in omega arith)
 
   pub run_one_more : {A : Type 0} (of left : A → ℕ) (calls turns leaves size : ℕ) (taken : Cost) (out : Outcome A)
-      → Runs of left calls turns leaves size taken out → Runs of left calls turns leaves (suc size) (one_evaluation ⊕ taken) out
+      → Runs of left calls turns leaves size taken out → Runs of left calls turns leaves (suc size)
+      (and_later one_evaluation taken) out
   run_one_more of left calls turns leaves size taken (Gives after x) h = (
     h.0,
     h.1,
@@ -107,7 +108,7 @@ module _ (largest : ℕ) where
   run_joined : {B : Type 0} (of kept : B → ℕ) (calls turns leaves after stand s t over : ℕ) (c d : Cost) (out : Outcome B)
       → turns ≤ after → leaves ≤ stand → after + stand ≡ turns + leaves + c.counted
       → c.evaluations + paid largest calls (turns + leaves) + over ≤ s + paid largest calls (after + stand)
-      → Runs of kept calls after stand (t + over) d out → Runs of kept calls turns leaves (s + t) (c ⊕ d) out
+      → Runs of kept calls after stand (t + over) d out → Runs of kept calls turns leaves (s + t) (and_later c d) out
   run_joined of kept calls turns leaves after stand s t over c d (Gives later y) k l e h g = (
     let first = g.0 in omega arith,
     g.1,
@@ -125,7 +126,7 @@ module _ (largest : ℕ) where
       → Runs from left calls turns leaves s c out
       → ((after : ℕ) (x : A) → after ≤ most_turns → from x ≤ most_leaves
       → Runs of kept calls after (from x) (t + left x) (counted after x) (go after x))
-      → Runs of kept calls turns leaves (s + t) (c ⊕ cost_after out counted) (then_with out go)
+      → Runs of kept calls turns leaves (s + t) (cost_then c out counted) (then_with out go)
   run_then from left of kept calls turns leaves s t c (Gives after x) counted go h g =
       run_joined of kept calls turns leaves after (from x) s t (left x) c (counted after x) (go after x) h.0 h.2 h.5 h.4
       (g after x h.1 h.3)
@@ -137,7 +138,7 @@ module _ (largest : ℕ) where
       → Runs from nothing calls turns leaves s c out
       → ((after : ℕ) (x : A) → after ≤ most_turns → from x ≤ most_leaves
       → Runs of kept calls after (from x) t (counted after x) (go after x))
-      → Runs of kept calls turns leaves (s + t) (c ⊕ cost_after out counted) (then_with out go)
+      → Runs of kept calls turns leaves (s + t) (cost_then c out counted) (then_with out go)
   run_skip from of kept calls turns leaves s t c out counted go h g =
       run_then from nothing of kept calls turns leaves s t c out counted go h (λ after x k l.
       run_larger of kept calls after (from x) t (t + 0) (counted after x) (go after x) (omega arith) (g after x k l))
@@ -162,7 +163,7 @@ module _ (largest : ℕ) where
       → Costs (rate_with largest calls leaves) left turns s c out → Given P out
       → ((after : ℕ) (x : A) → after ≤ most_turns → P x → Runs of kept calls after leaves (t + left x) (counted after x)
       (go after x))
-      → Runs of kept calls turns leaves (s + t) (c ⊕ cost_after out counted) (then_with out go)
+      → Runs of kept calls turns leaves (s + t) (cost_then c out counted) (then_with out go)
   value_then P left of kept calls turns leaves s t c l (Gives after x) counted go h p g =
       run_joined of kept calls turns leaves after leaves s t (left x) c (counted after x) (go after x) h.0 (omega arith)
       (let same = h.3 in omega arith) h.2 (g after x h.1 p)
@@ -185,7 +186,7 @@ module _ (largest : ℕ) where
       (out : Outcome A) (counted : ℕ → A → Cost) (go : ℕ → A → Outcome B)
       → Costs (rate_with largest calls leaves) left turns s c out
       → ((after : ℕ) (x : A) → after ≤ most_turns → Runs of kept calls after leaves (t + left x) (counted after x) (go after x))
-      → Runs of kept calls turns leaves (s + t) (c ⊕ cost_after out counted) (then_with out go)
+      → Runs of kept calls turns leaves (s + t) (cost_then c out counted) (then_with out go)
   value_left left of kept calls turns leaves s t c l out counted go h g =
       value_then Whatever left of kept calls turns leaves s t c l out counted go h (whatever out) (λ after x k p. g after x k)
 
@@ -193,7 +194,7 @@ module _ (largest : ℕ) where
       (out : Outcome A) (counted : ℕ → A → Cost) (go : ℕ → A → Outcome B)
       → Costs (rate_with largest calls leaves) nothing turns s c out
       → ((after : ℕ) (x : A) → after ≤ most_turns → Runs of kept calls after leaves t (counted after x) (go after x))
-      → Runs of kept calls turns leaves (s + t) (c ⊕ cost_after out counted) (then_with out go)
+      → Runs of kept calls turns leaves (s + t) (cost_then c out counted) (then_with out go)
   value_skip of kept calls turns leaves s t c l out counted go h g =
       value_left nothing of kept calls turns leaves s t c l out counted go h (λ after x k.
       run_larger of kept calls after leaves t (t + 0) (counted after x) (go after x) (omega arith) (g after x k))
@@ -245,8 +246,8 @@ module _ (largest : ℕ) where
   -- a turn
   turn_by : {A : Type 0} (of left : A → ℕ) (calls turns leaves size : ℕ) (b : Bool) (at : Place) (counted : Cost) (go : Outcome A)
       → turns ≤ most_turns → leaves ≤ most_leaves → (b ≡ true
-      → Runs of left calls turns leaves size (so_many_counted 1 ⊕ counted) go)
-      → Runs of left calls turns leaves size (if b then so_many_counted 1 ⊕ counted else no_cost)
+      → Runs of left calls turns leaves size (and_later (so_many_counted 1) counted) go)
+      → Runs of left calls turns leaves size (if b then and_later (so_many_counted 1) counted else no_cost)
       (if b then go else Faults TooManyTurns at)
   turn_by of left calls turns leaves size true at counted go k l g = g refl
   turn_by of left calls turns leaves size false at counted go k l g = run_fault calls turns leaves size k l
@@ -254,7 +255,8 @@ module _ (largest : ℕ) where
   pub run_turn : {A : Type 0} (of left : A → ℕ) (calls turns leaves size : ℕ) (at : Place) (counted : ℕ → Cost)
       (go : ℕ → Outcome A)
       → turns ≤ most_turns → leaves ≤ most_leaves
-      → (turns + 1 ≤ most_turns → Runs of left calls turns leaves size (so_many_counted 1 ⊕ counted (turns + 1)) (go (turns + 1)))
+      → (turns + 1 ≤ most_turns → Runs of left calls turns leaves size (and_later (so_many_counted 1) (counted (turns + 1)))
+      (go (turns + 1)))
       → Runs of left calls turns leaves size (cost_of_turn turns counted) (turn at turns go)
   run_turn of left calls turns leaves size at counted go k l g =
       turn_by of left calls turns leaves size (nat_lt turns most_turns) at (counted (turns + 1)) (go (turns + 1)) k l
@@ -263,7 +265,7 @@ module _ (largest : ℕ) where
   -- a turn leaves over what a body costs
   pub run_later : {A : Type 0} (of : A → ℕ) (calls turns leaves size : ℕ) (taken : Cost) (out : Outcome A)
       → Runs of nothing calls (turns + 1) leaves size taken out
-      → Runs of (always largest) calls turns leaves size (so_many_counted 1 ⊕ taken) out
+      → Runs of (always largest) calls turns leaves size (and_later (so_many_counted 1) taken) out
   run_later of calls turns leaves size taken (Gives after x) h =
       let step = paid_by largest calls (turns + leaves) 1 ((turns + 1) + leaves) (omega arith) in
       (let first = h.0 in omega arith, h.1, h.2, h.3, let cost = h.4 in omega arith, let same = h.5 in omega arith)
@@ -284,7 +286,7 @@ module _ (largest : ℕ) where
   pub run_deeper : {A : Type 0} (of : A → ℕ) (n calls turns leaves size : ℕ) (taken : Cost) (out : Outcome A) → calls ≡ suc n
       → turns ≤ most_turns → leaves ≤ most_leaves
       → Runs of nothing n (turns + 1) leaves (size + largest) taken out
-      → Runs of nothing calls turns leaves size (so_many_counted 1 ⊕ taken) out
+      → Runs of nothing calls turns leaves size (and_later (so_many_counted 1) taken) out
   run_deeper of n calls turns leaves size taken (Gives after x) e k l h =
       let step = paid_by largest n (turns + leaves) 1 ((turns + 1) + leaves) (omega arith) in
       let first = h.0 in let second = h.2 in let cost = h.4 in let same = h.5 in
@@ -314,7 +316,8 @@ module _ (largest : ℕ) where
   idle_turn : (calls turns leaves size : ℕ) (taken : Cost) (b : Bool) (at : Place) (result : InstanceDesign)
       → nat_lt turns most_turns ≡ b
       → turns ≤ most_turns → leaves ≤ most_leaves → leaves ≡ result.leaves → taken.counted ≡ 0 → taken.evaluations ≤ size + largest
-      → Runs design_leaves nothing calls turns leaves size (taken ⊕ (if b then so_many_counted 1 ⊕ no_cost else no_cost))
+      → Runs design_leaves nothing calls turns leaves size (and_later taken
+      (if b then and_later (so_many_counted 1) no_cost else no_cost))
       (if b then Gives (turns + 1) result else Faults TooManyTurns at)
   idle_turn calls turns leaves size taken true at result b k l same none h =
       let step = paid_by largest calls (turns + leaves) 1 ((turns + 1) + result.leaves) (omega arith) in
@@ -332,14 +335,15 @@ module _ (largest : ℕ) where
   call_by : (n calls turns leaves after size : ℕ) (taken : Cost) (b : Bool) (at : Place) (result : InstanceDesign) → calls ≡ suc n
       → (nat_eq after turns && nat_eq result.leaves leaves) ≡ b → turns ≤ most_turns → leaves ≤ most_leaves
       → Runs design_leaves nothing n turns leaves (size + largest) taken (Gives after result)
-      → Runs design_leaves nothing calls turns leaves size (taken ⊕ counted_end b after) (turn_after_call at b after result)
+      → Runs design_leaves nothing calls turns leaves size (and_later taken (counted_end b after))
+      (turn_after_call at b after result)
   call_by n calls turns leaves after size taken true at result e b k l h =
       let same = both after turns result.leaves leaves b in
       let cost = h.4 in
       let first = same.0 in let second = same.1 in let counted = h.5 in
       let paid_here : paid largest n (after + result.leaves) ≤ paid largest n (turns + leaves) = paid_up_to largest n
       (after + result.leaves) (turns + leaves) (omega arith) in
-      subst (λ t. Runs design_leaves nothing calls turns leaves size (taken ⊕ counted_end true t)
+      subst (λ t. Runs design_leaves nothing calls turns leaves size (and_later taken (counted_end true t))
       (if nat_lt t most_turns then Gives (t + 1) result else Faults TooManyTurns at)) (sym same.0)
       (idle_turn calls turns leaves size taken (nat_lt turns most_turns) at result refl k l (sym same.1) (omega arith)
       (omega arith))
@@ -353,7 +357,7 @@ module _ (largest : ℕ) where
       → turns ≤ most_turns → leaves ≤ most_leaves
       → Runs design_leaves nothing n turns leaves (size + largest) taken out
       → Runs design_leaves nothing calls turns leaves size
-      (taken ⊕ cost_after out (λ after result. if nat_eq after turns && nat_eq result.leaves leaves then cost_of_turn after
+      (cost_then taken out (λ after result. if nat_eq after turns && nat_eq result.leaves leaves then cost_of_turn after
       (λ turns. no_cost) else no_cost))
       (counted_call at turns leaves out)
   run_counted n calls turns leaves size taken at (Gives after result) e k l h =

@@ -12,7 +12,7 @@ use Rattle.scad_builtin.specs.declared.function.Builtin.{Builtin}
 use Rattle.scad_builtin.specs.Builtins.{builtin_of, takes_count}
 use Rattle.scad_func.specs.Limits.{most_turns}
 use Rattle.scad_func.specs.Meaning.{Outcome, Gives, then_with, outcome_of_answer, Env, InnerScope, no_activation, visible_function, ExpressionContext, value_at_next_depth, expression_with_calls_left, in_scope, with_more_bindings, only_values, count_of_terms, BoundArguments, Arguments, each_argument, parameter_value, each_parameter, with_pairs, value_here, value_within}
-use Rattle.source_laws.specs.EvaluationCosts.{Cost, ◌⊕◌, no_cost, one_evaluation, so_many_counted, cost_after, cost_where, cost_of_turn, cost_in_call}
+use Rattle.source_laws.specs.EvaluationCosts.{Cost, and_later, no_cost, one_evaluation, so_many_counted, cost_after, cost_then, cost_where, cost_of_turn, cost_in_call}
 
 -- what an expression one deeper takes: by whether its elements count, the calls that are left, the scope, the dynamic bindings,
 -- the expression and the turns so far
@@ -28,26 +28,26 @@ cost_at_next_depth counting here counts expression turns =
 abbrev pub cost_of_each_value : ExpressionCost → ExpressionContext → Terms → ℕ → Cost
 cost_of_each_value counting here no_terms turns = no_cost
 cost_of_each_value counting here (and_term expression rest) turns =
-    cost_at_next_depth counting here true expression turns
-    ⊕ cost_after (value_at_next_depth here true expression turns) (λ turns value. cost_of_each_value counting here rest turns)
+    cost_then (cost_at_next_depth counting here true expression turns)
+    (value_at_next_depth here true expression turns) (λ turns value. cost_of_each_value counting here rest turns)
 
 -- of the arguments of a call
 abbrev pub cost_of_each_argument : ExpressionCost → ExpressionContext → List (List ℕ) → ℕ → ArgTerms → Arguments → ℕ → Cost
 cost_of_each_argument counting here names positional no_args given turns = no_cost
 cost_of_each_argument counting here names positional (and_named at name expression rest) given turns =
     cost_where (destination_of names positional given (NamedTerm at name expression)) (λ target.
-    cost_at_next_depth counting here true expression turns
-    ⊕ cost_after (value_at_next_depth here true expression turns) (λ turns value.
+    cost_then (cost_at_next_depth counting here true expression turns)
+    (value_at_next_depth here true expression turns) (λ turns value.
     cost_of_each_argument counting here names positional rest (with_argument given target value) turns))
 cost_of_each_argument counting here names positional (and_special at name expression rest) given turns =
     cost_where (destination_of names positional given (SpecialArgTerm at name expression)) (λ target.
-    cost_at_next_depth counting here true expression turns
-    ⊕ cost_after (value_at_next_depth here true expression turns) (λ turns value.
+    cost_then (cost_at_next_depth counting here true expression turns)
+    (value_at_next_depth here true expression turns) (λ turns value.
     cost_of_each_argument counting here names positional rest (with_argument given target value) turns))
 cost_of_each_argument counting here names positional (and_positional expression rest) given turns =
     cost_where (destination_of names positional given (PositionalTerm expression)) (λ target.
-    cost_at_next_depth counting here true expression turns
-    ⊕ cost_after (value_at_next_depth here true expression turns) (λ turns value.
+    cost_then (cost_at_next_depth counting here true expression turns)
+    (value_at_next_depth here true expression turns) (λ turns value.
     cost_of_each_argument counting here names (positional + 1) rest (with_argument given target value) turns))
 
 -- of a parameter: those of its default where it was given nothing
@@ -61,15 +61,15 @@ abbrev pub cost_of_each_parameter : ExpressionCost → ExpressionContext → Lis
 cost_of_each_parameter counting here [] bound turns = no_cost
 cost_of_each_parameter counting here (param ∷ params) [] turns = no_cost
 cost_of_each_parameter counting here (param ∷ params) (bound_argument ∷ bound) turns =
-    cost_of_parameter counting here param bound_argument turns
-    ⊕ cost_after (parameter_value here param bound_argument turns) (λ turns value.
+    cost_then (cost_of_parameter counting here param bound_argument turns)
+    (parameter_value here param bound_argument turns) (λ turns value.
     cost_of_each_parameter counting here params bound turns)
 
 -- of a function of the source in a call: those of its defaults and of its value
 abbrev pub cost_of_function : ExpressionCost → ExpressionContext → SourceFunction → Arguments → ℕ → Cost
 cost_of_function counting defining_scope function given turns =
-    cost_of_each_parameter counting (with_more_bindings defining_scope given.dynamic) function.params given.bound turns
-    ⊕ cost_after (each_parameter (with_more_bindings defining_scope given.dynamic) function.params given.bound turns)
+    cost_then (cost_of_each_parameter counting (with_more_bindings defining_scope given.dynamic) function.params given.bound turns)
+    (each_parameter (with_more_bindings defining_scope given.dynamic) function.params given.bound turns)
     (λ turns values.
     cost_at_next_depth counting (in_scope (with_more_bindings defining_scope given.dynamic)
     (InnerScope (with_pairs (parameter_names function.params) values []) [] [] no_activation defining_scope.env))
@@ -92,9 +92,9 @@ cost_of_built_in_call counting here args turns (Some builtin) =
 -- of a call: those of its arguments and of its function
 abbrev pub cost_of_call : ExpressionCost → ExpressionContext → List ℕ → ArgTerms → ℕ → Option (SourceFunction × Env) → Cost
 cost_of_call counting here name args turns (Some found) =
-    cost_of_each_argument counting here (parameter_names found.0.params) 0 args
-    (no_arguments_of (length (parameter_names found.0.params))) turns
-    ⊕ cost_after (each_argument here (parameter_names found.0.params) 0 args
+    cost_then (cost_of_each_argument counting here (parameter_names found.0.params) 0 args
+    (no_arguments_of (length (parameter_names found.0.params))) turns)
+    (each_argument here (parameter_names found.0.params) 0 args
     (no_arguments_of (length (parameter_names found.0.params))) turns) (λ turns given.
     cost_of_function_call counting (in_scope here found.1) found.0 given turns)
 cost_of_call counting here name args turns None = cost_of_built_in_call counting here args turns (builtin_of name)
@@ -114,31 +114,31 @@ abbrev mutual
   cost_inside counting here (ParenTerm at inner) turns = cost_at_next_depth counting here true inner turns
   cost_inside counting here (ListTerm at items) turns = cost_of_each_value counting here items turns
   cost_inside counting here (RangeTerm at from to) turns =
-      cost_at_next_depth counting here true from turns
-      ⊕ cost_after (value_at_next_depth here true from turns) (λ turns first. cost_at_next_depth counting here true to turns)
+      cost_then (cost_at_next_depth counting here true from turns)
+      (value_at_next_depth here true from turns) (λ turns first. cost_at_next_depth counting here true to turns)
   cost_inside counting here (SteppedRangeTerm at from step to) turns =
-      cost_at_next_depth counting here true from turns
-      ⊕ cost_after (value_at_next_depth here true from turns) (λ turns first.
-      cost_at_next_depth counting here true step turns
-      ⊕ cost_after (value_at_next_depth here true step turns) (λ turns by. cost_at_next_depth counting here true to turns))
+      cost_then (cost_at_next_depth counting here true from turns)
+      (value_at_next_depth here true from turns) (λ turns first.
+      cost_then (cost_at_next_depth counting here true step turns)
+      (value_at_next_depth here true step turns) (λ turns by. cost_at_next_depth counting here true to turns))
   cost_inside counting here (PostfixTerm at of rest) turns =
-      (one_evaluation ⊕ cost_inside counting here of turns)
-      ⊕ cost_after (value_here here of turns) (λ turns value. cost_of_each_suffix counting here value rest turns)
+      cost_then (and_later one_evaluation (cost_inside counting here of turns))
+      (value_here here of turns) (λ turns value. cost_of_each_suffix counting here value rest turns)
   cost_inside counting here (UnaryTerm at op of) turns = cost_at_next_depth counting here false of turns
   cost_inside counting here (ChainTerm at first rest) turns =
-      (one_evaluation ⊕ cost_inside counting here first turns)
-      ⊕ cost_after (value_here here first turns) (λ turns value. cost_of_each_link counting here value rest turns)
+      cost_then (and_later one_evaluation (cost_inside counting here first turns))
+      (value_here here first turns) (λ turns value. cost_of_each_link counting here value rest turns)
   cost_inside counting here (ChoiceTerm at test mark one other) turns =
-      (one_evaluation ⊕ cost_inside counting here test turns)
-      ⊕ cost_after (value_here here test turns) (λ turns value.
+      cost_then (and_later one_evaluation (cost_inside counting here test turns))
+      (value_here here test turns) (λ turns value.
       cost_at_next_depth counting here true (cond (truth_of value) one other) turns)
 
   -- of the indexes behind a value
   pub cost_of_each_suffix : ExpressionCost → ExpressionContext → Val → SuffixTerms → ℕ → Cost
   cost_of_each_suffix counting here value no_suffixes turns = no_cost
   cost_of_each_suffix counting here value (and_index at index rest) turns =
-      cost_at_next_depth counting here true index turns
-      ⊕ cost_after (value_at_next_depth here true index turns) (λ turns number.
+      cost_then (cost_at_next_depth counting here true index turns)
+      (value_at_next_depth here true index turns) (λ turns number.
       cost_after (outcome_of_answer (index_of value number) at turns) (λ turns item.
       cost_of_each_suffix counting here item rest turns))
   cost_of_each_suffix counting here value (and_member at name name_at rest) turns =
@@ -150,8 +150,8 @@ abbrev mutual
   pub cost_of_each_link : ExpressionCost → ExpressionContext → Val → LinkTerms → ℕ → Cost
   cost_of_each_link counting here value no_links turns = no_cost
   cost_of_each_link counting here value (and_link op at right rest) turns =
-      (if wants_right op value then (one_evaluation ⊕ cost_inside counting here right turns) else no_cost)
-      ⊕ cost_after (if wants_right op value
+      cost_then (if wants_right op value then (and_later one_evaluation (cost_inside counting here right turns)) else no_cost)
+      (if wants_right op value
       then then_with (value_here here right turns) (λ turns other. outcome_of_answer (binary_of op value other) at turns)
       else Gives turns (TruthVal (truth_of value)))
       (λ turns result. cost_of_each_link counting here result rest turns)
@@ -174,5 +174,5 @@ cost_within (suc n) counts calls env bindings expression turns =
       env = env;
       bindings = bindings;
     } in
-    (one_evaluation ⊕ cost_inside (cost_within n) here expression turns)
-    ⊕ elements_counted counts (value_here here expression turns)
+    and_later (and_later one_evaluation (cost_inside (cost_within n) here expression turns))
+    (elements_counted counts (value_here here expression turns))

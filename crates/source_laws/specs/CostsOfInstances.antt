@@ -24,7 +24,7 @@ use Rattle.scad_meaning.specs.Verdicts.{Judge, Verdict}
 use Rattle.scad_meaning.specs.Bodies.{has_root_modifier}
 use Rattle.scad_meaning.specs.Loops.{iterated_values}
 use Rattle.scad_meaning.specs.Meaning.{Context, InstanceDesign, body_design, chosen_children, inside_scope, with_bindings, with_calls_left, inside_root, inside_extrusion, expression_context, MemberDesigns, Evaluator, assigned_value, with_assignment, each_assignment, core_of_instance, instances_chosen, counted_step, in_loop, each_iteration, module_scope, arguments_for, most_leaves, program_context, each_in_scope, design_within, evaluator_with}
-use Rattle.source_laws.specs.EvaluationCosts.{Cost, ◌⊕◌, no_cost, one_evaluation, so_many_counted, cost_after, cost_where, cost_of_turn, cost_in_call}
+use Rattle.source_laws.specs.EvaluationCosts.{Cost, and_later, no_cost, one_evaluation, so_many_counted, cost_then, cost_where, cost_of_turn, cost_in_call}
 use Rattle.source_laws.specs.CostsOfExpressions.{ExpressionCost, cost_at_next_depth, cost_of_each_argument, cost_of_each_parameter, cost_within}
 
 -- what an instance one deeper takes: by where it stands, the instance, and the turns and the leaves so far
@@ -49,29 +49,30 @@ cost_of_expression evaluations here expression turns =
 -- of an assignment: its own and those of its expression
 abbrev pub cost_of_assigned : ℕ → Context → SourceAssignment → ℕ → Cost
 cost_of_assigned zero here assignment turns = one_evaluation
-cost_of_assigned (suc evaluations) here assignment turns = one_evaluation ⊕ cost_of_expression evaluations here assignment.value turns
+cost_of_assigned (suc evaluations) here assignment turns =
+    and_later one_evaluation (cost_of_expression evaluations here assignment.value turns)
 
 -- of assignments, from the first on
 abbrev pub cost_of_each_assignment : ℕ → Context → List SourceAssignment → ℕ → Cost
 cost_of_each_assignment evaluations here [] turns = no_cost
 cost_of_each_assignment evaluations here (assignment ∷ rest) turns =
-    cost_of_assigned evaluations here assignment turns
-    ⊕ cost_after (assigned_value evaluations here assignment turns) (λ turns value.
+    cost_then (cost_of_assigned evaluations here assignment turns)
+    (assigned_value evaluations here assignment turns) (λ turns value.
     cost_of_each_assignment evaluations (with_assignment assignment value here) rest turns)
 
 -- of instances, in order
 abbrev pub cost_of_each_member : InstanceCost → Evaluator → Context → List InstanceTerm → ℕ → ℕ → Cost
 cost_of_each_member counting evaluator here [] turns leaves = no_cost
 cost_of_each_member counting evaluator here (instance ∷ instances) turns leaves =
-    counting here instance turns leaves
-    ⊕ cost_after (evaluator.at_next_depth here instance turns leaves) (λ turns result.
+    cost_then (counting here instance turns leaves)
+    (evaluator.at_next_depth here instance turns leaves) (λ turns result.
     cost_of_each_member counting evaluator here instances turns result.leaves)
 
 -- of a block in its scope: those of its assignments and of its instances, or of the chosen ones of its children
 abbrev pub cost_of_block : InstanceCost → Evaluator → Option ChosenCall → StatementTerms → Context → ℕ → ℕ → Cost
 cost_of_block counting evaluator chosen statements here turns leaves =
-    cost_of_each_assignment evaluator.evaluations here (assignments_of statements) turns
-    ⊕ cost_after (each_assignment evaluator.evaluations here (assignments_of statements) turns) (λ turns there.
+    cost_then (cost_of_each_assignment evaluator.evaluations here (assignments_of statements) turns)
+    (each_assignment evaluator.evaluations here (assignments_of statements) turns) (λ turns there.
     cost_of_each_member counting evaluator there (instances_chosen there.env chosen statements) turns leaves)
 
 -- of a body in its scope
@@ -93,9 +94,9 @@ cost_of_step_end (design ∷ designs) turns = no_cost
 abbrev pub cost_of_each_step : Place → (Val → ℕ → ℕ → Outcome MemberDesigns) → (Val → ℕ → ℕ → Cost) → Vals → ℕ → ℕ → Cost
 cost_of_each_step at step count no_vals turns leaves = no_cost
 cost_of_each_step at step count (and_val item items) turns leaves =
-    count item turns leaves
-    ⊕ cost_after (step item turns leaves) (λ turns members. cost_of_step_end members.designs turns)
-    ⊕ cost_after (counted_step at (step item turns leaves)) (λ turns members.
+    cost_then (cost_then (count item turns leaves)
+    (step item turns leaves) (λ turns members. cost_of_step_end members.designs turns))
+    (counted_step at (step item turns leaves)) (λ turns members.
     cost_of_each_step at step count items turns members.leaves)
 
 -- of the iterations of a loop: those of its body in each, and those of what a variable goes over for each choice of values for
@@ -104,8 +105,8 @@ abbrev pub cost_of_each_iteration : InstanceCost → Evaluator → Place → Lis
 cost_of_each_iteration counting evaluator at [] body here turns leaves =
     cost_of_turn turns (λ turns. cost_of_body counting evaluator here body turns leaves)
 cost_of_each_iteration counting evaluator at (binder ∷ binders) body here turns leaves =
-    cost_of_expression evaluator.evaluations here binder.values turns
-    ⊕ cost_after (value_at_next_depth (expression_context evaluator.evaluations here) true binder.values turns) (λ turns value.
+    cost_then (cost_of_expression evaluator.evaluations here binder.values turns)
+    (value_at_next_depth (expression_context evaluator.evaluations here) true binder.values turns) (λ turns value.
     cost_where (iterated_values value) (λ items.
     cost_of_each_step at (λ item. each_iteration evaluator at binders body (in_loop here binder.name item))
     (λ item. cost_of_each_iteration counting evaluator at binders body (in_loop here binder.name item)) items turns leaves))
@@ -121,10 +122,10 @@ abbrev pub cost_of_module_with_arguments : InstanceCost → Evaluator → Source
     → Cost
 cost_of_module_with_arguments counting evaluator found given body here turns leaves =
     let there = with_bindings here (given.dynamic ++ here.bindings) in
-    cost_of_each_parameter (cost_within evaluator.evaluations)
+    cost_then (cost_of_each_parameter (cost_within evaluator.evaluations)
     (expression_context evaluator.evaluations (inside_scope there found.1))
-    found.0.params given.bound turns
-    ⊕ cost_after (each_parameter (expression_context evaluator.evaluations (inside_scope there found.1)) found.0.params
+    found.0.params given.bound turns)
+    (each_parameter (expression_context evaluator.evaluations (inside_scope there found.1)) found.0.params
     given.bound turns)
     (λ turns values. cost_of_module_with_values counting evaluator found values body there turns leaves)
 
@@ -139,17 +140,17 @@ cost_of_module counting evaluator here found given body turns leaves =
 abbrev pub cost_of_each_echo_argument : ExpressionCost → ExpressionContext → ArgTerms → Arguments → ℕ → Cost
 cost_of_each_echo_argument counting here no_args given turns = no_cost
 cost_of_each_echo_argument counting here (and_named at name expression rest) given turns =
-    cost_at_next_depth counting here true expression turns
-    ⊕ cost_after (value_at_next_depth here true expression turns) (λ turns value.
+    cost_then (cost_at_next_depth counting here true expression turns)
+    (value_at_next_depth here true expression turns) (λ turns value.
     cost_of_each_echo_argument counting here rest given turns)
 cost_of_each_echo_argument counting here (and_special at name expression rest) given turns =
     cost_where (destination_of [] 0 given (SpecialArgTerm at name expression)) (λ target.
-    cost_at_next_depth counting here true expression turns
-    ⊕ cost_after (value_at_next_depth here true expression turns) (λ turns value.
+    cost_then (cost_at_next_depth counting here true expression turns)
+    (value_at_next_depth here true expression turns) (λ turns value.
     cost_of_each_echo_argument counting here rest (with_argument given target value) turns))
 cost_of_each_echo_argument counting here (and_positional expression rest) given turns =
-    cost_at_next_depth counting here true expression turns
-    ⊕ cost_after (value_at_next_depth here true expression turns) (λ turns value.
+    cost_then (cost_at_next_depth counting here true expression turns)
+    (value_at_next_depth here true expression turns) (λ turns value.
     cost_of_each_echo_argument counting here rest given turns)
 
 -- of the arguments of a built-in module
@@ -174,8 +175,8 @@ cost_of_chosen_children counting evaluator chosen here turns leaves =
 -- of a call of `children` with the turn at its end: where it counted nothing and gave no leaf, seen from where it began
 abbrev pub cost_of_counted_children : InstanceCost → Evaluator → Place → ChosenCall → Context → ℕ → ℕ → Cost
 cost_of_counted_children counting evaluator at chosen here turns leaves =
-    cost_of_chosen_children counting evaluator chosen here turns leaves
-    ⊕ cost_after (chosen_children evaluator at chosen here turns leaves) (λ after result.
+    cost_then (cost_of_chosen_children counting evaluator chosen here turns leaves)
+    (chosen_children evaluator at chosen here turns leaves) (λ after result.
     if nat_eq after turns && nat_eq result.leaves leaves then cost_of_turn after (λ turns. no_cost) else no_cost)
 
 -- of one leaf more
@@ -201,8 +202,8 @@ cost_of_effect counting evaluator here at (a_flat call) body turns leaves = cost
 cost_of_effect counting evaluator here at (a_move steps) body turns leaves = cost_of_body counting evaluator here body turns leaves
 cost_of_effect counting evaluator here at (a_join op) body turns leaves = cost_of_body counting evaluator here body turns leaves
 cost_of_effect counting evaluator here at a_hull body turns leaves =
-    cost_of_body counting evaluator here body turns leaves
-    ⊕ cost_after (body_design evaluator Union here body turns leaves)
+    cost_then (cost_of_body counting evaluator here body turns leaves)
+    (body_design evaluator Union here body turns leaves)
     (λ turns result. cost_of_hull (evaluator.judge.hull result.design) result)
 cost_of_effect counting evaluator here at (an_extrusion center height) body turns leaves =
     cost_unless_refused (evaluator.judge.height evaluator.unit center height)
@@ -225,18 +226,18 @@ abbrev pub cost_of_built_in : InstanceCost → Evaluator → Context → Place �
     → Cost
 cost_of_built_in counting evaluator here at args body None turns leaves = no_cost
 cost_of_built_in counting evaluator here at args body (Some builtin) turns leaves =
-    cost_of_arguments_for builtin (cost_within evaluator.evaluations) (expression_context evaluator.evaluations here)
-    (args_from args) turns
-    ⊕ cost_after (arguments_for builtin (expression_context evaluator.evaluations here) (args_from args) turns) (λ turns given.
+    cost_then (cost_of_arguments_for builtin (cost_within evaluator.evaluations) (expression_context evaluator.evaluations here)
+    (args_from args) turns)
+    (arguments_for builtin (expression_context evaluator.evaluations here) (args_from args) turns) (λ turns given.
     cost_of_built_in_with_arguments counting evaluator at builtin given body here turns leaves)
 
 -- of a call of a module
 abbrev pub cost_of_module_call : InstanceCost → Evaluator → Context → Place → List ℕ → List ArgTerm → BodyTerm
     → Option (SourceModule × Env) → ℕ → ℕ → Cost
 cost_of_module_call counting evaluator here at name args body (Some found) turns leaves =
-    cost_of_each_argument (cost_within evaluator.evaluations) (expression_context evaluator.evaluations here)
-    (parameter_names found.0.params) 0 (args_from args) (no_arguments_of (length found.0.params)) turns
-    ⊕ cost_after (each_argument (expression_context evaluator.evaluations here) (parameter_names found.0.params) 0 (args_from args)
+    cost_then (cost_of_each_argument (cost_within evaluator.evaluations) (expression_context evaluator.evaluations here)
+    (parameter_names found.0.params) 0 (args_from args) (no_arguments_of (length found.0.params)) turns)
+    (each_argument (expression_context evaluator.evaluations here) (parameter_names found.0.params) 0 (args_from args)
     (no_arguments_of (length found.0.params)) turns) (λ turns given.
     cost_of_module counting evaluator here found given body turns leaves)
 cost_of_module_call counting evaluator here at name args body None turns leaves =
@@ -245,12 +246,12 @@ cost_of_module_call counting evaluator here at name args body None turns leaves 
 -- of an instance without its modifiers, but for its own
 abbrev pub cost_of_core : InstanceCost → Evaluator → Context → CoreTerm → ℕ → ℕ → Cost
 cost_of_core counting evaluator here (IfTerm at test body) turns leaves =
-    cost_of_expression evaluator.evaluations here test turns
-    ⊕ cost_after (value_at_next_depth (expression_context evaluator.evaluations here) true test turns) (λ turns value.
+    cost_then (cost_of_expression evaluator.evaluations here test turns)
+    (value_at_next_depth (expression_context evaluator.evaluations here) true test turns) (λ turns value.
     if truth_of value then cost_of_body counting evaluator here body turns leaves else no_cost)
 cost_of_core counting evaluator here (IfElseTerm at test body other) turns leaves =
-    cost_of_expression evaluator.evaluations here test turns
-    ⊕ cost_after (value_at_next_depth (expression_context evaluator.evaluations here) true test turns) (λ turns value.
+    cost_then (cost_of_expression evaluator.evaluations here test turns)
+    (value_at_next_depth (expression_context evaluator.evaluations here) true test turns) (λ turns value.
     cost_of_body counting evaluator here (if truth_of value then body else other) turns leaves)
 cost_of_core counting evaluator here (ForTerm at binders body) turns leaves =
     cost_of_each_iteration counting evaluator at binders body here turns leaves
@@ -277,9 +278,9 @@ cost_of_instance counting evaluator here instance turns leaves =
 unfoldable pub cost_of_design_within : LengthUnit → Judge → ℕ → InstanceCost
 cost_of_design_within unit judge zero here instance turns leaves = one_evaluation
 cost_of_design_within unit judge (suc evaluations) here instance turns leaves =
-    one_evaluation ⊕ cost_of_instance (cost_of_design_within unit judge evaluations)
+    and_later one_evaluation (cost_of_instance (cost_of_design_within unit judge evaluations)
     (record { unit = unit; judge = judge; evaluations = evaluations; at_next_depth = design_within unit judge evaluations })
-    here instance turns leaves
+    here instance turns leaves)
 
 -- what the run of a program takes and counts
 unfoldable pub cost_of_program : LengthUnit → Judge → Pairs Val → StatementTerms → Cost

@@ -8,10 +8,9 @@ pub record Cost : Type 0 where
   pub evaluations : ℕ
   pub counted : ℕ
 
-infixl 65 ◌⊕◌
 -- one after the other
-abbrev pub ◌⊕◌ : Cost → Cost → Cost
-◌⊕◌ first later = record {
+abbrev pub and_later : Cost → Cost → Cost
+and_later first later = record {
   evaluations = first.evaluations + later.evaluations;
   counted = first.counted + later.counted;
 }
@@ -33,6 +32,10 @@ abbrev pub cost_after : {A : Type 0} → Outcome A → (ℕ → A → Cost) → 
 cost_after (Gives turns x) go = go turns x
 cost_after (Faults kind at) go = no_cost
 
+-- a cost, and that of what comes behind the value of its outcome
+abbrev pub cost_then : {A : Type 0} → Cost → Outcome A → (ℕ → A → Cost) → Cost
+cost_then first outcome go = and_later first (cost_after outcome go)
+
 -- the cost of what is done with something, where it is there
 abbrev pub cost_where : {A : Type 0} → Option A → (A → Cost) → Cost
 cost_where None go = no_cost
@@ -40,7 +43,7 @@ cost_where (Some x) go = go x
 
 -- the cost of a turn, and of what comes behind it
 abbrev pub cost_of_turn : ℕ → (ℕ → Cost) → Cost
-cost_of_turn turns go = if nat_lt turns most_turns then so_many_counted 1 ⊕ go (turns + 1) else no_cost
+cost_of_turn turns go = if nat_lt turns most_turns then and_later (so_many_counted 1) (go (turns + 1)) else no_cost
 
 -- the cost of what is done one call deeper, where one is left
 abbrev pub cost_in_call : ℕ → (ℕ → Cost) → Cost
