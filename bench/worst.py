@@ -157,6 +157,11 @@ def outward_names(count: int) -> str:
     return f"x = 1; for ({numbered('i# = [0:0]', 1000, ', ')}) {{ {numbered('a#=x;', count)} }}"
 
 
+def loop_variables(count: int) -> str:
+    """A loop of so many variables, each of which looks a name up from outside them all."""
+    return f"x = 0; for ({numbered('i#=[x:x]', count, ', ')}) cube(1);"
+
+
 def called_sum(count: int) -> str:
     """A function that is a long sum, and a tenth as many calls of it."""
     return f"function f() = {repeated('1', count, ' + ')}; for (i = [1:{count // 10}]) {{ a = f(); }}"
@@ -183,6 +188,7 @@ FAMILIES = {
     "assigns": Family("n assignments, n / 4 times", lambda n: entered(numbered("v#=0;", n), n // 4), (2500, 5000, 10000)),
     "same-name": Family("n assignments of one name", lambda n: numbered("x=#;", n), (20000, 40000, 80000)),
     "names-outward": Family("names from a thousand scopes outward", outward_names, (5000, 10000, 20000)),
+    "loop-variables": Family("a loop of n variables, a name outside each", loop_variables, (5000, 10000, 20000)),
     "sum": Family("a sum of n ones", lambda n: f"x = {repeated('1', n, ' + ')};", (50000, 100000, 200000)),
     "sum-called": Family("a sum of n ones, n / 10 times", called_sum, (5000, 10000, 20000)),
     "list-equal": Family(
