@@ -76,7 +76,7 @@ keep_record() {
 rt_ci_left_it() {
     (
         cd "$top" || exit 1
-        crates=$(sed -n 's/^\([a-z0-9_]*\) *[a-z]*:.*/\1/p' crates.txt)
+        crates=$(sed -n 's/^\([a-z0-9_]\{1,\}\)[^:#]*:.*/\1/p' crates.txt)
         [ -n "$crates" ] || exit 1
         born=$(for crate in $crates; do stat -c %W "crates/$crate/out" || echo 0; done 2>/dev/null | sort -n)
         first=$(echo "$born" | head -n 1)

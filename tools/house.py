@@ -1,11 +1,13 @@
 #!/usr/bin/env python3
 """Keeps the crates in their layers, and docs/ARCHITECTURE.md in step with them: ./tools/house.py [--write] [--gate LOG]
 
-crates.txt has a section for each layer, lowest first, headed by a comment `# layer: what it is for`. A crate stands on crates of
-its own layer or of lower ones. The page's picture of the layers and its table of crates are made from that file and from the first
-paragraph of `//!` lines of each crate's root file; with --write they are made anew. Each fault is a line on standard output:
+crates.txt has a section for each layer, lowest first, headed by a comment `# layer: what it is for`, and below it maybe another one,
+`# must not know: layer, layer`. A crate stands on crates of its own layer or of lower ones, and none that it reaches by way of
+others either is of a layer that its own must not know. The page's picture of the layers and its table of crates are made from that
+file and from the first sentence of each crate's root file; with --write they are made anew. Each fault is a line on standard output:
 
 - a crate that stands on one of a higher layer, on itself by way of others, or in no layer, or that says nothing of itself;
+- a crate that reaches one of a layer that its own must not know, and such a layer that is none of the lower ones;
 - a chain of more than ten crates;
 - a crate that stands on a library of the kit other than those that are named here: a contract says what a call does with what it is
   given, and some libraries reach files and streams by number, which no call is given;
@@ -30,6 +32,7 @@ MOST_IN_A_CHAIN = 10
 #: The libraries of the kit that crates may stand on. None of them reaches beyond what its calls are given.
 OF_THE_KIT = frozenset(("clap", "hex", "indexmap", "itoa", "lru", "sha2", "smallvec"))
 HEAD = re.compile(r"# (?P<name>[a-z ]+): (?P<purpose>.+)")
+BOUND = "# must not know: "
 #: What the page has between these two lines is made by this tool.
 MADE = re.compile(r"(?P<begin><!-- made by tools/house\.py: (?P<what>\w+) -->\n)(?P<text>.*?)(?P<end><!-- end -->)", re.DOTALL)
 #: A name of the sources, as the page has it: at least two words, so that a word of a language is none.
@@ -49,14 +52,23 @@ class Crate:
 
 @dataclass
 class House:
-    """The layers with their purposes, lowest first, and the crates by name in the order of the file."""
+    """The layers with their purposes, lowest first, the crates by name in the order of the file, and by a layer's number the names
+    of those that it must not know."""
 
     layers: list[tuple[str, str]] = field(default_factory=list)
     crates: dict[str, Crate] = field(default_factory=dict)
+    bounds: dict[int, list[str]] = field(default_factory=dict)
 
     def own(self, crate: Crate) -> list[str]:
         """The crates of the repository that one stands on."""
         return [name for name in crate.below if name in self.crates]
+
+    def reached(self, crate: Crate) -> list[str]:
+        """The crates of the repository that one stands on, and those that these stand on."""
+        found = self.own(crate)
+        for name in found:
+            found += [it for it in self.own(self.crates[name]) if it not in found]
+        return found
 
     def of_layer(self, layer: int) -> list[Crate]:
         return [crate for crate in self.crates.values() if crate.layer == layer]
@@ -66,6 +78,9 @@ def read(top: Path) -> House:
     """The house that crates.txt describes. A crate before the first head has the layer -1."""
     house = House()
     for line in (top / "crates.txt").read_text(encoding="utf-8").splitlines():
+        if line.startswith(BOUND):
+            house.bounds[len(house.layers) - 1] = line[len(BOUND) :].split(", ")
+            continue
         head = HEAD.fullmatch(line)
         if head:
             house.layers.append((head["name"], head["purpose"]))
@@ -79,7 +94,7 @@ def read(top: Path) -> House:
 
 
 def summary(top: Path, name: str) -> str:
-    """The first paragraph of what a crate's root file says of it, in one line; empty where it says nothing."""
+    """The first sentence of what a crate's root file says of it, in one line; empty where it says nothing."""
     said = []
     for root in ("lib.rt", "main.rt"):
         file = top / "crates" / name / "src" / root
@@ -88,7 +103,7 @@ def summary(top: Path, name: str) -> str:
                 if not line.startswith("//! "):
                     break
                 said.append(line[len("//! ") :])
-    return " ".join(said)
+    return re.split(r"(?<=\.) ", " ".join(said))[0]
 
 
 def chains(house: House) -> dict[str, int]:
@@ -110,12 +125,19 @@ def chains(house: House) -> dict[str, int]:
 def misplaced(house: House, top: Path) -> Iterator[str]:
     """What is wrong with the crates themselves."""
     lengths = chains(house)
+    names = [name for name, _ in house.layers]
+    for layer, barred in house.bounds.items():
+        for name in sorted({*barred} - {*names[: max(layer, 0)]}):
+            yield f"crates.txt: there is no layer {name} below the one that must not know it"
     for crate in house.crates.values():
         if crate.layer < 0:
             yield f"crates.txt: {crate.name} stands in no layer"
         for name in house.own(crate):
             if house.crates[name].layer > crate.layer:
                 yield f"crates.txt: {crate.name} stands on {name}, which is of a higher layer"
+        for barred in house.bounds.get(crate.layer, []):
+            for name in [it for it in house.reached(crate) if names[house.crates[it].layer] == barred][:1]:
+                yield f"crates.txt: {crate.name} reaches {name} of {barred}, which its layer must not know"
         for name in sorted({*crate.below} - {*house.crates} - OF_THE_KIT):
             yield f"crates.txt: {crate.name} stands on {name}, which is neither a crate nor a library that crates may stand on"
         if lengths[crate.name] > MOST_IN_A_CHAIN:

@@ -8,7 +8,6 @@ says nothing of itself is status 1 in any case.
 
 from __future__ import annotations
 
-import re
 import sys
 from pathlib import Path
 
@@ -25,7 +24,7 @@ class Failure(Exception):
 
 def about(top: Path, crate: str) -> str:
     """The first sentence that a crate says of itself, for a row of a table."""
-    said = re.split(r"(?<=\.) ", summary(top, crate))[0].replace("|", "\\|")
+    said = summary(top, crate).replace("|", "\\|")
     if not said:
         raise Failure(f"crates/{crate} says nothing of itself: its root file begins with no //! line")
     return said

@@ -10,10 +10,18 @@ from pathlib import Path
 
 from tests.calls import TOP
 
-SPEC = importlib.util.spec_from_file_location("house", Path(TOP, "tools", "house.py"))
-house = importlib.util.module_from_spec(SPEC)
-sys.modules["house"] = house
-SPEC.loader.exec_module(house)
+
+
+def loaded(name, *where):
+    spec = importlib.util.spec_from_file_location(name, Path(TOP, *where))
+    found = importlib.util.module_from_spec(spec)
+    sys.modules[name] = found
+    spec.loader.exec_module(found)
+    return found
+
+
+house = loaded("house", "tools", "house.py")
+edits = loaded("edits", "bench", "edits.py")
 
 PAGE = """# How it is built
 
@@ -38,7 +46,7 @@ class House(unittest.TestCase):
         self.page = self.top / "docs" / "ARCHITECTURE.md"
         self.page.write_text(PAGE)
         self.crate("low_words", "//! Words.\n\npub fn read_words() {}\n")
-        self.crate("high_words", "//! What is made\n//! of words.\n//!\n//! More.\n")
+        self.crate("high_words", "//! What is made\n//! of words. And more.\n//!\n//! More.\n")
         self.list("# ground: words\nlow_words: itoa\n\n# roof: what is made of words\nhigh_words may_wait=2: low_words\n")
 
     def crate(self, name, text):
@@ -64,6 +72,11 @@ class House(unittest.TestCase):
             self.assertEqual(house.main([]), 0, out.getvalue())
         self.assertEqual(out.getvalue(), "")
 
+    def test_what_is_measured_by_phases_is_of_crates_or_of_libraries(self):
+        known = {*house.read(Path(TOP)).crates, *house.OF_THE_KIT, "core", "std_alloc", "std_collections"}
+        names = {it.split("::")[0] for it in [*edits.FRAME, *[name for names in edits.PHASES.values() for name in names]]}
+        self.assertEqual(names - known, set())
+
     def test_a_page_is_out_of_date_until_it_is_written(self):
         status, out = self.call()
         self.assertEqual(status, 1)
@@ -82,6 +95,19 @@ class House(unittest.TestCase):
     def test_a_crate_that_stands_on_a_higher_layer(self):
         self.list("# ground: words\nlow_words: high_words\n# roof: what is made of words\nhigh_words:\n")
         self.assert_fault("low_words stands on high_words, which is of a higher layer")
+
+    def test_a_crate_that_reaches_what_its_layer_must_not_know(self):
+        self.crate("roof_words", "//! What is made of those.\n")
+        layers = "# ground: words\nlow_words:\n# walls: what is made of words\nhigh_words: low_words\n# roof: more\n"
+        self.list(layers + "# must not know: ground\nroof_words: high_words\n")
+        self.assert_fault("roof_words reaches low_words of ground, which its layer must not know")
+        self.list(layers + "roof_words: high_words\n")
+        self.assertEqual(self.call("--write"), (0, ""))
+
+    def test_a_layer_that_one_must_not_know_and_that_is_not_below_it(self):
+        for name in ("cellar", "roof"):
+            self.list(f"# ground: words\n# must not know: {name}\nlow_words:\n# roof: what is made of words\nhigh_words: low_words\n")
+            self.assert_fault(f"there is no layer {name} below the one that must not know it")
 
     def test_a_crate_that_stands_on_a_library_that_none_may(self):
         self.list("# ground: words\nlow_words: itoa libc\n\n# roof: what is made of words\nhigh_words may_wait=2: low_words\n")

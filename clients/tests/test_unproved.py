@@ -28,6 +28,7 @@ echo "run=fault proved=no" >&2
 exit 4"""
 UTILITIES = "sh cat cmp cut dirname find grep head mkdir mktemp mv readlink rm sed sha256sum sleep sort stat tail xargs".split()
 COST = "about a minute, each time; `bash .ci/run` once, in {}, takes about an hour, and then it takes milliseconds"
+CRATES = "# all: crates\nbelow may_wait=1:\nscadserve: below\n"
 PROGRAM = '#!/bin/sh\necho proved "$@"\ncat\nexit 3\n'
 
 
@@ -40,7 +41,7 @@ class Unproved(Calls):
         for name in ("scadserve", "memory.sh", "tools/built.sh"):
             shutil.copy(os.path.join(TOP, name), os.path.join(self.top, name))
         self.write("top/HANDLES", "Handles allowed: none.\n")
-        self.write("top/crates.txt", "below:\nscadserve: below\n")
+        self.write("top/crates.txt", CRATES)
         self.write("top/crates/scadserve/src/main.rt", "fn main() {}\n")
         self.write("top/crates/below/src/lib.rt", "1\n")
         self.write("top/crates/below/specs/Lib.antt", "2\n")
@@ -183,7 +184,7 @@ class Unproved(Calls):
             (lambda: self.write(source, "3\n"), lambda: self.write(source, "1\n")),
             (lambda: self.write(more, ""), lambda: os.remove(more)),
             (lambda: os.rename(source, source + "s"), lambda: os.rename(source + "s", source)),
-            (lambda: self.write(crates, "below:\n"), lambda: self.write(crates, "below:\nscadserve: below\n")),
+            (lambda: self.write(crates, "below:\n"), lambda: self.write(crates, CRATES)),
         ):
             change()
             if os.path.exists(source):
