@@ -159,7 +159,7 @@ class Service(Calls):
         with tempfile.TemporaryDirectory() as folder:
             for name, text in zip(("scadserve.socket", "scadserve@.service"), blocks("ini")):
                 with open(os.path.join(folder, name), "w", encoding="ascii") as it:
-                    it.write(text.replace("/opt/scadserve/scadserve", shutil.which("true")))
+                    it.write(text.replace("ExecStart=scadserve", "ExecStart=true"))
             units = [os.path.join(folder, it) for it in os.listdir(folder)]
             done = subprocess.run(["systemd-analyze", "verify", *units], capture_output=True, check=False, timeout=100)
             said = [it for it in done.stderr.decode().splitlines() if "scadserve" in it]
