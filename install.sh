@@ -33,9 +33,10 @@ cp -R "$top/README.md" "$top/PROVED" "$top/docs" "$top/examples" "$top/gallery" 
 cp "$top"/man/*.1 "$share/man/man1"
 cp "$top"/completion/bash/* "$share/bash-completion/completions"
 cp "$top"/completion/zsh/* "$share/zsh/$ZSH_FUNCTIONS"
+mkdir -p "$lib/bin"
 while read -r tool; do
-    cp "$top/$tool" "$lib"
-    ln -sf "../lib/scadserve/$tool" "$root/bin/$tool"
+    cp "$top/$tool" "$lib/$tool"
+    ln -sf "../lib/scadserve/$tool" "$root/bin/${tool##*/}"
 done <"$top/TOOLS"
 # (so that no run of whoever can't write there compiles the modules again)
 if [ -z "${DESTDIR-}" ] && command -v python3 >/dev/null; then

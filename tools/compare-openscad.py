@@ -24,7 +24,7 @@ sys.path.insert(0, os.path.join(TOP, "clients"))
 
 from fractions import Fraction  # noqa: E402
 
-from scadserve import csg_reader, openscad_front  # noqa: E402
+from scadserve.openscad import front, reader  # noqa: E402
 from tests.against_openscad import differences, of_4off, of_off  # noqa: E402
 
 EXAMPLES = "/usr/share/openscad/examples/*/*.scad"
@@ -54,9 +54,9 @@ def timed(words):
 
 def evaluated_form(file):
     """The evaluated form of a source, with whole names of the files that it imports."""
-    nodes = csg_reader.read(openscad_front.evaluated(file)[0])
+    nodes = reader.read(front.evaluated(file)[0])
     names = {str(it.arguments["file"]) for node in nodes for it in node.all() if "file" in it.arguments}
-    return csg_reader.printed(nodes, {it: os.path.join(os.path.dirname(os.path.abspath(file)), it) for it in names})
+    return reader.printed(nodes, {it: os.path.join(os.path.dirname(os.path.abspath(file)), it) for it in names})
 
 
 def theirs(file, kept):

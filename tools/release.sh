@@ -46,10 +46,10 @@ mkdir -p "$here/libexec"
 git archive HEAD README.md CHANGELOG.md CONTRIBUTING.md clients/scadserve docs examples gallery install.sh memory.sh pyproject.toml scadserve \
     tools/wheel.py | tar -x -C "$here"
 cp "$program" "$here/libexec/scadserve"
-PYTHONPATH=$here/clients python3 -B -c 'from scadserve.tools import *; print(STARTER, *TOOLS, sep="\n")' >"$here/TOOLS"
+PYTHONPATH=$here/clients python3 -B -c 'from scadserve.tools.catalogue import *; print(*STARTERS, sep="\n")' >"$here/TOOLS"
 git archive HEAD $(cat "$here/TOOLS") | tar -x -C "$here"
-PYTHONPATH=$here/clients python3 -B -m scadserve.manual "$here/man"
-PYTHONPATH=$here/clients python3 -B -m scadserve.completion "$here/completion"
+PYTHONPATH=$here/clients python3 -B -m scadserve.tools.manual "$here/man"
+PYTHONPATH=$here/clients python3 -B -m scadserve.tools.completion "$here/completion"
 {
     echo "scadserve $version for x86_64 Linux"
     # (not how many tests passed: those that need what a machine lacks are skipped, and two clones make the same bytes)

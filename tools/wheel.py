@@ -20,15 +20,15 @@ from typing import Dict, Iterator, NoReturn, Optional, Tuple
 TOP = Path(__file__).resolve().parent.parent
 sys.path.insert(0, str(TOP / "clients"))
 
-from scadserve import completion, manual  # noqa: E402
-from scadserve.tools import STARTER, TOOLS  # noqa: E402
+from scadserve.tools import completion, manual  # noqa: E402
+from scadserve.tools.catalogue import STARTER, TOOLS  # noqa: E402
 from scadserve.version import VERSION  # noqa: E402
 
 NAME = f"scadserve-{VERSION}"
 STARTED = """#!python
 import os
 import sys
-from scadserve.tools import main
+from scadserve.tools.catalogue import main
 from scadserve.top import TOP
 if sys.argv[1:] in (["--help"], ["-h"], ["--version"]):
     sys.exit(main(["scadserve", *sys.argv[1:]]))
@@ -82,7 +82,7 @@ def _package() -> Iterator[File]:
 def _tools() -> Iterator[File]:
     """The files that start the tools, by the Python that they are installed for."""
     for name in TOOLS:
-        yield f"{NAME}.data/scripts/{name}", re.sub(rb"\A#!.*", b"#!python", (TOP / name).read_bytes()), True
+        yield f"{NAME}.data/scripts/{name}", re.sub(rb"\A#!.*", b"#!python", (TOP / "bin" / name).read_bytes()), True
 
 
 def _server(program: Path) -> Iterator[File]:

@@ -8,7 +8,7 @@
 `scadserve.server` writes scripts of edits, shows and exports of several clients, and reads what they are answered.
 """
 
-from .server import BadScript, BadWords, Malformed, NotStarted, OutOfMemory, OutOfTime, ReadFault, ServerFailed, WriteFault
+from .server.scripts import BadScript, BadWords, Malformed, NotStarted, OutOfMemory, OutOfTime, ReadFault, ServerFailed, WriteFault
 from .solving import Fault, Point, Solid, Source, solve
 
 __all__ = ["solve", "Solid", "Fault", "Point", "Source"]

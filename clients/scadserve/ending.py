@@ -12,6 +12,10 @@ from .files import say
 PART_FAULT, BAD_CALL, NO_MEMORY, INTERRUPTED, PIPE_CLOSED = 1, 2, 6, 130, 141
 
 
+class BadCall(Exception):
+    """Words that are wrong, or files that can't be read or written: each argument is a line that is said."""
+
+
 def ended(tool: Callable[[], int]) -> int:
     """The status of a tool, which ends as by an exception at a signal too, so that no file is left half written.
 

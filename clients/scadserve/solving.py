@@ -10,24 +10,24 @@ from functools import cached_property
 from time import monotonic
 from typing import Iterable, Mapping, Sequence, Union
 
-from . import closing
-from . import fouroff
-from . import fouroff_measures
-from .answering import answered
-from .converting import server_of_environment
-from .crossings import Crossings
-from .meshes import mesh
-from .merging import merged
-from .off2formats import WRITERS
-from .reading import read_source, source_of
-from .replies import Complex, Reply
-from .replies import Fault as ToldFault
-from .replies import Solid as ToldSolid
-from .server import passed_limit
-from .sources import Refused
-from .sources import Source as ReadSource
-from .surface import Surface, surface_of
-from .telling import limit_told, refused_told, reply_told
+from .solid import closing
+from .solid import fouroff
+from .solid import measures
+from .source.answering import answered
+
+from .server.replies import Complex, Reply
+from .server.replies import Fault as ToldFault
+from .server.replies import Solid as ToldSolid
+from .server.scripts import passed_limit, server_of_environment
+from .solid.crossings import Crossings
+from .solid.formats import WRITERS
+from .solid.merging import merged
+from .solid.meshes import mesh
+from .solid.surface import Surface, surface_of
+from .source.reading import read_source, source_of
+from .source.sources import Refused
+from .source.sources import Source as ReadSource
+from .source.telling import limit_told, refused_told, reply_told
 
 #: A text of the language, in UTF-8 where it is bytes; or the path of a file.
 Source = Union[str, bytes, "os.PathLike[str]"]
@@ -67,14 +67,14 @@ class Solid:
     @cached_property
     def volume(self) -> Fraction:
         """The volume in cubic units; where its denominator has more than 4,096 bits, off by less than a part in 10^13."""
-        return fouroff_measures.volume(self._boundary).value
+        return measures.volume(self._boundary).value
 
     @cached_property
     def box(self) -> tuple[Point, Point] | None:
         """The corners of the box around it: the least x, y and z, and the greatest. None of the empty solid."""
         if not self._boundary.faces:
             return None
-        (a, x), (b, y), (c, z) = fouroff_measures.box(self._boundary)
+        (a, x), (b, y), (c, z) = measures.box(self._boundary)
         return (a, b, c), (x, y, z)
 
     @cached_property

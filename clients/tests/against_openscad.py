@@ -5,7 +5,8 @@ from __future__ import annotations
 import random
 from typing import NamedTuple, Sequence
 
-from scadserve import closing, fouroff
+from scadserve.solid import closing
+from scadserve.solid import fouroff
 
 Point = tuple[float, float, float]
 

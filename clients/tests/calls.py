@@ -13,7 +13,7 @@ PROGRAM = os.environ.get("SCADSERVE") or os.path.join(TOP, "crates", "scadserve"
 needs_program = unittest.skipUnless(os.access(PROGRAM, os.X_OK), "the program is not built")
 
 # (without the packages of the machine, which Python is slow to look for)
-SCAD2OFF = [sys.executable, "-S", os.path.join(TOP, "scad2off")]
+SCAD2OFF = [sys.executable, "-S", os.path.join(TOP, "bin", "scad2off")]
 
 
 class Calls(unittest.TestCase):

@@ -8,15 +8,16 @@ import tempfile
 import unittest
 from fractions import Fraction
 
-from scadserve import fouroff, openscad_front
-from scadserve.csg_conversion import Wanted, converted
-from scadserve.csg_reader import CsgFault, read
-from scadserve.fouroff_measures import box
+from scadserve.solid import fouroff
+from scadserve.openscad import front
+from scadserve.openscad.conversion import Wanted, converted
+from scadserve.openscad.reader import CsgFault, read
+from scadserve.solid.measures import box
 from tests.against_openscad import differences, of_4off, of_off
 from tests.calls import PROGRAM, TOP, Calls, needs_program
 
 needs_openscad = unittest.skipUnless(shutil.which("openscad"), "OpenSCAD is not installed")
-SCAD2STL = os.path.join(TOP, "scad2stl")
+SCAD2STL = os.path.join(TOP, "bin", "scad2stl")
 
 # Says that it made a solid of nothing, by writing an evaluated form without one.
 STAND_IN = """#!{python}
@@ -87,11 +88,11 @@ class Rendered(unittest.TestCase):
     """With OpenSCAD, and no server."""
 
     def told(self, text):
-        return converted(read(text), Wanted(), openscad_front.Front("."))
+        return converted(read(text), Wanted(), front.Front("."))
 
     def test_an_offset_is_rendered(self):
         # (a square of 10 and 1 round it: its corners stay with delta)
-        [outline] = openscad_front.Front(".").flat(read("offset(delta = 1, $fn = 0) { square(size = [10, 10], center = false); }")[0])
+        [outline] = front.Front(".").flat(read("offset(delta = 1, $fn = 0) { square(size = [10, 10], center = false); }")[0])
         self.assertEqual(sorted(outline), [(-1, -1), (-1, 11), (11, -1), (11, 11)])
 
     def test_an_outline_that_crosses_itself_is_what_openscad_makes_of_it(self):
@@ -118,7 +119,7 @@ class NoSolid(unittest.TestCase):
             self.assertEqual((done.returncode, os.path.exists(out)), (1, False))
             self.assertIn(theirs, done.stderr)
         with self.assertRaises(CsgFault) as caught:
-            converted(read(openscad_front.evaluated(file)[0]), Wanted(), openscad_front.Front(os.path.dirname(file)))
+            converted(read(front.evaluated(file)[0]), Wanted(), front.Front(os.path.dirname(file)))
         self.assertEqual(caught.exception.word, word)
         self.assertIn(ours, caught.exception.said)
 

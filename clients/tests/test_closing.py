@@ -7,8 +7,8 @@ from fractions import Fraction
 from functools import cmp_to_key
 from itertools import chain
 
-from scadserve import closing
-from scadserve.fouroff import read, turn
+from scadserve.solid import closing
+from scadserve.solid.fouroff import read, turn
 from tests.solids import CUT_CUBE, box, comb, doubled_area, examples, gallery, is_inside_edge, off, point, split_box
 
 UNIT_BOX = box((0, 0, 0), (1, 1, 1))

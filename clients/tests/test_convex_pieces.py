@@ -3,8 +3,8 @@
 import math
 import unittest
 
-from scadserve.convex_pieces import NotSimple, area2, check_simple, cleaned, contains, goes_up_once, hull, is_convex, nested, pieces
-from scadserve.convex_pieces import sides, simplified
+from scadserve.openscad.convex_pieces import NotSimple, area2, check_simple, cleaned, contains, goes_up_once, hull, is_convex, nested, pieces
+from scadserve.openscad.convex_pieces import sides, simplified
 
 L = [(0, 0), (10, 0), (10, 3), (3, 3), (3, 10), (0, 10)]
 BOW = [(0, 0), (4, 4), (4, 0), (0, 4)]

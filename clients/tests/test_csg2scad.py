@@ -4,14 +4,14 @@ import math
 import unittest
 from fractions import Fraction
 
-from scadserve import csg2scad, csg_grid
-from scadserve.csg_conversion import Wanted, converted
-from scadserve.csg_grid import Rounder, split
-from scadserve.csg_reader import CsgFault, read
-from scadserve.csg_solid import Space
-from scadserve.csg_tree import IDENTITY, Detail, Join, leaves
-from scadserve.exact_hull import hull, volume6
-from scadserve.openscad_front import Front
+from scadserve.tools import csg2scad
+from scadserve.openscad.conversion import Wanted, converted
+from scadserve.openscad.grid import Rounder, split
+from scadserve.openscad.reader import CsgFault, read
+from scadserve.openscad.space import Space
+from scadserve.openscad.tree import IDENTITY, Detail, leaves
+from scadserve.openscad.exact_hull import hull, volume6
+from scadserve.openscad.front import Front
 from tests.tool_case import Case
 
 TURN = "multmatrix([[1, 0, 0, 0], [0, 0.866025, -0.5, 0], [0, 0.5, 0.866025, 0], [0, 0, 0, 1]])"

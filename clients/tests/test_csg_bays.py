@@ -5,15 +5,15 @@ import random
 import unittest
 from fractions import Fraction
 
-from scadserve import convex_pieces
-from scadserve.convex_pieces import area2, cleaned, contains, pieces
-from scadserve.csg_bays import carved, sides
-from scadserve.csg_grid import Rounder
-from scadserve.csg_reader import read
-from scadserve.csg_solid import Space
-from scadserve.csg_tree import IDENTITY, Carved, Detail, Join, leaves
-from scadserve.exact_hull import volume6
-from scadserve.openscad_front import Front
+from scadserve.openscad import convex_pieces
+from scadserve.openscad.convex_pieces import area2, cleaned, contains, pieces
+from scadserve.openscad.bays import carved, sides
+from scadserve.openscad.grid import Rounder
+from scadserve.openscad.reader import read
+from scadserve.openscad.space import Space
+from scadserve.openscad.tree import IDENTITY, Carved, Detail, Join, leaves
+from scadserve.openscad.exact_hull import volume6
+from scadserve.openscad.front import Front
 
 U = [(0, 0), (9, 0), (9, 9), (6, 9), (6, 3), (3, 3), (3, 9), (0, 9)]
 

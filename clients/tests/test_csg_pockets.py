@@ -2,10 +2,10 @@
 
 import unittest
 
-from scadserve.csg_pockets import NotCarved, carved, flat_faces, volume6
-from scadserve.csg_reader import CsgFault, read
-from scadserve.csg_tree import UNION
-from scadserve.exact_hull import Hull
+from scadserve.openscad.pockets import NotCarved, carved, flat_faces, volume6
+from scadserve.openscad.reader import CsgFault, read
+from scadserve.openscad.tree import UNION
+from scadserve.openscad.exact_hull import Hull
 from tests.test_csg2scad import bodies, lines
 
 # (no point sees all of it: a way in from the right, and then one down and one back to the right)

@@ -3,8 +3,8 @@
 import math
 import unittest
 
-from scadserve import csg_reader
-from scadserve.csg_reader import CsgFault, printed, read
+from scadserve.openscad import reader
+from scadserve.openscad.reader import CsgFault, printed, read
 
 
 class Nodes(unittest.TestCase):
@@ -42,7 +42,7 @@ class Nodes(unittest.TestCase):
         self.assertEqual(said, 'linear_extrude(height = 1.0) { import(file = "/x/a.dxf");\n }\n')
 
     def test_deep_texts(self):
-        depth = csg_reader.DEEPEST - 1
+        depth = reader.DEEPEST - 1
         [node] = read("group() {" * depth + "cube(size = 1);" + "}" * depth)
         self.assertEqual(sum(1 for _ in node.all()), depth + 1)
         with self.assertRaises(CsgFault) as caught:

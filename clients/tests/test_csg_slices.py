@@ -4,14 +4,14 @@ import math
 import unittest
 from fractions import Fraction
 
-from scadserve.csg_conversion import Wanted, converted
-from scadserve.csg_grid import Rounder
-from scadserve.csg_reader import CsgFault, read
-from scadserve.csg_slices import Slice, rising
-from scadserve.csg_solid import Space
-from scadserve.csg_tree import IDENTITY, Detail, leaves
-from scadserve.exact_hull import volume6
-from scadserve.openscad_front import Front
+from scadserve.openscad.conversion import Wanted, converted
+from scadserve.openscad.grid import Rounder
+from scadserve.openscad.reader import CsgFault, read
+from scadserve.openscad.slices import Slice, rising
+from scadserve.openscad.space import Space
+from scadserve.openscad.tree import IDENTITY, Detail, leaves
+from scadserve.openscad.exact_hull import volume6
+from scadserve.openscad.front import Front
 
 NODE = read("group();")[0]
 

@@ -4,14 +4,14 @@ import math
 import unittest
 from fractions import Fraction
 
-from scadserve.csg_conversion import Wanted, converted
-from scadserve.csg_grid import Rounder
-from scadserve.csg_reader import CsgFault, read
-from scadserve.csg_solid import Space
-from scadserve.csg_steps import Step, Turning, different, lines_of, round_off
-from scadserve.csg_tree import IDENTITY, Detail, leaves
-from scadserve.exact_hull import volume6
-from scadserve.openscad_front import Front
+from scadserve.openscad.conversion import Wanted, converted
+from scadserve.openscad.grid import Rounder
+from scadserve.openscad.reader import CsgFault, read
+from scadserve.openscad.space import Space
+from scadserve.openscad.steps import Step, Turning, different, lines_of, round_off
+from scadserve.openscad.tree import IDENTITY, Detail, leaves
+from scadserve.openscad.exact_hull import volume6
+from scadserve.openscad.front import Front
 
 SQUARE = [(-1_000_000, -1_000_000), (1_000_000, -1_000_000), (1_000_000, 1_000_000), (-1_000_000, 1_000_000)]
 # A bar of 10 by 10 that turns a hundred times.

@@ -4,10 +4,10 @@ import os
 import re
 import unittest
 
-from scadserve import details
-from scadserve.server import Script, run
-from scadserve.structure import NoProgram, structure_of
-from scadserve.tokens import tokens
+from scadserve.source import details
+from scadserve.server.scripts import Script, run
+from scadserve.source.structure import NoProgram, structure_of
+from scadserve.source.tokens import tokens
 from tests.calls import PROGRAM, TOP, Calls, needs_program
 
 #: Of sources with one fault its word, and what is said of it.

@@ -4,7 +4,7 @@ import itertools
 import random
 import unittest
 
-from scadserve.exact_hull import hull, volume6
+from scadserve.openscad.exact_hull import hull, volume6
 
 
 class ByHand(unittest.TestCase):

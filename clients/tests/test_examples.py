@@ -4,7 +4,7 @@ import glob
 import os
 import unittest
 
-from scadserve.replies import Session, commands_of
+from scadserve.server.replies import Session, commands_of
 from tests.calls import TOP
 
 

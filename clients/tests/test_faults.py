@@ -5,7 +5,7 @@ import re
 import tempfile
 import unittest
 
-from scadserve import faults
+from scadserve.source import faults
 from tests.calls import TOP, Calls
 
 WORDS = {*faults.FAULTS, *faults.LIMITS, *faults.COMPLEX, "complex", "nomem", "Empty"}

@@ -3,7 +3,7 @@
 import random
 import unittest
 
-from scadserve.fouroff import Malformed, read
+from scadserve.solid.fouroff import Malformed, read
 from tests.solids import CUT_CUBE, EMPTY, box, examples, gallery, off, split_box
 
 BOX = b"""4OFF

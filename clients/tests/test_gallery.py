@@ -12,10 +12,10 @@ import unittest
 from fractions import Fraction
 from unittest import mock
 
-from scadserve import closing
-from scadserve import gallery
-from scadserve.fouroff import read
-from scadserve.fouroff_measures import Volume, box, shown, volume
+from scadserve.solid import closing
+from scadserve.tools import gallery
+from scadserve.solid.fouroff import read
+from scadserve.solid.measures import Volume, box, shown, volume
 from tests import solids
 from tests.calls import PROGRAM, TOP, needs_program
 
@@ -165,7 +165,7 @@ class Made(unittest.TestCase):
         self.assertEqual((done.returncode, done.stdout), (0, b"65 files compared, 0 differ\n"))
 
     def test_faults(self):
-        with tempfile.TemporaryDirectory() as top, mock.patch("scadserve.gallery.TOP", top):
+        with tempfile.TemporaryDirectory() as top, mock.patch("scadserve.tools.gallery.TOP", top):
             for words, status in ((["--kept"], 2), ([], 2)):
                 with contextlib.redirect_stderr(io.TextIOWrapper(io.BytesIO())) as error:
                     self.assertEqual(gallery.main(words), status)

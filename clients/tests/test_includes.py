@@ -8,9 +8,9 @@ import unittest
 from fractions import Fraction
 from unittest import mock
 
-from scadserve import scad2off
-from scadserve.fouroff import read
-from scadserve.fouroff_measures import box, volume
+from scadserve.tools import scad2off
+from scadserve.solid.fouroff import read
+from scadserve.solid.measures import box, volume
 from tests.calls import PROGRAM, STAND_IN, Calls, needs_program
 from tests.tool_case import Case
 
@@ -257,7 +257,7 @@ class Faults(Sources):
 
     def assert_refused(self, files, said):
         """What is first said of part.scad among these files, for which no server is asked."""
-        with mock.patch("scadserve.answering.run", side_effect=AssertionError):
+        with mock.patch("scadserve.source.answering.run", side_effect=AssertionError):
             self.assertEqual(self.told(files)[0], said)
 
     def test_a_fault_in_an_included_file_is_told_there_and_where_it_is_included(self):

@@ -7,11 +7,11 @@ from collections import Counter
 from fractions import Fraction
 from math import atan2, gcd, tau
 
-from scadserve import closing
-from scadserve.fouroff import read, turn
-from scadserve.fouroff_measures import volume
-from scadserve.merging import ears_seen, merged
-from scadserve.surface import NotClosed, next_side, previous_side, surface_of
+from scadserve.solid import closing
+from scadserve.solid.fouroff import read, turn
+from scadserve.solid.measures import volume
+from scadserve.solid.merging import ears_seen, merged
+from scadserve.solid.surface import NotClosed, next_side, previous_side, surface_of
 from tests.solids import CUT_CUBE, box, comb, doubled_area, examples, gallery, is_inside_edge, off, point
 from tests.touching import board, some, text_of
 

@@ -5,12 +5,12 @@ import unittest
 from collections import Counter
 from fractions import Fraction
 
-from scadserve import closing
-from scadserve.fouroff import read
-from scadserve.fouroff_measures import volume
-from scadserve.meshes import mesh
-from scadserve.merging import merged
-from scadserve.surface import surface_of
+from scadserve.solid import closing
+from scadserve.solid.fouroff import read
+from scadserve.solid.measures import volume
+from scadserve.solid.meshes import mesh
+from scadserve.solid.merging import merged
+from scadserve.solid.surface import surface_of
 from tests.solids import CUT_CUBE, box, examples, gallery, off
 from tests.touching import board, parts_and_hollows, some, text_of
 

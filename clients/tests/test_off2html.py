@@ -11,10 +11,10 @@ from collections import Counter
 from fractions import Fraction
 from html.parser import HTMLParser
 
-from scadserve import off2html
-from scadserve.closing import close, open_edges, ways
+from scadserve.tools import off2html
+from scadserve.solid.closing import close, open_edges, ways
 from scadserve.files import write_file
-from scadserve.fouroff import Boundary
+from scadserve.solid.fouroff import Boundary
 from tests import tool_case
 from tests.calls import TOP
 from tests.solids import CUT_CUBE, EMPTY, box, comb, gallery, off, split_box
@@ -218,7 +218,7 @@ class Tool(Case):
 
     def test_through_a_link_from_a_pipe(self):
         link = self.path("link")
-        os.symlink(TOP + "/off2html", link)
+        os.symlink(TOP + "/bin/off2html", link)
         done = subprocess.run([link, "--view", "-30", "20"], input=CUT_CUBE, capture_output=True, check=True)
         self.assertTrue(done.stdout.startswith(off2html.BEGINS) and done.stdout.endswith(b"</html>\n"))
         self.assertEqual((Page(done.stdout.decode()).texts["title"], done.stderr), ("solid", b""))
@@ -238,7 +238,7 @@ class Watching(Case):
 
     def test_the_page_follows_the_file(self):
         file = self.file("w.4off", off(box((0, 0, 0), (2, 3, 4))))
-        words = [TOP + "/off2html", "--watch", file, "-o", self.path("w.html")]
+        words = [TOP + "/bin/off2html", "--watch", file, "-o", self.path("w.html")]
         tool = subprocess.Popen(words, stderr=subprocess.PIPE)
         self.addCleanup(tool.kill)
         self.wait('data-watch="yes"', "<dd>24</dd>")

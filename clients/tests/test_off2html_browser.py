@@ -10,7 +10,7 @@ import time
 import unittest
 from fractions import Fraction
 
-from scadserve import off2html
+from scadserve.tools import off2html
 from tests import tool_case
 from tests.browser import Browser, needs_browser
 from tests.calls import TOP
@@ -316,7 +316,7 @@ class Corners(Case):
 class Watched(Case):
     def start(self):
         """The tool, which watches a file whose page is open."""
-        words = [TOP + "/off2html", "--watch", self.path("w.4off"), "-o", self.path("w.html")]
+        words = [TOP + "/bin/off2html", "--watch", self.path("w.4off"), "-o", self.path("w.html")]
         tool = subprocess.Popen(words, stderr=subprocess.DEVNULL)
         self.addCleanup(tool.wait)
         self.addCleanup(tool.kill)

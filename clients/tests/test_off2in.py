@@ -8,8 +8,10 @@ import unittest
 from fractions import Fraction
 from itertools import product
 
-from scadserve import Solid, fouroff, off2in, solve
-from scadserve.crossings import IN, ON, OUT, Crossings, NoBoundary
+from scadserve import Solid, solve
+from scadserve.solid import fouroff
+from scadserve.tools import off2in
+from scadserve.solid.crossings import IN, ON, OUT, Crossings, NoBoundary
 from tests import tool_case, touching
 from tests.calls import PROGRAM, TOP, needs_program
 from tests.solids import CUT_CUBE, EMPTY, box, comb, examples, gallery, off, point, split_box
@@ -150,7 +152,7 @@ class Tool(tool_case.Case):
 
     def told(self, *words):
         """The lines that a call prints."""
-        done = subprocess.run([sys.executable, "-S", os.path.join(TOP, "off2in"), *words], capture_output=True, check=False)
+        done = subprocess.run([sys.executable, "-S", os.path.join(TOP, "bin", "off2in"), *words], capture_output=True, check=False)
         self.assertEqual((done.returncode, done.stderr), (0, b""))
         return done.stdout.decode().splitlines()
 
@@ -162,7 +164,7 @@ class Tool(tool_case.Case):
 
     def test_standard_input(self):
         done = subprocess.run(
-            [sys.executable, "-S", os.path.join(TOP, "off2in"), "-", "-1,0,0", "1,1,1"],
+            [sys.executable, "-S", os.path.join(TOP, "bin", "off2in"), "-", "-1,0,0", "1,1,1"],
             input=off(box((0, 0, 0), (2, 2, 2))),
             capture_output=True,
             check=False,

@@ -15,7 +15,7 @@ from itertools import product
 from typing import NamedTuple
 
 from scadserve import Solid, solve
-from scadserve.crossings import IN, ON, OUT
+from scadserve.solid.crossings import IN, ON, OUT
 from tests import tool_case
 from tests.calls import PROGRAM, TOP, needs_program
 
@@ -212,7 +212,7 @@ class ByFormulas(tool_case.Case):
         for design, solid in zip(designs, solids([it.source for it in designs])):
             points = some_points(rolled, design, 30)
             words = [",".join(map(str, it)) for it in points]
-            call = [sys.executable, "-S", os.path.join(TOP, "off2in"), self.file("a.4off", solid.text), *words]
+            call = [sys.executable, "-S", os.path.join(TOP, "bin", "off2in"), self.file("a.4off", solid.text), *words]
             done = subprocess.run(call, capture_output=True, check=False)
             self.assertEqual((done.returncode, done.stderr), (0, b""), design.source)
             lines = [f"{word} {IN if is_inside(design, it) else OUT}" for word, it in zip(words, points)]

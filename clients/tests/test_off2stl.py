@@ -12,7 +12,7 @@ from collections import Counter
 from fractions import Fraction
 from unittest import mock
 
-from scadserve import off2stl
+from scadserve.tools import off2stl
 from tests import tool_case
 from tests.calls import TOP
 from tests.solids import CUT_CUBE, EMPTY, box, gallery, off, split_box
@@ -111,7 +111,7 @@ class Telling(Case):
 
     def test_info_writes_nothing(self):
         file = self.file("a.4off", BLOCK)
-        done = subprocess.run([TOP + "/off2stl", "--info", file], capture_output=True, check=True)
+        done = subprocess.run([TOP + "/bin/off2stl", "--info", file], capture_output=True, check=True)
         expected = "6 faces, 12 triangles, 1 part, closed; unit 1 mm; box 20 x 12 x 16; volume 3840"
         self.assertEqual(done.stdout.decode(), f"{file}: {expected}\n")
         self.assertEqual((done.stderr, os.listdir(self.folder)), (b"", ["a.4off"]))
@@ -230,7 +230,7 @@ class Many(Case):
 
     def test_info_of_many(self):
         files = [self.file("a.4off", BLOCK), self.file("b.4off", CUT_CUBE)]
-        done = subprocess.run([TOP + "/off2stl", "--info", *files], capture_output=True, check=True)
+        done = subprocess.run([TOP + "/bin/off2stl", "--info", *files], capture_output=True, check=True)
         self.assertEqual([line.split(":")[0] for line in done.stdout.decode().splitlines()], files)
 
     def test_words(self):
@@ -278,14 +278,14 @@ class Faults(Case):
         for words, name in (([file], "standard output"), (["-", "-o", file, "--format", "off"], file)):
             with open(file, "rb") as stdin, open(file, "ab") as stdout:
                 pipes = {"stdin": stdin, "stdout": stdout if words == [file] else subprocess.DEVNULL}
-                done = subprocess.run([TOP + "/off2stl", *words], stderr=subprocess.PIPE, check=False, **pipes)
+                done = subprocess.run([TOP + "/bin/off2stl", *words], stderr=subprocess.PIPE, check=False, **pipes)
             said = f"off2stl: cannot write {name}: that is the 4OFF text itself\n"
             self.assertEqual((done.returncode, done.stderr.decode()), (2, said))
             self.assertEqual(self.bytes_of("a.4off"), BLOCK)
 
     def test_a_file_called_as_a_stream_is_none(self):
         self.file("-", EMPTY)
-        done = subprocess.run([TOP + "/off2stl"], input=BLOCK, capture_output=True, cwd=self.folder, check=False)
+        done = subprocess.run([TOP + "/bin/off2stl"], input=BLOCK, capture_output=True, cwd=self.folder, check=False)
         self.assertEqual((done.returncode, done.stdout[:12]), (0, b"solid solid\n"), done.stderr)
 
     def test_a_solid_that_rounding_makes_one_point(self):
@@ -296,7 +296,7 @@ class Faults(Case):
         self.assertEqual(self.call("-o", self.path("a.stl"), tiny)[0], 0)
 
     def test_want_of_memory_is_told(self):
-        with mock.patch("scadserve.off2tool.read_file", side_effect=MemoryError):
+        with mock.patch("scadserve.tools.off2tool.read_file", side_effect=MemoryError):
             self.assert_fault(6, [self.path("a.4off")], ": memory ran out\n")
 
     def test_texts(self):
@@ -329,7 +329,7 @@ class Faults(Case):
     def test_standard_output_that_is_full(self):
         for words in ([], ["--help"]):
             with open("/dev/full", "wb") as full:
-                done = subprocess.run([TOP + "/off2stl", *words], input=BLOCK, stdout=full, stderr=subprocess.PIPE, check=False)
+                done = subprocess.run([TOP + "/bin/off2stl", *words], input=BLOCK, stdout=full, stderr=subprocess.PIPE, check=False)
             said = b"off2stl: cannot write standard output: No space left on device\n"
             self.assertEqual((done.returncode, done.stderr), (2, said))
 
@@ -337,7 +337,7 @@ class Faults(Case):
 class Calling(Case):
     def test_through_a_link_from_a_pipe(self):
         link = self.path("link")
-        os.symlink(TOP + "/off2stl", link)
+        os.symlink(TOP + "/bin/off2stl", link)
         for words in ([], ["-"], ["-o", "-"]):
             done = subprocess.run([link, *words], input=BLOCK, capture_output=True, cwd=self.folder, check=True)
             self.assertTrue(done.stdout.startswith(b"solid solid\n"))
@@ -345,7 +345,7 @@ class Calling(Case):
 
     def test_a_reader_that_leaves(self):
         part = self.file("a.4off", gallery()["menger"])
-        done = subprocess.run(f"'{TOP}/off2stl' '{part}' | head -n 1", shell=True, capture_output=True, check=True)
+        done = subprocess.run(f"'{TOP}/bin/off2stl' '{part}' | head -n 1", shell=True, capture_output=True, check=True)
         self.assertEqual((done.stdout, done.stderr), (b"solid a\n", b""))
 
     def test_a_file_is_replaced_as_it_was(self):
@@ -359,7 +359,7 @@ class Calling(Case):
         self.assertEqual(sorted(os.listdir(self.folder)), ["-a=b.4off", "link.stl", "old.stl"])
 
     def test_help(self):
-        done = subprocess.run([TOP + "/off2stl", "--help"], capture_output=True, check=True)
+        done = subprocess.run([TOP + "/bin/off2stl", "--help"], capture_output=True, check=True)
         for word in ("--unit", "--format", "--info", "-o OUT", "FILE"):
             self.assertIn(word, done.stdout.decode())
 

@@ -12,9 +12,9 @@ import unittest
 from concurrent.futures import ThreadPoolExecutor
 from fractions import Fraction
 
-from scadserve import off2stl
-from scadserve.fouroff import read
-from scadserve.fouroff_measures import volume
+from scadserve.tools import off2stl
+from scadserve.solid.fouroff import read
+from scadserve.solid.measures import volume
 from tests import tool_case, touching
 from tests.calls import TOP
 from tests.solids import box, examples, gallery, off

@@ -9,13 +9,14 @@ import xml.etree.ElementTree as ElementTree
 from fractions import Fraction
 from unittest import mock
 
-from scadserve import off2painter
-from scadserve import off2svg
-from scadserve.closing import close, line_through
-from scadserve.fouroff import flatten, read, turn
-from scadserve.off2painter import Patch, crossing, divide, outline, painted, side, visible
-from scadserve.off2painter import _sides as sides
-from scadserve.off2svg import Camera
+from scadserve.view import painter
+from scadserve.tools import off2svg
+from scadserve.view import drawing
+from scadserve.solid.closing import close, line_through
+from scadserve.solid.fouroff import flatten, read, turn
+from scadserve.view.painter import Patch, crossing, divide, outline, painted, side, visible
+from scadserve.view.painter import _sides as sides
+from scadserve.view.drawing import Camera
 from tests import tool_case
 from tests.calls import TOP
 from tests.solids import CUT_CUBE, EMPTY, box, comb, examples, gallery, off, split_box
@@ -23,7 +24,7 @@ from tests.solids import CUT_CUBE, EMPTY, box, comb, examples, gallery, off, spl
 def patches(data, view):
     """The patches of a solid in the order in which they are painted."""
     boundary = read(data)
-    return list(painted(visible(off2painter.patches(boundary, close(boundary)), view), view))
+    return list(painted(visible(painter.patches(boundary, close(boundary)), view), view))
 
 
 def leaning_bars():
@@ -129,7 +130,7 @@ class Painting(unittest.TestCase):
             return sides(plane, pieces)
 
         counts = []
-        with mock.patch("scadserve.off2painter._sides", counting):
+        with mock.patch("scadserve.view.painter._sides", counting):
             for size in (200, 800):
                 looked_at.clear()
                 patches(off(drum(size)), Camera(30, 30).view)
@@ -237,7 +238,7 @@ class Outlines(unittest.TestCase):
 
     def test_a_cut_is_no_line(self):
         square = [((0, 0, 0, 1), False), ((4, 0, 0, 1), False), ((4, 4, 0, 1), True), ((0, 4, 0, 1), False)]
-        drawn = off2svg.paths(outline(Patch((0, 0, 1, 0), [square])), "#ffffff", lambda corner: corner[:2])
+        drawn = drawing.paths(outline(Patch((0, 0, 1, 0), [square])), "#ffffff", lambda corner: corner[:2])
         self.assertEqual(len(drawn), 2)
         self.assertIn('d="M0 0l4 0 0 4-4 0z"', drawn[0])
         self.assertEqual(drawn[1], '<path d="M0 4l0-4 4 0 0 4"/>')
@@ -323,7 +324,7 @@ class Tool(tool_case.Case):
 
     def test_through_a_link_from_a_pipe(self):
         link = self.path("link")
-        os.symlink(TOP + "/off2svg", link)
+        os.symlink(TOP + "/bin/off2svg", link)
         done = subprocess.run([link, "--view", "-30", "20"], input=CUT_CUBE, capture_output=True, check=True)
         self.assertTrue(done.stdout.startswith(b"<svg ") and done.stdout.endswith(b"</svg>\n"))
         self.assertEqual(done.stderr, b"")

@@ -7,7 +7,7 @@ import re
 import subprocess
 import unittest
 
-from scadserve.server import BadScript, Fault, Ok, Script, Solid, Text, printed, read, run
+from scadserve.server.scripts import BadScript, Fault, Ok, Script, Solid, Text, printed, read, run
 from tests.calls import PROGRAM, TOP, Calls, needs_program
 
 MIB = 1_048_576

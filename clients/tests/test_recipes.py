@@ -29,10 +29,10 @@ class Make(Calls):
         super().setUp()
         self.write("Makefile", blocks("make")[0])
         os.mkdir(self.path("bin"))
-        for name in os.listdir(TOP):
+        for name in os.listdir(os.path.join(TOP, "bin")):
             if name.startswith(("scad2", "off2")):
                 # (a starter that takes no time to look for packages)
-                self.write(f"bin/{name}", f"#!/bin/sh\nexec '{sys.executable}' -S '{os.path.join(TOP, name)}' \"$@\"\n")
+                self.write(f"bin/{name}", f"#!/bin/sh\nexec '{sys.executable}' -S '{TOP}/bin/{name}' \"$@\"\n")
                 os.chmod(self.path(f"bin/{name}"), 0o755)
         self.environment["PATH"] = self.path("bin") + os.pathsep + self.environment["PATH"]
         os.mkdir(self.path("lib"))

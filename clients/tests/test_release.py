@@ -16,7 +16,7 @@ import unittest
 import zipfile
 from pathlib import Path
 
-from scadserve.tools import STARTER, TOOLS
+from scadserve.tools.catalogue import STARTER, STARTERS, TOOLS
 from scadserve.version import VERSION
 from tests.calls import TOP
 
@@ -51,8 +51,9 @@ def git(at: Path, *words: str) -> str:
 def repository(at: Path) -> None:
     """A repository with the files of this one that a release takes, and with small sources."""
     at.mkdir()
-    for name in (*TAKEN, *TOOLS):
+    for name in (*TAKEN, *(it for it in STARTERS if it not in TAKEN)):
         source, copy = Path(TOP, name), at / name
+        copy.parent.mkdir(parents=True, exist_ok=True)
         if source.is_dir():
             shutil.copytree(source, copy, ignore=shutil.ignore_patterns("__pycache__", "tests"))
         else:
@@ -175,7 +176,7 @@ class Release(unittest.TestCase):
         self.assertTrue(done.stdout.startswith("## NotWhole\n"), done.stderr)
 
     def test_the_unpacked_tarball_works(self) -> None:
-        self.assert_works(str(self.here), self.here)
+        self.assert_works(f"{self.here}:{self.here}/bin", self.here)
 
     def test_it_is_installed_and_then_stands_alone(self) -> None:
         moved = self.folder / "unpacked"

@@ -4,7 +4,7 @@ import glob
 import os
 import unittest
 
-from scadserve.replies import Complex, Fault, Malformed, NoMemory, Ok, Refused, Solid, Text, printed, read
+from scadserve.server.replies import Complex, Fault, Malformed, NoMemory, Ok, Refused, Solid, Text, printed, read
 
 TOP = os.path.dirname(os.path.dirname(os.path.dirname(os.path.realpath(__file__))))
 EMPTY = b"4OFF\n0 0 0\n"

@@ -78,7 +78,7 @@ class Files(Calls):
                     self.assertTrue(error.decode().startswith(first), error)
 
     def test_the_output_of_a_command_is_a_file(self):
-        tool = os.path.join(TOP, "scad2off")
+        tool = os.path.join(TOP, "bin", "scad2off")
         done = subprocess.run(
             ["bash", "-c", f"'{tool}' <(echo 'w=6;')"], capture_output=True, cwd=self.folder, env=self.environment, timeout=100
         )
@@ -213,7 +213,7 @@ class Calling(Calls):
     def test_it_is_called_through_links(self):
         self.write("part.scad", "w=6;\n")
         os.mkdir(self.path("bin"))
-        os.symlink(os.path.join(TOP, "scad2off"), self.path("bin/one"))
+        os.symlink(os.path.join(TOP, "bin", "scad2off"), self.path("bin/one"))
         os.symlink("one", self.path("bin/two"))
         for tool in ("bin/one", "bin/two"):
             self.assertEqual(self.call("part.scad", tool=self.path(tool)), (0, BOX_6, b""))
@@ -223,7 +223,7 @@ class Calling(Calls):
     def test_it_is_called_with_a_path_for_cd(self):
         self.write("part.scad", "w=6;\n")
         os.makedirs(self.path("clients"))
-        tool = os.path.join(TOP, "scad2off")
+        tool = os.path.join(TOP, "bin", "scad2off")
         self.assertEqual(self.call("part.scad", tool=tool, environment={"CDPATH": f"{self.folder}:/"}), (0, BOX_6, b""))
 
 

@@ -177,13 +177,14 @@ class Statuses(Calls):
                 self.assertEqual(self.ended_by(number, ignoring=()), status)
 
     def test_an_interrupt_while_a_tool_loads_is_no_traceback(self):
-        os.makedirs(self.path("clients/scadserve"))
+        os.makedirs(self.path("clients/scadserve/tools"))
+        os.mkdir(self.path("bin"))
         for name in ("scad2off", "off2stl", "off2svg", "off2html"):
-            shutil.copy(os.path.join(TOP, name), self.folder)
-            self.write(f"clients/scadserve/{name}.py", "import time\nprint(flush=True)\ntime.sleep(60)\n")
+            shutil.copy(os.path.join(TOP, "bin", name), self.path("bin"))
+            self.write(f"clients/scadserve/tools/{name}.py", "import time\nprint(flush=True)\ntime.sleep(60)\n")
             pipes = {"stdout": subprocess.PIPE, "stderr": subprocess.PIPE}
             prepare = functools.partial(signal.signal, signal.SIGINT, signal.SIG_DFL)
-            tool = subprocess.Popen([sys.executable, "-S", self.path(name)], preexec_fn=prepare, **pipes)
+            tool = subprocess.Popen([sys.executable, "-S", self.path(f"bin/{name}")], preexec_fn=prepare, **pipes)
             tool.stdout.readline()
             tool.send_signal(signal.SIGINT)
             self.assertEqual(tool.communicate(timeout=100), (b"", b""))

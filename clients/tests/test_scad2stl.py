@@ -18,7 +18,7 @@ CORE = "{http://schemas.microsoft.com/3dmanufacturing/core/2015/02}"
 class Case(Calls):
     def make(self, *words, **how):
         """The status, the standard output and the lines of standard error of a call."""
-        status, out, error = self.call(*words, tool=os.path.join(TOP, "scad2stl"), **how)
+        status, out, error = self.call(*words, tool=os.path.join(TOP, "bin", "scad2stl"), **how)
         return status, out, error.decode().splitlines()
 
     def box_of(self, name):

@@ -5,8 +5,8 @@ import sys
 import tempfile
 import unittest
 
-from scadserve import server
-from scadserve.server import Fault, Limit, Malformed, Ok, Script, Solid, Text, passed_limit, run
+from scadserve.server import scripts
+from scadserve.server.scripts import Fault, Limit, Malformed, Ok, Script, Solid, Text, passed_limit, run
 
 STAND_IN = (sys.executable, "-S", os.path.join(os.path.dirname(os.path.realpath(__file__)), "stand_in.py"))
 MIB = 1_048_576
@@ -241,14 +241,14 @@ class Runs(unittest.TestCase):
 
     def test_each_status_of_the_program_is_an_exception(self):
         for status, kind in (
-            (2, server.BadWords),
-            (3, server.BadScript),
-            (4, server.ReadFault),
-            (5, server.WriteFault),
-            (6, server.OutOfMemory),
-            (125, server.ServerFailed),
+            (2, scripts.BadWords),
+            (3, scripts.BadScript),
+            (4, scripts.ReadFault),
+            (5, scripts.WriteFault),
+            (6, scripts.OutOfMemory),
+            (125, scripts.ServerFailed),
         ):
-            with self.subTest(status=status), self.assertRaises(server.ServerFailed) as caught:
+            with self.subTest(status=status), self.assertRaises(scripts.ServerFailed) as caught:
                 self.run_source(b"//= status %d" % status)
             self.assertIs(type(caught.exception), kind)
             self.assertEqual(caught.exception.status, status)
@@ -256,14 +256,14 @@ class Runs(unittest.TestCase):
     def test_a_server_that_a_signal_ends_has_128_and_its_number(self):
         script = Script()
         script.client("a").export()
-        with self.assertRaises(server.ServerFailed) as caught:
+        with self.assertRaises(scripts.ServerFailed) as caught:
             run([script], ["sh", "-c", "kill -9 $$"])
         self.assertEqual(caught.exception.status, 137)
 
     def test_a_server_that_is_not_there_has_not_started(self):
         script = Script()
         script.client("a").export()
-        with self.assertRaises(server.NotStarted) as caught:
+        with self.assertRaises(scripts.NotStarted) as caught:
             run([script], ["/there/is/no/server"])
         self.assertEqual(str(caught.exception), "/there/is/no/server does not start: No such file or directory")
 
@@ -280,7 +280,7 @@ class Runs(unittest.TestCase):
         client.show()
         self.assertEqual(bytes(script).split(b"\n")[1], b"a put 2 \r\r")
         output = b"== a\n1 ok 1\n2 ok 2\n3 ok 3\n4 ok 4\n5 text 4\n" + line + b"\n\r\nx\r\r\n\n"
-        self.assertEqual(server.read(bytes(script), output)["a"][4], Text((line, b"\r", b"x\r\r", b"")))
+        self.assertEqual(scripts.read(bytes(script), output)["a"][4], Text((line, b"\r", b"x\r\r", b"")))
 
 
 if __name__ == "__main__":

@@ -2,9 +2,9 @@
 
 import unittest
 
-from scadserve import closing
-from scadserve.fouroff import read
-from scadserve.surface import NotClosed, next_side, previous_side, surface_of
+from scadserve.solid import closing
+from scadserve.solid.fouroff import read
+from scadserve.solid.surface import NotClosed, next_side, previous_side, surface_of
 from tests.solids import box, examples, gallery, off
 from tests.touching import board
 

@@ -12,8 +12,9 @@ import unittest
 from pathlib import Path
 from typing import Sequence
 
-from scadserve import completion, manual
-from scadserve.tools import STARTER, TOOLS, parser_of
+from scadserve.tools import completion
+from scadserve.tools import manual
+from scadserve.tools.catalogue import STARTER, STARTERS, TOOLS, parser_of
 from scadserve.version import VERSION
 from tests.calls import TOP, Calls
 
@@ -25,26 +26,26 @@ needs_zsh = unittest.skipUnless(shutil.which("zsh"), "zsh is not installed")
 
 class Starters(Calls):
     def test_each_tool_is_listed_and_has_a_starter(self) -> None:
-        at_the_top = [it.name for it in Path(TOP).iterdir() if it.is_file() and re.fullmatch(r"[a-z]+2[a-z]+", it.name)]
-        self.assertEqual(sorted(at_the_top), sorted(TOOLS))
-        for name in ALL:
-            self.assertTrue(os.access(os.path.join(TOP, name), os.X_OK), name)
+        self.assertEqual(sorted(it.name for it in Path(TOP, "bin").iterdir()), sorted(TOOLS))
+        for place in STARTERS:
+            self.assertTrue(os.access(os.path.join(TOP, place), os.X_OK), place)
 
     def test_each_tells_its_version_and_its_help(self) -> None:
         self.assertRegex(VERSION, r"\A\d+\.\d+\.\d+\Z")
         # (no rt and no program is started for these)
         self.environment["PATH"] = f"{os.path.dirname(sys.executable)}:/usr/bin:/bin"
         self.write("scadserve.py", "raise SystemExit('that of the folder of the call')")
-        for name in ALL:
-            tool = os.path.join(TOP, name)
+        for place in STARTERS:
+            name, tool = os.path.basename(place), os.path.join(TOP, place)
             self.assertEqual(self.call("--version", tool=tool), (0, f"{name} {VERSION}\n".encode(), b""))
             status, out, error = self.call("--help", tool=tool)
             self.assertEqual((status, out[: len(name) + 8], error), (0, f"usage: {name} ".encode(), b""))
             self.assertIn(b"--version", out)
 
     def test_a_version_that_cannot_be_written_is_told(self) -> None:
-        for name, status in ((STARTER, 5), ("off2svg", 2)):
-            words = ["sh", "-c", '"$0" --version >/dev/full', os.path.join(TOP, name)]
+        for place, status in ((STARTER, 5), ("bin/off2svg", 2)):
+            name = os.path.basename(place)
+            words = ["sh", "-c", '"$0" --version >/dev/full', os.path.join(TOP, place)]
             done = subprocess.run(words, stderr=subprocess.PIPE, check=False)
             self.assertEqual(done.returncode, status)
             self.assertEqual(done.stderr.decode(), f"{name}: cannot write standard output: No space left on device\n")

@@ -1,0 +1,225 @@
+"""A design of OpenSCAD's evaluated form as a source of ours: the unit that is chosen, the detail that planes allow, what is told.
+
+    conversion = converted(csg_reader.read(text), Wanted(), openscad_front.Front(folder))
+    conversion.text, conversion.unit, conversion.told
+
+The grid is the finest of a list on which all corners have room, or a coarser one of it on which no corner moves. Where more
+planes or shapes come of it than a design may have, corners of curves are left out, by as little as suffices.
+"""
+
+from __future__ import annotations
+
+import contextlib
+import math
+from collections import Counter
+from dataclasses import dataclass
+from fractions import Fraction
+from typing import Sequence
+
+from .extrude import turns
+from .frames import frames
+from .front import Front
+from .grid import PLANES, ROOM, Rounded, Rounder, TooMany, placed, written
+from .reader import CsgFault, Node
+from .space import Space
+from .tree import IDENTITY, Detail, Leaf, Solid, dimension, leaves
+
+#: The grid steps that are tried, the finest first, in OpenSCAD's lengths.
+UNITS = [Fraction(1, it) for it in (1000, 500, 400, 200, 100, 80, 50, 40, 20, 10, 8, 5, 4, 2)]
+UNITS += [Fraction(it * 10**power) for power in range(7) for it in (1, 2, 5)]
+# Below this, in grid steps, a corner hasn't moved: that much its six digits leave open.
+_STILL = 0.02
+# What is left out is tried from little to much, as the size of the design halved so often, and then between two of these.
+_LEAST_BELOW, _STEPS_BELOW = 18, (14, 12, 10, 8, 6, 5, 4, 3)
+_HALVINGS, _FINE_BELOW = 3, 10
+
+
+@dataclass(frozen=True)
+class Wanted:
+    """What is asked for: a grid step, all corners of curves, at most so many planes, and how high a plan is made."""
+
+    unit: Fraction | None = None
+    is_exact: bool = False
+    planes: int = PLANES
+    height: Fraction | None = None
+
+
+@dataclass(frozen=True)
+class Conversion:
+    """A source of ours, the length of a unit of it in OpenSCAD's, how far a point is off at most, and what is told of it."""
+
+    text: bytes
+    unit: Fraction
+    off: float
+    told: list[str]
+
+
+def converted(nodes: Sequence[Node], wanted: Wanted, front: Front) -> Conversion:
+    """The source of a design. Raises CsgFault where there is none that has its solid."""
+    return _Converter(_solid_nodes(nodes, wanted), wanted, front).conversion()
+
+
+def _solid_nodes(nodes: Sequence[Node], wanted: Wanted) -> list[Node]:
+    """The nodes that count, as shapes in space. Raises CsgFault where there are none, or shapes in the plane alone."""
+    top = [it for it in nodes if it.is_shown()]
+    first = top[0] if top else Node("group", {}, "", 1, 1)
+    group = Node("group", {}, "", first.line, first.column, top)
+    of_all = dimension(group)
+    if of_all is None:
+        raise CsgFault(first.line, first.column, "Empty", "this design makes no solid at all")
+    if of_all == 3:
+        return top
+    if wanted.height is None:
+        raise first.fault("WrongDimension", "the design is flat, which OpenSCAD makes no solid of either: --flat 1 makes it 1 high")
+    return [Node("linear_extrude", {"height": float(wanted.height)}, "", first.line, first.column, top)]
+
+
+class _Converter:
+    def __init__(self, nodes: list[Node], wanted: Wanted, front: Front) -> None:
+        self._nodes, self._wanted, self._front = nodes, wanted, front
+        self._rounder = Rounder(wanted.planes)
+
+    def conversion(self) -> Conversion:
+        """The source, and what is told of it."""
+        detail = Detail()
+        solid = self._solid(detail)
+        unit = self._unit(solid)
+        try:
+            rounded = self._rounder.rounded(solid, unit)
+        except TooMany as many:
+            unit, detail, rounded = self._within(solid, unit, detail, many)
+        if self._wanted.is_exact and detail.hulls:
+            raise detail.hulls[0].fault("NotConvex", "a slice of it has hollow sides, and isn't cut into convex parts")
+        if rounded.tree is None:
+            raise self._fault("Empty", "this design makes no solid at all" + "".join(_vanished(rounded)))
+        told = [_unit_told(unit, rounded), *_fewer_told(detail), *_vanished(rounded), *self._front.said]
+        comments = "".join(f"// {it}\n" for it in told[1:] if it not in self._front.said)
+        text = f"// unit: {unit}\n" + comments + "".join(f"{it}\n" for it in written(rounded.tree))
+        return Conversion(text.encode("ascii", "replace"), unit, rounded.moved + detail.off, told)
+
+    def _fault(self, word: str, said: str) -> CsgFault:
+        return CsgFault(self._nodes[0].line, self._nodes[0].column, word, said)
+
+    def _solid(self, detail: Detail) -> Solid:
+        solid = Space(detail, self._front.flat, self._front.solid).solid(self._nodes, IDENTITY)
+        if solid is None:
+            raise self._fault("Empty", "this design makes no solid at all")
+        return solid
+
+    def _unit(self, solid: Solid) -> Fraction:
+        """The step of the grid."""
+        all_leaves = list(leaves(solid))
+        greatest = max(max(map(abs, corner)) for leaf in all_leaves for corner in leaf.corners)
+        # (where sides run along no axis, a corner is rounded as the sum of two)
+        room = ROOM + 0.49 if all(it.frame is None for it in all_leaves) else ROOM - 1
+        units = UNITS if self._wanted.unit is None else [self._wanted.unit]
+        fitting = [it for it in units if greatest <= room * float(it)]
+        if not fitting:
+            raise self._fault("OutOfRange", f"a corner is {greatest:.6g} from the origin, and with units of {units[-1]} {ROOM} have room")
+        return next((it for it in fitting[:6] if _is_still(all_leaves, it)), fitting[0])
+
+    def _within(self, solid: Solid, unit: Fraction, whole: Detail, many: TooMany) -> tuple[Fraction, Detail, Rounded]:
+        """The design, which is of all detail, with no more planes and shapes than a part may have. Raises CsgFault."""
+        framed = None
+        turned = frames(leaves(solid), float(unit))
+        with contextlib.suppress(TooMany):
+            framed = self._rounder.rounded(solid, unit, turned) if turned else None
+        try:
+            found = self._coarser(solid, unit, whole) if self._wanted.is_exact else self._fewer(solid, unit, many)
+        except CsgFault:
+            if framed is None:
+                raise
+            return unit, whole, framed
+        if framed is not None and framed.moved + whole.off < found[2].moved + found[1].off:
+            return unit, whole, framed
+        return found
+
+    def _coarser(self, solid: Solid, unit: Fraction, whole: Detail) -> tuple[Fraction, Detail, Rounded]:
+        """A coarser grid on which planes suffice, since they come to lie on one another. Raises CsgFault."""
+        units = [] if self._wanted.unit is not None else [it for it in UNITS if it > unit][:6]
+        for it in units:
+            try:
+                return it, whole, self._rounder.rounded(solid, it)
+            except TooMany:
+                pass
+        raise self._fault("TooManyPlanes", "with all corners of its curves it has more planes or shapes than a part may have")
+
+    def _fewer(self, solid: Solid, unit: Fraction, many: TooMany) -> tuple[Fraction, Detail, Rounded]:
+        """The design with the least detail left out by which planes and shapes suffice. Raises CsgFault."""
+        corners = [corner for leaf in leaves(solid) for corner in leaf.corners]
+        size = math.dist([min(axis) for axis in zip(*corners)], [max(axis) for axis in zip(*corners)])
+        has_turns = any(it.name == "linear_extrude" and turns(it) for node in self._nodes for it in node.all())
+        ways = [Detail(), *([Detail(cuts=False)] if has_turns else [])]
+        tried = [it for it in (self._least(math.log2(size), unit, way) for way in ways) if it is not None]
+        if not tried:
+            tried = [it for it in [self._least(math.log2(size), unit, Detail(may_step=True, cuts=False))] if it is not None]
+        if tried:
+            return unit, *min(tried, key=lambda it: it[0].off)
+        what = "planes" if many.args[0] == "TooManyPlanes" else "shapes"
+        raise self._fault(many.args[0], f"it has more {what} than a part may have, also with few corners on its curves")
+
+    def _least(self, size: float, unit: Fraction, way: Detail) -> tuple[Detail, Rounded] | None:
+        """The design with the least detail left out in some way, by the size as a power of two; None where all of it is too much."""
+        # (between what is known to be too little and what suffices; nothing at all is too little)
+        low = high = size - _LEAST_BELOW
+        best, below = None, _STEPS_BELOW[0]
+        coarsest = Detail(2 ** (size - _STEPS_BELOW[-1]), way.may_step, way.cuts)
+        self._solid(coarsest)
+        for below in _STEPS_BELOW if coarsest.fewer or coarsest.steps or coarsest.off else ():
+            low, high = high, size - below
+            best = self._tried(high, unit, way)
+            if best is not None:
+                break
+        for _ in range(0 if best is None else 1 if below >= _FINE_BELOW else _HALVINGS):
+            middle = (low + high) / 2
+            found = self._tried(middle, unit, way)
+            if found is None:
+                low = middle
+            else:
+                best, high = found, middle
+        return best
+
+    def _tried(self, power: float, unit: Fraction, way: Detail) -> tuple[Detail, Rounded] | None:
+        detail = Detail(2**power, way.may_step, way.cuts)
+        try:
+            return detail, self._rounder.rounded(self._solid(detail), unit)
+        except TooMany:
+            return None
+
+
+def _is_still(all_leaves: Sequence[Leaf], unit: Fraction) -> bool:
+    """Whether no corner moves on a grid of this step."""
+    for leaf in all_leaves:
+        found = Rounded()
+        placed(leaf, float(unit), found)
+        if found.moved > _STILL * unit:
+            return False
+    return True
+
+
+def _unit_told(unit: Fraction, rounded: Rounded) -> str:
+    still = rounded.moved <= _STILL * unit
+    moved = "no corner moved" if still else f"corners moved by {rounded.moved:.2g} at most"
+    return f"unit {unit}: {moved} (print by off2stl --unit {unit})"
+
+
+def _fewer_told(detail: Detail) -> list[str]:
+    """What is otherwise than OpenSCAD's, and how far that is off."""
+    kinds = ", ".join(
+        f"{count} {name} ({detail.fewest[name][0]} of {detail.fewest[name][1]} at least)" for name, count in sorted(detail.fewer.items())
+    )
+    steps = ", ".join(f"{node.name} at {node.line}:{node.column} ({count} steps)" for node, count in detail.steps)
+    hulls = ", ".join(f"{node.name} at {node.line}:{node.column}" for node in detail.hulls)
+    since = f", since a part has at most {PLANES} planes"
+    told = [f"fewer corners on curves{since}: {kinds}"] if kinds else []
+    told += [f"what turns on the way in straight steps{since}: {steps}"] if steps else []
+    told += [f"slices with hollow sides as hulls: {hulls}"] if hulls else []
+    return ["; ".join([*told, f"nothing is off by more than {detail.off:.2g}"])] if told else []
+
+
+def _vanished(rounded: Rounded) -> list[str]:
+    if not rounded.vanished:
+        return []
+    places = Counter(f"{it.name} at {it.line}:{it.column}" for it in rounded.vanished)
+    shown = ", ".join(list(places)[:8]) + (f" and {len(places) - 8} more" if len(places) > 8 else "")
+    return [f"vanished, since it is thinner than the grid: {shown}"]

@@ -1,0 +1,183 @@
+"""Polyhedra of OpenSCAD's evaluated form as convex parts: one where they are convex, and else cones from a point that sees all.
+
+A face goes clockwise round its corners as seen from outside. Parts have the polyhedron's own corners, and that one point. Where
+no point sees all faces, corners and faces are given, for a carving on the grid.
+"""
+
+from __future__ import annotations
+
+from typing import NamedTuple, Sequence
+
+from . import exact_hull
+from .flat import FINE
+from .reader import Node
+from .tree import Vector
+
+Triangle = tuple[int, int, int]
+# How far a corner may be ahead of a face of a convex polyhedron, which is what its digits leave open, in its own size.
+_FLAT = 1e-5
+_TRIES = 400
+# A polyhedron with more has more planes than a part may have, where it isn't one of large flat sides.
+_MOST_TRIANGLES = 4096
+
+
+class Surface(NamedTuple):
+    """A closed surface that doesn't go through itself: its different corners, and its faces, counterclockwise from outside."""
+
+    places: "list[Vector]"
+    rings: "list[list[int]]"
+
+
+def faces_of(node: Node, count: int) -> list[list[int]]:
+    """The faces of a `polyhedron` of so many points. Raises CsgFault."""
+    faces = node.arguments.get("faces")
+    if not isinstance(faces, list):
+        raise node.fault("BadArgument", "faces is no list")
+    found = []
+    for face in faces:
+        numbers = face if isinstance(face, list) else []
+        if not numbers or not all(isinstance(it, float) and 0 <= it < count for it in numbers):
+            raise node.fault("BadPoint", "a face names a point that is not there")
+        found.append([int(it) for it in numbers if isinstance(it, float)])
+    return found
+
+
+def cut(node: Node, places: Sequence[Vector], faces: Sequence[Sequence[int]]) -> "list[list[Vector]] | Surface":
+    """The corners of the convex parts of a polyhedron, none where it has no faces, or else its surface. Raises CsgFault."""
+    points, numbers = _merged(places)
+    rings = [[numbers[it] for at, it in enumerate(face) if numbers[it] != numbers[face[at - 1]]] for face in faces]
+    # (turned round, so that triangles go counterclockwise as seen from outside)
+    triangles = [(ring[0], c, b) for ring in rings for b, c in zip(ring[1:], ring[2:])]
+    triangles = [it for it in triangles if len(set(it)) == 3]
+    if not triangles:
+        return []
+    _check_closed(node, rings)
+    if sum(_volume6((0, 0, 0), [points[it] for it in triangle]) for triangle in triangles) <= 0:
+        raise node.fault("NotConvex", "its faces look inward: they go clockwise as seen from outside")
+    planes = [it for it in (_plane([points[it] for it in triangle]) for triangle in triangles) if it]
+    size = max(max(abs(it) for it in point) for point in points)
+    used = sorted({it for ring in rings for it in ring})
+    if all(_height(plane, points[it]) <= _FLAT * size for plane in planes for it in used):
+        return [[_place(points[it]) for it in used]]
+    eye = _eye(planes, [points[it] for it in used])
+    if eye is None and len(triangles) > _MOST_TRIANGLES:
+        raise node.fault("TooManyPlanes", f"it isn't convex, and has {len(triangles)} triangles: {_MOST_TRIANGLES} are looked at")
+    if eye is None:
+        _check_uncrossed(node, points, triangles)
+        return Surface([_place(it) for it in points], [ring[::-1] for ring in rings if len(ring) > 2])
+    return [[_place(it) for it in part] for part in _cones(eye, points, triangles)]
+
+
+def _merged(places: Sequence[Vector]) -> tuple[list[exact_hull.Point], list[int]]:
+    """The different points, in millionths, and the number of each place's."""
+    names: dict[exact_hull.Point, int] = {}
+    numbers = [names.setdefault((round(x * FINE), round(y * FINE), round(z * FINE)), len(names)) for x, y, z in places]
+    return list(names), numbers
+
+
+def _place(point: Sequence[int]) -> Vector:
+    return point[0] / FINE, point[1] / FINE, point[2] / FINE
+
+
+def _check_closed(node: Node, rings: Sequence[Sequence[int]]) -> None:
+    """Raises CsgFault where the faces don't go along each edge once one way and once the other."""
+    ways = [way for ring in rings for way in zip(ring, [*ring[1:], *ring[:1]])]
+    known = set(ways)
+    if len(known) < len(ways) or any(way[::-1] not in known for way in known):
+        raise node.fault("NotClosed", "its faces do not close a body")
+
+
+def _check_uncrossed(node: Node, points: Sequence[exact_hull.Point], triangles: Sequence[Triangle]) -> None:
+    """Raises CsgFault where an edge goes through a triangle; both are taken from left to right."""
+    edges = {(min(way), max(way)) for it in triangles for way in _ways(it)}
+    bodies = [(edge, [points[it] for it in edge]) for edge in edges] + [(it, [points[at] for at in it]) for it in triangles]
+    boxes = [([min(axis) for axis in zip(*corners)], [max(axis) for axis in zip(*corners)]) for _, corners in bodies]
+    there: "list[list[int]]" = [[], []]
+    for number in sorted(range(len(bodies)), key=lambda it: boxes[it][0]):
+        (numbers, _), (low, high) = bodies[number], boxes[number]
+        is_edge = len(numbers) == 2
+        there[is_edge] = [it for it in there[is_edge] if boxes[it][1][0] >= low[0]]
+        for other in there[is_edge]:
+            (other_low, other_high), edge, triangle = boxes[other], *((number, other) if is_edge else (other, number))
+            if all(other_low[it] <= high[it] and low[it] <= other_high[it] for it in (1, 2)):
+                if set(bodies[edge][0]).isdisjoint(bodies[triangle][0]) and _goes_through(bodies[edge][1], bodies[triangle][1]):
+                    raise node.fault("NotConvex", "it isn't convex, and its faces go through one another")
+        there[not is_edge].append(number)
+
+
+def _goes_through(edge: Sequence[exact_hull.Point], triangle: Sequence[exact_hull.Point]) -> bool:
+    """Whether an edge goes through the inside of a triangle, from one side of it to the other."""
+    ends = [_volume6(it, triangle) for it in edge]
+    if ends[0] * ends[1] >= 0:
+        return False
+    a, b, c = triangle
+    sides = [_volume6(edge[0], (edge[1], *two)) for two in ((a, b), (b, c), (c, a))]
+    return all(it > 0 for it in sides) or all(it < 0 for it in sides)
+
+
+def _volume6(eye: Sequence[int], corners: Sequence[exact_hull.Point]) -> int:
+    """Six times the volume of the tetrahedron of a point and a triangle, above 0 where the point is behind it."""
+    (ax, ay, az), (bx, by, bz), (cx, cy, cz) = (tuple(q - p for q, p in zip(corner, eye)) for corner in corners)
+    return ax * (by * cz - bz * cy) - ay * (bx * cz - bz * cx) + az * (bx * cy - by * cx)
+
+
+def _plane(corners: Sequence[exact_hull.Point]) -> tuple[float, float, float, float] | None:
+    """The plane of a triangle, with a direction of the length 1; None where the triangle has no area."""
+    (ax, ay, az), (bx, by, bz), (cx, cy, cz) = corners
+    ux, uy, uz, vx, vy, vz = bx - ax, by - ay, bz - az, cx - ax, cy - ay, cz - az
+    x, y, z = float(uy * vz - uz * vy), float(uz * vx - ux * vz), float(ux * vy - uy * vx)
+    length = (x * x + y * y + z * z) ** 0.5
+    return (x / length, y / length, z / length, (x * ax + y * ay + z * az) / length) if length else None
+
+
+def _height(plane: Sequence[float], point: Sequence[float]) -> float:
+    return plane[0] * point[0] + plane[1] * point[1] + plane[2] * point[2] - plane[3]
+
+
+def _eye(planes: Sequence[Sequence[float]], points: Sequence[exact_hull.Point]) -> exact_hull.Point | None:
+    """A point that is behind all planes, by more than their digits leave open; None where none is found.
+
+    From the middle on it goes behind the plane of which it is farthest ahead, again and again.
+    """
+    eye = [sum(axis) / len(points) for axis in zip(*points)]
+    size = max(max(axis) - min(axis) for axis in zip(*points))
+    room = size / 4
+    for number in range(_TRIES):
+        plane = max(planes, key=lambda it: _height(it, eye))
+        height = _height(plane, eye)
+        if height < -size / 500:
+            return round(eye[0]), round(eye[1]), round(eye[2])
+        if number % 20 == 19:
+            room /= 2
+        eye = [at - (height + room) * along for at, along in zip(eye, plane)]
+    return None
+
+
+def _cones(eye: exact_hull.Point, points: Sequence[exact_hull.Point], triangles: Sequence[Triangle]) -> list[list[exact_hull.Point]]:
+    """The corners of cones over faces; neighbours stand together as long as that is convex, which their volumes tell exactly."""
+    parts: list[tuple[set[exact_hull.Point], int]] = []
+    across = {way: number for number, it in enumerate(triangles) for way in _ways(it)}
+    seen: set[int] = set()
+    for first in range(len(triangles)):
+        if first in seen:
+            continue
+        corners, volume, waiting = {eye}, 0, [first]
+        while waiting:
+            number = waiting.pop()
+            if number in seen:
+                continue
+            added = [points[it] for it in triangles[number]]
+            of_added = _volume6(eye, added)
+            body = exact_hull.hull(corners | set(added))
+            if volume and (body is None or exact_hull.volume6(body) != volume + of_added or len(corners) > 60):
+                continue
+            seen.add(number)
+            corners, volume = corners | set(added), volume + of_added
+            waiting += [across[way[::-1]] for way in _ways(triangles[number])]
+        parts.append((corners, volume))
+    return [sorted(corners) for corners, volume in parts if volume]
+
+
+def _ways(triangle: Triangle) -> list[tuple[int, int]]:
+    a, b, c = triangle
+    return [(a, b), (b, c), (c, a)]

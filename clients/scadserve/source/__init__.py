@@ -1,0 +1,1 @@
+"""Sources: tokens, structure, includes, units, and what faults say."""

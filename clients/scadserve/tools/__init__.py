@@ -1,0 +1,1 @@
+"""The commands: a module for each, and what they have in common."""

@@ -1,0 +1,181 @@
+"""From source files to what is made of their solids: the way of each tool that reads sources.
+
+    call = Call("scad2off", files, outs, half=True)
+    status = convert(call, lambda source, out, solid: write(out, solid.text))
+
+Files are read with what they include and use, those within the limits go to the server in few runs, and each solid is
+handed on to be written. What is wrong with a file is said on standard error, and stops no other file.
+"""
+
+from __future__ import annotations
+
+import os
+from dataclasses import dataclass
+from time import monotonic
+from typing import Callable, NamedTuple, Sequence
+
+from ..ending import BAD_CALL, BadCall, NO_MEMORY, PART_FAULT
+from ..files import called, identity, left_over, reason, refusal_to_write, say
+from ..server.scripts import SERVER, Complex, Malformed, NoMemory, Reply, ServerFailed, Solid, passed_limit
+from ..source.answering import answered
+from ..source.faults import STATUSES
+from ..source.reading import read_source, unused
+from ..source.sources import Refused, Source
+from ..source.telling import limit_told, refused_told, reply_told
+from .words import say_bad
+
+NO_ANSWER = 125
+# (an unproved run takes a minute each time, and is not asked again which call led to a fault)
+QUICK = 10.0
+
+
+class Part(NamedTuple):
+    """A source that is sent, and the file that what is made of it goes to; `-` is standard output."""
+
+    source: Source
+    out: str
+
+
+@dataclass(frozen=True)
+class Call:
+    """What a call of a tool asks for: its files, where what is made of each goes, and what holds of all of them."""
+
+    tool: str
+    files: Sequence[str]
+    outs: Sequence[str]
+    #: The folder that `outs` are in, where there is one: it is made, and how many were right is said at the end.
+    folder: str | None = None
+    half: bool = False
+    definitions: Sequence[str] = ()
+    folders: Sequence[str] = ()
+    allow_empty: bool = False
+    server: Sequence[str] = SERVER
+    #: What the files that the tool makes begin with: such a file is removed where its source has a fault now.
+    begins: tuple[bytes, ...] = ()
+    #: How the source in a file is read.
+    read: Callable[[str, Sequence[str], Sequence[str]], Source] = read_source
+    #: A source of the same file whose solid is smaller, for one that passes a limit of the server; None where there is none.
+    coarser: Callable[[Source], Source | None] | None = None
+
+
+def told(tool: str, work: Callable[[], int]) -> int:
+    """The status of a tool's work, with what is wrong with the whole call told."""
+    try:
+        return work()
+    except BadCall as bad:
+        say_bad(tool, bad)
+        return BAD_CALL
+    except ServerFailed as failed:
+        say(f"{tool}: {failed}{STATUSES.get(failed.status, '')}\n")
+        return failed.status
+    except Malformed as malformed:
+        say(f"{tool}: the server's output is no answer: {malformed}\n")
+        return NO_ANSWER
+
+
+def convert(call: Call, write: Callable[[Source, str, Solid], int]) -> int:
+    """The highest status of the files of a call, each of whose solids was written to its place by `write`, which gives a
+    status and says what is wrong. Raises BadCall, and what `run` of `server` raises."""
+    parts, statuses = parts_of(call)
+    outs = iter([it.out for it in parts])
+    began = monotonic()
+    quick = None
+    for source, reply in answered([it.source for it in parts], call.half, call.server):
+        quick = monotonic() - began < QUICK if quick is None else quick
+        out = next(outs)
+        try:
+            statuses.append(_finished(call, *_smaller(call, source, reply), out, write, quick))
+        except Refused as refused:
+            _say_of(call, out, refused_told(refused))
+            statuses.append(PART_FAULT)
+    if call.folder is not None:
+        say(counted(statuses))
+    return max(statuses)
+
+
+def counted(statuses: Sequence[int]) -> str:
+    """What is said at the end of a call of many files, each of which ended with one of these statuses."""
+    solids, unread = statuses.count(0), statuses.count(BAD_CALL)
+    counts = ((len(statuses), "file"), (solids, "solid"), (len(statuses) - solids - unread, "fault"))
+    files, *others = (f"{count} {of}{'s' * (count != 1)}" for count, of in counts)
+    return f"{files}: {', '.join(others)}{f', {unread} not read or written' if unread else ''}\n"
+
+
+def parts_of(call: Call) -> tuple[list[Part], list[int]]:
+    """The parts of a call that can be sent, and the statuses of the others, which are told.
+
+    Raises BadCall where nothing can be written where it goes.
+    """
+    test_place(call.outs, call.folder)
+    parts: list[Part] = []
+    statuses: list[int] = []
+    sources = {identity(it, 0) for it in call.files} - {None}
+    for file, out in zip(call.files, call.outs):
+        try:
+            if identity(out, 1) in sources:
+                raise BadCall(f"cannot write {called(out, 'standard output')}: that is a source")
+            source = _read(call, file)
+            limit = passed_limit(source.sent())
+            if limit:
+                _say_of(call, out, limit_told(source, limit))
+                statuses.append(PART_FAULT)
+            else:
+                parts.append(Part(source, out))
+        except BadCall as bad:
+            say_bad(call.tool, bad)
+            statuses.append(BAD_CALL)
+        except Refused as refused:
+            _say_of(call, out, refused_told(refused))
+            statuses.append(PART_FAULT)
+    return parts, statuses
+
+
+def test_place(outs: Sequence[str], folder: str | None) -> None:
+    """Makes the folder that is asked for. Raises BadCall where nothing can be written there, or to the one file."""
+    if folder is not None:
+        try:
+            os.makedirs(folder, exist_ok=True)
+        except OSError as error:
+            raise BadCall(f"cannot make the folder {folder}: {error.strerror}") from error
+    out = outs[0] if folder is None else os.path.join(folder, "any")
+    why = refusal_to_write(out)
+    if why is not None:
+        raise BadCall(f"cannot write {folder or out}: {why}")
+
+
+def _read(call: Call, file: str) -> Source:
+    try:
+        source = call.read(file, call.definitions, call.folders)
+    except (OSError, ValueError) as error:
+        raise BadCall(f"cannot open {called(file, 'standard input')}: {reason(error)}") from error
+    for name in unused(source):
+        say(f"{source.name}: warning: the source never has {name}, which -D assigns\n")
+    return source
+
+
+def _smaller(call: Call, source: Source, reply: Reply) -> tuple[Source, Reply]:
+    """The source and its answer, or those of one of the same file that is within the server's limits. Raises Refused."""
+    while isinstance(reply, Complex) and call.coarser is not None:
+        coarser = call.coarser(source)
+        if coarser is None:
+            break
+        [(source, reply)] = answered([coarser], call.half, call.server)
+    return source, reply
+
+
+def _finished(
+    call: Call, source: Source, reply: Reply, out: str, write: Callable[[Source, str, Solid], int], quick: bool
+) -> int:
+    """Writes what is made of a part, or says why there is nothing, and gives the part's status."""
+    if isinstance(reply, Solid) and (reply.faces or call.allow_empty):
+        return write(source, out, reply)
+    if isinstance(reply, NoMemory):
+        say(reply_told(source, reply))
+        return NO_MEMORY
+    _say_of(call, out, reply_told(source, reply, call.half, call.server if quick else None))
+    return PART_FAULT
+
+
+def _say_of(call: Call, out: str, fault: str) -> None:
+    """Says what is wrong with a source, and removes what was made of an earlier one, or says that it is old."""
+    say(fault + left_over(out, call.begins))

@@ -1,0 +1,1 @@
+"""Pictures of solids: SVG and the page in which a solid turns."""
