@@ -2,6 +2,7 @@
 leaves for the starter and for releases is that of one commit, and of sources that nobody touched while it ran."""
 
 import hashlib
+import lzma
 import os
 import shutil
 import unittest
@@ -37,7 +38,7 @@ class Gate(Calls):
         super().setUp()
         for folder in ("bin", "top/tools", "top/.ci", "top/crates/scadserve/src"):
             os.makedirs(self.path(folder))
-        for name in ("tools/built.sh", ".ci/run"):
+        for name in ("tools/built.sh", "tools/unpack.sh", ".ci/run"):
             shutil.copy(os.path.join(TOP, name), self.path(f"top/{name}"))
         for name, text in ((".gitignore", "out/\n"), ("crates.txt", "scadserve:\n"), ("HANDLES", "")):
             self.write(f"top/{name}", text)
@@ -113,6 +114,31 @@ class Gate(Calls):
         self.assertIn("sources were touched while it ran", self.said)
         self.assertNotIn("gate", os.listdir(self.path("top/out")))
         self.assertNotIn("scadserve.proved", os.listdir(self.path("top/crates/scadserve/out")))
+
+
+    def test_the_program_that_comes_with_the_sources_is_the_one_that_is_built(self):
+        self.gate(0, 0)
+        self.assertIn("gate: boot/ has no program of these sources", self.said)
+        _, sources = self.read("top/crates/scadserve/out/scadserve.proved").decode().split()
+        os.mkdir(self.path("top/boot"))
+        packed = "top/boot/scadserve-x86_64-linux.xz"
+        self.write(packed, lzma.compress(b"the program\n"))
+        self.write("top/boot/PROVED", f"sources {sources}\n\nsources of nothing\n")
+        passed = ["rt ci", "7 passed, 0 failed", "check"]
+        self.assertEqual(self.gate(0, 0), (0, passed))
+        self.assertNotIn("gate: ", self.said.replace("gate: the tree has changes", ""))
+        # Another program, and none, fail before the tests.
+        for other in (lzma.compress(b"the program\n\n"), b"", b"the program\n"):
+            self.write(packed, other)
+            status, lines = self.gate(0, 0)
+            self.assertEqual((status, lines[:2], "check" in lines), (1, passed[:2], False))
+            self.assertIn("gate: the program in boot/ is not the one that was proved and built just now", self.said)
+        os.remove(self.path(packed))
+        self.assertEqual(self.gate(0, 0)[0], 1)
+        # That of other sources is left alone, and told.
+        self.write("top/crates/scadserve/src/main.rt", "more")
+        self.assertEqual(self.gate(0, 0), (0, passed))
+        self.assertIn("gate: boot/ has no program of these sources", self.said)
 
 
 class Counts(Calls):
