@@ -10,6 +10,7 @@ import time
 import unittest
 
 from tests.calls import TOP
+from tests.needs import needs
 from tests.starter import Starter
 
 # Answers the empty script with nothing, as the program does, and any other one with what it was given.
@@ -74,7 +75,7 @@ class Taken(Booted):
         for _ in range(3):
             self.assert_runs()
 
-    @unittest.skipUnless(shutil.which("xz"), "xz is not installed")
+    @needs("xz")
     def test_by_xz_it_is_unpacked_without_python(self):
         os.remove(self.path("bin/python3"))
         os.symlink(shutil.which("xz"), self.path("bin/xz"))
@@ -234,7 +235,7 @@ class Refused(Booted):
         self.assert_runs(SCADSERVE_BOOT="yes")
 
 
-@unittest.skipUnless(shutil.which("xz"), "xz is not installed")
+@needs("xz")
 class Made(Starter):
     """tools/boot.sh, after a gate."""
 

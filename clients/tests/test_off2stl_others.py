@@ -6,7 +6,6 @@ Where these programs are not installed, the tests are skipped.
 import os
 import random
 import re
-import shutil
 import subprocess
 import unittest
 from concurrent.futures import ThreadPoolExecutor
@@ -17,13 +16,14 @@ from scadserve.solid.fouroff import read
 from scadserve.solid.measures import volume
 from tests import tool_case, touching
 from tests.calls import TOP
+from tests.needs import needs
 from tests.solids import box, examples, gallery, off
 
 #: How many pieces the parts of the gallery have that are not one.
 PIECES = {"cups": 4, "dovetail": 2, "burr": 6, "cabinet": 3}
-needs_admesh = unittest.skipUnless(shutil.which("admesh"), "admesh is not installed")
-needs_prusa_slicer = unittest.skipUnless(shutil.which("prusa-slicer"), "PrusaSlicer is not installed")
-needs_openscad = unittest.skipUnless(shutil.which("openscad"), "OpenSCAD is not installed")
+needs_admesh = needs("admesh")
+needs_prusa_slicer = needs("prusa-slicer")
+needs_openscad = needs("openscad")
 
 
 def known():

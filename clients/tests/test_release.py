@@ -19,6 +19,7 @@ from pathlib import Path
 from scadserve.tools.catalogue import STARTER, STARTERS, TOOLS
 from scadserve.version import VERSION
 from tests.calls import TOP
+from tests.needs import needs
 
 NAME = f"scadserve-{VERSION}-x86_64-linux"
 TARBALL, PACKAGE = f"{NAME}.tar.gz", f"scadserve_{VERSION}_amd64.deb"
@@ -26,7 +27,6 @@ TARBALL, PACKAGE = f"{NAME}.tar.gz", f"scadserve_{VERSION}_amd64.deb"
 TAKEN = "README.md CHANGELOG.md CONTRIBUTING.md clients docs examples gallery install.sh memory.sh pyproject.toml scadserve tools .gitignore".split()
 # (the Python that runs this, and no rt)
 PATH = f"{os.path.dirname(sys.executable)}:/usr/bin:/bin"
-HAS_ALL = all(shutil.which(it) for it in ("git", "dpkg-deb", "tar", "gzip"))
 TRY_IT = "scad2off examples/bracket.scad -o $0/b.4off && off2stl $0/b.4off -o $0/b.stl && off2svg $0/b.4off -o $0/b.svg"
 
 
@@ -83,7 +83,7 @@ def build(at: Path, gate: str = "7 passed, 0 failed", tests: str = "3 passed, 0 
     (at / "out/gate").write_text("".join(f"{word} {it}\n" for word, it in told.items()))
 
 
-@unittest.skipUnless(HAS_ALL, "git, dpkg-deb, tar and gzip make releases")
+@needs("git", "dpkg-deb", "tar", "gzip")
 class Release(unittest.TestCase):
     folder: Path
 
@@ -247,7 +247,7 @@ class Release(unittest.TestCase):
 
     def test_pip_installs_the_tools_and_the_module(self) -> None:
         if "--python" not in run("python3", "-m", "pip", "--help", at=self.folder).stdout:
-            self.skipTest("there is no pip that installs for another Python")
+            self.skipTest("needs pip")
         room = self.folder / "room"
         self.assertEqual(run("python3", "-m", "venv", "--without-pip", str(room), at=self.folder).returncode, 0)
         words = ["python3", "-m", "pip", "--python", str(room / "bin/python"), "install", "--no-index", "--quiet"]
