@@ -51,13 +51,14 @@ def busy() -> float:
 
 @dataclass
 class Found:
-    """What a module's tests came to: how many passed, which failed, why each other one was skipped, and how long each took, by the
-    clock and of processors."""
+    """What a module's tests came to: how many passed, which failed, why each other one was skipped, how long each took, by the clock
+    and of processors, and how long all took of processors."""
 
     passed: int = 0
     failed: list[str] = field(default_factory=list)
     skipped: list[str] = field(default_factory=list)
     took: list[tuple[float, float, str]] = field(default_factory=list)
+    processors: float = 0
     output: str = ""
 
     def counts(self) -> str:
@@ -112,6 +113,7 @@ class Watched(unittest.TextTestResult):
         bad = [it for it, _ in self.failures + self.errors] + self.unexpectedSuccesses
         self.found.failed = sorted({getattr(it, "test_case", it).id() for it in bad})
         self.found.skipped = [why for _, why in self.skipped]
+        self.found.processors = sum(os.times()[:4])
         return self.found
 
 
@@ -171,7 +173,8 @@ class Check:
             found.output = output.read().decode(errors="replace")
         if found.failed:
             print(found.output, end="")
-        print(f"{module}: {found.counts()} ({time.monotonic() - began:.1f} s)", flush=True)
+        took = f"{time.monotonic() - began:.1f} s, {found.processors:.1f} s of processors"
+        print(f"{module}: {found.counts()} ({took})", flush=True)
         return found
 
     def _heard(self, module: str, report: int) -> Found:

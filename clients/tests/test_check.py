@@ -226,7 +226,7 @@ class Counts(Check):
         status, lines = self.check(a=PASSES, b=FAILS, c=SKIPS, d=WANTS)
         self.assertEqual(status, 1)
         self.assertEqual(sum("AssertionError" in it for it in lines), 2)
-        self.assertIn("tests.test_b: 0 passed, 1 failed ( N s)", lines)
+        self.assertIn("tests.test_b: 0 passed, 1 failed ( N s, N s of processors)", lines)
         begin = lines.index("FAILED: tests.test_b.Case.test")
         self.assertEqual(lines[begin + 1], "the 10 tests that took longest, by the clock and of processors:")
         self.assertEqual(lines[begin + 2][:11], " N s N s  t")

@@ -161,7 +161,7 @@ SIZES = {"one": (2.5, 1, 1), "two": (4, 1.5, 0.1), "three": (3.5, 1, 1), "four":
 class ByTheProgram(Case):
     def setUp(self):
         super().setUp()
-        self.environment = {**self.environment, "SCADSERVE": PROGRAM, "PATH": TOP + os.pathsep + self.environment["PATH"]}
+        self.environment = {**self.environment, "SCADSERVE": PROGRAM, "PATH": os.path.join(TOP, "bin") + os.pathsep + self.environment["PATH"]}
 
     def write_folder(self):
         os.mkdir(self.path("lib"))
