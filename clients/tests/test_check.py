@@ -79,7 +79,9 @@ esac
 """
 
 
-class Gate(Calls):
+class Folder(Calls):
+    """A folder with small sources and the gate, and a stand-in for `rt`."""
+
     def setUp(self):
         super().setUp()
         for folder in ("bin", "top/tools", "top/.ci", "top/crates/scadserve/src"):
@@ -103,6 +105,8 @@ class Gate(Calls):
             self.assertEqual(status, 0, error)
         return out.decode().strip()
 
+
+class Gate(Folder):
     def gate(self, of_rt, of_check=None, also=":"):
         """The status of the gate, and the lines that the two commands leave."""
         self.write("bin/rt", RT.format(status=of_rt, failed=int(of_rt > 0), also=also))
@@ -185,6 +189,48 @@ class Gate(Calls):
         self.write("top/crates/scadserve/src/main.rt", "more")
         self.assertEqual(self.gate(0, 0), (0, passed))
         self.assertIn("gate: boot/ has no program of these sources", self.said)
+
+
+# Builds programs of both compilers, of which one may have where it was built in it.
+BUILDS = """#!/bin/sh
+[ "$1" = ci ] || exit 9
+mkdir -p crates/scadserve/out
+umask >>"$SEEN"
+echo "$TZ $*" >>"$SEEN"
+for name in scadserve scadserve.by-rattle; do
+    echo "the program {more}" >crates/scadserve/out/$name
+    chmod +x crates/scadserve/out/$name
+done
+echo "7 passed, {failed} failed"
+exit {failed}
+"""
+
+
+@needs("git")
+class Twice(Folder):
+    def twice(self, more="", failed=0):
+        """What tools/twice.sh says, where `rt ci` in the clone does so."""
+        self.write("bin/rt", BUILDS.format(more=more, failed=failed))
+        os.chmod(self.path("bin/rt"), 0o755)
+        self.environment["SEEN"] = self.path("seen")
+        status, out, error = self.call("--anew", tool=self.path("top/tools/twice.sh"))
+        return status, out.decode(), error.decode()
+
+    def test_the_programs_of_another_clone_are_compared(self):
+        shutil.copy(os.path.join(TOP, "tools", "twice.sh"), self.path("top/tools"))
+        self.commit()
+        self.assertIn("the gate has left no programs of both compilers", self.twice()[2])
+        os.makedirs(self.path("top/crates/scadserve/out"))
+        for name in ("scadserve", "scadserve.by-rattle"):
+            self.write(f"top/crates/scadserve/out/{name}", "the program \n")
+            os.chmod(self.path(f"top/crates/scadserve/out/{name}"), 0o755)
+        self.assertEqual(self.twice(), (0, "both compilers make the same programs in another clone\n", ""))
+        self.assertEqual(self.read("seen").decode().splitlines(), ["0027", "Asia/Tokyo ci --anew"])
+        status, out, error = self.twice(more="in $PWD")
+        self.assertEqual((status, error.splitlines()[-1]), (1, "twice: scadserve is another program in the clone"))
+        self.assertEqual(self.twice(failed=1)[::2], (1, "twice: `rt ci` fails in the clone:\n7 passed, 1 failed\n"))
+        self.write("top/crates/scadserve/src/main.rt", "more")
+        self.assertEqual(self.twice()[::2], (1, "twice: the sources are not those of the commit that stands here\n"))
 
 
 class Check(Calls):
