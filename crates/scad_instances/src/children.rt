@@ -8,7 +8,8 @@ ghost use Rattle.scad_func.specs.View.{table_in};
 ghost use Rattle.scad_func.specs.Definitions.{statements_at, IsWholeTable};
 ghost use Rattle.scad_func.specs.Evaluations.{env_here};
 ghost use Rattle.scad_meaning.specs.Bodies.{children_in, is_child};
-ghost use Rattle.scad_meaning.specs.Meaning.{instances_chosen};
+ghost use Rattle.scad_meaning.specs.Meaning.{candidates_of, instances_chosen};
+ghost use Rattle.scad_modules.specs.View.{chosen_of};
 ghost use Rattle.scad_instances.specs.Choosing.{chosen_seen, IsSafeChosen};
 ghost use Rattle.scad_instances.specs.Counting.{CountsChildren};
 ghost use Rattle.scad_instances.specs.Listing.{AreInstancesOf};
@@ -95,7 +96,26 @@ pub fn count_children(
     })
 }
 
-/// The instances of a block that are evaluated, or of its children those that are chosen.
+// The instances of a block among which a call of `children` chooses: its children by an index, and else all that are evaluated,
+// as in any other body.
+fn candidates<'t, 'a>(
+    evaluation: &Evaluation<'_, '_>,
+    instances: &'t InstanceTable<'a>,
+    block: u32,
+    chosen: &Chosen,
+) -> &'t [NumberedInstance<'a>]
+    requires { AreInstancesOf (table_in evaluation.now.source.now) instances.now }
+    ensures { let table = table_in evaluation.now.source.now in
+        HaveBodyBlocks table (candidates_of (env_here evaluation.now) (chosen_of chosen.now)
+        (statements_at table block)) result.now }
+{
+    match chosen {
+        Chosen::All => instances.instances(block),
+        Chosen::Numbered(_) | Chosen::Range { .. } => children(evaluation, instances, block),
+    }
+}
+
+/// The instances of a block that are evaluated, or the chosen ones among them.
 pub fn chosen_instances<'a>(
     evaluation: &Evaluation<'_, '_>,
     instances: &InstanceTable<'a>,
@@ -112,6 +132,10 @@ pub fn chosen_instances<'a>(
     let alloc = evaluation.alloc;
     match chosen {
         None => Ok(Vec::from_slice(alloc, instances.instances(block))?),
-        Some(chosen) => chosen_among(alloc, children(evaluation, instances, block), chosen),
+        Some(chosen) => chosen_among(
+            alloc,
+            candidates(evaluation, instances, block, chosen),
+            chosen,
+        ),
     }
 }

@@ -2,9 +2,13 @@
 use Rattle.std.proofs.Common.{◌≡◌, ℕ, zero, suc, List, [], ◌∷◌, ◌++◌, map, ℤ, pos, negsuc, refl, ap₂, ◌∙◌}
 use Rattle.std.specs.Prelude.{All}
 use Rattle.std.proofs.lemmas.List.{map-append}
-use Rattle.std.proofs.lemmas.List.Elements.{All-nil, All-cons, All-head, All-tail, All-append}
+use Rattle.std.proofs.lemmas.List.Elements.{All-nil, All-cons, All-head, All-tail, All-append, All-filter}
+use Rattle.scad_ast.specs.Terms.{InstanceTerm, StatementTerms}
+use Rattle.scad_func.specs.Meaning.{Env}
 use Rattle.scad_modules.specs.Effects.{ChosenCall, all_children, numbered_children, ranged_children}
+use Rattle.scad_meaning.specs.Bodies.{evaluated_instances, is_child}
 use Rattle.scad_meaning.specs.Loops.{numbers_of_range, nth_item, item_numbered, items_numbered, chosen_among}
+use Rattle.scad_meaning.specs.Meaning.{candidates_of}
 
 module _ {A B : Type 0} (f : A → B) where
   map_nth : (xs : List A) (n : ℕ) → map f (nth_item xs n) ≡ nth_item (map f xs) n
@@ -45,3 +49,10 @@ module _ {A : Type 0} (P : A → Type 0) where
   all_chosen xs all_children h = h
   all_chosen xs (numbered_children numbers) h = all_items xs numbers h
   all_chosen xs (ranged_children from step upto) h = all_items xs (numbers_of_range from step upto) h
+
+-- what holds of each instance that is evaluated holds of each among which a call of `children` chooses
+pub candidates_all : (P : InstanceTerm → Type 0) (env : Env) (chosen : ChosenCall) (statements : StatementTerms)
+    → All P (evaluated_instances statements) → All P (candidates_of env chosen statements)
+candidates_all P env all_children statements h = h
+candidates_all P env (numbered_children numbers) statements h = All-filter (is_child env) P (evaluated_instances statements) h
+candidates_all P env (ranged_children from step upto) statements h = All-filter (is_child env) P (evaluated_instances statements) h

@@ -3,7 +3,7 @@
 use Rattle.std.proofs.Common.{◌≡◌, refl, subst, ℕ, zero, suc, ◌+◌, ◌/◌, Bool, true, false, ◌&&◌, nat_lt, nat_eq, List, [], ◌∷◌, ◌++◌, length, take, drop, Option, Some, None, Ok, Err, if◌then◌else◌, ℤ}
 use Rattle.std.specs.Prelude.{All, IfOk, IfSome, flat_map, is_some, codes}
 use Rattle.std.specs.List.{AllByRecursion}
-use Rattle.std.proofs.lemmas.List.Elements.{All-nil, All-cons, All-head, All-tail, All-append, All-take, All-drop, All-filter}
+use Rattle.std.proofs.lemmas.List.Elements.{All-nil, All-cons, All-head, All-tail, All-append, All-take, All-drop}
 use Rattle.text_place.specs.declared.fault.Place.{Place}
 use Rattle.text_place.specs.declared.fault.FaultKind.TheVariants.{TypeMismatch, BadArgument, WrongDimension, NotInProfile, TooManyParts}
 use Rattle.csg_tree.specs.declared.op.Op.{Op}
@@ -33,10 +33,10 @@ use Rattle.scad_hull.proofs.Loops.{hull_is_shape}
 use Rattle.scad_meaning.specs.declared.extrusion.Extrusion.{Extrusion}
 use Rattle.scad_meaning.specs.Hulls.{is_nothing, points_of, hull_mesh}
 use Rattle.scad_meaning.specs.Verdicts.{Judge, Verdict, IsRightJudge, IsSolidVerdict, IsFlatVerdict, IsHeightVerdict, IsHullVerdict, solid_mesh, extrusion_mesh}
-use Rattle.scad_meaning.specs.Bodies.{evaluated_instances, is_child, children_in, has_root_modifier, has_no_geometry, is_bare}
+use Rattle.scad_meaning.specs.Bodies.{evaluated_instances, has_root_modifier, has_no_geometry, is_bare}
 use Rattle.scad_meaning.specs.Loops.{iterated_values}
-use Rattle.scad_meaning.specs.Meaning.{Context, inside_scope, with_bindings, with_calls_left, inside_root, inside_extrusion, expression_context, InstanceDesign, MemberDesigns, first_root, no_design, no_members, as_member, and_members, joined_members, EvaluatesInstance, Evaluator, assigned_value, with_assignment, each_assignment, core_of_instance, each_member, each_in_scope, each_in_body, body_design, turn_after_step, each_step, in_loop, each_iteration, loop_design, leaf_design, unless_refused, with_leaf_of, hull_design, answered_with, module_scope, module_design, each_echo_argument, arguments_for, children_design, chosen_children, turn_after_call, flat_design, effect_design, built_in_design, call_design, core_design, root_design, instance_design, design_within, evaluator_with, program_context, root_or_union, design_of, counted_step, instances_chosen, block_members, module_with_arguments, most_leaves}
-use Rattle.scad_meaning.proofs.Choosing.{all_chosen}
+use Rattle.scad_meaning.specs.Meaning.{Context, inside_scope, with_bindings, with_calls_left, inside_root, inside_extrusion, expression_context, InstanceDesign, MemberDesigns, first_root, no_design, no_members, as_member, and_members, joined_members, EvaluatesInstance, Evaluator, assigned_value, with_assignment, each_assignment, core_of_instance, each_member, each_in_scope, each_in_body, body_design, turn_after_step, each_step, in_loop, each_iteration, loop_design, leaf_design, unless_refused, with_leaf_of, hull_design, answered_with, module_scope, module_design, each_echo_argument, arguments_for, children_design, chosen_children, turn_after_call, flat_design, effect_design, built_in_design, call_design, core_design, root_design, instance_design, design_within, evaluator_with, program_context, root_or_union, design_of, counted_step, candidates_of, instances_chosen, block_members, module_with_arguments, most_leaves}
+use Rattle.scad_meaning.proofs.Choosing.{all_chosen, candidates_all}
 use Rattle.scad_meaning.proofs.HeldPlaces.{if_keeps, Whatever, Held, first_held, rest_held, ModuleHeld, ScopeHeld, CallHeld, module_found, call_found, variable_held, functions_held, modules_held, entered_held, body_held, AssignedHeld, assignments_held, InstanceHeld, evaluated_held, Keeps, then_keeps, skip_keeps, some_keeps, turn_keeps, call_keeps}
 use Rattle.scad_meaning.proofs.SoundShapes.{HasSides, HasFlatSides, IsSoundCall, effect_sound, solid_is_shape, extruded_is_shape}
 use Rattle.scad_meaning.proofs.ExpressionPlaces.{Sits, value_keeps, arguments_keep, parameters_keep, evaluated_good}
@@ -229,8 +229,8 @@ module _ (P : Place → Type 0) (Q : Mesh → Type 0) where
         chosen_held : (env : Env) (chosen : Option ChosenCall) (statements : StatementTerms) → Held P (places_of_statements statements)
             → All (InstanceHeld P) (instances_chosen env chosen statements)
         chosen_held env None statements h = evaluated_held P statements h
-        chosen_held env (Some chosen) statements h = all_chosen (InstanceHeld P) (children_in env statements) chosen
-            (All-filter (is_child env) (InstanceHeld P) (evaluated_instances statements) (evaluated_held P statements h))
+        chosen_held env (Some chosen) statements h = all_chosen (InstanceHeld P) (candidates_of env chosen statements) chosen
+            (candidates_all (InstanceHeld P) env chosen statements (evaluated_held P statements h))
 
         block_keeps : (chosen : Option ChosenCall) (here : Context) (statements : StatementTerms) (turns leaves : ℕ) → ContextHeld here → Held P (places_of_statements statements)
             → Keeps P MembersHeld (block_members evaluator chosen statements here turns leaves)

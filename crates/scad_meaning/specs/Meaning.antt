@@ -18,7 +18,7 @@ use Rattle.scad_func.specs.Meaning.{Outcome, Gives, Faults, then_with, or_fault,
 use Rattle.scad_modules.specs.declared.table.BuiltinModule.{BuiltinModule}
 use Rattle.scad_modules.specs.declared.table.BuiltinModule.TheVariants.{Echo}
 use Rattle.scad_modules.specs.Table.{builtin_module_of, is_left_out_module, parameters_of}
-use Rattle.scad_modules.specs.Effects.{EffectCall, a_solid, a_flat, a_move, a_join, a_hull, an_extrusion, no_geometry, some_children, FlatCall, ChosenCall}
+use Rattle.scad_modules.specs.Effects.{EffectCall, a_solid, a_flat, a_move, a_join, a_hull, an_extrusion, no_geometry, some_children, FlatCall, ChosenCall, all_children, numbered_children, ranged_children}
 use Rattle.scad_modules.specs.Calls.{effect_of}
 use Rattle.scad_design.specs.Designs.{DesignTree, empty, a_leaf, balanced_join, join_children, moved_design_tree}
 use Rattle.scad_meaning.specs.declared.extrusion.Extrusion.{Extrusion}
@@ -147,10 +147,17 @@ each_member evaluator here (instance ∷ instances) turns leaves =
     then_with (each_member evaluator here instances turns result.leaves) (λ turns members.
     Gives turns (and_members (as_member (if has_no_geometry here.env (core_of_instance instance) then false else true) result) members)))
 
--- the instances of a block that are evaluated, or the chosen ones of its children
+-- The instances of a block among which a call of `children` chooses: an index counts children alone, and without an index the
+-- block is evaluated as any other, with its calls of `echo` and `assert`
+abbrev pub candidates_of : Env → ChosenCall → StatementTerms → List InstanceTerm
+candidates_of env all_children statements = evaluated_instances statements
+candidates_of env (numbered_children numbers) statements = children_in env statements
+candidates_of env (ranged_children from step upto) statements = children_in env statements
+
+-- the instances of a block that are evaluated, or the chosen ones among them
 abbrev pub instances_chosen : Env → Option ChosenCall → StatementTerms → List InstanceTerm
 instances_chosen env None statements = evaluated_instances statements
-instances_chosen env (Some chosen) statements = chosen_among (children_in env statements) chosen
+instances_chosen env (Some chosen) statements = chosen_among (candidates_of env chosen statements) chosen
 
 -- a block in its scope: its assignments, then these instances
 abbrev pub block_members : Evaluator → Option ChosenCall → StatementTerms → Context → ℕ → ℕ → Outcome MemberDesigns

@@ -25,10 +25,10 @@ use Rattle.scad_design.specs.Designs.{DesignTree, a_leaf, moved_design_tree}
 use Rattle.scad_meaning.specs.declared.extrusion.Extrusion.{Extrusion}
 use Rattle.scad_meaning.specs.Hulls.{is_nothing, hull_mesh}
 use Rattle.scad_meaning.specs.Verdicts.{Judge, Verdict, solid_mesh, extrusion_mesh}
-use Rattle.scad_meaning.specs.Bodies.{instances_in, evaluated_instances, is_child, children_in, has_root_modifier, has_no_geometry, is_bare}
+use Rattle.scad_meaning.specs.Bodies.{instances_in, evaluated_instances, has_root_modifier, has_no_geometry, is_bare}
 use Rattle.scad_meaning.specs.Loops.{iterated_values, chosen_among}
-use Rattle.scad_meaning.specs.Meaning.{Context, inside_scope, with_bindings, with_calls_left, inside_root, inside_extrusion, expression_context, InstanceDesign, MemberDesigns, no_design, as_member, and_members, joined_members, moved_design, EvaluatesInstance, Evaluator, assigned_value, with_assignment, each_assignment, core_of_instance, each_member, instances_chosen, block_members, each_in_scope, each_in_body, body_design, turn_after_step, counted_step, each_step, in_loop, each_iteration, loop_design, most_leaves, leaf_design, unless_refused, with_leaf_of, hull_design, module_scope, module_with_values, module_with_arguments, module_design, each_echo_argument, arguments_for, children_design, counted_call, flat_design, effect_design, built_in_with_arguments, built_in_design, call_design, core_design, as_root, root_design, instance_design, design_within, program_context}
-use Rattle.scad_meaning.proofs.Choosing.{all_chosen}
+use Rattle.scad_meaning.specs.Meaning.{Context, inside_scope, with_bindings, with_calls_left, inside_root, inside_extrusion, expression_context, InstanceDesign, MemberDesigns, no_design, as_member, and_members, joined_members, moved_design, EvaluatesInstance, Evaluator, assigned_value, with_assignment, each_assignment, core_of_instance, each_member, candidates_of, instances_chosen, block_members, each_in_scope, each_in_body, body_design, turn_after_step, counted_step, each_step, in_loop, each_iteration, loop_design, most_leaves, leaf_design, unless_refused, with_leaf_of, hull_design, module_scope, module_with_values, module_with_arguments, module_design, each_echo_argument, arguments_for, children_design, counted_call, flat_design, effect_design, built_in_with_arguments, built_in_design, call_design, core_design, as_root, root_design, instance_design, design_within, program_context}
+use Rattle.scad_meaning.proofs.Choosing.{all_chosen, candidates_all}
 use Rattle.source_laws.specs.Sizes.{size_of_term, size_of_args, size_of_params, size_of_binders, size_of_statements, size_of_instance, size_of_core, size_of_body, size_of_module, HoldsTextsUpTo, CallHoldsTextsUpTo}
 use Rattle.source_laws.specs.EvaluationCosts.{Cost, and_later, no_cost, so_many_counted, cost_then, cost_of_turn, cost_in_call}
 use Rattle.source_laws.specs.CostsOfExpressions.{ExpressionCost, cost_at_next_depth, cost_of_each_argument, cost_of_each_parameter, cost_within}
@@ -37,7 +37,7 @@ use Rattle.source_laws.proofs.Costs.{nothing, turn_within, Rate, Costs, let_go, 
 use Rattle.source_laws.proofs.Scopes.{SmallModule, module_found, call_found, variable_held, functions_small, modules_small, entered_small, body_size}
 use Rattle.source_laws.proofs.ExpressionCosts.{left_of_given, Sits, value_cost, call_arguments_cost, parameters_cost, expressions_cost}
 use Rattle.source_laws.proofs.Payments.{paid_by, paid_up_to, rate_with}
-use Rattle.source_laws.proofs.TextSizes.{size_of_instances, size_of_assignments, scope_size, evaluated_size, children_size}
+use Rattle.source_laws.proofs.TextSizes.{size_of_instances, size_of_assignments, scope_size, evaluated_size, candidates_size}
 use Rattle.source_laws.proofs.ChosenSizes.{ChoosesUpTo, EffectFits, elements_in, effect_fits}
 use Rattle.source_laws.proofs.Runs.{Given, design_leaves, member_leaves, always, Runs, run_larger, run_one_more, run_let_go, run_shift, run_then, run_skip, run_map, value_then, value_left, value_skip, run_fault, run_nothing, run_option, run_answered, run_checked, run_test, run_turn, run_later, run_call, run_deeper, run_counted}
 
@@ -171,19 +171,19 @@ module _ (largest : ℕ) where
   chosen_small : (env : Env) (chosen : Option ChosenCall) (statements : StatementTerms) → size_of_statements statements ≤ largest
       → All Small (instances_chosen env chosen statements)
   chosen_small env None statements h = evaluated_small statements h
-  chosen_small env (Some chosen) statements h = all_chosen Small (children_in env statements) chosen
-      (All-filter (is_child env) Small (evaluated_instances statements) (evaluated_small statements h))
+  chosen_small env (Some chosen) statements h = all_chosen Small (candidates_of env chosen statements) chosen
+      (candidates_all Small env chosen statements (evaluated_small statements h))
 
-  -- what is chosen among the children of a call
+  -- what is chosen among the instances in the body of a call
   chosen_size : (env : Env) (chosen : ChosenCall) (children : StatementTerms) (over : ℕ) → size_of_statements children ≤ largest
       → ChoosesUpTo over chosen
-      → size_of_instances (chosen_among (children_in env children) chosen) ≤ size_of_instances
+      → size_of_instances (chosen_among (candidates_of env chosen children) chosen) ≤ size_of_instances
       (instances_in children) + largest * over
   chosen_size env chosen children over small g =
-      let some = g (children_in env children) in
-      let those = children_size env children in
+      let some = g (candidates_of env chosen children) in
+      let those = candidates_size env chosen children in
       let all = scope_size children in
-      let few = scaled (size_of_instances (children_in env children)) largest over (omega arith) in omega arith
+      let few = scaled (size_of_instances (candidates_of env chosen children)) largest over (omega arith) in omega arith
 
   -- by a test, where both ways count alike
   run_either : (calls turns leaves size : ℕ) (count : Cost) (b : Bool) (one other : Outcome InstanceDesign)

@@ -5,8 +5,10 @@ use Rattle.std.proofs.lemmas.Int.{ints}
 use Rattle.scad_ast.specs.Terms.{StatementTerm, EmptyStatement, BlockStatement, AssignmentTerm, SpecialAssignmentTerm, ModuleTerm, FunctionTerm, InstanceStatement, StatementTerms, no_statements, and_statement, InstanceTerm}
 use Rattle.scad_definitions.specs.Blocks.{SourceAssignment, same_assigned_name, with_assigned, assignments_with_all, assignments_in, assignments_by, assignments_of}
 use Rattle.scad_func.specs.Meaning.{Env}
+use Rattle.scad_modules.specs.Effects.{ChosenCall, all_children, numbered_children, ranged_children}
 use Rattle.scad_meaning.specs.Bodies.{instances_in, instances_of, is_switched_on, evaluated_instances, is_child, children_in}
 use Rattle.scad_meaning.specs.Loops.{count_of_range, numbers_by, numbers_of_range, nth_item, item_numbered, items_numbered}
+use Rattle.scad_meaning.specs.Meaning.{candidates_of}
 use Rattle.source_laws.specs.Sizes.{size_of_term, size_of_statement, size_of_statements, size_of_instance}
 
 abbrev pub size_of_instances : List InstanceTerm → ℕ
@@ -85,6 +87,12 @@ evaluated_size ss = filtered_size is_switched_on (instances_in ss)
 pub children_size : (env : Env) (ss : StatementTerms) → size_of_instances (children_in env ss) ≤ size_of_instances (instances_in ss)
 children_size env ss =
     let some = filtered_size (is_child env) (evaluated_instances ss) in let on = evaluated_size ss in omega arith
+
+pub candidates_size : (env : Env) (chosen : ChosenCall) (ss : StatementTerms)
+    → size_of_instances (candidates_of env chosen ss) ≤ size_of_instances (instances_in ss)
+candidates_size env all_children ss = evaluated_size ss
+candidates_size env (numbered_children numbers) ss = children_size env ss
+candidates_size env (ranged_children from step upto) ss = children_size env ss
 
 -- those of a number
 nth_size : (xs : List InstanceTerm) (n : ℕ) → size_of_instances (nth_item xs n) ≤ size_of_instances xs

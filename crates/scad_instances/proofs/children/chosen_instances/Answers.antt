@@ -3,7 +3,8 @@ use Rattle.scad_func.specs.View.{table_in}
 use Rattle.scad_func.specs.Evaluations.{env_here}
 use Rattle.scad_func.specs.Definitions.{statements_at}
 use Rattle.scad_modules.specs.View.{chosen_of}
-use Rattle.scad_meaning.specs.Bodies.{children_in, evaluated_instances}
+use Rattle.scad_meaning.specs.Bodies.{evaluated_instances}
+use Rattle.scad_meaning.specs.Meaning.{candidates_of}
 use Rattle.scad_instances.specs.Positions.{HaveBodyBlocks}
 use Rattle.scad_instances.proofs.KeptChildren.{chosen_numbered}
 use Rattle.scad_instances.proofs.children.chosen_instances.Goals as goal
@@ -18,5 +19,6 @@ pub returns-in-Some : goal.returns-in-Some
 returns-in-Some c =
     let e = c.args.evaluation.now in
     let table = table_in e.source.now in
-    rw (c.in-Some.is) (chosen_numbered c.chosen_among.result c.children.result.now (chosen_of c.in-Some.chosen.now)
-    c.chosen_among.ensures table (children_in (env_here e) (statements_at table c.args.block)) c.children.ensures)
+    let chosen = chosen_of c.in-Some.chosen.now in
+    rw (c.in-Some.is) (chosen_numbered c.chosen_among.result c.candidates.result.now chosen
+    c.chosen_among.ensures table (candidates_of (env_here e) chosen (statements_at table c.args.block)) c.candidates.ensures)
