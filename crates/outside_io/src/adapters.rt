@@ -1,4 +1,4 @@
-ghost use Rattle.std.specs.Prelude.{◌≡◌, ◌<◌, ◌≤◌, length, None, IfOk, OnOk, OnErr};
+ghost use Rattle.std.specs.Prelude.{◌≡◌, ◌<◌, ◌≤◌, length, IfOk, OnOk, OnErr};
 ghost use Rattle.std.specs.Io.{ReadsAtMost};
 ghost use Rattle.std.specs.Io.KnownBytes.{ReadConsumes, WriteAppends};
 ghost use Rattle.outside_io.specs.Counts.{next_count, HasCause};
@@ -7,8 +7,8 @@ use crate::traits::{Failed, Sink, Source};
 use std::io::{Read, Write};
 use std::marker::Model;
 
-/// A reader of std as a source. As a source it tells no bytes: what a read does to the reader is as
-/// trusted as the reader.
+/// A reader of std as a source. It tells the bytes that its reader tells: those in memory tell theirs,
+/// and standard input tells none.
 #[derive(Drop)]
 pub struct ReadSource<R: Read> {
     reader: R,
@@ -33,9 +33,7 @@ impl<R: Read> ReadSource<R> {
 }
 
 impl<R: Read> Source for ReadSource<R> {
-    ghost use Rattle.std.specs.Prelude.{None};
-
-    ghost left = { λ _. None };
+    ghost left = { λ s. R.remaining s.reader };
 
     ghost faults = { λ s. s.faults };
 
@@ -43,10 +41,7 @@ impl<R: Read> Source for ReadSource<R> {
     fn read(&mut self, into: &mut [u8]) -> Result<usize, Failed>
         requires { 0 < length into.old }
         ensures bound { ReadsAtMost result into.new }
-        ensures bytes { ReadConsumes None None result into.new }
-
-        // What the read did to a reader that says which bytes it has left.
-        ensures of_reader { ReadConsumes (R.remaining self.old.reader) (R.remaining self.new.reader)
+        ensures bytes { ReadConsumes (R.remaining self.old.reader) (R.remaining self.new.reader)
             result into.new }
 
         // Failures, and they alone, are counted.
@@ -64,8 +59,8 @@ impl<R: Read> Source for ReadSource<R> {
     }
 }
 
-/// A writer of std as a sink. As a sink it tells no bytes: what a write does to the writer is as
-/// trusted as the writer.
+/// A writer of std as a sink. It tells the bytes that its writer tells: those in memory tell theirs,
+/// and standard output tells none.
 #[derive(Drop)]
 pub struct WriteSink<W: Write> {
     writer: W,
@@ -90,9 +85,7 @@ impl<W: Write> WriteSink<W> {
 }
 
 impl<W: Write> Sink for WriteSink<W> {
-    ghost use Rattle.std.specs.Prelude.{None};
-
-    ghost held = { λ _. None };
+    ghost held = { λ s. W.contents s.writer };
 
     ghost faults = { λ s. s.faults };
 
@@ -101,10 +94,7 @@ impl<W: Write> Sink for WriteSink<W> {
     fn write(&mut self, from: &[u8]) -> Result<usize, Failed>
         requires { 0 < length from.now }
         ensures bound { IfOk result (λ n. (0 < n) × (n ≤ length from.now)) }
-        ensures bytes { WriteAppends None None result from.now }
-
-        // What the write did to a writer that says which bytes it holds.
-        ensures of_writer { WriteAppends (W.contents self.old.writer) (W.contents self.new.writer)
+        ensures bytes { WriteAppends (W.contents self.old.writer) (W.contents self.new.writer)
             result from.now }
 
         // Failures, and they alone, are counted.

@@ -14,7 +14,7 @@ pub use meaning::{
     one_meaning, one_output, one_reply, own_replies, solids_pass_no_limit, some_meaning,
     some_reply, texts_of_sources_are_watertight,
 };
-pub use program::{run_program, serve_to_exit};
+pub use program::{run_program, serve_streams, serve_to_exit};
 pub use run_words::{Settings, WordsFault, read_words};
 pub use running::{RunResult, printed_weights, run_gated, run_named, run_script};
 pub use script_service::Status;

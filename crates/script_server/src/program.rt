@@ -12,7 +12,7 @@ use outside_io::{ReadSource, Sink, Source, WriteSink};
 use run_words::WordsFault;
 use script_service::{Status, refuse_words};
 use std::alloc::Global;
-use std::io::ErrorKind;
+use std::io::{ErrorKind, Read, Write};
 use std::process::ExitCode;
 use std::sync::Wait;
 use std::thread::Threads;
@@ -85,10 +85,32 @@ pub fn serve_to_exit<S: Source, K: Sink, R: Threads + Wait + Sync>(
     ExitCode::from(status.number())
 }
 
-/// Hands the program's words, standard input and standard output to `serve_to_exit`, and nothing else.
+/// The same for any reader and any writer of std: what it tells is of the bytes that these tell.
+pub fn serve_streams<I: Read, O: Write, R: Threads + Wait + Sync>(
+    rt: &R,
+    alloc: Global,
+    words: Result<Vec<String>, WordsFault>,
+    source: &mut ReadSource<I>,
+    sink: &mut WriteSink<O>,
+) -> ExitCode
+    ensures told { IfOk words (λ words. ExitTells (map string_bytes words.items)
+        (stream_changes (λ s. I.remaining s.reader) (λ s. s.faults) (λ s. O.contents s.writer)
+        (λ s. s.faults) source.old source.new sink.old sink.new)
+        (exit_status result)) }
+    ensures reads { IfOk words (λ words. ReadsAsAsked (map string_bytes words.items)
+        (stream_change (λ s. I.remaining s.reader) (λ s. s.faults) source.old source.new)) }
+    ensures refused { IfErr words (λ fault. ExitRefuses fault
+        (stream_change (λ s. O.contents s.writer) (λ s. s.faults) sink.old sink.new)
+        (exit_status result)) }
+    ensures unread { IfErr words (λ fault. source.new ≡ source.old) }
+{
+    serve_to_exit(rt, alloc, words, source, sink)
+}
+
+/// Hands the program's words, standard input and standard output to `serve_streams`, and nothing else.
 pub fn run_program<R: Threads + Wait + Sync>(threads: &R, rt: &HostRuntime) -> ExitCode {
     let words = words_or_fault(rt);
     let mut source = ReadSource::new(rt.stdin());
     let mut sink = WriteSink::new(rt.stdout());
-    serve_to_exit(threads, rt.alloc(), words, &mut source, &mut sink)
+    serve_streams(threads, rt.alloc(), words, &mut source, &mut sink)
 }

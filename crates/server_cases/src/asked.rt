@@ -1,12 +1,13 @@
 //! What a case asks of a script.
 
-use crate::outside::{Asked, CALM, Outside, Served, serve_in};
-use crate::serving::{Told, put_end, put_status};
+use crate::outside::{Asked, CALM, Outside, Served, serve_in, serve_over};
+use crate::serving::{Told, put_end, put_output, put_status};
 use crate::words::words_of;
-use case_lines::{CaseStop, cut, found, put};
+use case_lines::{CaseStop, cut, found, put, put_number};
 use script_reader::split_at_byte;
 use script_server::Status;
 use std::alloc::Global;
+use std::process::ExitCode;
 use std::sync::Wait;
 use std::thread::Threads;
 use text_place::read_decimal;
@@ -21,9 +22,10 @@ enum Question {
     Write,
     Reads,
     Writes,
+    Streams,
 }
 
-const QUESTIONS: [(&[u8], Question); 8] = [
+const QUESTIONS: [(&[u8], Question); 9] = [
     (b"serve", Question::Serve),
     (b"head", Question::Head),
     (b"tail", Question::Tail),
@@ -32,6 +34,7 @@ const QUESTIONS: [(&[u8], Question); 8] = [
     (b"write", Question::Write),
     (b"reads", Question::Reads),
     (b"writes", Question::Writes),
+    (b"streams", Question::Streams),
 ];
 
 /// Whether a word asks to serve a script.
@@ -42,7 +45,7 @@ pub fn asks_to_serve(word: &[u8]) -> bool {
 // How many numbers stand between a question and the words.
 fn count_of(question: Question) -> usize {
     match question {
-        Question::Serve => 0,
+        Question::Serve | Question::Streams => 0,
         Question::Head | Question::Tail | Question::Room | Question::Reads | Question::Writes => 1,
         Question::Read | Question::Write => 2,
     }
@@ -188,6 +191,29 @@ fn told_of(question: Question, first: u32) -> Told {
     }
 }
 
+// The number of an exit status of the program.
+fn number_of(code: ExitCode) -> i128 {
+    for number in 0..u8::MAX {
+        if code == ExitCode::from(number) {
+            return i128::from(number);
+        }
+    }
+    i128::from(u8::MAX)
+}
+
+// The status with which the program would end, and what it writes to a writer of std.
+fn put_streamed<R: Threads + Wait + Sync>(
+    rt: &R,
+    alloc: Global,
+    out: &mut Vec<u8>,
+    asked: Asked,
+) -> Result<(), CaseStop> {
+    let streamed = serve_over(rt, alloc, asked)?;
+    put_number(alloc, out, number_of(streamed.code))?;
+    put(out, b" ")?;
+    put_output(alloc, out, &streamed.output)
+}
+
 /// The answer of a case.
 pub fn put_served<R: Threads + Wait + Sync>(
     rt: &R,
@@ -204,6 +230,7 @@ pub fn put_served<R: Threads + Wait + Sync>(
     match question {
         Question::Reads => put_reads(rt, alloc, out, &asked, first),
         Question::Writes => put_writes(rt, alloc, out, &asked, first),
+        Question::Streams => put_streamed(rt, alloc, out, asked),
         _ => {
             let served = serve_in(rt, alloc, &asked, outside_of(question, first, second))?;
             put_end(alloc, out, &served, told_of(question, first))

@@ -9,6 +9,8 @@
 //! - `reads PIECE WORDS / SCRIPT` lets each read fail in turn, and tells how the calls end, each end that differs from the one
 //!   before; `writes PIECE WORDS / SCRIPT` lets each write fail, and tells in place of the output whether it is a beginning of
 //!   the one where nothing fails.
+//! - `streams WORDS / SCRIPT` serves a script from a reader of std in memory to a writer of std in memory, as the program does over
+//!   standard input and standard output, and tells the status with which the program ends, and the output.
 //! - `commands SCRIPT` asks for the clients of a script with their commands, or its fault.
 //! - `option NAME=VALUE` asks whether a run takes an option, with its value in its own word, and behind `=`.
 //! - `options OPTIONS` asks what a run with the first option chooses, with the first two, and so on, and with all and each of

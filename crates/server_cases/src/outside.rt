@@ -3,9 +3,10 @@
 ghost use Rattle.std.specs.Prelude.{◌<◌};
 
 use case_lines::CaseStop;
-use outside_io::{MemorySink, MemorySource};
-use script_server::{Status, serve};
+use outside_io::{MemorySink, MemorySource, ReadSource, WriteSink};
+use script_server::{Status, serve, serve_streams};
 use std::alloc::Global;
+use std::process::ExitCode;
 use std::sync::Wait;
 use std::thread::Threads;
 
@@ -60,4 +61,25 @@ pub fn serve_in<R: Threads + Wait + Sync>(
         status,
         output: sink.held().to_vec(alloc)?,
     })
+}
+
+/// What the program wrote to a writer of std, and the status with which it would end.
+#[derive(Drop)]
+pub struct Streamed {
+    pub code: ExitCode,
+    pub output: Vec<u8>,
+}
+
+/// Serves words over a reader and a writer of std in memory, as the program does over standard input and standard output.
+pub fn serve_over<R: Threads + Wait + Sync>(
+    rt: &R,
+    alloc: Global,
+    asked: Asked,
+) -> Result<Streamed, CaseStop> {
+    let Asked { words, script } = asked;
+    let mut output = Vec::new(alloc);
+    let mut source = ReadSource::new(script.as_slice());
+    let mut sink = WriteSink::new(&mut output);
+    let code = serve_streams(rt, alloc, Ok(words), &mut source, &mut sink);
+    Ok(Streamed { code, output })
 }

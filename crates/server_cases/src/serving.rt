@@ -62,7 +62,12 @@ pub fn put_end(
 ) -> Result<(), CaseStop> {
     put_status(out, served.status)?;
     put(out, b" ")?;
-    for byte in part(&served.output, told) {
+    put_output(alloc, out, part(&served.output, told))
+}
+
+/// An output, byte by byte.
+pub fn put_output(alloc: Global, out: &mut Vec<u8>, output: &[u8]) -> Result<(), CaseStop> {
+    for byte in output {
         put_byte(alloc, out, *byte)?;
     }
     Ok(())
