@@ -19,7 +19,10 @@ pub tree_answered : WatertightTexts → (unit : LengthUnit) (source : List ℕ) 
     → new.asked ≤ old.asked + 1 → ExportsFor unit source (Ok r) old new
 tree_answered watertight unit source tree out r old new means is exported boundary probed asked =
     subst (λ (q : Reply). ExportsFor unit source (Ok q) old new) (sym is) (record {
-      reply = (inr (tree, means, (out, exported, refl)), tree_bounded watertight unit source tree out means boundary);
+      reply = record {
+        meaning = tree_bounded watertight unit source tree out means boundary;
+        rule = inr (tree, means, (out, exported, refl));
+      };
       probed = (join_count (nodes_of tree), inr (tree, means, refl), probed);
       asked = asked;
     })

@@ -50,8 +50,8 @@ OneReply = (unit : LengthUnit) (source : List ℕ) (r q : Reply) → AnswersSour
 
 pub exports_are : OneReply → (unit : LengthUnit) → IsExport (AnswersExport unit)
 exports_are one unit = record {
-  one = λ source r q h g. one unit source r q h.0 g.0;
-  has_memory = λ source r h. has_memory unit source r h.0;
+  one = λ source r q h g. one unit source r q h.rule g.rule;
+  has_memory = λ source r h. has_memory unit source r h.rule;
 }
 
 -- a solid is a text

@@ -16,7 +16,7 @@ use Rattle.script_server.proofs.Probed.{none_asked, unasked}
 pub fault_answered : (unit : LengthUnit) (source : List ℕ) (fault : Fault) (books : ClientBooks) → HasSourceFault unit source fault
     → ExportsFor unit source (Ok (reply.Faulted fault)) books books
 fault_answered unit source fault books h = record {
-  reply = (inl (fault, h, refl), tt);
+  reply = record { meaning = h; rule = inl (fault, h, refl) };
   probed = (0, inl (fault, h, refl), none_asked _ books.share);
   asked = omega arith;
 }

@@ -22,7 +22,7 @@ use Rattle.tree_export.specs.declared.export.TreeExport.TheVariants as exported
 use Rattle.tree_export.specs.Exports.{IsExported, IsBoundaryText}
 use Rattle.scad_parser.specs.Sources.{WritesProgram}
 use Rattle.script_server.specs.Meaning.Sources.{Means, HasSourceFault}
-use Rattle.script_server.specs.Meaning.Exports.{export_reply, IsWatertightBoundary, IsBoundaryOfSource, AnswersExport}
+use Rattle.script_server.specs.Meaning.Exports.{export_reply, IsWatertightBoundary, AnswersMeaning, AnswersExport}
 
 -- what is known of the texts, the programs and the trees of sources
 pub record SomeText : Type 0 where
@@ -53,9 +53,9 @@ abbrev pub WatertightTexts : Type 0
 WatertightTexts = (unit : LengthUnit) (source : List ℕ) (tree : Tree) (bytes : List ℕ) → Means unit source tree → IsBoundary unit bytes tree → IsWatertightBoundary unit bytes tree
 
 -- the reply of what the export of a tree gives
-pub tree_bounded : WatertightTexts → (unit : LengthUnit) (source : List ℕ) (tree : Tree) (out : TreeExport) → Means unit source tree → IsBoundaryText unit tree out → IsBoundaryOfSource unit source (export_reply out)
+pub tree_bounded : WatertightTexts → (unit : LengthUnit) (source : List ℕ) (tree : Tree) (out : TreeExport) → Means unit source tree → IsBoundaryText unit tree out → AnswersMeaning unit source (export_reply out)
 tree_bounded watertight unit source tree (exported.Text bytes) means bounds = (tree, means, watertight unit source tree bytes means bounds)
-tree_bounded watertight unit source tree (exported.PassedLimit passed) means bounds = tt
+tree_bounded watertight unit source tree (exported.PassedLimit passed) means bounds = (tree, means)
 
 abbrev pub SomeExport : Type 0
 SomeExport = (unit : LengthUnit) (tree : Tree) → IsProper tree → (out : TreeExport) × IsExported unit tree out × IsBoundaryText unit tree out
@@ -65,6 +65,12 @@ ProperTrees = (unit : LengthUnit) (program : List StatementTerm) (tree : Tree) �
 
 pub some_answer : WatertightTexts → SomeExport → ProperTrees → (unit : LengthUnit) (source : List ℕ) → MeansSome unit source → (r : Reply) × AnswersExport unit source r
 some_answer watertight some proper unit source (inl (tree, means)) =
-    let (out, is, bounds) = some unit tree (proper unit means.0 tree means.2) in
-    (export_reply out, (inr (tree, means, (out, is, refl)), tree_bounded watertight unit source tree out means bounds))
-some_answer watertight some proper unit source (inr (fault, has)) = (reply.Faulted fault, (inl (fault, has, refl), tt))
+    let (out, is, bounds) = some unit tree (proper unit means.0 tree means.2) in (
+      export_reply out,
+      record {
+        meaning = tree_bounded watertight unit source tree out means bounds;
+        rule = inr (tree, means, (out, is, refl));
+      },
+    )
+some_answer watertight some proper unit source (inr (fault, has)) =
+    (reply.Faulted fault, record { meaning = has; rule = inl (fault, has, refl) })

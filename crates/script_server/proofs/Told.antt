@@ -1,5 +1,5 @@
 -- What a status tells, from what came of the words, the input and the output.
-use Rattle.std.proofs.Common.{◌≡◌, ◌≢◌, ◌⊎◌, ⊎_elim, inl, inr, ℕ, ◌<◌, ◌≤◌, List, [], ◌∷◌, ◌++◌, length, refl, sym, ap, ◌∙◌, subst, arith, append-nil, length-append}
+use Rattle.std.proofs.Common.{◌≡◌, ◌≢◌, true, false, ◌⊎◌, ⊎_elim, inl, inr, ℕ, ◌<◌, ◌≤◌, List, [], ◌∷◌, ◌++◌, length, refl, sym, ap, ◌∙◌, subst, arith, append-nil, length-append}
 use Rattle.std.specs.Prelude.{Option, Some, None, IfSome}
 use Rattle.std.specs.Io.KnownBytes.{Appends, Consumes, IsAtEnd}
 use Rattle.outside_io.specs.Counts.{CountRose}
@@ -35,7 +35,7 @@ use Rattle.std.specs.Prelude.{IsErrOf, Result, Ok, Err, IfOk, IfErr}
 use Rattle.flight_memo.specs.Claims.{ClaimsView}
 use Rattle.script_server.proofs.Books.{sizes_offered, weights_many}
 use Rattle.script_server.specs.Books.{IsRunOf, HaveLegalJournal, weights_of}
-use Rattle.script_server.specs.Serving.{IsOutputFor, WritesOutput, IsOutput, ChoosesAlone, StatusTells, HaveStatusCauses, ExitTells, ExitRefuses, AskForRun, AskForNoInput, IsSomeScript, IsNoScript}
+use Rattle.script_server.specs.Serving.{TellsTally, IsOutputFor, WritesOutput, IsOutput, ChoosesAlone, StatusTells, HaveStatusCauses, ExitTells, ExitRefuses, AskForRun, AskForNoInput, IsSomeScript, IsNoScript}
 
 -- a status tells what an equal one tells
 as_told : (words : List (List ℕ)) (s : StreamChanges) (status other : Status) → status ≡ other → StatusTells words s other → StatusTells words s status
@@ -74,6 +74,13 @@ script_served words settings s script status alone (bytes, input, is) (inl (out,
 script_served words settings s script status alone gives (inr (e, same)) = as_told words s status NoMemory e (inl same)
 
 -- ---- what is written for a run
+told_tally : (settings : Settings) (clients : List ClientScript) (replies : List (List Reply)) (tally : Tally) (owned : List ℕ)
+    → HaveLegalJournal (unit_of settings) clients replies (memo_of settings) (share_of settings) tally owned
+    → length owned ≡ length clients → TellsTally settings clients replies tally owned
+told_tally (Run workers memo share half true) clients replies tally owned legal many = (legal, many)
+told_tally (Run workers memo share half false) clients replies tally owned legal many = tt
+told_tally (Demo n) clients replies tally owned legal many = tt
+
 pub output_of_run : (settings : Settings) (clients : List ClientScript) (replies : List (List Reply)) (tally : Tally) (core : MemoView Tree Solid) (closed : ClaimsView Tree) (owned : List ℕ) (callers : ℕ) →
     IsRunOf (unit_of settings) clients (memo_of settings) (share_of settings) name_of replies tally core closed → owned ≡ weights_of callers (headers_in core.entries) → length owned ≡ callers → callers ≡ length clients →
     IsOutputFor settings clients (printed_text settings clients replies tally owned)
@@ -86,7 +93,7 @@ output_of_run settings clients replies tally core closed owned callers ran weigh
       tally,
       owned,
       ran.fits,
-      (
+      told_tally settings clients replies tally owned (
         core.journal,
         legal,
         ran.counted,
@@ -95,8 +102,7 @@ output_of_run settings clients replies tally core closed owned callers ran weigh
         ran.keys,
         ran.offered,
         sizes_offered core.journal sound.offers,
-      ),
-      many ∙ same,
+      ) (many ∙ same),
       refl,
     )
 

@@ -18,21 +18,29 @@ use Rattle.reply_text.specs.Answers.{AllFit}
 use Rattle.script_service.specs.declared.status.Status.{Status}
 use Rattle.script_service.specs.declared.status.Status.TheVariants.{Done, BadWords, BadScript, ReadFault, WriteFault, NoMemory}
 use Rattle.script_service.specs.Streams.{StreamChange, StreamChanges}
-use Rattle.script_service.specs.Units.{unit_of, memo_of, share_of}
+use Rattle.script_service.specs.Units.{unit_of}
 use Rattle.script_service.specs.Serving.{usage_line, IsRun, IsInput, IsWholeInput, IsReadInLimit, printed_text}
 use Rattle.script_service.specs.Statuses.{status_number}
 use Rattle.script_service.specs.Outcomes.{AppendsPart, PrintsReplies, HasStatusCause, RefusesWords}
 use Rattle.script_server.specs.Meaning.Exports.{AnswersExport}
 use Rattle.script_server.specs.Books.{HaveLegalJournal}
 
--- what is written for the clients of a script: their replies, which their own commands define, and what the memo of the
--- settings' budget and share counts and holds of each client
+-- Where the tally is printed, it and what each client's entries weigh are those of a memo of the settings' budget and share
+-- which these clients can have asked.
+abbrev pub TellsTally : Settings → List ClientScript → List (List Reply) → Tally → List ℕ → Type 0
+TellsTally (Run workers memo share half true) clients replies counts owned =
+    HaveLegalJournal (unit_of (Run workers memo share half true)) clients replies memo share counts owned
+    × (length owned ≡ length clients)
+TellsTally (Run workers memo share half false) clients replies counts owned = Unit {0}
+TellsTally (Demo n) clients replies counts owned = Unit {0}
+
+-- what is written for the clients of a script: their replies, which their own commands define, and behind these the tally
+-- where it is asked for
 abbrev pub IsOutputFor : Settings → List ClientScript → List ℕ → Type 0
 IsOutputFor settings clients out =
     (replies : List (List Reply)) × (counts : Tally) × (owned : List ℕ)
     × AllFit (AnswersExport (unit_of settings)) clients replies
-    × HaveLegalJournal (unit_of settings) clients replies (memo_of settings) (share_of settings) counts owned
-    × (length owned ≡ length clients)
+    × TellsTally settings clients replies counts owned
     × (out ≡ printed_text settings clients replies counts owned)
 
 -- that was written, or memory ran out before anything was written

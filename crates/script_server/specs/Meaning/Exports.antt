@@ -23,7 +23,8 @@ export_reply (exported.PassedLimit passed) = reply.PassedLimit passed
 abbrev pub AnswersTree : LengthUnit → Tree → Reply → Type 0
 AnswersTree unit tree r = (out : TreeExport) × IsExported unit tree out × (r ≡ export_reply out)
 
--- what an export of a source is answered: its first fault, or what the tree that it means is answered
+-- Which reply an export of a source is answered: its first fault, or what the tree that it means is answered. One function of
+-- the unit and the source.
 abbrev pub AnswersSource : LengthUnit → List ℕ → Reply → Type 0
 AnswersSource unit source r =
     ((fault : Fault) × HasSourceFault unit source fault × (r ≡ reply.Faulted fault))
@@ -36,12 +37,17 @@ pub record IsWatertightBoundary (unit : LengthUnit) (bytes : List ℕ) (tree : T
   pub reach : All (λ p. IsInReach (in_steps unit p)) text.vertices
   pub closed : AreWatertight text.vertices text.faces
 
--- a solid's bytes are the watertight boundary of the tree that the source means
-abbrev pub IsBoundaryOfSource : LengthUnit → List ℕ → Reply → Type 0
-IsBoundaryOfSource unit source (reply.Solid bytes) = (tree : Tree) × Means unit source tree × IsWatertightBoundary unit bytes tree
-IsBoundaryOfSource unit source _ = Unit {0}
+-- What an export's reply says of its source: the watertight boundary of the tree that the source means, the source's first
+-- fault, or that its tree passes a limit of size.
+abbrev pub AnswersMeaning : LengthUnit → List ℕ → Reply → Type 0
+AnswersMeaning unit source (reply.Solid bytes) = (tree : Tree) × Means unit source tree × IsWatertightBoundary unit bytes tree
+AnswersMeaning unit source (reply.Faulted fault) = HasSourceFault unit source fault
+AnswersMeaning unit source (reply.PassedLimit passed) = (tree : Tree) × Means unit source tree
+AnswersMeaning unit source _ = ⊥
 
--- what an export is answered: the reply by the rule, which where it is a solid is the watertight boundary of what the source
--- means
-abbrev pub AnswersExport : LengthUnit → List ℕ → Reply → Type 0
-AnswersExport unit source r = AnswersSource unit source r × IsBoundaryOfSource unit source r
+-- What an export is answered.
+pub record AnswersExport (unit : LengthUnit) (source : List ℕ) (r : Reply) : Type 0 where
+  -- what whoever makes the part has to believe of the reply
+  pub meaning : AnswersMeaning unit source r
+  -- which text it is, and which limit comes in place of a text
+  pub rule : AnswersSource unit source r
