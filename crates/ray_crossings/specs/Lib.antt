@@ -1,3 +1,4 @@
 pub mod Crossings
 pub mod Positions
 pub mod Limits
+pub mod Worked

@@ -1,6 +1,6 @@
 //! Laws of ways through the faces of a text, and of its vertices. They are proved, and do nothing when they run.
 
-ghost use Rattle.std.specs.Prelude.{◌≡◌, ℕ, ◌-ℤ◌, List, All, pos, ◌<ℤ◌, ◌≤ℤ◌};
+ghost use Rattle.std.specs.Prelude.{◌≡◌, ℕ, ◌-ℤ◌, List, All, pos, negsuc, ◌<ℤ◌, ◌≤ℤ◌};
 ghost use Rattle.plane_predicate.specs.declared.unit.Unit.{Unit as LengthUnit};
 ghost use Rattle.plane_predicate.specs.Space.{Coordinates, Coefficients, value, IsInWorld};
 ghost use Rattle.plane_predicate.specs.InUnits.{in_steps};
@@ -10,9 +10,10 @@ ghost use Rattle.csg_tree.specs.Reach.{KeepsWithinReach};
 ghost use Rattle.closed_surface.specs.Closed.{corners_at};
 ghost use Rattle.closed_surface.specs.Near.{indicator};
 ghost use Rattle.off_text.specs.Bounding.{IsBoundary};
-ghost use Rattle.ray_crossings.specs.Crossings.{crossings, TouchesNoEdge};
+ghost use Rattle.ray_crossings.specs.Crossings.{crossing, crossings, TouchesNoEdge};
 ghost use Rattle.ray_crossings.specs.Positions.{IsInGeneralPosition, IsOffFacePlanes};
 ghost use Rattle.ray_crossings.specs.Limits.{IsInsideSolid, IsLimitOfInside};
+ghost use Rattle.ray_crossings.specs.Worked.{worked_triangle, point_below, point_above};
 
 /// What a ray tells: of a way in general position, or one that touches no edge, between points off all face planes, the
 /// crossings sum to 1 where it leaves the solid, to -1 where it enters, else to 0.
@@ -60,4 +61,12 @@ pub fn printed_boxes_are_those_of_solids()
         KeepsWithinReach f → (text : IsBoundary unit bytes f) → (k : Coefficients) →
         All (λ v. value k v ≤ℤ pos 0) text.vertices → (p : Coordinates) →
         IsInsideSolid f (in_steps unit p) → value k p ≤ℤ pos 0 }
+{}
+
+/// A worked crossing: the way from (1, 1, -1) to (1, 1, 1) goes through the triangle with the corners (0, 0, 0), (4, 0, 0) and
+/// (0, 4, 0) from behind to ahead, and touches none of its edges. The way back crosses it the other way round.
+pub fn a_way_crosses_a_triangle()
+    ensures out { crossing point_below point_above worked_triangle ≡ pos 1 }
+    ensures back { crossing point_above point_below worked_triangle ≡ negsuc 0 }
+    ensures edges { TouchesNoEdge point_below point_above worked_triangle }
 {}

@@ -5,6 +5,6 @@
 mod laws;
 
 pub use laws::{
-    crossings_tell_inside, nothing_changes_beyond_vertices, printed_boxes_are_those_of_solids,
-    vertices_are_limits,
+    a_way_crosses_a_triangle, crossings_tell_inside, nothing_changes_beyond_vertices,
+    printed_boxes_are_those_of_solids, vertices_are_limits,
 };

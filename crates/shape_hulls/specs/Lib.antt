@@ -1,1 +1,2 @@
 pub mod OwnHulls
+pub mod Worked

@@ -17,6 +17,7 @@ ghost use Rattle.scad_hull.specs.Combinations.{IsInnerCombination};
 ghost use Rattle.scad_hull.specs.Hulls.{hull_of};
 ghost use Rattle.scad_hull.specs.Refusals.{HaveHull};
 ghost use Rattle.shape_hulls.specs.OwnHulls.{corner_points, AreAllCorners, ArePlacedPlanes, IsHullOfItsCorners, IsHullOfItsPoints};
+ghost use Rattle.shape_hulls.specs.Worked.{two_points, point_between_them};
 
 /// A cube is the hull of its corners.
 pub fn cubes_are_hulls_of_their_points()
@@ -91,4 +92,9 @@ pub fn placed_shapes_are_hulls_of_their_corners()
         ArePlacedPlanes mesh f planes → IsHullOfItsCorners mesh →
         All (λ p. IsInReach (point_at p)) (moved_mesh f mesh).points →
         (q : Coordinates) → pos 0 <ℤ q.w → IsBehindAll planes q → IsInReach q }
+{}
+
+/// A worked combination: (1, 0, 0) is between (0, 0, 0) and (3, 0, 0), with the weights 2 and 1.
+pub fn a_point_between_two_is_a_combination()
+    ensures { IsInnerCombination two_points point_between_them }
 {}

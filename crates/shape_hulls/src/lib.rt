@@ -5,8 +5,9 @@
 mod laws;
 
 pub use laws::{
-    cubes_are_hulls_of_their_points, cylinders_are_hulls_of_their_points,
-    extrusions_are_hulls_of_their_points, hulls_are_hulls_of_their_points,
-    images_of_points_inside_are_behind_planes, placed_shapes_are_hulls_of_their_corners,
-    placed_shapes_are_hulls_of_their_points, polyhedra_are_hulls_of_their_corners,
+    a_point_between_two_is_a_combination, cubes_are_hulls_of_their_points,
+    cylinders_are_hulls_of_their_points, extrusions_are_hulls_of_their_points,
+    hulls_are_hulls_of_their_points, images_of_points_inside_are_behind_planes,
+    placed_shapes_are_hulls_of_their_corners, placed_shapes_are_hulls_of_their_points,
+    polyhedra_are_hulls_of_their_corners,
 };

@@ -3,3 +3,4 @@ pub mod CostsOfExpressions
 pub mod CostsOfInstances
 pub mod Sizes
 pub mod EvaluationCosts
+pub mod WorkedRuns

@@ -15,6 +15,7 @@ ghost use Rattle.source_laws.specs.Sizes.{size_of_term, size_of_statements, Hold
 ghost use Rattle.source_laws.specs.EvaluationCosts.{HasFewEvaluations};
 ghost use Rattle.source_laws.specs.CostsOfExpressions.{cost_within};
 ghost use Rattle.source_laws.specs.CostsOfInstances.{members_of_program, cost_of_program};
+ghost use Rattle.source_laws.specs.WorkedRuns.{loop_of_three};
 
 /// The evaluations of an expression are at most its size, and once for each turn that it counts the size of the largest text
 /// that its scopes hold. Those turns are its meaning's, or where it faults those before the fault.
@@ -69,4 +70,11 @@ pub fn calls_in_one_another_take_more()
         (statements : StatementTerms)
         × (size_of_statements statements * ((cost_of_program unit judge bindings statements).counted + 1)
         < (cost_of_program unit judge bindings statements).evaluations) }
+{}
+
+/// A worked run: `for (i = [0 : 2]);` takes four evaluations, of the loop, its range and the range's ends, and counts three
+/// turns.
+pub fn a_loop_of_three_takes_four_evaluations()
+    ensures { (unit : LengthUnit) (judge : Judge) (bindings : Pairs Val) →
+        cost_of_program unit judge bindings loop_of_three ≡ record { evaluations = 4; counted = 3 } }
 {}

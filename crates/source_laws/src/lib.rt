@@ -6,8 +6,8 @@ mod evaluations;
 mod solids;
 
 pub use evaluations::{
-    calls_in_one_another_take_more, expressions_take_few_evaluations,
-    programs_take_few_evaluations, runs_take_few_evaluations,
+    a_loop_of_three_takes_four_evaluations, calls_in_one_another_take_more,
+    expressions_take_few_evaluations, programs_take_few_evaluations, runs_take_few_evaluations,
 };
 pub use solids::{
     designs_are_of_hulls, placed_hulls_keep_within_reach, programs_keep_within_reach,
