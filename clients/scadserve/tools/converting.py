@@ -56,6 +56,8 @@ class Call:
     read: Callable[[str, Sequence[str], Sequence[str]], Source] = read_source
     #: A source of the same file whose solid is smaller, for one that passes a limit of the server; None where there is none.
     coarser: Callable[[Source], Source | None] | None = None
+    #: What is said of a source last, when what was made of it is written.
+    last: Callable[[Source], str] | None = None
 
 
 def told(tool: str, work: Callable[[], int]) -> int:
@@ -168,7 +170,10 @@ def _finished(
 ) -> int:
     """Writes what is made of a part, or says why there is nothing, and gives the part's status."""
     if isinstance(reply, Solid) and (reply.faces or call.allow_empty):
-        return write(source, out, reply)
+        status = write(source, out, reply)
+        if call.last is not None and not status:
+            say(call.last(source))
+        return status
     if isinstance(reply, NoMemory):
         say(reply_told(source, reply))
         return NO_MEMORY

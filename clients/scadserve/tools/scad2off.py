@@ -13,7 +13,7 @@ from ..source.reading import read_source
 from ..source.sources import Source
 from .converting import Call, convert, parts_of, told
 from .scad2off_words import options_of, parser as parser
-from .words import outs_of, say_bad, write_out
+from .words import outs_of, say_bad, wanted_of, write_out
 
 TOOL = "scad2off"
 
@@ -27,7 +27,7 @@ def _do(words: Sequence[str]) -> int:
     asked = options_of(words)
     if asked.explain is not None:
         return _explained(asked.explain)
-    reader = Reader(asked.exact) if asked.by_openscad else None
+    reader = Reader(wanted_of(asked)) if asked.by_openscad else None
     call = Call(
         TOOL,
         asked.files,
@@ -41,6 +41,7 @@ def _do(words: Sequence[str]) -> int:
         begins=(b"4OFF\n",),
         read=reader or read_source,
         coarser=reader.coarser if reader else None,
+        last=reader.last if reader else None,
     )
     return _script_written(call) if asked.script else convert(call, _text_written)
 

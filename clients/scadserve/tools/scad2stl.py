@@ -22,7 +22,7 @@ from . import off2tool
 from .converting import Call, convert, told
 from .exporting import ending_of, export, format_of, mesh_words
 from .scad2off_words import STATUSES
-from .words import Words, front_end_words, outs_of, source_words, test_front_end, test_outs, write_out
+from .words import Words, front_end_words, outs_of, source_words, test_front_end, test_outs, wanted_of, write_out
 
 TOOL = "scad2stl"
 _DESCRIPTION = "Writes the solids that OpenSCAD sources describe as closed surfaces of triangles, or tells their first faults."
@@ -41,7 +41,7 @@ def main(words: Sequence[str]) -> int:
 
 def _do(words: Sequence[str]) -> int:
     asked = _read_words(words)
-    reader = Reader(asked.exact) if asked.by_openscad else None
+    reader = Reader(wanted_of(asked)) if asked.by_openscad else None
     call = Call(
         TOOL,
         asked.files,
@@ -54,6 +54,7 @@ def _do(words: Sequence[str]) -> int:
         begins=BEGINS,
         read=reader or (read_source if asked.unit else _source_with_unit),
         coarser=reader.coarser if reader else None,
+        last=reader.last if reader else None,
     )
     return convert(call, lambda source, out, solid: off2tool.told(TOOL, lambda: _write(asked, source, out, solid)))
 
