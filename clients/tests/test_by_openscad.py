@@ -64,7 +64,7 @@ class Front(Calls):
         self.write("part.scad", "wedge();\n")
         status, out, said = self.call("--by-openscad", "part.scad", environment=self.stand_in("group() {\n\twedge(h = 1);\n}\n"))
         self.assertEqual((status, out, self.runs()), (1, b"", []))
-        self.assertIn("part.scad.csg:2:2: error: UnknownModule: wedge", said.decode())
+        self.assertIn("part.scad: error: UnknownModule: node 2, wedge is no node that is known here\n    cure: ", said.decode())
 
     def test_a_missing_openscad_is_told(self):
         self.write("part.scad", "cube(1);\n")

@@ -9,6 +9,7 @@ from __future__ import annotations
 import os
 import re
 import shlex
+import shutil
 import subprocess
 import sys
 import unittest
@@ -84,7 +85,7 @@ class Faults(unittest.TestCase):
     """docs/FAULTS.md."""
 
     def test_each_word_has_a_section(self) -> None:
-        wanted = {"complex", "nomem", "Empty", "NoFile", "Ring", "TooManyFiles", "BadUnit"}
+        wanted = {"complex", "nomem", "Empty", "NoFile", "Ring", "TooManyFiles", "BadUnit", "Warned", "TooCoarse"}
         for file, pattern in WORDS.items():
             found = re.findall(pattern, (TOP / file).read_text(encoding="utf-8"), re.MULTILINE)
             self.assertTrue(found, file)
@@ -118,7 +119,8 @@ class Faults(unittest.TestCase):
     @needs_program
     def test_commands_have_their_answers(self) -> None:
         for word, it in sections().items():
-            if it.source and it.source[0].startswith("$"):
+            needs_openscad = any("--by-openscad" in line for line in it.source)
+            if it.source and it.source[0].startswith("$") and (shutil.which("openscad") or not needs_openscad):
                 command = "\n".join(it.source)[2:].replace("./scadserve", shlex.quote(PROGRAM))
                 said = subprocess.run(command, shell=True, cwd=TOP, stdout=subprocess.PIPE, stderr=subprocess.DEVNULL, check=False)
                 printed = [re.sub(r"^\d+ ", "", line) for line in said.stdout.decode().splitlines()]
@@ -180,6 +182,14 @@ class Places(unittest.TestCase):
     def test_tools_can_be_run_by_their_names(self) -> None:
         for tool in re.findall(r"(?<!sh )`?\b(tools/[\w-]+\.\w+)", "".join(it.read_text(encoding="utf-8") for it in DOCUMENTS)):
             self.assertTrue(os.access(TOP / tool, os.X_OK), tool)
+
+    def test_the_fault_of_the_readme_is_what_the_tool_prints(self) -> None:
+        # (by the stand-in for the server, which answers a number with a fraction as the server does)
+        readme = (TOP / "README.md").read_text(encoding="utf-8")
+        command, _, shown = readme.partition("\n```\n$ ")[2].partition("\n```\n")[0].partition("\n")
+        how = {**os.environ, "SCADSERVE": calls.STAND_IN}
+        done = subprocess.run(shlex.split(command), cwd=TOP, env=how, stdout=subprocess.PIPE, stderr=subprocess.STDOUT, check=False)
+        self.assertEqual((done.returncode, done.stdout.decode()), (1, shown + "\n"))
 
     def test_readme_is_short(self) -> None:
         self.assertLessEqual(len((TOP / "README.md").read_text(encoding="utf-8").splitlines()), 120)

@@ -8,6 +8,7 @@ from __future__ import annotations
 
 import os
 import re
+import stat
 from dataclasses import dataclass, field
 from typing import NamedTuple, Sequence
 
@@ -87,6 +88,8 @@ class Folders:
         path = next((it for it in there if not os.path.isdir(it)), None)
         if path is None:
             raise file.refused(at, "NoFile", f"{named} is a folder" if there else f"there is no file {named}")
+        if is_pipe(path):
+            raise file.refused(at, "NoFile", f"{path} is a pipe")
         if os.path.realpath(path) in opened:
             raise file.refused(at, "Ring", f"{path} is being read already")
         self._read += 1
@@ -133,6 +136,11 @@ class Folders:
                 raise file.refused(piece.start(), "TooLarge")
         _add_lines(joined, file, start, len(file.data))
         return is_comment
+
+
+def is_pipe(path: str) -> bool:
+    """Whether a path is that of a pipe: it would be waited for, without an end where nobody writes to it."""
+    return stat.S_ISFIFO(os.stat(path).st_mode)
 
 
 def _is_taken(joined: Joined, piece: re.Match[bytes]) -> bool:

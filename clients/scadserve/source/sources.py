@@ -8,12 +8,17 @@ from typing import NamedTuple, Sequence
 
 class Spot(NamedTuple):
     """Where a fault is told: a file by its name in messages, a line and a byte of it, both from 1, and that line. Its
-    bytes are None at the end of a source; the file is `-D NAME=VALUE` where the fault is in such a definition."""
+    bytes are None at the end of a source; the file is `-D NAME=VALUE` where the fault is in such a definition. The column is 0
+    where it isn't known, and so is the line."""
 
     file: str
     line: int
     column: int
     text: bytes | None
+
+    def place(self) -> str:
+        """What is said of it, in the form that editors read."""
+        return ":".join([self.file, *(str(it) for it in (self.line, self.column) if it)])
 
 
 class Origin(NamedTuple):

@@ -68,7 +68,7 @@ def _at(source: Source, fault: Fault) -> tuple[Structure | None, int | None]:
 
 
 def _note(spot: Spot, what: str) -> str:
-    place = spot.file if spot.file.startswith("-D ") else f"{spot.file}:{spot.line}:{spot.column}"
+    place = spot.file if spot.file.startswith("-D ") else spot.place()
     return f"{place}: note: {what}\n"
 
 
@@ -87,7 +87,7 @@ def _placed(
     if spot.file.startswith("-D ") and source is not None:
         told = _told(f"{spot.file}: error: {word}: {said} (with {source.name})", near, cure)
     else:
-        told = _told(f"{spot.file}:{spot.line}:{spot.column}: error: {word}: {said}", near, cure)
+        told = _told(f"{spot.place()}: error: {word}: {said}", near, cure)
     origins = [] if origin is None else origin.around_it()
     return told + "".join([*notes, *(_note(it, f"{word}d here") for it, word, _ in origins)])
 

@@ -23,7 +23,7 @@ from ..source.faults import STATUSES
 from ..source.reading import read_source, unused
 from ..source.sources import Refused, Source
 from ..source.telling import limit_told, refused_told, reply_told
-from .words import say_bad
+from .words import say_bad, wanted_of
 
 if TYPE_CHECKING:
     from ..openscad.by_openscad import Reader
@@ -60,6 +60,8 @@ class Call:
     read: Callable[[str, Sequence[str], Sequence[str]], Source] = read_source
     #: A source of the same file whose solid is smaller, for one that passes a limit of the server; None where there is none.
     coarser: Callable[[Source], Source | None] | None = None
+    #: What is said of a source last, when what was made of it is written.
+    last: Callable[[Source], str] | None = None
 
 
 def front_end(asked: Namespace) -> Reader | None:
@@ -69,7 +71,7 @@ def front_end(asked: Namespace) -> Reader | None:
     # (a third of the package, without which the tools are quicker to start)
     from ..openscad.by_openscad import Reader
 
-    return Reader(asked.exact)
+    return Reader(wanted_of(asked))
 
 
 def told(tool: str, work: Callable[[], int]) -> int:
@@ -182,7 +184,10 @@ def _finished(
 ) -> int:
     """Writes what is made of a part, or says why there is nothing, and gives the part's status."""
     if isinstance(reply, Solid) and (reply.faces or call.allow_empty):
-        return write(source, out, reply)
+        status = write(source, out, reply)
+        if call.last is not None and not status:
+            say(call.last(source))
+        return status
     if isinstance(reply, NoMemory):
         say(reply_told(source, reply))
         return NO_MEMORY

@@ -40,6 +40,7 @@ def _do(words: Sequence[str]) -> int:
         begins=(b"4OFF\n",),
         read=reader or read_source,
         coarser=reader.coarser if reader else None,
+        last=reader.last if reader else None,
     )
     return _script_written(call) if asked.script else convert(call, _text_written)
 

@@ -53,6 +53,7 @@ def _do(words: Sequence[str]) -> int:
         begins=BEGINS,
         read=reader or (read_source if asked.unit else _source_with_unit),
         coarser=reader.coarser if reader else None,
+        last=reader.last if reader else None,
     )
     return convert(call, lambda source, out, solid: off2tool.told(TOOL, lambda: _write(asked, source, out, solid)))
 
