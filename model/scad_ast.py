@@ -73,7 +73,7 @@ class IndexTerm(NamedTuple):
     """An index behind an expression, at its `[`."""
 
     at: Place
-    index: Term
+    number: Term
 
 
 class MemberTerm(NamedTuple):

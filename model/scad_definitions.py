@@ -19,10 +19,10 @@ def once(found: Callable[[StatementTerms], A]) -> Callable[[StatementTerms], A]:
     name = found.__name__
 
     def told(statements: StatementTerms) -> A:
-        known = statements.known
-        if name not in known:
-            known[name] = found(statements)
-        return known[name]
+        try:
+            return statements.known[name]
+        except KeyError:
+            return statements.known.setdefault(name, found(statements))
     return told
 
 

@@ -239,7 +239,7 @@ def each_suffix(here: ExpressionContext, value: Val, rest: Sequence[IndexTerm | 
     """The indexes and members behind a value."""
     for suffix in rest:
         if isinstance(suffix, IndexTerm):
-            number = value_at_next_depth(here, True, suffix.index)
+            number = value_at_next_depth(here, True, suffix.number)
         else:
             number = or_fault(member_of.get(suffix.name), "NotInProfile", suffix.name_at)
         value = outcome_of_answer(suffix.at, index_of, value, number)

@@ -4,7 +4,7 @@ A number is an `int`, a truth a `bool`, a text `bytes`, a list a `tuple`. What h
 
 from __future__ import annotations
 
-from typing import Callable, NamedTuple, Union
+from typing import Any, Callable, NamedTuple
 
 from .text_place import Refusal, least_too_large
 
@@ -22,7 +22,7 @@ class UndefVal:
 
 
 undef = UndefVal()
-Val = Union[int, bool, bytes, tuple, RangeVal, UndefVal]
+Val = Any  # an int, a bool, bytes, a tuple of values, a RangeVal or `undef`
 
 most_elements = 4096
 most_nesting = 64
@@ -60,7 +60,7 @@ def are_same(v: Val, w: Val) -> bool:
         return False
     if type(v) is tuple:
         return len(v) == len(w) and all(map(are_same, v, w))
-    return v == w
+    return bool(v == w)
 
 
 def number_or_too_large(n: int) -> int:
@@ -135,7 +135,7 @@ def product_at(v: Val, w: Val) -> int:
     raise Refusal("TypeMismatch")
 
 
-def dot_row(vs: tuple, ws: tuple) -> Val:
+def dot_row(vs: tuple[Val, ...], ws: tuple[Val, ...]) -> Val:
     """Two lists of numbers of one length above 0."""
     if not vs or len(vs) != len(ws):
         raise Refusal("TypeMismatch")

@@ -101,6 +101,17 @@ def output(half: bool, script: bytes) -> tuple[str, bytes]:
     return "Done", b"".join(texts)
 
 
+def client_lines(n: int, client: int) -> str:
+    """Two lines of source and the export of a client of the demonstration, of n parts, whose depth goes by the client's number."""
+    return (f"c{client} put 1 module part(i) {{ translate([7*i, 0, 0]) difference() {{ cube(4); translate([1, 1, 0]) "
+            f"cube([2, 2, {1 + client % 3}]); }} }}\nc{client} put 2 for (i = [1 : {n}]) part(i);\nc{client} export\n")
+
+
+def demo_script(n: int) -> bytes:
+    """The script of a demonstration: eight clients, each with one module and a loop over it."""
+    return "".join(client_lines(n, client) for client in range(1, 9)).encode()
+
+
 def served(words: Sequence[str], script: bytes) -> tuple[str, bytes] | None:
     """The status of a call and what it writes, but for the tally, or none of the demonstration, which writes of faces alone."""
     settings = chooses(words)

@@ -93,7 +93,7 @@ def inside_form(it: ast.Term) -> str:
     elif isinstance(it, ast.PostfixTerm):
         parts = term_form(it.of)
         for suffix in it.rest:
-            parts += (f"[]{at(suffix.at)} {term_form(suffix.index)}" if isinstance(suffix, ast.IndexTerm)
+            parts += (f"[]{at(suffix.at)} {term_form(suffix.number)}" if isinstance(suffix, ast.IndexTerm)
                       else f".{at(suffix.at)} {suffix.name.decode()}{at(suffix.name_at)} ")
     return f"({begin[type(it)]}{at(it.at)} {parts})"
 

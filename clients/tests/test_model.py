@@ -15,7 +15,9 @@ from model.scad_definitions import first_bindings
 from model.scad_func import Counts, ExpressionContext, entered_scope, most_calls, most_evaluations, value_at_next_depth
 from model.scad_grammar import whole_program
 from model.scad_lexer import lexes
-from model.script_server import means, served, with_deep_stack
+from model.run_words import chooses
+from model.script_reader import Command, ScriptFault, script_of
+from model.script_server import demo_script, means, served, with_deep_stack
 from model.text_place import Fault
 
 
@@ -100,7 +102,6 @@ def language_fault(row: tuple[int, bytes, bytes]) -> str | None:
     return None if told == spelled(answer) else f"{number}: {case[:300]!r} is {told[:300]!r}"
 
 
-STATUS = re.compile(rb"(Done|BadScript|BadWords) ")
 # What is told of faces: the number of lines of a 4OFF text and these lines, or the limit that they pass; and the tally.
 FACES = re.compile(rb"(?m)^(\d+) (?:solid \d+\n4OFF\n(?:-?\d[-\d ]*\n)*|complex [a-z0-9 ]+\n)")
 TALLY = re.compile(rb"(?m)^(?:tally|share) .*\n")
@@ -116,15 +117,56 @@ def script_fault(row: tuple[int, bytes, bytes]) -> str | None:
     told = with_deep_stack(lambda: served(words, spelled(script[1:].replace(b"|", b"\n"))))
     if told is None:
         return f"{number}: {case[:300]!r} is a demonstration"
-    status, text = told[0].encode() + b" ", told[1]
-    known = TALLY.sub(b"", FACES.sub(rb"\1 solid\n", spelled(answer.replace(b"|", b"\n"))))
+    status, text = told
+    said, _, known = answer.partition(b" ")
+    known = TALLY.sub(b"", FACES.sub(rb"\1 solid\n", spelled(known.replace(b"|", b"\n"))))
     if kind == "head":
-        known = known.rpartition(b" solid\n")[0]
-        return None if (status + text).startswith(known) else f"{number}: {case[:300]!r} is {text[:300]!r}"
-    if kind == "tail":
-        known = known[len(status):].partition(b"\n")[2]
-        return None if text.endswith(known) else f"{number}: {case[:300]!r} ends with {text[-300:]!r}"
-    return None if status + text == known else f"{number}: {case[:300]!r} is {text[:300]!r} and not {known[:300]!r}"
+        is_so = text.startswith(known.rpartition(b" solid\n")[0])
+    elif kind == "tail":
+        is_so = text.endswith(known.partition(b"\n")[2])
+    else:
+        is_so = text == known
+    return None if is_so and said.decode() == status else f"{number}: {case[:300]!r} is {status} {text[:300]!r}"
+
+
+def command_form(command: Command) -> bytes:
+    """A command as it is written, a number without leading zeros."""
+    parts = [b"%d" % it if isinstance(it, int) else it for it in command]
+    return b" ".join([type(command).__name__.lower().encode(), *parts])
+
+
+def commands_answer(script: bytes) -> bytes:
+    """The commands of each client, or the first fault of the script."""
+    try:
+        clients = script_of(script)
+    except ScriptFault as fault:
+        return f"{fault.word} {fault.line}".removesuffix(" None").encode()
+    return b"".join(name + b":" + b"".join(command_form(it) + b"\n" for it in commands) for name, commands in clients.items())
+
+
+def options_answer(words: list[str]) -> str:
+    """The settings with one option more each time, and then with each of them once more."""
+    told = []
+    for given in [*(words[:at + 1] for at in range(len(words))), *([*words, word] for word in words)]:
+        settings = chooses(["run", *given])
+        flags = [] if settings is None else [name for name in ("half", "tally") if getattr(settings, name)]
+        told.append("BadWords" if settings is None else " ".join(map(str, [*settings[:3], *flags])))
+    return "; ".join(told)
+
+
+def small_fault(row: tuple[int, bytes, bytes]) -> str | None:
+    """What is wrong with the answer to a row that reads commands or options, or has the script of a demonstration."""
+    number, case, answer = row
+    kind, _, rest = case.partition(b" ")
+    if kind == b"options":
+        told = options_answer(rest.decode().split()).encode()
+    elif kind == b"demonstration":
+        told = demo_script(int(rest))
+    else:
+        told = commands_answer(spelled(rest.replace(b"|", b"\n")))
+    known = spelled(answer.replace(b"|", b"\n"))
+    is_so = told.count(b"\n") > 0 if known == b"a script" else told == known
+    return None if is_so else f"{number}: {case[:300]!r} is {told[:300]!r}"
 
 
 class Rows(unittest.TestCase):
@@ -141,6 +183,10 @@ class Rows(unittest.TestCase):
     def test_scripts(self):
         kinds = (b"serve ", b"head ", b"tail ")
         self.assert_all(script_fault, [row for row in rows("server_cases") if row[1].startswith(kinds)])
+
+    def test_commands_and_options(self):
+        kinds = (b"commands ", b"options ", b"demonstration ")
+        self.assert_all(small_fault, [row for row in rows("server_cases") if row[1].startswith(kinds)])
 
 
 if __name__ == "__main__":
