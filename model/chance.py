@@ -1,7 +1,7 @@
 """Sources made by chance, from the grammar: many that mean something, and faults of each kind among them.
 
-Names say what they stand for, so that most expressions have a wanted type: `a`, `b` and `c` are numbers, `v` and `w` lists of three
-of them, `t` is any value. What a source uses and doesn't define is mostly defined at its end."""
+Names say what they stand for, so that most expressions have a wanted type: `a`, `b` and `c` are numbers, `v` and `w` lists
+of three of them, `t` is any value. What a source uses and doesn't define is mostly defined at its end."""
 
 from __future__ import annotations
 
@@ -9,16 +9,21 @@ import re
 from random import Random
 from typing import Callable, Sequence
 
+from .plane_predicate import determinant
+
 NUMBERS, LISTS, SPECIALS = ("a", "b", "c"), ("v", "w"), ("$a", "$b", "$fn", "$t")
 FUNCTIONS, MODULES, PARAMETERS = ("f", "g", "h", "abs"), ("m", "n", "k", "cube", "echo"), ("a", "b", "n", "v")
 OPERATORS = ("+", "-", "*", "/", "%", "<", "<=", ">", ">=", "==", "!=", "&&", "||")
-BUILT_IN = ("abs", "sign", "floor", "ceil", "round", "min", "max", "len", "concat", "pow", "is_undef", "is_num", "is_bool", "is_list")
+BUILT_IN = ("abs", "sign", "floor", "ceil", "round", "min", "max", "len", "concat", "pow", "is_undef", "is_num", "is_bool",
+    "is_list")
 VALUES = ("\"ab\"", "[]", "undef", "true", "[1, [2]]", "[1 : 2]", "0", "5", "[true, \"a\"]")
 LEFT_OUT = ("str", "sin", "norm", "cross", "version", "sphere", "minkowski", "text", "rotate_extrude", "cone", "q")
-LARGE = ("4095", "4096", "65535", "65536", "2047", "4503599627370496", "9007199254740991", "9007199254740992", "100000", "64", "1024")
-TOKENS = ("( ) [ ] { } , ; = : ? . + - * / % < > <= >= == != && || ! # ^ & | @ ~ module function if else for intersection_for true "
-          "false undef use include let each $children $fn $a $ a b f m x 0 1 2.5 1e3 01 1. .0 .5 3a 9007199254740992 \"\" \"a\\n\" "
-          "\"\\q\" \"open /* // */ \\ \t echo assert children union cube").split(" ")
+LARGE = ("4095", "4096", "65535", "65536", "2047", "4503599627370496", "9007199254740991", "9007199254740992", "100000", "64",
+    "1024")
+TOKENS = (
+    "( ) [ ] { } , ; = : ? . + - * / % < > <= >= == != && || ! # ^ & | @ ~ module function if else for intersection_for true "
+    "false undef use include let each $children $fn $a $ a b f m x 0 1 2.5 1e3 01 1. .0 .5 3a 9007199254740992 \"\" \"a\\n\" "
+    "\"\\q\" \"open /* // */ \\ \t echo assert children union cube").split(" ")
 BROKEN = ("2.5", "1e3", "3a", "1.e", "\"\\q\"", "\"a", "/*", "@", "9007199254740992", "let", "$", ".5", "^", "&", "\u00e9")
 
 
@@ -39,6 +44,10 @@ class Maker:
     def is_wild(self) -> bool:
         return self.chance.random() < self.wild
 
+    def usually(self, tame: Sequence[Callable[[], str] | str], wild: Sequence[Callable[[], str] | str]) -> str:
+        """One of the first ones, or now and then one that is probably a fault."""
+        return self.one_of(*(wild if self.is_wild() else tame))
+
     def numeral(self) -> str:
         if self.is_wild():
             return self.one_of(*LARGE, *BROKEN, "0", "00", "1.0", "2.", ".0")
@@ -52,8 +61,7 @@ class Maker:
                            lambda: f"abs({self.number(depth + 1)}) + 1", lambda: f"max(1, {self.number(depth + 1)})")
 
     def variable(self) -> str:
-        name = self.one_of(*NUMBERS) if not self.is_wild() else self.one_of(*LISTS, "t", "x", "size", "m")
-        return name
+        return self.usually(NUMBERS, (*LISTS, "t", "x", "size", "m"))
 
     def number(self, depth: int = 0) -> str:
         if depth > 3 or self.chance.random() < 0.4:
@@ -64,27 +72,32 @@ class Maker:
         return self.one_of(
             self.variable, self.variable, lambda: f"{self.number(below)} {self.one_of('+', '-', '*')} {self.number(below)}",
             lambda: f"-{self.number(below)}", lambda: f"({self.number(below)})", lambda: self.call(below),
-            lambda: f"{self.truth(below)} ? {self.number(below)} : {self.number(below)}", lambda: f"{self.list(below)}[{self.index()}]",
-            lambda: f"{self.list(below)}.{self.one_of('x', 'y', 'z') if not self.is_wild() else 'w'}", lambda: self.built_in(below),
+            lambda: f"{self.truth(below)} ? {self.number(below)} : {self.number(below)}",
+            lambda: f"{self.list(below)}[{self.index()}]",
+            lambda: f"{self.list(below)}.{self.one_of('x', 'y', 'z') if not self.is_wild() else 'w'}",
+            lambda: self.built_in(below),
             lambda: self.one_of("$children", "$children", *SPECIALS), lambda: f"{self.number(below)} * 2 / 2",
             lambda: f"{self.number(below)} % {self.numeral()}", "0", lambda: f"{self.list(below)} * {self.list(below)}")
 
     def index(self) -> str:
-        return self.one_of("0", "1", "2") if not self.is_wild() else self.one_of("3", "-1", "a", "true", "[0]", "9007199254740991")
+        return self.usually(("0", "1", "2"), ("3", "-1", "a", "true", "[0]", "9007199254740991"))
 
     def truth(self, depth: int = 0) -> str:
         below = depth + 1
-        return self.one_of("true", "false", lambda: f"{self.number(below)} {self.one_of(*OPERATORS[5:11])} {self.number(below)}",
-                           lambda: f"!{self.anything(below)}", lambda: f"{self.anything(below)} {self.one_of(*OPERATORS[9:])} {self.truth(below)}",
-                           lambda: self.anything(below), lambda: f"{self.one_of(*BUILT_IN[-4:])}({self.anything(below)})")
+        return self.one_of(
+            "true", "false", lambda: f"{self.number(below)} {self.one_of(*OPERATORS[5:11])} {self.number(below)}",
+            lambda: f"!{self.anything(below)}",
+            lambda: f"{self.anything(below)} {self.one_of(*OPERATORS[9:])} {self.truth(below)}",
+            lambda: self.anything(below), lambda: f"{self.one_of(*BUILT_IN[-4:])}({self.anything(below)})")
 
     def list(self, depth: int = 0) -> str:
         if depth > 3 or self.chance.random() < 0.6:
-            return self.one_of("v", lambda: self.numbers(3, depth)) if not self.is_wild() else self.one_of("[]", "w", "\"ab\"", "t")
+            return self.usually(("v", lambda: self.numbers(3, depth)), ("[]", "w", "\"ab\"", "t"))
         below = depth + 1
-        return self.one_of(lambda: f"{self.list(below)} + {self.list(below)}", lambda: f"{self.number(below)} * {self.list(below)}",
-                           lambda: f"-{self.list(below)}", lambda: f"concat({self.list(below)}, {self.anything(below)})",
-                           lambda: f"[{self.list(below)}, {self.number(below)}][0]", lambda: f"{self.list(below)} - {self.list(below)}")
+        return self.one_of(
+            lambda: f"{self.list(below)} {self.one_of('+', '-')} {self.list(below)}", lambda: f"-{self.list(below)}",
+            lambda: f"{self.number(below)} * {self.list(below)}", lambda: f"[{self.list(below)}, {self.number(below)}][0]",
+            lambda: f"concat({self.list(below)}, {self.anything(below)})")
 
     def numbers(self, count: int, depth: int = 2) -> str:
         parts = [self.number(depth + 2) for _ in range(count + (self.chance.choice((-1, 1)) if self.is_wild() else 0))]
@@ -94,24 +107,27 @@ class Maker:
         if self.is_wild():
             return f"[{self.anything(2)} : {self.anything(2)}{self.one_of('', ' : 1', ' : 0', ' : -1')}]"
         first, last = sorted((self.chance.randrange(-1, 3), self.chance.randrange(0, 4)))
-        return self.one_of(f"[{first}:{last}]", f"[{first}:1:{last}]", f"[{last}:-1:{first}]", f"[0:{self.numeral()}]", "[0:-1:5]", "[1:2:1]")
+        return self.one_of(
+            f"[{first}:{last}]", f"[{first}:1:{last}]", f"[{last}:-1:{first}]", f"[0:{self.numeral()}]", "[0:-1:5]", "[1:2:1]")
 
     def values(self) -> str:
         """What a loop goes over."""
-        return self.one_of(self.range, self.range, lambda: self.numbers(self.chance.randrange(0, 4)), "[0, 2]", "v" if self.is_wild() else "[1]")
+        return self.usually((self.range, self.range, lambda: self.numbers(self.chance.randrange(4)), "[0, 2]"), ("v", "t", "a"))
 
     def anything(self, depth: int = 0) -> str:
         below = depth + 1
         if depth > 3:
             return self.one_of("0", "1", "\"\"", "\"ab\"", "undef", "[]", "true")
         return self.one_of(
-            lambda: self.number(below), lambda: self.number(below), lambda: self.list(below), lambda: self.truth(below), self.range,
-            "undef", "\"\"", "\"a\\\"b\"", "[]", "t", "$t", lambda: f"[{self.anything(below)}, {self.anything(below)}]",
+            lambda: self.number(below), lambda: self.number(below), lambda: self.list(below), lambda: self.truth(below),
+            self.range, "undef", "\"\"", "\"a\\\"b\"", "[]", "t", "$t",
+            lambda: f"[{self.anything(below)}, {self.anything(below)}]",
             lambda: f"{self.anything(below)} {self.one_of(*OPERATORS)} {self.anything(below)}", lambda: self.call(below),
-            lambda: f"{self.one_of('-', '+', '!')}{self.anything(below)}", lambda: f"({self.anything(below)})[{self.anything(below)}]")
+            lambda: f"{self.one_of('-', '+', '!')}{self.anything(below)}",
+            lambda: f"({self.anything(below)})[{self.anything(below)}]")
 
     def built_in(self, depth: int) -> str:
-        name = self.one_of(*BUILT_IN[:10]) if not self.is_wild() else self.one_of(*BUILT_IN, *LEFT_OUT)
+        name = self.usually(BUILT_IN[:10], (*BUILT_IN, *LEFT_OUT))
         if name == "len":
             return f"len({self.list(depth)})"
         if name == "concat":
@@ -122,7 +138,7 @@ class Maker:
         return f"{name}({', '.join(self.number(depth + 1) for _ in range(count))})"
 
     def call(self, depth: int) -> str:
-        name = self.one_of(*FUNCTIONS[:3]) if not self.is_wild() else self.one_of(*FUNCTIONS, *MODULES)
+        name = self.usually(FUNCTIONS[:3], (*FUNCTIONS, *MODULES))
         parameters = self.functions.setdefault(name, self.parameters())
         return f"{name}({self.arguments(parameters, depth)})"
 
@@ -144,24 +160,26 @@ class Maker:
         if self.chance.random() < 0.08:
             given.insert(self.chance.randrange(len(given) + 1), f"{self.one_of(*SPECIALS)} = {self.number(depth + 1)}")
         if self.is_wild():
-            given.insert(self.chance.randrange(len(given) + 1), self.one_of(self.number, "a = 1", "q = 1", "$a = 1", "$children = 1", "$q"))
+            surplus = self.one_of(self.number, "a = 1", "q = 1", "$a = 1", "$children = 1", "$q")
+            given.insert(self.chance.randrange(len(given) + 1), surplus)
         return ", ".join(given)
 
     def definition(self, parameters: Sequence[str]) -> str:
         """Parameters as they are defined, some with a default."""
-        return ", ".join(name + (f" = {self.list(2) if name in LISTS else self.number(2)}" if self.chance.random() < 0.4 else "") for name in parameters)
+        defaults = (f" = {self.list(2) if name in LISTS else self.number(2)}" for name in parameters)
+        return ", ".join(name + (it if self.chance.random() < 0.4 else "") for name, it in zip(parameters, defaults))
 
     def function(self, name: str) -> str:
         parameters = self.functions.setdefault(name, self.parameters())
-        value = self.one_of(lambda: self.number(1), lambda: self.number(1), self.recursion(name, parameters), lambda: self.number(1))
-        if self.is_wild():
-            value = self.anything(1)
+        plain = lambda: self.number(1)  # noqa: E731
+        value = self.usually((plain, plain, plain, self.recursion(name, parameters)), (lambda: self.anything(1),))
         return f"function {name}({self.definition(parameters)}) = {value};"
 
     def recursion(self, name: str, parameters: Sequence[str]) -> Callable[[], str]:
         def made() -> str:
             n = "n" if "n" in parameters else "1"
-            return f"{n} < 1 ? {self.number(2)} : {name}({', '.join(it + ' = ' + ('n - 1' if it == 'n' else it) for it in parameters)})"
+            given = ", ".join(f"{it} = {'n - 1' if it == 'n' else it}" for it in parameters)
+            return f"{n} < 1 ? {self.number(2)} : {name}({given})"
         return made
 
     def assignment(self) -> str:
@@ -203,7 +221,9 @@ class Maker:
 
     def mark(self) -> str:
         at = self.chance.random()
-        return "" if at < 0.93 else self.one_of("*", "%", "#", "!", "#", "!", "!#", "*!", "%%") if not self.flat or at < 0.95 else "#"
+        if at < 0.93:
+            return ""
+        return "#" if self.flat and at > 0.95 else self.one_of("*", "%", "#", "!", "#", "!", "!#", "*!", "%%")
 
     def instance(self, depth: int, children: bool = False) -> str:
         mark = self.mark()
@@ -212,40 +232,47 @@ class Maker:
         if children and self.chance.random() < 0.3:
             return mark + f"children({self.chosen()}){self.one_of(';', ';', ';', ' cube(0);')}"
         return mark + self.one_of(
-            self.shape, self.shape, self.shape, self.shape, lambda: self.choice(depth, children), lambda: self.loop(depth, children),
-            lambda: self.moved(depth, children), lambda: self.moved(depth, children), lambda: self.moved(depth, children),
-            lambda: self.joined(depth, children), lambda: self.joined(depth, children), lambda: self.module_call(depth, children),
-            lambda: self.module_call(depth, children), self.checked, lambda: self.extruded(depth, children), lambda: self.hull(depth, children))
+            self.shape, self.shape, self.shape, self.shape, self.checked,
+            *[lambda made=made: made(depth, children) for made in (  # type: ignore[misc]
+                self.choice, self.loop, self.moved, self.moved, self.moved, self.joined, self.joined, self.module_call,
+                self.module_call, self.extruded, self.hull)])
 
     def chosen(self) -> str:
-        if self.is_wild():
-            return self.one_of("-1", "undef", "\"0\"", "[true]", "9007199254740991", "[0:1:9007199254740991]", "0, 1", "index = 1", "$q = 1", "i = 0")
-        return self.one_of("", "", "", "", "0", "1", "[0, 1]", "[1, 0, 0]", "[0:1]", "[1:-1:0]", "$children - 1", "[]", "[0:-1:5]", self.variable)
+        return self.usually(
+            ("", "", "", "", "0", "1", "[0, 1]", "[1, 0, 0]", "[0:1]", "[1:-1:0]", "$children - 1", "[]", "[0:-1:5]",
+             self.variable),
+            ("-1", "undef", "\"0\"", "[true]", "9007199254740991", "[0:1:9007199254740991]", "0, 1", "index = 1", "$q = 1",
+             "i = 0"))
 
     def choice(self, depth: int, children: bool) -> str:
         other = self.one_of("", "", lambda: f" else {self.body(depth + 1, children)}")
         return f"if ({self.truth(2)}) {self.body(depth + 1, children)}{other}"
 
     def loop(self, depth: int, children: bool) -> str:
-        binders = [f"{self.one_of(*NUMBERS)} = {self.values() if not self.is_wild() else self.anything(1)}" for _ in range(self.chance.choice((1, 1, 1, 2, 2, 3)))]
+        count = self.chance.choice((1, 1, 1, 2, 2, 3))
+        binders = [f"{self.one_of(*NUMBERS)} = {self.usually((self.values,), (self.anything,))}" for _ in range(count)]
         return f"{self.one_of('for', 'for', 'for', 'intersection_for')} ({', '.join(binders)}) {self.body(depth + 1, children)}"
 
     def moved(self, depth: int, children: bool) -> str:
         third = "0" if self.flat and not self.is_wild() else None
-        move = self.one_of(
-            lambda: f"translate([{self.number(2)}, {self.number(2)}, {third or self.number(2)}])", lambda: f"translate({self.numbers(2)})",
-            lambda: f"rotate([{third or self.turn()}, {third or self.turn()}, {self.turn()}])", lambda: f"rotate({self.turn()})",
-            lambda: f"mirror([{self.one_of('1, 0', '0, 1', '-2, 0')}, 0])", lambda: f"mirror([0, 0, {third or 1}])" if not self.flat else "mirror([1, 0])",
-            lambda: f"scale([{self.size()}, {self.size()}, {self.size()}])", lambda: f"scale({self.size()})", self.matrix,
+        tame = (
+            lambda: f"translate([{self.number(2)}, {self.number(2)}, {third or self.number(2)}])",
+            lambda: f"translate({self.numbers(2)})", lambda: f"rotate({self.turn()})",
+            lambda: f"rotate([{third or self.turn()}, {third or self.turn()}, {self.turn()}])",
+            lambda: f"mirror([{self.one_of('1, 0', '0, 1', '-2, 0')}, 0])",
+            lambda: "mirror([1, 0])" if self.flat else "mirror([0, 0, 1])", lambda: f"scale({self.size()})",
+            lambda: f"scale([{self.size()}, {self.size()}, {self.size()}])", self.matrix,
             lambda: f"color({self.arguments(('c', 'alpha'))})", "render()")
-        if self.is_wild():
-            move = self.one_of("translate()", "translate(1)", "rotate(45)", "rotate(90, 1)", "mirror([1, 1])", "mirror(0)", "scale(0)", "scale(v = [1, 2])",
-                               "multmatrix([[1, 0, 0, 0], [1, 0, 0, 0], [0, 0, 1, 0]])", "color(q = 1)", lambda: f"translate({self.anything()})",
-                               lambda: f"translate([{self.one_of(*LARGE)}, 0, 0])", lambda: f"scale({self.one_of(*LARGE)})", "render(1, 2)")
+        wild = (
+            "translate()", "translate(1)", "rotate(45)", "rotate(90, 1)", "mirror([1, 1])", "mirror(0)", "scale(0)",
+            "scale(v = [1, 2])", "multmatrix([[1, 0, 0, 0], [1, 0, 0, 0], [0, 0, 1, 0]])", "color(q = 1)", "render(1, 2)",
+            lambda: f"translate({self.anything()})", lambda: f"translate([{self.one_of(*LARGE)}, 0, 0])",
+            lambda: f"scale({self.one_of(*LARGE)})")
+        move = self.usually(tame, wild)
         return f"{move} {self.body(depth + 1, children)}"
 
     def turn(self) -> str:
-        return self.one_of("90", "0", "-90", "180", "270", "450", "a * 90") if not self.is_wild() else self.one_of("360", "45", "true", "1")
+        return self.usually(("90", "0", "-90", "180", "270", "450", "a * 90"), ("360", "45", "true", "1"))
 
     def matrix(self) -> str:
         rows = [[int(i == j) for j in range(4)] for i in range(3)]
@@ -265,7 +292,7 @@ class Maker:
     def checked(self) -> str:
         if self.chance.random() < 0.5:
             return f"echo({self.arguments(('a', 'b'))}){self.one_of(';', ';', '{}', ' {;}' if self.is_wild() else ';')}"
-        condition = self.truth(1) if self.is_wild() or self.chance.random() < 0.1 else self.one_of("true", "1", "a > 0 || true", "[0]", "\"a\"")
+        condition = self.one_of("true", "1", "a > 0 || true", "[0]", "\"a\"", lambda: self.truth(1))
         return f"assert({condition}{self.one_of('', ', 1')}){self.one_of(';', '{}', ' cube(1);' if self.is_wild() else ';')}"
 
     def extruded(self, depth: int, children: bool) -> str:
@@ -279,53 +306,60 @@ class Maker:
 
     def module_call(self, depth: int, children: bool) -> str:
         """A call whose braces may hold what is no child."""
-        name = self.one_of(*MODULES[:3]) if not self.is_wild() else self.one_of(*MODULES, *LEFT_OUT, *FUNCTIONS)
+        name = self.usually(MODULES[:3], (*MODULES, *LEFT_OUT, *FUNCTIONS))
         parameters = self.modules.setdefault(name, self.parameters()) if name in MODULES else ()
         body = self.one_of(";", lambda: self.body(depth + 1, children))
         if body.startswith("{ ") and self.chance.random() < 0.35:
-            extra = self.one_of("$a = 7;", "a = 2;", self.checked, self.checked, lambda: "*" + self.shape(), "if (false) cube(1);", "{ assert(true); }")
+            extra = self.one_of(
+                "$a = 7;", "a = 2;", self.checked, self.checked, lambda: "*" + self.shape(), "if (false) cube(1);",
+                "{ assert(true); }")
             body = self.one_of(f"{{ {extra} {body[2:]}", f"{body[:-2]} {extra} }}")
         return f"{name}({self.arguments(parameters)}) {body}"
 
     def shape(self) -> str:
         """A shape of the dimension that is wanted here."""
-        flat = self.flat != self.is_wild()
-        if flat:
-            return self.one_of(f"square({self.size()});", f"square({self.one_of('[2, 3]', '[4, 2], true', '2, center = true')});", self.polygon,
-                               f"circle({self.one_of('', 'r = ')}{self.size()}, $fn = 4);", f"circle({self.numeral()});" if self.is_wild() else "square();")
-        return self.one_of(
-            lambda: f"cube({self.size()});", lambda: f"cube([{self.size()}, {self.size()}, {self.size()}]);", lambda: "cube(2, true);", self.cylinder, self.polyhedron,
-            lambda: f"cube({self.arguments(('size', 'center'))});" if self.is_wild() else f"cube([1, 2, {self.size()}]);",
-            lambda: f"cube({self.one_of('0', '-1', 'undef', 'true', '3, true', '[1, 2]', '1, 1')});" if self.is_wild() else "cube();")
+        flat = (
+            lambda: f"square({self.size()});", "square([2, 3]);", "square([4, 2], true);", "square(2, center = true);", "square();",
+            self.polygon, lambda: f"circle({self.one_of('', 'r = ')}{self.size()}, $fn = 4);")
+        solid = (
+            lambda: f"cube({self.size()});", lambda: f"cube([{self.size()}, {self.size()}, {self.size()}]);", "cube(2, true);",
+            self.cylinder, self.polyhedron, "cube();")
+        wild = (
+            "cube(0);", "cube(-1);", "cube(undef);", "cube(true);", "cube(3, true);", "cube([1, 2]);", "cube(1, 1);",
+            "circle(2);", "square(0);", lambda: f"cube({self.arguments(('size', 'center'))});", *flat, *solid)
+        return self.usually(flat if self.flat else solid, wild)
 
     def cylinder(self) -> str:
-        radii = self.one_of(f"r = {self.size()}", f"r1 = {self.size()}, r2 = {self.one_of('0', '1', '2')}", f"r2 = {self.size()}", "", "r1 = 0")
-        if self.is_wild():
-            radii = self.one_of("d = 2", "r = 1, r1 = 1", "r1 = 0, r2 = 0", "r = -1", "r = true", "r = 65536", "center = true")
-        fragments = "$fn = 4" if not self.is_wild() else self.one_of("$fn = 5", "$fn = true", "$fa = 1", "$fn = 4, $fn = 4")
+        radii = self.usually(
+            (f"r = {self.size()}", f"r1 = {self.size()}, r2 = {self.one_of('0', '1', '2')}", f"r2 = {self.size()}", "",
+             "r1 = 0"),
+            ("d = 2", "r = 1, r1 = 1", "r1 = 0, r2 = 0", "r = -1", "r = true", "r = 65536", "center = true"))
+        fragments = self.usually(("$fn = 4",), ("$fn = 5", "$fn = true", "$fa = 1", "$fn = 4, $fn = 4"))
         return f"cylinder({self.one_of('h = ', '')}{self.size()}{', ' if radii else ''}{radii}, {fragments});"
 
     def point(self, count: int, spread: int = 3) -> list[int]:
         return [self.chance.randrange(-spread, spread + 1) for _ in range(count)]
 
     def polygon(self) -> str:
-        points = self.one_of("[[0, 0], [4, 0], [0, 3]]", "[[0, 0], [2, 0], [3, 2], [1, 3]]", "[[0, 0], [0, 2], [2, 2], [2, 0]]", "[[1, 0], [0, 1], [-1, 0], [0, -1]]",
-                             str([self.point(2) for _ in range(3)]), str([self.point(2) for _ in range(self.chance.randrange(2, 6))]) if self.is_wild() else "[[0,0],[1,0],[2,0],[0,2]]")
+        points = self.usually(
+            ("[[0, 0], [4, 0], [0, 3]]", "[[0, 0], [2, 0], [3, 2], [1, 3]]", "[[0, 0], [0, 2], [2, 2], [2, 0]]",
+             "[[1, 0], [0, 1], [-1, 0], [0, -1]]", "[[0, 0], [1, 0], [2, 0], [0, 2]]", str([self.point(2) for _ in range(3)])),
+            (str([self.point(2) for _ in range(self.chance.randrange(2, 6))]),))
         return f"polygon({points}{', [[0, 1, 2]]' if self.is_wild() else ''});"
 
     def polyhedron(self) -> str:
         """A tetrahedron, a pyramid or a box of points by chance, and mostly the faces in the right order."""
         tetrahedron = [[0, 1, 2], [0, 3, 1], [0, 2, 3], [1, 3, 2]]
         p, q, r, s = (self.point(3) for _ in range(4))
-        side = ((q[0] - p[0]) * ((r[1] - p[1]) * (s[2] - p[2]) - (r[2] - p[2]) * (s[1] - p[1])) - (q[1] - p[1]) * ((r[0] - p[0]) * (s[2] - p[2]) - (r[2] - p[2]) * (s[0] - p[0]))
-                + (q[2] - p[2]) * ((r[0] - p[0]) * (s[1] - p[1]) - (r[1] - p[1]) * (s[0] - p[0])))
+        side = determinant(*(to - at for corner in (q, r, s) for to, at in zip(corner, p)))
         faces = tetrahedron if side >= 0 else [face[::-1] for face in tetrahedron]
         points = [p, q, r, s]
         if self.chance.random() < 0.3:
             points = [[0, 0, 0], [4, 0, 0], [4, 3, 0], [0, 3, 0], [1, 1, 2]]
             faces = [[0, 1, 2, 3], [1, 0, 4], [2, 1, 4], [3, 2, 4], [0, 3, 4]]
         if self.is_wild():
-            faces = self.chance.choice((faces[1:], [*faces, faces[0]], [face[::-1] for face in faces], [[*faces[0][:2], 9], *faces[1:]], [faces[0][:2], *faces[1:]], [faces[0][::-1], *faces[1:]]))
+            first = self.chance.choice(([*faces[0][:2], 9], faces[0][:2], faces[0][::-1], faces[1]))
+            faces = self.chance.choice((faces[1:], [*faces, faces[0]], [face[::-1] for face in faces], [first, *faces[1:]]))
         return f"polyhedron({points}, {faces});"
 
     def program(self) -> str:
@@ -342,7 +376,6 @@ class Maker:
                 text = f"{name} = {self.numeral()};{self.one_of(' ', chr(10))}{text}"
         return text
 
-
     def missing(self, text: str) -> list[str]:
         """Most functions and modules that are used so far and are not defined."""
         functions = [name for name in self.functions if f"function {name}(" not in text and name not in BUILT_IN]
@@ -354,7 +387,8 @@ class Maker:
 def limits(chance: Random) -> str:
     """A source at a limit, or a little before or past it."""
     near = chance.randrange(-2, 3)
-    many = chance.choice(("(", "[", "f(", "-", "1?1:", "{", "m() ", "m(){", "if(1) ", "if(1);else ", "for(i=1) ", "f(a=", "a[", "!"))
+    many = chance.choice(
+        ("(", "[", "f(", "-", "1?1:", "{", "m() ", "m(){", "if(1) ", "if(1);else ", "for(i=1) ", "f(a=", "a[", "!"))
     opened = many * ((64 if "{" not in many or many == "{" else 32) + near)
     deep = f"{opened}{chance.choice(('1', 'a', ')', ';', 'for', 'x=1;', '', 'cube(1);'))}"
     parens = chance.randrange(3, 9)
@@ -365,20 +399,27 @@ def limits(chance: Random) -> str:
         lambda: f"function f(n) = n < 1 ? 0 : {'(' * parens}f(n - 1){')' * parens}; x = f({calls}); cube(x);",
         lambda: f"module m(n) {{ if (n > 0) {'union() ' * parens}m(n - 1); else {{ a = 1; cube(a); }} }} m({calls});",
         lambda: f"module m(n) {{ if (n > 0) m(n - 1) children(); else children(); }} m({32 + near}) cube(1);",
-        lambda: f"module m(n) {{ if (n > 0) m(n - 1) {{ children(); children(); }} else children(); }} m({chance.randrange(1, 10)}) {{ echo($children); cube(1); }}",
-        lambda: f"v = {zeros};\nw = concat({', '.join('v' * (65 + chance.randrange(-1, 1)))}, {', '.join('0' * chance.randrange(1, 3))});\ncube(len(w));",
+        lambda: f"module m(n) {{ if (n > 0) m(n - 1) {{ children(); children(); }} else children(); }} "
+                f"m({chance.randrange(1, 10)}) {{ echo($children); cube(1); }}",
+        lambda: f"v = {zeros};\nw = concat({', '.join('v' * chance.choice((64, 65)))}, 0{chance.choice((', 0', ''))});",
         lambda: f"function f(n) = n < 1 ? [] : [f(n - 1)]; x = f({63 + near}); y = [x]; cube(1);",
         lambda: f"v = {zeros}; for (i = [1 : {1562 + near}]) assert(v);",
-        lambda: f"for (i = [1 : {1024 + near}]) cube(1);" if chance.random() < 0.3 else f"hull() for (i = [1 : {1023 + near}]) cube(1);",
+        lambda: f"for (i = [1 : {1024 + near}]) cube(1);" if chance.random() < 0.3
+        else f"hull() for (i = [1 : {1023 + near}]) cube(1);",
         lambda: f"for (i = [0 : {509 + near}]) translate([2 * i, 0, 0]) cube(1);" if chance.random() < 0.3 else "cube(4096);",
         lambda: f"translate([{4094 + near}, 0, 0]) cube(1);",
-        lambda: f"scale([{9007199254740991 // 7 + near}, 1, 1]) cube(7);", lambda: f"translate([9007199254740990, 0, 0]) cube({chance.randrange(1, 4)});",
-        lambda: f"rotate(90) scale({3037000500 + near}) scale({chance.randrange(1, 4)}) cube(1);", lambda: f"hull() {{ cube({65535 + near}); cube(1); }}",
-        lambda: f"x = 9007199254740991 {chance.choice('+-*')} {near}; y = -x - {near};", lambda: f"linear_extrude(9007199254740991) square({near});",
-        lambda: f"hull() for (a = [0 : {chance.choice((1, 2, 3))}], b = [0 : 1], c = [0 : 3]) translate([a * a, b, c * c]) cube(1);",
-        lambda: "for (a = [1 : 25000], b = [1 : 3], c = [0 : -1 : 5]) ;" if chance.random() < 0.05 else "for (a = [0:2], b = [0:-1:5]) ;",
+        lambda: f"scale([{9007199254740991 // 7 + near}, 1, 1]) cube(7);",
+        lambda: f"translate([9007199254740990, 0, 0]) cube({chance.randrange(1, 4)});",
+        lambda: f"rotate(90) scale({3037000500 + near}) scale({chance.randrange(1, 4)}) cube(1);",
+        lambda: f"hull() {{ cube({65535 + near}); cube(1); }}",
+        lambda: f"x = 9007199254740991 {chance.choice('+-*')} {near}; y = -x - {near};",
+        lambda: f"linear_extrude(9007199254740991) square({near});",
+        lambda: f"hull() for (a = [0 : {chance.randrange(1, 4)}], b = [0, 1], c = [0:3]) translate([a * a, b, c * c]) cube(1);",
+        lambda: "for (a = [1 : 25000], b = [1 : 3], c = [0 : -1 : 5]) ;" if chance.random() < 0.05
+        else "for (a = [0:2], b = [0:-1:5]) ;",
         lambda: f"for (i = [1 : {100000 + near}]) ;" if chance.random() < 0.05 else "for (i = [1 : 9007199254740991]) cube(0);",
-        lambda: f"polygon([{', '.join(['[0, 0]'] * (64 + near))}]);", lambda: f"linear_extrude(1) polygon([{', '.join(['[0, 0]'] * (62 + near))}, [1, 0], [0, 1]]);"))()
+        lambda: f"polygon([{', '.join(['[0, 0]'] * (64 + near))}]);",
+        lambda: f"linear_extrude(1) polygon([{', '.join(['[0, 0]'] * (62 + near))}, [1, 0], [0, 1]]);"))()
 
 
 def mutated(chance: Random, text: str) -> str:
@@ -415,7 +456,8 @@ def _pieces(text: str) -> list[str]:
 
 def laid_out(chance: Random, text: str) -> str:
     """A text with other blanks, or comments, in the place of some spaces."""
-    return "".join(chance.choice(("\n", "  ", "\t", " // c\n", "/* c */", "\r\n", "")) if byte == " " and chance.random() < 0.1 else byte for byte in text)
+    return "".join(chance.choice(("\n", "  ", "\t", " // c\n", "/* c */", "\r\n", "")) if byte == " "
+        and chance.random() < 0.1 else byte for byte in text)
 
 
 def source(chance: Random) -> bytes:

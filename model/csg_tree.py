@@ -54,8 +54,8 @@ def planes_of(tree: Tree) -> list[Coefficients]:
 
 
 def join_of(op: str, left: Tree, right: Tree) -> Tree:
-    """A join without Nothing: in a union it gives the other side, in an intersection Nothing, Nothing minus anything is Nothing,
-    and a tree minus Nothing is the tree."""
+    """A join without Nothing: in a union it gives the other side, in an intersection Nothing, Nothing minus anything is
+    Nothing, and a tree minus Nothing is the tree."""
     if left is nothing:
         return right if op == "union" else nothing
     if right is nothing:

@@ -85,8 +85,8 @@ def is_even(half: bool, side: int) -> bool:
 
 
 def size_fault(half: bool, center: bool, sides: Sequence[int]) -> str | None:
-    """The first fault of sides and heights: one is below 1; else one is centred and has an odd number of grid steps; else one has
-    more than 2^53 - 1 grid steps."""
+    """The first fault of sides and heights: one is below 1; else one is centred and has an odd number of grid steps; else
+    one has more than 2^53 - 1 grid steps."""
     if any(side < 1 for side in sides):
         return "BadSize"
     if center and not all(is_even(half, side) for side in sides):
@@ -213,8 +213,8 @@ def polygon_of(half: bool, points: Points) -> Points:
 
 
 def polygon_fault(half: bool, points: Points) -> str | None:
-    """The first fault of written points: there are more than 64; else fewer than 3; else a coordinate is past 65535 in size; else
-    they make no convex polygon."""
+    """The first fault of written points: there are more than 64; else fewer than 3; else a coordinate is past 65535 in size;
+    else they make no convex polygon."""
     if len(points) > 64:
         return "LongList"
     if len(points) < 3:

@@ -52,8 +52,8 @@ def has_body(height: int, low: int, high: int) -> bool:
 
 
 def cylinder_fault(half: bool, center: bool, height: int, low: int, high: int) -> str | None:
-    """The first fault of a cylinder's sizes: they make no body; else the height is centred and odd in grid steps; else a radius or
-    the height of an end is past 65535 grid steps in size."""
+    """The first fault of a cylinder's sizes: they make no body; else the height is centred and odd in grid steps; else a
+    radius or the height of an end is past 65535 grid steps in size."""
     if not has_body(height, low, high):
         return "BadSize"
     if center and not is_even(half, height):

@@ -216,7 +216,8 @@ class InstanceTerm(NamedTuple):
     core: CoreTerm
 
 
-StatementTerm = Union[EmptyStatement, BlockStatement, AssignmentTerm, SpecialAssignmentTerm, ModuleTerm, FunctionTerm, InstanceTerm]
+StatementTerm = Union[
+    EmptyStatement, BlockStatement, AssignmentTerm, SpecialAssignmentTerm, ModuleTerm, FunctionTerm, InstanceTerm]
 
 
 class IfTerm(NamedTuple):

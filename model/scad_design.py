@@ -94,8 +94,8 @@ class Placing:
         self.known: set[Coefficients] = set()
 
     def leaf(self, shape: ALeaf) -> Tree:
-        """The first fault of a leaf: a coordinate is past 2^53 - 1 after a step; else one is past 4,095 at the end; else the leaf
-        brings the 1,025th distinct plane."""
+        """The first fault of a leaf: a coordinate is past 2^53 - 1 after a step; else one is past 4,095 at the end; else the
+        leaf brings the 1,025th distinct plane."""
         if not stays_safe(shape):
             raise Fault("TooLarge", shape.at)
         if not ends_in_reach(shape):

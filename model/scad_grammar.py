@@ -23,6 +23,11 @@ least_too_deep = 65
 left_out_classes = frozenset(("use", "include", "let", "each", "^", lexer.special_class))
 left_out_of_expressions = left_out_classes | {"for", "if", "function"}
 argument_names = (lexer.name_class, lexer.special_class)
+terms_with_value: dict[str, Callable[..., Term]] = {
+    lexer.numeral_class: NumberTerm, lexer.text_class: TextTerm, lexer.special_class: SpecialTerm}
+terms_alone: dict[str, Callable[..., Term]] = {
+    "undef": UndefTerm, lexer.child_count_class: ChildCountTerm, "true": lambda at: TruthTerm(at, True),
+    "false": lambda at: TruthTerm(at, False)}
 levels = (("||",), ("&&",), ("==", "!="), ("<", "<=", ">", ">="), ("+", "-"), ("*", "/", "%"))
 
 
@@ -118,16 +123,11 @@ class Parser:
         if kind == lexer.name_class:
             name = self.single_token(kind, depth).value
             return CallTerm(at, name, self.in_parentheses(self.arg, depth)) if self.kind() == "(" else NameTerm(at, name)
-        if kind in ("true", "false"):
+        if kind in terms_with_value:
+            return terms_with_value[kind](at, self.single_token(kind, depth).value)
+        if kind in terms_alone:
             self.single_token(kind, depth)
-            return TruthTerm(at, kind == "true")
-        for known, term in ((lexer.numeral_class, NumberTerm), (lexer.text_class, TextTerm), (lexer.special_class, SpecialTerm)):
-            if kind == known:
-                return term(at, self.single_token(kind, depth).value)
-        for known, form in (("undef", UndefTerm), (lexer.child_count_class, ChildCountTerm)):
-            if kind == known:
-                self.single_token(kind, depth)
-                return form(at)
+            return terms_alone[kind](at)
         raise self.first_fault(before_expression=True)
 
     def suffix(self, depth: int) -> IndexTerm | MemberTerm:

@@ -1,4 +1,5 @@
-"""The meaning of instances: the crate `scad_meaning`. The first fault is raised; the turns and the leaves so far are counted."""
+"""The meaning of instances: the crate `scad_meaning`. The first fault is raised; the turns and the leaves so far are
+counted."""
 
 from __future__ import annotations
 
@@ -123,8 +124,8 @@ def iterated_values(value: Val) -> Iterable[Val] | None:
 
 
 def chosen_among(children: Sequence[A], chosen: list[int] | RangeVal) -> list[A]:
-    """The chosen ones of some children, in the order in which they are chosen; a number that none has chooses nothing. The numbers
-    of a range ascend or descend, and there may be very many of them, so the children's own are gone through."""
+    """The chosen ones of some children, in the order in which they are chosen; a number that none has chooses nothing. The
+    numbers of a range ascend or descend, and there may be very many of them, so the children's own are gone through."""
     if isinstance(chosen, RangeVal):
         numbers = numbers_of_range(chosen)
         own = range(len(children)) if chosen.step > 0 else range(len(children) - 1, -1, -1)
@@ -140,8 +141,8 @@ class Extrusion(NamedTuple):
 
 
 class Context(NamedTuple):
-    """Where an instance stands: the calls that are left, the scope, the dynamic bindings of special names, the extrusion that it is
-    inside of, and whether it is inside an instance that is marked `!`."""
+    """Where an instance stands: the calls that are left, the scope, the dynamic bindings of special names, the extrusion
+    that it is inside of, and whether it is inside an instance that is marked `!`."""
 
     calls_left: int
     env: Env
@@ -269,8 +270,8 @@ def in_loop(here: Context, name: bytes, value: Val) -> Context:
 
 
 def each_iteration(evaluator: Evaluator, loop: ForTerm, at: int, here: Context, members: MemberDesigns) -> None:
-    """The iterations of a loop, from its variable of this number on: one for each choice of a value for every variable, the first
-    one slowest. A step of a variable that gave no member counts one turn when it ends."""
+    """The iterations of a loop, from its variable of this number on: one for each choice of a value for every variable, the
+    first one slowest. A step of a variable that gave no member counts one turn when it ends."""
     if at == len(loop.binders):
         turn(loop.at, evaluator.counts)
         result = body_design(evaluator, "union", here, loop.body)
@@ -331,8 +332,8 @@ def module_scope(scope: Env, module: SourceModule, values: Sequence[Val], call: 
 
 def module_design(evaluator: Evaluator, here: Context, call: ModuleCallTerm, found: tuple[SourceModule, Env],
                   given: Arguments) -> InstanceDesign:
-    """A module of the source, one call deeper: its special arguments stand among the dynamic bindings, its defaults are evaluated in
-    the scope of its definition, and then comes its body."""
+    """A module of the source, one call deeper: its special arguments stand among the dynamic bindings, its defaults are
+    evaluated in the scope of its definition, and then comes its body."""
     module, scope = found
     calls = one_call_fewer(here.calls_left, call.at)
     turn(call.at, evaluator.counts)
@@ -362,8 +363,8 @@ def arguments_for(name: bytes, here: ExpressionContext, args: Sequence[ArgTerm])
 
 
 def children_design(evaluator: Evaluator, here: Context, chosen: list[int] | RangeVal | None) -> InstanceDesign:
-    """The chosen children of the enclosing call, in a new scope inside its caller's, with the assignments of their body. Where all
-    are wanted, the body is evaluated as any other one, with its `echo`s and `assert`s."""
+    """The chosen children of the enclosing call, in a new scope inside its caller's, with the assignments of their body.
+    Where all are wanted, the body is evaluated as any other one, with its `echo`s and `assert`s."""
     call = activation_in(here.env)
     if call is None:
         return no_design
@@ -454,8 +455,8 @@ def core_design(evaluator: Evaluator, here: Context, core: CoreTerm) -> Instance
 
 
 def instance_design(evaluator: Evaluator, here: Context, instance: InstanceTerm) -> InstanceDesign:
-    """An instance: of marks `!` in one another the outermost one counts. What is marked is the root, and a member of what stands
-    around it as if there were no mark."""
+    """An instance: of marks `!` in one another the outermost one counts. What is marked is the root, and a member of what
+    stands around it as if there were no mark."""
     if not has_modifier(instance, "!"):
         return core_design(evaluator, here, instance.core)
     if here.inside is not None:

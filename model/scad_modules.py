@@ -369,8 +369,8 @@ def children_effect(call: Call) -> EffectCall:
     return SomeChildren(or_default(None, chosen_in, call.bound[0]))
 
 
-# The first fault counts: a missing argument, one left out, one of another type, the module's own, a wrong dimension, a move that
-# is too large.
+# The first fault counts: a missing argument, one left out, one of another type, the module's own, a wrong dimension, a move
+# that is too large.
 effect_of: dict[bytes, Callable[[Call], EffectCall]] = {
     b"cube": cube_effect,
     b"polyhedron": polyhedron_effect,

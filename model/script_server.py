@@ -1,5 +1,5 @@
-"""What a source means, and what a script is answered, but for the faces of a solid: the crates `script_server`, `reply_text` and
-`script_service`."""
+"""What a source means, and what a script is answered, but for the faces of a solid: the crates `script_server`, `reply_text`
+and `script_service`."""
 
 from __future__ import annotations
 
@@ -102,7 +102,8 @@ def output(half: bool, script: bytes) -> tuple[str, bytes]:
 
 
 def client_lines(n: int, client: int) -> str:
-    """Two lines of source and the export of a client of the demonstration, of n parts, whose depth goes by the client's number."""
+    """Two lines of source and the export of a client of the demonstration, of n parts, whose depth goes by the client's
+    number."""
     return (f"c{client} put 1 module part(i) {{ translate([7*i, 0, 0]) difference() {{ cube(4); translate([1, 1, 0]) "
             f"cube([2, 2, {1 + client % 3}]); }} }}\nc{client} put 2 for (i = [1 : {n}]) part(i);\nc{client} export\n")
 

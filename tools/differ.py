@@ -3,9 +3,9 @@
 
     tools/differ.py SECONDS SEED [--jobs N] [--server PROGRAM]
 
-A fault is compared by its word and place. Of a solid each face is tested to be where the model's tree begins or ends, and points
-by chance to be inside or outside both; one that passes a limit of solids is only counted. What differs is made smaller and
-printed. The last line says how many sources there were. The status is 1 where something differs."""
+A fault is compared by its word and place. Of a solid each face is tested to be where the model's tree begins or ends, and
+points by chance to be inside or outside both; one that passes a limit of solids is only counted. What differs is made
+smaller and printed. The last line says how many sources there were. The status is 1 where something differs."""
 
 from __future__ import annotations
 
@@ -90,15 +90,16 @@ def in_general_position(tree: Tree, chance: Random, low: Sequence[float], high: 
 
 def face_point(boundary: fouroff.Boundary, face: Sequence[int], chance: Random) -> Coordinates:
     """A point inside a face by chance, in units."""
+    corners = [boundary.corners[corner] for corner in face]
     weights = [Fraction(chance.randrange(1, 1000)) for _ in face]
-    x, y, z = (sum(weight * Fraction(boundary.corners[corner][i], boundary.corners[corner][3]) for weight, corner in zip(weights, face))
-               / sum(weights) for i in range(3))
+    x, y, z = (sum(weight * Fraction(it[i], it[3]) for weight, it in zip(weights, corners)) / sum(weights) for i in range(3))
     w = math.lcm(x.denominator, y.denominator, z.denominator)
     return Coordinates(int(x * w), int(y * w), int(z * w), w)
 
 
 def wrong_face(tree: Tree, half: bool, boundary: fouroff.Boundary, at: int, chance: Random) -> str | None:
-    """Why a face is not where the tree ends: it is tested at a point that is on just one plane of the tree, where one is found."""
+    """Why a face is not where the tree ends: it is tested at a point that is on just one plane of the tree, where one is
+    found."""
     for _ in range(4):
         point = in_steps(half, face_point(boundary, boundary.faces[at], chance))
         on = [m for m in planes_of(tree) if value(m, point) == 0]
@@ -112,8 +113,8 @@ def wrong_face(tree: Tree, half: bool, boundary: fouroff.Boundary, at: int, chan
 
 
 def wrong_point(tree: Tree, half: bool, boundary: fouroff.Boundary, crossings: Crossings, chance: Random) -> str | None:
-    """Why a point by chance is inside the one and outside the other: near a corner of the text or a plane of the tree, or anywhere in
-    a box round the text."""
+    """Why a point by chance is inside the one and outside the other: near a corner of the text or a plane of the tree, or
+    anywhere in a box round the text."""
     steps = 2 if half else 1
     centre = [chance.randrange(-8, 9) for _ in range(3)]
     if boundary.corners:
@@ -229,7 +230,7 @@ def main(words: Sequence[str] | None = None) -> int:
                 for it in found:
                     print(f"{'half ' if it.half else ''}{it.said}\n{it.source.decode('utf-8', 'backslashreplace')}", flush=True)
     print(", ".join(f"{count} {kind}" for kind, count in counts.most_common()))
-    print(f"{counts.total() if hasattr(counts, 'total') else sum(counts.values())} sources, seed {asked.seed}: {differing} differ")
+    print(f"{sum(counts.values())} sources that agree, seed {asked.seed}; {differing} that differ")
     return 1 if differing else 0
 
 

@@ -37,9 +37,10 @@ def fault_form(fault: Fault) -> str:
     return f"{fault.at.line}:{fault.at.column} {fault.kind}"
 
 
-SYMBOLS = dict(zip("( ) [ ] { } , ; = : ? . + - * / % < > <= >= == != && || ! # ^".split(), """OpenParenthesis CloseParenthesis
-    OpenBracket CloseBracket OpenBrace CloseBrace Comma Semicolon Assign Colon Question Dot Plus Minus Times Divide Remainder Less
-    Greater LessEqual GreaterEqual Equal NotEqual And Or Not Hash Caret""".split()))
+SYMBOLS = dict(zip(
+    "( ) [ ] { } , ; = : ? . + - * / % < > <= >= == != && || ! # ^".split(),
+    ("OpenParenthesis CloseParenthesis OpenBracket CloseBracket OpenBrace CloseBrace Comma Semicolon Assign Colon Question Dot "
+     "Plus Minus Times Divide Remainder Less Greater LessEqual GreaterEqual Equal NotEqual And Or Not Hash Caret").split()))
 CLASSES = {"NAME": "name", "SPECIAL": "special", "$children": "special", "TEXT": "text"}
 
 
@@ -116,7 +117,9 @@ def body_form(body: ast.BodyTerm) -> str:
     """`;`, statements in braces, or an instance."""
     if body.form == ";":
         return f";{at(body.at)} "
-    return f"body{at(body.at)} {program_form(body.statements)}" if body.form == "{" else statement_form(body.statements.items[0])
+    if body.form == "{":
+        return f"body{at(body.at)} {program_form(body.statements)}"
+    return statement_form(body.statements.items[0])
 
 
 def core_form(it: ast.CoreTerm) -> str:

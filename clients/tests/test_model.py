@@ -1,4 +1,5 @@
-"""Tests of model/, the meaning that is run from its definitions: it answers each row of cases of the language and of scripts."""
+"""Tests of model/, the meaning that is run from its definitions: it answers each row of cases of the language and of
+scripts."""
 
 from __future__ import annotations
 
@@ -60,8 +61,8 @@ def meaning_answer(half: bool, source: bytes) -> str:
 
 
 def value_of(turns: int, source: bytes) -> bytes:
-    """The value of the assignment with which a source begins, behind so many turns, where the name `later` is 7. Its faults are told
-    by their columns behind the `=`."""
+    """The value of the assignment with which a source begins, behind so many turns, where the name `later` is 7. Its faults
+    are told by their columns behind the `=`."""
     program = whole_program(lexes(source))
     env = entered_scope(program, None, None)
     env.variables[b"later"] = 7
