@@ -319,8 +319,8 @@ class Maker:
     def shape(self) -> str:
         """A shape of the dimension that is wanted here."""
         flat = (
-            lambda: f"square({self.size()});", "square([2, 3]);", "square([4, 2], true);", "square(2, center = true);", "square();",
-            self.polygon, lambda: f"circle({self.one_of('', 'r = ')}{self.size()}, $fn = 4);")
+            lambda: f"square({self.size()});", "square([2, 3]);", "square([4, 2], true);", "square(2, center = true);",
+            "square();", self.polygon, lambda: f"circle({self.one_of('', 'r = ')}{self.size()}, $fn = 4);")
         solid = (
             lambda: f"cube({self.size()});", lambda: f"cube([{self.size()}, {self.size()}, {self.size()}]);", "cube(2, true);",
             self.cylinder, self.polyhedron, "cube();")
