@@ -43,6 +43,7 @@ PYTHONPATH=$here/clients python3 -B -c 'from scadserve.tools.catalogue import *;
 git archive HEAD $(cat "$here/TOOLS") | tar -x -C "$here"
 PYTHONPATH=$here/clients python3 -B -m scadserve.tools.manual "$here/man"
 PYTHONPATH=$here/clients python3 -B -m scadserve.tools.completion "$here/completion"
+python3 -B "$top/tools/statement.py" --html "$here/docs/statement" || stop "the statement makes no pages as HTML"
 {
     echo "scadserve $version for x86_64 Linux"
     # (not how many tests passed: those that need what a machine lacks are skipped, and two clones make the same bytes)

@@ -18,6 +18,7 @@ from pathlib import Path
 
 from scadserve.tools.catalogue import STARTER, STARTERS, TOOLS
 from scadserve.version import VERSION
+from tests import test_pages
 from tests.calls import TOP
 from tests.needs import needs
 
@@ -59,6 +60,9 @@ def repository(at: Path) -> None:
             shutil.copytree(source, copy, ignore=shutil.ignore_patterns("__pycache__", "tests"))
         else:
             shutil.copy(source, copy)
+    test_pages.write_small_server(at)
+    with open(at / "tools/statement_words.py", "a", encoding="utf-8") as words:
+        words.write(test_pages.SMALL_WORDS)
     (at / "crates/scadserve/src").mkdir(parents=True)
     (at / "crates/scadserve/src/main.rt").write_text("fn main() {}\n")
     (at / "crates.txt").write_text("scadserve:\n")
@@ -76,7 +80,8 @@ def build(at: Path, gate: str = "7 passed, 0 failed", tests: str = "3 passed, 0 
     (at / "crates/scadserve/out/scadserve").write_bytes(program)
     (at / "crates/scadserve/out/scadserve").chmod(0o755)
     listed = ""
-    for name in ("HANDLES", "crates.txt", "crates/scadserve/src/main.rt"):
+    sources = [at / "HANDLES", at / "crates.txt", *at.glob("crates/*/src/**/*"), *at.glob("crates/*/specs/**/*")]
+    for name in sorted(str(it.relative_to(at)) for it in sources if it.is_file()):
         listed += f"{sum_of((at / name).read_bytes())}  {name}\n"
     told = {"commit": git(at, "rev-parse", "HEAD"), "kit": "some kit", "gate": gate, "tests": tests}
     told.update(program=sum_of(program), sources=sum_of(listed.encode()))
@@ -123,6 +128,13 @@ class Release(unittest.TestCase):
         self.assertEqual((done.returncode, done.stdout), (1, ""))
         self.assertIn(said, done.stderr)
         self.assertEqual([it for it in os.listdir(at / "out") if it.startswith("scadserve")], [])
+
+    def test_it_has_the_statement_as_html(self) -> None:
+        text = (self.here / "docs/statement/PROMISE.html").read_text(encoding="utf-8")
+        self.assertIn('<section id="high.Tells">', text)
+        self.assertIn('<a href="ALGORITHM.html#low.length_of">length_of</a>', text)
+        for name in ("index.html", "LAWS.html", "statement.js", "statement.css", "names.js"):
+            self.assertTrue((self.here / "docs/statement" / name).exists(), name)
 
     def test_what_is_not_that_of_a_green_gate_makes_no_release(self) -> None:
         at = self.folder / "refused"
