@@ -26,7 +26,7 @@ share=$root/share
 rm -rf "$lib" "$share/doc/scadserve"
 mkdir -p "$root/bin" "$lib/docs" "$share/doc/scadserve" "$share/man/man1" "$share/bash-completion/completions"
 mkdir -p "$share/zsh/${ZSH_FUNCTIONS:=site-functions}"
-cp -R "$top/clients" "$top/libexec" "$top/memory.sh" "$lib"
+cp -R "$top/clients" "$top/library" "$top/libexec" "$top/memory.sh" "$lib"
 # (the tools read this page)
 cp "$top/docs/FAULTS.md" "$lib/docs"
 cp -R "$top/README.md" "$top/PROVED" "$top/docs" "$top/examples" "$top/gallery" "$share/doc/scadserve"

@@ -1,7 +1,8 @@
 """Reads a source with all that it includes: `include <FILE>` is replaced by the text of that file, wherever it stands.
 
-A file is looked for in the folder of the file that names it, then in those of `-I`, then in those of OPENSCADPATH. Each line
-keeps its place. `use <FILE>` between the statements of the program is taken out of the text, and the file is noted.
+A file is looked for in the folder of the file that names it, then in those of `-I`, then in those of OPENSCADPATH, then in
+`library/`. Each line keeps its place. `use <FILE>` between the statements of the program is taken out of the text, and the file
+is noted.
 """
 
 from __future__ import annotations
@@ -12,6 +13,7 @@ from dataclasses import dataclass, field
 from typing import NamedTuple, Sequence
 
 from ..files import called, read_file, reason
+from ..top import LIBRARY
 from .faults import FILES
 from .sources import Line, Origin, Refused, Spot
 from .tokens import PIECE
@@ -75,7 +77,7 @@ class Folders:
     def __init__(self, folders: Sequence[str], is_bounded: bool = True) -> None:
         self._is_bounded = is_bounded
         of_environment = os.environ.get("OPENSCADPATH", "").split(os.pathsep)
-        self._folders = [*folders, *filter(None, of_environment)]
+        self._folders = [*folders, *filter(None, of_environment), LIBRARY]
         self._read = 0
 
     def first(self, path: str) -> File:
