@@ -10,30 +10,23 @@
 // to the nearest whole number, a half away from 0: no corner is off by more than 0.71 of a unit. The least radius is 3 for 8
 // corners, 4 for 12, 7 for 16 and 12 for 20, since fewer corners are left of a smaller one: it fails an assertion.
 
-// Cosines of the angles from 0 to less than 90 degrees, in parts of 10^9.
-function _cosines(corners) = corners == 8 ? [1000000000, 707106781]
-  : corners == 12 ? [1000000000, 866025404, 500000000]
-  : corners == 16 ? [1000000000, 923879533, 707106781, 382683432]
-  : [1000000000, 951056516, 809016994, 587785252, 309016994];
 // a times b parts of 10^9, rounded to the nearest whole number; neither is below 0
 function _part(a, b) = (2 * a * b + 1000000000 - (2 * a * b + 1000000000) % 2000000000) / 2000000000;
-// the corners of a quarter of a circle round [x, y], counterclockwise from quarter q on, without the last one
-function _quarter(r, cosines, x, y, q, at = 0) = at == len(cosines) ? [] : concat(
-  [_turned(x, y, _part(r, cosines[at]), at == 0 ? 0 : _part(r, cosines[len(cosines) - at]), q)],
-  _quarter(r, cosines, x, y, q, at + 1));
-// [x, y] and what goes right and up from there, turned by q quarters
-function _turned(x, y, right, up, q) = q == 0 ? [x + right, y + up] : q == 1 ? [x - up, y + right]
-  : q == 2 ? [x - right, y - up] : [x + up, y - right];
-// the corners of a whole circle round the origin
-function _circle(r, cosines) = concat(_quarter(r, cosines, 0, 0, 0), _quarter(r, cosines, 0, 0, 1),
-  _quarter(r, cosines, 0, 0, 2), _quarter(r, cosines, 0, 0, 3));
-// the last corner of a quarter, which the next quarter begins with where both go round one point
-function _end(r, x, y, q) = [_turned(x, y, 0, r, q)];
-// points at a height, and faces from a ring of n points to a tip behind them
-function _raised(points, z, at = 0) = at == len(points) ? [] : concat([[points[at].x, points[at].y, z]], _raised(points, z, at + 1));
-function _sides(n, is_up, at = 0) = at == n ? [] : concat(
-  [is_up ? [at, n, (at + 1) % n] : [(at + 1) % n, n, at]], _sides(n, is_up, at + 1));
-function _ring(n, is_up, at = 0) = at == n ? [] : is_up ? concat([at], _ring(n, is_up, at + 1)) : concat(_ring(n, is_up, at + 1), [at]);
+// r times the cosines of the angles from 0 to less than 90 degrees
+function _radii(r, corners) = corners == 8 ? [r, _part(r, 707106781)]
+  : corners == 12 ? [r, _part(r, 866025404), _part(r, 500000000)]
+  : corners == 16 ? [r, _part(r, 923879533), _part(r, 707106781), _part(r, 382683432)]
+  : [r, _part(r, 951056516), _part(r, 809016994), _part(r, 587785252), _part(r, 309016994)];
+// the point that is so far right of [x, y] and so far up, once [1, 0] is turned to [p, q]
+function _at(x, y, p, q, right, up) = [x + p * right - q * up, y + q * right + p * up];
+// the corners of a quarter of a circle, counterclockwise, without the last one
+function _arc(c, x, y, p, q) = len(c) == 2 ? [_at(x, y, p, q, c[0], 0), _at(x, y, p, q, c[1], c[1])]
+  : len(c) == 3 ? [_at(x, y, p, q, c[0], 0), _at(x, y, p, q, c[1], c[2]), _at(x, y, p, q, c[2], c[1])]
+  : len(c) == 4 ? [_at(x, y, p, q, c[0], 0), _at(x, y, p, q, c[1], c[3]), _at(x, y, p, q, c[2], c[2]), _at(x, y, p, q, c[3], c[1])]
+  : [_at(x, y, p, q, c[0], 0), _at(x, y, p, q, c[1], c[4]), _at(x, y, p, q, c[2], c[3]), _at(x, y, p, q, c[3], c[2]),
+    _at(x, y, p, q, c[4], c[1])];
+// the same with the last one
+function _whole_arc(c, x, y, p, q) = concat(_arc(c, x, y, p, q), [_at(x, y, p, q, 0, c[0])]);
 
 module _test(r, corners) {
   assert(corners == 8 || corners == 12 || corners == 16 || corners == 20, "corners is 8, 12, 16 or 20");
@@ -43,18 +36,17 @@ module _test(r, corners) {
 // a disc in the plane, for linear_extrude and for bars
 module disc(r, corners = 12) {
   _test(r, corners);
-  polygon(_circle(r, _cosines(corners)));
+  c = _radii(r, corners);
+  polygon(concat(_arc(c, 0, 0, 1, 0), _arc(c, 0, 0, 0, 1), _arc(c, 0, 0, -1, 0), _arc(c, 0, 0, 0, -1)));
 }
 
 // a rectangle in the plane with round corners, from the origin on
 module rounded(size, r, corners = 12) {
   _test(r, corners);
-  c = _cosines(corners);
-  polygon(concat(
-    _quarter(r, c, size.x - r, size.y - r, 0), _end(r, size.x - r, size.y - r, 0),
-    _quarter(r, c, r, size.y - r, 1), _end(r, r, size.y - r, 1),
-    _quarter(r, c, r, r, 2), _end(r, r, r, 2),
-    _quarter(r, c, size.x - r, r, 3), _end(r, size.x - r, r, 3)));
+  assert(size.x > 2 * r && size.y > 2 * r, "both sides are longer than two radii");
+  c = _radii(r, corners);
+  polygon(concat(_whole_arc(c, size.x - r, size.y - r, 1, 0), _whole_arc(c, r, size.y - r, 0, 1), _whole_arc(c, r, r, -1, 0),
+    _whole_arc(c, size.x - r, r, 0, -1)));
 }
 
 // a prism on the plane, as cylinder(h, r)
@@ -68,14 +60,14 @@ module ring(r, hole, h, corners = 12) difference() {
 
 // from a circle on the plane to one at the height h, of which one may have the radius 0, as cylinder(h, r1, r2)
 module taper(r1, r2, h, corners = 12) hull() {
-  if (r1 > 0) _cone(r1, 0, h, corners);
-  if (r2 > 0) _cone(r2, h, 0, corners);
+  if (r1 > 0) _cone(r1, h, corners);
+  if (r2 > 0) translate([0, 0, h]) mirror([0, 0, 1]) _cone(r2, h, corners);
 }
-// a cone from a circle at one height to a tip at another one
-module _cone(r, z, tip, corners) {
+// cones with four corners each, which are together those of a circle, and with one tip
+module _cone(r, h, corners) {
   _test(r, corners);
-  polyhedron(concat(_raised(_circle(r, _cosines(corners)), z), [[0, 0, tip]]),
-    concat([_ring(corners, tip > z)], _sides(corners, tip > z)));
+  for (at = _arc(_radii(r, corners), 0, 0, 1, 0)) multmatrix([[at.x, -at.y, 0, 0], [at.y, at.x, 0, 0], [0, 0, 1, 0]])
+    cylinder(h = h, r1 = 1, r2 = 0, $fn = 4);
 }
 
 // a plate with round corners, from the origin on
