@@ -10,6 +10,7 @@ from ..files import say
 from ..server.batches import batches
 from ..server.scripts import Solid, server_of_environment
 from ..solid.measures import shown
+from ..source.differences import explained
 from ..source.faults import explanation
 from ..source.reading import read_source
 from ..source.sources import MILLIMETRE, Source
@@ -39,6 +40,7 @@ def _do(words: Sequence[str]) -> int:
         half=asked.half,
         definitions=asked.definitions,
         folders=asked.folders,
+        has_notes=not asked.no_notes and not asked.by_openscad,
         allow_empty=asked.allow_empty,
         server=server_of_environment(),
         begins=(b"4OFF\n",),
@@ -50,11 +52,11 @@ def _do(words: Sequence[str]) -> int:
 
 def _explained(word: str) -> int:
     try:
-        said = explanation(word)
+        said = explanation(word) or explained(word)
     except OSError as error:
         raise BadCall(f"cannot open {error.filename}: {error.strerror}") from error
     if said is None:
-        raise BadCall(f"docs/FAULTS.md does not explain {word}")
+        raise BadCall(f"neither docs/FAULTS.md nor docs/differences.txt explains {word}")
     write_out("-", said.encode())
     return 0
 

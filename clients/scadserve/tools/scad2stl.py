@@ -50,6 +50,7 @@ def _do(words: Sequence[str]) -> int:
         half=asked.half,
         definitions=asked.definitions,
         folders=asked.folders,
+        has_notes=not asked.no_notes and not asked.by_openscad,
         server=server_of_environment(),
         begins=BEGINS,
         read=reader or (lambda *it: with_unit(read_source(*it), asked.unit)),
