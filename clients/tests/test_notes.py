@@ -3,7 +3,6 @@
 from __future__ import annotations
 
 import os
-import shutil
 import subprocess
 import tempfile
 import unittest
@@ -15,8 +14,9 @@ from scadserve.source.differing import FORMS
 from scadserve.source.notes import Note, notes_of
 from scadserve.source.reading import source_of
 from tests.calls import PROGRAM, TOP, Calls, needs_program
+from tests.needs import needs
 
-needs_openscad = unittest.skipUnless(shutil.which("openscad"), "OpenSCAD is not installed")
+needs_openscad = needs("openscad")
 ROWS = [(form.name, row) for form in forms() for row in form.rows]
 SCAD2STL = os.path.join(TOP, "bin", "scad2stl")
 
