@@ -25,7 +25,7 @@ from tests.needs import needs
 NAME = f"scadserve-{VERSION}-x86_64-linux"
 TARBALL, PACKAGE = f"{NAME}.tar.gz", f"scadserve_{VERSION}_amd64.deb"
 # What the release is made from, beside the starters of the tools.
-TAKEN = "README.md CHANGELOG.md CONTRIBUTING.md clients docs examples gallery install.sh memory.sh pyproject.toml scadserve tools .gitignore".split()
+TAKEN = "README.md CHANGELOG.md CONTRIBUTING.md clients docs examples gallery install.sh library memory.sh pyproject.toml scadserve tools .gitignore".split()
 # (the Python that runs this, and no rt)
 PATH = f"{os.path.dirname(sys.executable)}:/usr/bin:/bin"
 TRY_IT = "scad2off examples/bracket.scad -o $0/b.4off && off2stl $0/b.4off -o $0/b.stl && off2svg $0/b.4off -o $0/b.svg"
@@ -185,8 +185,14 @@ class Release(unittest.TestCase):
         for name in (STARTER, *TOOLS):
             done = run(name, "--version", at=at, PATH=f"{path}:{PATH}")
             self.assertEqual((done.returncode, done.stdout, done.stderr), (0, f"{name} {VERSION}\n", ""))
-        done = run("scad2off", "--explain", "NotWhole", at=at, PATH=f"{path}:{PATH}")
-        self.assertTrue(done.stdout.startswith("## NotWhole\n"), done.stderr)
+        for word, begins in (("NotWhole", "## NotWhole\n"), ("if-child", "if-child: ")):
+            done = run("scad2off", "--explain", word, at=at, PATH=f"{path}:{PATH}")
+            self.assertTrue(done.stdout.startswith(begins), done.stderr)
+        # (the library is found from any folder)
+        with tempfile.TemporaryDirectory() as room:
+            Path(room, "part.scad").write_text("use <round.scad>\nprism(5, 2);\n")
+            done = run("scad2off", "--script", "part.scad", at=Path(room), PATH=f"{path}:{PATH}")
+            self.assertEqual((done.returncode, "module prism(" in done.stdout), (0, True), done.stderr)
 
     def test_the_unpacked_tarball_works(self) -> None:
         self.assert_works(f"{self.here}:{self.here}/bin", self.here)

@@ -8,8 +8,8 @@ Where the solid of such a source passes a limit of the server, it is converted o
 from __future__ import annotations
 
 import os
-import re
 from dataclasses import replace
+from fractions import Fraction
 from typing import NamedTuple
 
 from ..ending import BadCall
@@ -17,6 +17,7 @@ from ..files import say
 from ..source.faults import FAULTS
 from ..source.sources import Line, Refused, Source, Spot
 from ..source.telling import refused_told
+from ..source.units import unit_of_file
 from . import included
 from .conversion import Conversion, Wanted, converted
 from .front import Front, NotEvaluated, NotThere, Told, evaluated, warned
@@ -25,7 +26,6 @@ from .reader import CsgFault, Node, read
 
 # By so much fewer planes are taken, and down to so many.
 _SHARE, _LEAST = 0.7, 64
-_COMMENT = re.compile(r"(?:[ \t]*//[^\n]*\n)*")
 # What kind of fault an error of OpenSCAD's is, by how it begins.
 _WORDS = {"Parser error": "Expected", "Assertion": "AssertFailed", "Recursion": "TooDeep", "For loop": "TooManyTurns"}
 # The cures of faults that OpenSCAD tells, and of those that a source in whole numbers has not, or has others for.
@@ -46,19 +46,19 @@ _NODES = "openscad --render -o part.csg PART.scad writes the nodes, and docs/OPE
 
 
 class _Evaluated(NamedTuple):
-    """What OpenSCAD made of a file: its nodes, what renders them, its first comments, and how often it warned."""
+    """What OpenSCAD made of a file: its nodes, what renders them, and how often it warned."""
 
     nodes: "list[Node]"
     front: Front
-    comment: str
     warnings: int
 
 
 class Reader:
     """Reads sources by OpenSCAD, and says what was changed of each."""
 
-    def __init__(self, wanted: Wanted) -> None:
-        self._wanted = wanted
+    def __init__(self, wanted: Wanted, unit: "Fraction | None" = None) -> None:
+        self._wanted, self._unit = wanted, unit
+        self._units: "dict[str, Fraction | None]" = {}
         self._evaluated: "dict[str, _Evaluated]" = {}
         self._warnings: "dict[str, int]" = {}
         self._planes: "dict[str, int]" = {}
@@ -68,8 +68,7 @@ class Reader:
         if file == "-":
             raise BadCall("OpenSCAD reads files alone, and not standard input")
         included.check(file, folders)
-        with open(file, "rb") as it:
-            text = it.read().decode("utf-8", "replace")
+        self._units[file] = self._unit or unit_of_file(file, folders)
         try:
             csg, said = evaluated(file, definitions, folders)
         except NotThere as error:
@@ -83,10 +82,9 @@ class Reader:
             say("".join(map(refused_told, others)))
             raise last
         say(said)
-        comment = _COMMENT.match(text)
         front = Front(os.path.dirname(os.path.abspath(file)), self._wanted.is_strict)
         try:
-            self._evaluated[file] = _Evaluated(read(csg), front, comment[0] if comment else "", len(warnings))
+            self._evaluated[file] = _Evaluated(read(csg), front, len(warnings))
         except CsgFault as fault:
             raise _refused(file, fault) from fault
         return self._converted(file, PLANES)
@@ -104,7 +102,7 @@ class Reader:
         return warnings_told(source.name, self._warnings[source.name])
 
     def _converted(self, file: str, planes: int) -> Source:
-        nodes, front, comment, _ = self._evaluated[file]
+        nodes, front, _ = self._evaluated[file]
         self._planes[file] = planes
         try:
             found = converted(nodes, replace(self._wanted, planes=planes), front)
@@ -112,9 +110,8 @@ class Reader:
             raise _refused(file, fault) from fault
         say(conversion_told(file, found))
         self._warnings[file] = self._evaluated[file].warnings + found.warnings
-        ascii_comment = comment.encode("ascii", "replace")
-        lines = [*ascii_comment.split(b"\n")[:-1], *found.text.split(b"\n")[:-1]]
-        return Source(file, [Line(it, it, file, number) for number, it in enumerate(lines, 1)], (), len(lines))
+        lines = [Line(it, it, file, number) for number, it in enumerate(found.text.split(b"\n")[:-1], 1)]
+        return Source(file, lines, (), len(lines), self._units[file], found.unit)
 
 
 def conversion_told(name: str, found: Conversion) -> str:

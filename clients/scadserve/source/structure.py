@@ -51,9 +51,10 @@ class Definition(Span):
 
 @dataclass
 class Assignment(Span):
-    """An assignment: the number of its name."""
+    """An assignment: the number of its name, and the scope that it stands in."""
 
     name: int
+    scope: Scope
 
 
 @dataclass
@@ -72,6 +73,19 @@ class Scope(Span):
     around: Scope | None
 
 
+@dataclass(eq=False)
+class Instance(Span):
+    """An instance: its marks stand before its core, which is its name or keyword. The instance around it, its arguments, the
+    scope of its first body, and the instances in its bodies that stand in no definition there."""
+
+    core: int
+    around: Instance | None
+    call: Call | None = None
+    scope: Scope | None = None
+    has_else: bool = False
+    children: list[Instance] = field(default_factory=list)
+
+
 @dataclass
 class Structure:
     """What is found in a source."""
@@ -82,6 +96,9 @@ class Structure:
     definitions: list[Definition] = field(default_factory=list)
     #: Those of the program's own scope.
     assignments: list[Assignment] = field(default_factory=list)
+    #: Those of all other scopes.
+    inner_assignments: list[Assignment] = field(default_factory=list)
+    instances: list[Instance] = field(default_factory=list)
     calls: list[Call] = field(default_factory=list)
 
     def text(self, at: int) -> bytes:
@@ -107,6 +124,7 @@ class _Reader:
         self.found = Structure(tokens)
         self._at = 0
         self._deep = 0
+        self._around: Instance | None = None
 
     def program(self) -> Structure:
         scope = self._opened(None)
@@ -160,8 +178,8 @@ class _Reader:
             self._at += 1
             self._expression(b";")
             self._take(b";")
-            if scope.around is None:
-                self.found.assignments.append(Assignment(first, self._at - 1, name))
+            of_scope = self.found.assignments if scope.around is None else self.found.inner_assignments
+            of_scope.append(Assignment(first, self._at - 1, name, scope))
         else:
             self._instance(scope)
 
@@ -181,7 +199,9 @@ class _Reader:
         parameters = self._parameters()
         start = self._at
         if kind == MODULE:
+            around, self._around = self._around, None
             self._body(scope)
+            self._around = around
         else:
             self._take(b"=")
             self._expression(b";")
@@ -203,28 +223,41 @@ class _Reader:
         return found
 
     def _instance(self, scope: Scope) -> None:
+        found = Instance(self._at, self._at, self._at, self._around)
+        self.found.instances.append(found)
+        if self._around is not None:
+            self._around.children.append(found)
+        self._around = found
         while self._is(b"*", b"%", b"#", b"!"):
             self._at += 1
+        found.core = self._at
+        self._core(scope, found)
+        found.last = self._at - 1
+        self._around = found.around
+
+    def _core(self, scope: Scope, found: Instance) -> None:
+        """Takes what stands behind the marks of an instance."""
         if self._is(b"if"):
             self._at += 1
             self._take(b"(")
             self._expression(b")")
             self._take(b")")
-            self._body(scope)
+            found.scope = self._body(scope)
             if self._is(b"else"):
                 self._at += 1
+                found.has_else = True
                 self._body(scope)
             return
         if self._is(b"for", b"intersection_for", b"let", b"each"):
             self._at += 1
             self._arguments(None, VARIABLE)
         else:
-            call = Call(self._at, self._at, MODULE, self._named(MODULE))
-            self.found.calls.append(call)
-            self._arguments(call, ARGUMENT)
-        self._body(scope)
+            found.call = Call(self._at, self._at, MODULE, self._named(MODULE))
+            self.found.calls.append(found.call)
+            self._arguments(found.call, ARGUMENT)
+        found.scope = self._body(scope)
 
-    def _body(self, around: Scope) -> None:
+    def _body(self, around: Scope) -> Scope:
         self._go_deeper()
         scope = self._opened(around)
         if self._is(b";"):
@@ -235,6 +268,7 @@ class _Reader:
             self._instance(scope)
         scope.last = self._at - 1
         self._deep -= 1
+        return scope
 
     def _arguments(self, call: Call | None, role: str) -> None:
         """Takes what stands in the brackets behind a name or a `for`; names before a `=` have this role."""

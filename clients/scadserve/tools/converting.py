@@ -12,6 +12,7 @@ from __future__ import annotations
 import os
 from argparse import Namespace
 from dataclasses import dataclass
+from fractions import Fraction
 from time import monotonic
 from typing import TYPE_CHECKING, Callable, NamedTuple, Sequence
 
@@ -53,6 +54,8 @@ class Call:
     definitions: Sequence[str] = ()
     folders: Sequence[str] = ()
     allow_empty: bool = False
+    #: Whether it is noted where OpenSCAD takes a source for another solid.
+    has_notes: bool = True
     server: Sequence[str] = SERVER
     #: What the files that the tool makes begin with: such a file is removed where its source has a fault now.
     begins: tuple[bytes, ...] = ()
@@ -64,14 +67,14 @@ class Call:
     last: Callable[[Source], str] | None = None
 
 
-def front_end(asked: Namespace) -> Reader | None:
-    """What reads sources by OpenSCAD's front end, where the words ask for that."""
+def front_end(asked: Namespace, unit: Fraction | None = None) -> Reader | None:
+    """What reads sources by OpenSCAD's front end, where the words ask for that; the unit of each is this one, if there is one."""
     if not asked.by_openscad:
         return None
     # (a third of the package, without which the tools are quicker to start)
     from ..openscad.by_openscad import Reader
 
-    return Reader(wanted_of(asked))
+    return Reader(wanted_of(asked), unit)
 
 
 def told(tool: str, work: Callable[[], int]) -> int:
@@ -99,6 +102,8 @@ def convert(call: Call, write: Callable[[Source, str, Solid], int]) -> int:
     for source, reply in answered([it.source for it in parts], call.half, call.server):
         quick = monotonic() - began < QUICK if quick is None else quick
         out = next(outs)
+        if call.has_notes and isinstance(reply, Solid):
+            _say_notes(source)
         try:
             statuses.append(_finished(call, *_smaller(call, source, reply), out, write, quick))
         except Refused as refused:
@@ -167,6 +172,13 @@ def _read(call: Call, file: str) -> Source:
     for name in unused(source):
         say(f"{source.name}: warning: the source never has {name}, which -D assigns\n")
     return source
+
+
+def _say_notes(source: Source) -> None:
+    """Says where OpenSCAD takes a source for another solid."""
+    from ..source.notes import notes_told
+
+    say(notes_told(source))
 
 
 def _smaller(call: Call, source: Source, reply: Reply) -> tuple[Source, Reply]:

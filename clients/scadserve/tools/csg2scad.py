@@ -16,7 +16,8 @@ from ..openscad.conversion import converted
 from ..openscad.front import Front
 from ..openscad.grid import PLANES
 from ..openscad.reader import CsgFault
-from .words import Words, front_end_wishes, length_argument, say_bad, wanted_of, write_out
+from ..source.units import unit_argument
+from .words import Words, front_end_wishes, say_bad, wanted_of, write_out
 
 _DESCRIPTION = """Writes the solid of OpenSCAD's evaluated form, as openscad --render -o part.csg part.scad writes it, as a source of
 scad2off: each convex leaf as the hull of its corners, rounded to a grid. What was changed is told on standard error."""
@@ -33,7 +34,7 @@ def parser() -> Words:
     words = Words("csg2scad", _DESCRIPTION, _EPILOG)
     words.add_argument("file", nargs="?", default="-", metavar="FILE.csg", help="else standard input")
     words.add_argument("-o", dest="out", metavar="FILE", default="-", help="the source to write; else standard output")
-    words.add_argument("--unit", type=length_argument, help="the step of the grid in OpenSCAD's lengths, as 1/20; else it is chosen")
+    words.add_argument("--unit", type=unit_argument, help="the step of the grid in OpenSCAD's lengths, as 1/20; else it is chosen")
     words.add_argument("--exact", action="store_true", help="leave no corner of a curve out: refuse where planes run out")
     words.add_argument("--planes", type=_count, default=PLANES, metavar="N", help=f"take so many planes at most; else {PLANES}")
     front_end_wishes(words)

@@ -97,6 +97,7 @@ def source_words(words: Words, made: str, ending: str) -> None:
         default=[],
         help="look in DIR too for what a source includes or uses, before the folders of OPENSCADPATH",
     )
+    words.add_argument("--no-notes", action="store_true", help="don't say where OpenSCAD takes a source for another solid")
 
 
 def front_end_words(words: Words) -> None:
