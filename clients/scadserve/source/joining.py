@@ -23,7 +23,8 @@ MOST_FILES, MOST_NESTED = 1_024, 64
 MOST_LINES = 16 * 4_096
 
 WORD = rb"(?P<word>include|use)[ \t\r\n]*<(?P<file>[^\t\r\n>]+)>"
-_ANY_WORD = re.compile(WORD)
+#: What names another file, wherever it stands, in a comment too.
+WORD_OF_FILE = re.compile(WORD)
 _PIECE = re.compile(WORD + b"|" + PIECE.pattern, re.DOTALL)
 _OPENING, _CLOSING = (b"(", b"[", b"{"), (b")", b"]", b"}")
 
@@ -78,7 +79,7 @@ class Folders:
 
     def first(self, path: str) -> File:
         """The file of a call; `-` is standard input. Raises OSError."""
-        return File(path, called(path), read_file(path, MOST_BYTES + 1))
+        return File(path, called(path), self._bytes_of(path))
 
     def find(self, file: File, at: int, word: str, named: str, opened: Sequence[str]) -> File:
         """The file that a file names so at a byte. Raises Refused, also where it is one of those that are opened."""
@@ -93,17 +94,20 @@ class Folders:
         if self._read > MOST_FILES or len(opened) > MOST_NESTED:
             raise file.refused(at, "TooManyFiles")
         try:
-            data = read_file(path, MOST_BYTES + 1)
+            data = self._bytes_of(path)
         except OSError as error:
             raise file.refused(at, "NoFile", f"{path} can't be opened: {reason(error)}") from None
         if len(data) > MOST_BYTES:
             raise file.refused(at, "TooLarge", f"{path} has more than a script's 1 MiB")
         return File(path, path, data, Origin(file.spot(at), word, file.origin))
 
+    def _bytes_of(self, path: str) -> bytes:
+        return read_file(path, MOST_BYTES + 1)
+
     def join(self, file: File, opened: Sequence[str] = ()) -> Joined:
         """A file with all that it includes, while these files are opened. Raises Refused."""
         joined = Joined(file)
-        if opened or _ANY_WORD.search(file.data):
+        if opened or WORD_OF_FILE.search(file.data):
             self._add(joined, file, (*opened, file.identity()))
         else:
             _add_lines(joined, file, 0, len(file.data))

@@ -84,6 +84,11 @@ def source_words(words: Words, made: str, ending: str) -> None:
         default=[],
         help="assign a variable behind the source's own lines: this is what counts then",
     )
+    folder_words(words)
+
+
+def folder_words(words: Words) -> None:
+    """The words of a tool that reads what sources include."""
     words.add_argument(
         "-I",
         dest="folders",
@@ -92,6 +97,18 @@ def source_words(words: Words, made: str, ending: str) -> None:
         default=[],
         help="look in DIR too for what a source includes or uses, before the folders of OPENSCADPATH",
     )
+
+
+def seconds_argument(text: str) -> float:
+    """A time in seconds. Raises ArgumentTypeError."""
+    try:
+        seconds = float(text)
+    except ValueError:
+        seconds = 0.0
+    # (no clock counts further, and neither is a number that is none)
+    if not 0 < seconds <= 1_000_000:
+        raise argparse.ArgumentTypeError(f"{text!r} is no number of seconds above 0")
+    return seconds
 
 
 def front_end_words(words: Words) -> None:
