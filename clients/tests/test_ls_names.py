@@ -159,7 +159,6 @@ class Definition(Case):
             # (the value of an assignment sees what is bound before it alone)
             ("x = 1; module m() { y = x; x = 2; cube(y); }", r"y = (x)", "^(x)"),
             ("x = 1; module m() { x = x + 1; cube(x); }", r"(x) \+", "^(x)"),
-            ("module m(a) { a = a + 1; cube(a); }", r"(a) \+", r"m\((a)"),
             ("n = 1; function f(n, k = n) = n + k;", r"k = (n)", "^(n)"),
             ("n = 1; function f(n, k = n) = n + k;", r"\) = (n)", r"f\((n)"),
             ("i = 1; for (i = [i : 3]) cube(i);", r"\[(i)", "^(i)"),
