@@ -224,6 +224,15 @@ class Definition(Case):
         self.change(editor, lib, 2, {"text": "\nmodule of_lib() cube(1);\n"})
         self.assertEqual(self.places(editor, uri, text, "(of_lib)"), [("lib.scad", {"line": 1, "character": 7})])
 
+    def test_a_file_that_is_changed_by_others(self):
+        self.write("lib.scad", "module of_lib() cube(1);\n")
+        text = "use <lib.scad>\nof_lib();\n"
+        editor, uri = self.text(text)
+        for line in range(3):
+            self.write("lib.scad", "\n" * line + "module of_lib() cube(1);\n")
+            os.utime(self.path("lib.scad"), (line, line))
+            self.assertEqual(self.places(editor, uri, text, "(of_lib)"), [("lib.scad", {"line": line, "character": 7})])
+
     def test_files_that_are_not_there_hide_nothing_else(self):
         text = "include <none.scad>\nuse <part.scad>\nw = 1;\ncube(w);\n"
         editor, uri = self.text(text)

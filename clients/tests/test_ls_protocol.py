@@ -137,6 +137,14 @@ class Conversation(Case):
         with self.assertRaises(queue.Empty):
             editor.wait(lambda it: it.get("id") in (5, 6), 0.1)
 
+    def test_an_editor_that_can_watch_files_is_asked_to(self):
+        editor = self.editor()
+        editor.start({"workspace": {"didChangeWatchedFiles": {"dynamicRegistration": True}}})
+        [asked] = editor.wait(lambda it: it.get("method") == "client/registerCapability")["params"]["registrations"]
+        self.assertEqual(asked["registerOptions"], {"watchers": [{"globPattern": "**/*.scad"}]})
+        editor.send({"id": "watch", "result": None})
+        self.assertIsNone(editor.ask("shutdown"))
+
 
 class Program(Case):
     def test_the_program_itself(self):

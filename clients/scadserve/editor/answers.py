@@ -2,6 +2,7 @@
 
 from __future__ import annotations
 
+import contextlib
 import os
 from dataclasses import dataclass
 from typing import Any, Callable, Type, TypeVar
@@ -68,9 +69,13 @@ class Asked:
         return OpenFolders(self.documents.folders, self.documents.texts(), is_lenient=True)
 
     def view(self) -> View:
-        """That text with all that it includes and uses."""
-        path = self.document().path
-        return View(self.folders(), File(path, path, self.document().text.data))
+        """That text with all that it includes and uses. It is kept until something is changed."""
+        path, kept = self.document().path, self.documents.kept
+        if kept is None or kept[0] != (path, self.documents.changes, _stamp(kept[1])):
+            view = View(self.folders(), File(path, path, self.document().text.data))
+            kept = self.documents.kept = (path, self.documents.changes, _stamp(view)), view
+        found: View = kept[1]
+        return found
 
     def can(self, *keys: str) -> Any:
         """What the editor says of something that it can do; None where it says nothing."""
@@ -97,6 +102,15 @@ class Asked:
         place, text = view.place(view.main, at), self.document().text
         start = text.byte(place.line, place.column)
         return text.range(start, start + len(view.main.structure.text(at)))
+
+
+def _stamp(view: View) -> list[tuple[str, int]]:
+    """When the files of a view were written at last."""
+    found = []
+    for path in sorted(view.paths):
+        with contextlib.suppress(OSError):
+            found.append((path, os.stat(path).st_mtime_ns))
+    return found
 
 
 def hover(asked: Asked) -> Any:

@@ -5,7 +5,7 @@ from __future__ import annotations
 import os
 from dataclasses import dataclass, field
 from pathlib import Path
-from typing import Mapping, Sequence
+from typing import Any, Mapping, Sequence
 from urllib.parse import unquote_to_bytes, urlsplit
 
 from ..source.joining import File, Folders
@@ -65,6 +65,9 @@ class Documents:
     roots: list[str] = field(default_factory=list)
     #: By the URI that the editor gives.
     open: dict[str, Document] = field(default_factory=dict)
+    #: How often the editor has told of a change, and what was read of a text since the last one.
+    changes: int = 0
+    kept: tuple[Any, Any] | None = None
 
     def texts(self) -> dict[str, bytes]:
         """The bytes of what is open, by true path."""

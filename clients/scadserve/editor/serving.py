@@ -69,6 +69,7 @@ class Serving:
         self._cancelled: set[str | int] = set()
         self._said: set[str] = set()
         self._notifications: dict[str, Callable[[Any], None]] = {
+            "initialized": self._initialized,
             "exit": self._exit,
             "$/cancelRequest": self._cancel,
             "textDocument/didOpen": self._opened,
@@ -197,9 +198,18 @@ class Serving:
 
     def _notified(self, method: str, params: Any) -> None:
         if method == "exit" or (self._state.is_initialized and not self._state.is_shut_down):
+            self._documents.changes += 1
             failed = self._guarded(lambda: self._notifications.get(method, lambda _: None)(params))
             if isinstance(failed, Failed):
                 say(f"scadls: {method}: {failed.said}\n")
+
+    def _initialized(self, _: Any) -> None:
+        """Asks the editor to tell where a source is changed by others, where it can."""
+        watching = answers.Asked(self._documents, self._state.capabilities, None).can("workspace", "didChangeWatchedFiles")
+        if isinstance(watching, dict) and watching.get("dynamicRegistration"):
+            options = {"watchers": [{"globPattern": "**/*.scad"}]}
+            wanted = {"id": "sources", "method": "workspace/didChangeWatchedFiles", "registerOptions": options}
+            self._send({"id": "watch", "method": "client/registerCapability", "params": {"registrations": [wanted]}})
 
     def _exit(self, _: Any) -> None:
         self._state.status = 0 if self._state.is_shut_down else 1
