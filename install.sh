@@ -26,9 +26,9 @@ share=$root/share
 rm -rf "$lib" "$share/doc/scadserve"
 mkdir -p "$root/bin" "$lib/docs" "$share/doc/scadserve" "$share/man/man1" "$share/bash-completion/completions"
 mkdir -p "$share/zsh/${ZSH_FUNCTIONS:=site-functions}"
-cp -R "$top/clients" "$top/libexec" "$top/memory.sh" "$lib"
-# (the tools read this page)
-cp "$top/docs/FAULTS.md" "$lib/docs"
+cp -R "$top/clients" "$top/library" "$top/libexec" "$top/memory.sh" "$lib"
+# (the tools read these)
+cp "$top/docs/FAULTS.md" "$top/docs/differences.txt" "$lib/docs"
 cp -R "$top/README.md" "$top/PROVED" "$top/docs" "$top/examples" "$top/gallery" "$share/doc/scadserve"
 cp "$top"/man/*.1 "$share/man/man1"
 cp "$top"/completion/bash/* "$share/bash-completion/completions"

@@ -43,7 +43,7 @@ trap 'exit 1' HUP INT TERM
 # The folder of the release: files of the commit, the program, and what is made of them.
 here=$work/$name
 mkdir -p "$here/libexec"
-git archive HEAD README.md CHANGELOG.md CONTRIBUTING.md clients/scadserve docs examples gallery install.sh memory.sh pyproject.toml scadserve \
+git archive HEAD README.md CHANGELOG.md CONTRIBUTING.md clients/scadserve docs examples gallery install.sh library memory.sh pyproject.toml scadserve \
     tools/wheel.py | tar -x -C "$here"
 cp "$program" "$here/libexec/scadserve"
 PYTHONPATH=$here/clients python3 -B -c 'from scadserve.tools.catalogue import *; print(*STARTERS, sep="\n")' >"$here/TOOLS"

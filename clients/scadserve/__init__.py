@@ -9,7 +9,7 @@
 """
 
 from .server.scripts import BadScript, BadWords, Malformed, NotStarted, OutOfMemory, OutOfTime, ReadFault, ServerFailed, WriteFault
-from .solving import Fault, Point, Solid, Source, solve
+from .solving import Fault, Note, Point, Solid, Source, solve
 
-__all__ = ["solve", "Solid", "Fault", "Point", "Source"]
+__all__ = ["solve", "Solid", "Fault", "Note", "Point", "Source"]
 __all__ += ["ServerFailed", "NotStarted", "BadWords", "BadScript", "ReadFault", "WriteFault", "OutOfMemory", "OutOfTime", "Malformed"]

@@ -24,6 +24,7 @@ from .solid.formats import WRITERS
 from .solid.merging import merged
 from .solid.meshes import mesh
 from .solid.surface import Surface, surface_of
+from .source.notes import Note, notes_of
 from .source.reading import read_source, source_of
 from .source.sources import Refused
 from .source.sources import Source as ReadSource
@@ -63,6 +64,8 @@ class Solid:
 
     #: Its 4OFF text.
     text: bytes
+    #: Where its source stands in a form that OpenSCAD takes for another solid.
+    notes: tuple[Note, ...] = ()
 
     @cached_property
     def volume(self) -> Fraction:
@@ -203,7 +206,7 @@ def _fault(source: ReadSource, fault: ToldFault, message: str) -> Fault:
 def _told(source: ReadSource, reply: Reply) -> Solid | Fault:
     """What an export was answered."""
     if isinstance(reply, ToldSolid):
-        return Solid(reply.text)
+        return Solid(reply.text, tuple(notes_of(source)))
     message = reply_told(source, reply)
     if isinstance(reply, ToldFault):
         return _fault(source, reply, message)

@@ -255,7 +255,7 @@ class Tool(Case):
     def test_a_file_is_written_and_what_changed_is_told(self):
         source = self.file("part.csg", b"cube(size = [2.5, 1, 1], center = false);\n")
         status, said = self.call(source, "-o", self.path("part.scad"))
-        self.assertEqual((status, said), (0, "part.csg: unit 1/1000: no corner moved (print by off2stl --unit 1/1000)\n"))
+        self.assertEqual((status, said), (0, "part.csg: on a grid of 1/1000: no corner moved\n"))
         self.assertEqual(self.bytes_of("part.scad"), b"// unit: 1/1000\ntranslate([0, 0, 0]) cube([2500, 1000, 1000]);\n")
 
     def test_faults(self):

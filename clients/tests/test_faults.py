@@ -117,7 +117,7 @@ class Explanations(Calls):
     @unittest.skipUnless(os.path.isfile(faults.DOCUMENT), "docs/FAULTS.md is not there")
     def test_an_unknown_word_is_told(self):
         self.assertEqual(
-            self.call("--explain", "Nonsense"), (2, b"", b"scad2off: docs/FAULTS.md does not explain Nonsense\n")
+            self.call("--explain", "Nonsense"), (2, b"", b"scad2off: neither docs/FAULTS.md nor docs/differences.txt explains Nonsense\n")
         )
 
 

@@ -132,8 +132,19 @@ class Checks(Case):
 
         editor = self.editor(notes=notes)
         editor.start()
-        [note] = editor.diagnostics(self.opened(editor, "part.scad", "cube(2);\n"))
+        [note] = editor.diagnostics(self.opened(editor, "other.scad", "cube(2);\n"))
         self.assertEqual((note["severity"], note["code"], note["range"]["start"]), (3, "Other", {"line": 0, "character": 5}))
+
+    def test_places_that_openscad_takes_for_another_solid(self):
+        text = "intersection() { cube(2); if (false) cube(1); }\n"
+        editor, uri = self.text(text)
+        [note] = editor.diagnostics(uri)
+        self.assertEqual((note["severity"], note["code"], note["range"]["start"]), (3, "if-child", place(text, "(if)")))
+        self.assertIn("OpenSCAD takes this for another solid: ", note["message"])
+        self.assertNotIn("cure", note["message"])
+        # (a fault comes first)
+        self.change(editor, uri, 2, {"text": "cube(2.5);" + text})
+        self.assertEqual([it["code"] for it in editor.diagnostics(uri, 2)], ["NotWhole"])
 
     def test_a_server_that_is_not_there(self):
         editor = self.editor(server=["/no/such/server"])

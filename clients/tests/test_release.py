@@ -23,7 +23,7 @@ from tests.calls import TOP
 NAME = f"scadserve-{VERSION}-x86_64-linux"
 TARBALL, PACKAGE = f"{NAME}.tar.gz", f"scadserve_{VERSION}_amd64.deb"
 # What the release is made from, beside the starters of the tools.
-TAKEN = "README.md CHANGELOG.md CONTRIBUTING.md clients docs examples gallery install.sh memory.sh pyproject.toml scadserve tools .gitignore".split()
+TAKEN = "README.md CHANGELOG.md CONTRIBUTING.md clients docs examples gallery install.sh library memory.sh pyproject.toml scadserve tools .gitignore".split()
 # (the Python that runs this, and no rt)
 PATH = f"{os.path.dirname(sys.executable)}:/usr/bin:/bin"
 HAS_ALL = all(shutil.which(it) for it in ("git", "dpkg-deb", "tar", "gzip"))

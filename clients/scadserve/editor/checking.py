@@ -19,8 +19,9 @@ from typing import Callable, Iterable, Sequence
 from ..server.scripts import Malformed, OutOfTime, ServerFailed, Solid, passed_limit
 from ..source.answering import answered
 from ..source.faults import STATUSES
+from ..source.notes import notes_of
 from ..source.recovering import structure_as_far
-from ..source.sources import Refused, Source
+from ..source.sources import Refused, Source, Spot
 from ..source.structure import MODULE
 from ..source.telling import Message, limit_message, refused_message, reply_message
 from ..source.tokens import tokens
@@ -32,6 +33,13 @@ _QUICK = 1.0
 
 #: What is to be told of a source beside its faults, as where OpenSCAD means another solid by it.
 Notes = Callable[[Source], Iterable[Message]]
+
+
+def notes(source: Source) -> Iterable[Message]:
+    """The places that OpenSCAD takes for another solid."""
+    for it in notes_of(source):
+        said = f"OpenSCAD takes this for another solid: {it.text} (scad2off --explain {it.form} says more)"
+        yield Message(it.file, it.form, said, "", Spot(it.file, it.line, it.column, None))
 
 
 def no_notes(_: Source) -> Iterable[Message]:
@@ -84,7 +92,7 @@ class Checks:
     """The checks of texts, at most one of each, which tell what came of them by a call from their threads."""
 
     def __init__(
-        self, server: Sequence[str], half: bool, seconds: float, tell: Callable[[Checked], None], notes: Notes = no_notes
+        self, server: Sequence[str], half: bool, seconds: float, tell: Callable[[Checked], None], notes: Notes = notes
     ) -> None:
         self._server, self._half, self._seconds, self._tell, self._notes = server, half, seconds, tell, notes
         self._under_way: dict[str, _Check] = {}
@@ -132,7 +140,8 @@ class Checks:
             if check.is_ended:
                 return Checked(check.uri)
             try:
-                return Checked(check.uri, self._faults(check, source), list(self._notes(source)))
+                faults = self._faults(check, source)
+                return Checked(check.uri, faults, () if faults else list(self._notes(source)))
             except (ServerFailed, Malformed) as failed:
                 return Checked(check.uri, failed=self._why(failed))
 

@@ -36,7 +36,7 @@ def _diagnostic(documents: Documents, document: Document, message: Message, seve
         "severity": severity,
         "code": message.word,
         "source": "scadserve",
-        "message": f"{where}{message.said}\ncure: {message.cure}",
+        "message": f"{where}{message.said}" + (f"\ncure: {message.cure}" if message.cure else ""),
     }
     notes = [(message.spot, message.said)] * elsewhere + list(message.notes)
     related = [it for it in (_related(documents, spot, what) for spot, what in notes if spot is not None) if it]

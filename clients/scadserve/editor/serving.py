@@ -18,7 +18,7 @@ from ..source.reading import joined_source
 from ..source.sources import Source
 from ..version import VERSION
 from . import answers, framing
-from .checking import Checked, Checks, Notes, no_notes
+from .checking import Checked, Checks, Notes, notes
 from .documents import Document, Documents, OpenFolders, path_of
 from .framing import Failed
 from .reporting import diagnostics
@@ -36,7 +36,7 @@ class Settings:
     half: bool = False
     seconds: float = 10.0
     folders: Sequence[str] = ()
-    notes: Notes = no_notes
+    notes: Notes = notes
 
 
 @dataclass

@@ -8,11 +8,12 @@ Where the solid of such a source passes a limit of the server, it is converted o
 from __future__ import annotations
 
 import os
-import re
+from fractions import Fraction
 
 from ..ending import BadCall
 from ..files import say
 from ..source.sources import Line, Refused, Source, Spot
+from ..source.units import unit_of_file
 from .conversion import Conversion, Wanted, converted
 from .front import Front, NotEvaluated, NotThere, evaluated
 from .grid import PLANES
@@ -20,23 +21,22 @@ from .reader import CsgFault, Node, read
 
 # By so much fewer planes are taken, and down to so many.
 _SHARE, _LEAST = 0.7, 64
-_COMMENT = re.compile(r"(?:[ \t]*//[^\n]*\n)*")
 
 
 class Reader:
     """Reads sources by OpenSCAD, and says what was changed of each."""
 
-    def __init__(self, is_exact: bool) -> None:
-        self._is_exact = is_exact
-        self._evaluated: "dict[str, tuple[list[Node], Front, str]]" = {}
+    def __init__(self, is_exact: bool, unit: "Fraction | None" = None) -> None:
+        self._is_exact, self._unit = is_exact, unit
+        self._units: "dict[str, Fraction | None]" = {}
+        self._evaluated: "dict[str, tuple[list[Node], Front]]" = {}
         self._planes: "dict[str, int]" = {}
 
     def __call__(self, file: str, definitions: "list[str]", folders: "list[str]") -> Source:
         """The source that comes of a file. Raises OSError, BadCall and Refused."""
         if file == "-":
             raise BadCall("OpenSCAD reads files alone, and not standard input")
-        with open(file, "rb") as it:
-            text = it.read().decode("utf-8", "replace")
+        self._units[file] = self._unit or unit_of_file(file, folders)
         try:
             csg, said = evaluated(file, definitions, folders)
         except NotThere as error:
@@ -45,10 +45,9 @@ class Reader:
             say(str(error))
             raise _refused(file, 1, 1, "Expected", "OpenSCAD has an error in this source, which stands above") from error
         say(said)
-        comment = _COMMENT.match(text)
         front = Front(os.path.dirname(os.path.abspath(file)))
         try:
-            self._evaluated[file] = read(csg), front, comment[0] if comment else ""
+            self._evaluated[file] = read(csg), front
         except CsgFault as fault:
             raise _refused(file, fault.line, fault.column, fault.word, fault.said) from fault
         return self._converted(file, PLANES)
@@ -62,16 +61,15 @@ class Reader:
         return self._converted(source.name, planes)
 
     def _converted(self, file: str, planes: int) -> Source:
-        nodes, front, comment = self._evaluated[file]
+        nodes, front = self._evaluated[file]
         self._planes[file] = planes
         try:
             found = converted(nodes, Wanted(is_exact=self._is_exact, planes=planes), front)
         except CsgFault as fault:
             raise _refused(file, fault.line, fault.column, fault.word, fault.said) from fault
         say(conversion_told(file, found))
-        ascii_comment = comment.encode("ascii", "replace")
-        lines = [*ascii_comment.split(b"\n")[:-1], *found.text.split(b"\n")[:-1]]
-        return Source(file, [Line(it, it, file, number) for number, it in enumerate(lines, 1)], (), len(lines))
+        lines = [Line(it, it, file, number) for number, it in enumerate(found.text.split(b"\n")[:-1], 1)]
+        return Source(file, lines, (), len(lines), self._units[file], found.unit)
 
 
 def conversion_told(name: str, found: Conversion) -> str:

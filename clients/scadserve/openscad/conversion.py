@@ -200,7 +200,7 @@ def _is_still(all_leaves: Sequence[Leaf], unit: Fraction) -> bool:
 def _unit_told(unit: Fraction, rounded: Rounded) -> str:
     still = rounded.moved <= _STILL * unit
     moved = "no corner moved" if still else f"corners moved by {rounded.moved:.2g} at most"
-    return f"unit {unit}: {moved} (print by off2stl --unit {unit})"
+    return f"on a grid of {unit}: {moved}"
 
 
 def _fewer_told(detail: Detail) -> list[str]:

@@ -12,6 +12,7 @@ import subprocess
 import tempfile
 from typing import Sequence
 
+from ..top import LIBRARY
 from .reader import CsgFault, Node, printed
 from .tree import Vector
 
@@ -104,8 +105,10 @@ class Front:
 
 def _run(words: Sequence[str], folders: Sequence[str] = ()) -> str:
     """What OpenSCAD says. Raises NotThere."""
-    path = [*map(os.path.abspath, folders), *filter(None, [os.environ.get("OPENSCADPATH")])]
-    how = {**os.environ, **({"OPENSCADPATH": os.pathsep.join(path)} if path else {})}
+    # (OpenSCAD's own folder of the user goes before our library, which it knows nothing of)
+    own = os.path.expanduser("~/.local/share/OpenSCAD/libraries")
+    path = [*map(os.path.abspath, folders), *filter(None, [os.environ.get("OPENSCADPATH")]), own, LIBRARY]
+    how = {**os.environ, "OPENSCADPATH": os.pathsep.join(path)}
     name = program()
     if name is None:
         raise NotThere("it is not installed (OPENSCAD in the environment may name it)")

@@ -1,7 +1,8 @@
 """Reads a source with all that it includes: `include <FILE>` is replaced by the text of that file, wherever it stands.
 
-A file is looked for in the folder of the file that names it, then in those of `-I`, then in those of OPENSCADPATH. Each line
-keeps its place. `use <FILE>` between the statements of the program is taken out of the text, and the file is noted.
+A file is looked for in the folder of the file that names it, then in those of `-I`, then in those of OPENSCADPATH, then in
+`library/`. Each line keeps its place. `use <FILE>` between the statements of the program is taken out of the text, and the file
+is noted.
 """
 
 from __future__ import annotations
@@ -12,6 +13,7 @@ from dataclasses import dataclass, field
 from typing import NamedTuple, Sequence
 
 from ..files import called, read_file, reason
+from ..top import LIBRARY
 from .faults import FILES
 from .sources import Line, Origin, Refused, Spot
 from .tokens import PIECE
@@ -70,11 +72,13 @@ class Joined:
 
 
 class Folders:
-    """The folders in which files are looked for, beside that of the file that names them, and how many were read."""
+    """The folders in which files are looked for, beside that of the file that names them, and how many were read. Files are
+    bounded by what a script may have, or not."""
 
-    def __init__(self, folders: Sequence[str]) -> None:
+    def __init__(self, folders: Sequence[str], is_bounded: bool = True) -> None:
+        self._is_bounded = is_bounded
         of_environment = os.environ.get("OPENSCADPATH", "").split(os.pathsep)
-        self._folders = [*folders, *filter(None, of_environment)]
+        self._folders = [*folders, *filter(None, of_environment), LIBRARY]
         self._read = 0
 
     def first(self, path: str) -> File:
@@ -97,12 +101,12 @@ class Folders:
             data = self._bytes_of(path)
         except OSError as error:
             raise file.refused(at, "NoFile", f"{path} can't be opened: {reason(error)}") from None
-        if len(data) > MOST_BYTES:
+        if self._is_bounded and len(data) > MOST_BYTES:
             raise file.refused(at, "TooLarge", f"{path} has more than a script's 1 MiB")
         return File(path, path, data, Origin(file.spot(at), word, file.origin))
 
     def _bytes_of(self, path: str) -> bytes:
-        return read_file(path, MOST_BYTES + 1)
+        return read_file(path, MOST_BYTES + 1 if self._is_bounded else -1)
 
     def join(self, file: File, opened: Sequence[str] = ()) -> Joined:
         """A file with all that it includes, while these files are opened. Raises Refused."""
@@ -133,7 +137,7 @@ class Folders:
             elif self._add(joined, found, (*opened, found.identity())):
                 start = skipped = _end_of_line(file.data, start)
                 is_comment = True
-            if len(joined.lines) > MOST_LINES or joined.size > MOST_BYTES:
+            if self._is_bounded and (len(joined.lines) > MOST_LINES or joined.size > MOST_BYTES):
                 raise file.refused(piece.start(), "TooLarge")
         _add_lines(joined, file, start, len(file.data))
         return is_comment

@@ -23,14 +23,14 @@ class _Recovering(Reader):
         self._blocks = 0
 
     def _statement(self) -> None:
-        start, deep, blocks, scope = self._at, self._deep, self._blocks, self._scope
+        start, deep, blocks, scope, around = self._at, self._deep, self._blocks, self._scope, self._around
         try:
             super()._statement()
         except NoProgram as fault:
             self.faults.append(fault)
             self._at = self._next(start, fault.at, blocks > 0)
             self._close(scope)
-            self._deep, self._blocks = deep, blocks
+            self._deep, self._blocks, self._around = deep, blocks, around
             self._forget()
 
     def _block(self) -> None:

@@ -3,7 +3,11 @@
 from __future__ import annotations
 
 from dataclasses import dataclass
+from fractions import Fraction
 from typing import NamedTuple, Sequence
+
+#: The unit of a source that says none.
+MILLIMETRE = Fraction(1)
 
 
 class Spot(NamedTuple):
@@ -70,6 +74,10 @@ class Source:
     lines: list[Line]
     definitions: Sequence[str] = ()
     own_lines: int = 0
+    #: How many millimetres a length of the file is, by an option or a comment; None where nothing says it, or nobody asked.
+    unit: Fraction | None = None
+    #: How many lengths of the file a length of what is sent is: the step of the grid, where OpenSCAD has evaluated the file.
+    step: Fraction = Fraction(1)
 
     def sent(self) -> list[bytes]:
         """The lines that the server is sent."""

@@ -53,9 +53,10 @@ class Definition(Span):
 
 @dataclass
 class Assignment(Span):
-    """An assignment: the number of its name."""
+    """An assignment: the number of its name, and the scope that it stands in."""
 
     name: int
+    scope: Scope
 
 
 @dataclass
@@ -80,6 +81,19 @@ class Scope(Span):
     bound: dict[tuple[str, bytes], list[int]] = field(default_factory=dict)
 
 
+@dataclass(eq=False)
+class Instance(Span):
+    """An instance: its marks stand before its core, which is its name or keyword. The instance around it, its arguments, the
+    scope of its first body, and the instances in its bodies that stand in no definition there."""
+
+    core: int
+    around: Instance | None
+    call: Call | None = None
+    scope: Scope | None = None
+    has_else: bool = False
+    children: list[Instance] = field(default_factory=list)
+
+
 @dataclass
 class Structure:
     """What is found in a source."""
@@ -92,6 +106,9 @@ class Structure:
     definitions: list[Definition] = field(default_factory=list)
     #: Those of the program's own scope.
     assignments: list[Assignment] = field(default_factory=list)
+    #: Those of all other scopes.
+    inner_assignments: list[Assignment] = field(default_factory=list)
+    instances: list[Instance] = field(default_factory=list)
     calls: list[Call] = field(default_factory=list)
 
     def text(self, at: int) -> bytes:
@@ -118,6 +135,7 @@ class Reader:
         self._at = 0
         self._deep = 0
         self._scope = self._opened(None)
+        self._around: Instance | None = None
 
     def program(self) -> Structure:
         """How the program of these tokens is built. Raises NoProgram."""
@@ -194,8 +212,8 @@ class Reader:
         self._expression(b";")
         self._close(scope)
         self._take(b";")
-        if scope.around is None:
-            self.found.assignments.append(Assignment(first, self._at - 1, name))
+        of_scope = self.found.assignments if scope.around is None else self.found.inner_assignments
+        of_scope.append(Assignment(first, self._at - 1, name, scope))
 
     def _block(self) -> None:
         self._go_deeper()
@@ -220,7 +238,9 @@ class Reader:
         self.found.definitions.append(found)
         self._bind_all(parameters)
         if kind == MODULE:
+            around, self._around = self._around, None
             self._body_in(own)
+            self._around = around
         else:
             self._take(b"=")
             self._expression(b";")
@@ -247,32 +267,47 @@ class Reader:
         return found
 
     def _instance(self) -> None:
+        found = Instance(self._at, self._at, self._at, self._around)
+        self.found.instances.append(found)
+        if self._around is not None:
+            self._around.children.append(found)
+        self._around = found
         while self._is(b"*", b"%", b"#", b"!"):
             self._at += 1
+        found.core = self._at
+        self._core(found)
+        found.last = self._at - 1
+        self._around = found.around
+
+    def _core(self, found: Instance) -> None:
+        """Takes what stands behind the marks of an instance."""
         if self._is(b"if"):
             self._at += 1
             self._take(b"(")
             self._expression(b")")
             self._take(b")")
-            self._body()
+            found.scope = self._body()
             if self._is(b"else"):
                 self._at += 1
+                found.has_else = True
                 self._body()
             return
         around = self._scope
         if self._is(b"for", b"intersection_for", b"let", b"each"):
             self._binders()
         else:
-            call = Call(self._at, self._at, MODULE, self._named(MODULE))
-            self.found.calls.append(call)
-            self._arguments(call)
-        self._body()
+            found.call = Call(self._at, self._at, MODULE, self._named(MODULE))
+            self.found.calls.append(found.call)
+            self._arguments(found.call)
+        found.scope = self._body()
         self._close(around)
 
-    def _body(self) -> None:
+    def _body(self) -> Scope:
         around = self._scope
-        self._body_in(self._opened(around))
+        scope = self._opened(around)
+        self._body_in(scope)
         self._close(around)
+        return scope
 
     def _body_in(self, scope: Scope) -> None:
         """Takes the body whose scope was opened for it."""

@@ -19,6 +19,7 @@ from ..files import called, identity, left_over, reason, refusal_to_write, say
 from ..server.scripts import SERVER, Complex, Malformed, NoMemory, Reply, ServerFailed, Solid, passed_limit
 from ..source.answering import answered
 from ..source.faults import STATUSES
+from ..source.notes import notes_told
 from ..source.reading import read_source, unused
 from ..source.sources import Refused, Source
 from ..source.telling import limit_told, refused_told, reply_told
@@ -49,6 +50,8 @@ class Call:
     definitions: Sequence[str] = ()
     folders: Sequence[str] = ()
     allow_empty: bool = False
+    #: Whether it is noted where OpenSCAD takes a source for another solid.
+    has_notes: bool = True
     server: Sequence[str] = SERVER
     #: What the files that the tool makes begin with: such a file is removed where its source has a fault now.
     begins: tuple[bytes, ...] = ()
@@ -83,6 +86,8 @@ def convert(call: Call, write: Callable[[Source, str, Solid], int]) -> int:
     for source, reply in answered([it.source for it in parts], call.half, call.server):
         quick = monotonic() - began < QUICK if quick is None else quick
         out = next(outs)
+        if call.has_notes and isinstance(reply, Solid):
+            say(notes_told(source))
         try:
             statuses.append(_finished(call, *_smaller(call, source, reply), out, write, quick))
         except Refused as refused:

@@ -5,7 +5,6 @@ from __future__ import annotations
 import argparse
 import os
 import re
-from fractions import Fraction
 from typing import Sequence
 
 from ..ending import BAD_CALL, BadCall, PART_FAULT, ended
@@ -16,9 +15,9 @@ from ..openscad.conversion import Wanted, converted
 from ..openscad.front import Front
 from ..openscad.grid import PLANES
 from ..openscad.reader import CsgFault
+from ..source.units import unit_argument
 from .words import Words, say_bad, write_out
 
-_UNIT = re.compile(r"[0-9]{1,9}(?:\.[0-9]{1,9}|/0*[1-9][0-9]{0,8})?")
 _DESCRIPTION = """Writes the solid of OpenSCAD's evaluated form, as openscad -o part.csg part.scad writes it, as a source of scad2off:
 each convex leaf as the hull of its corners, rounded to a grid. What was changed is told on standard error."""
 _EPILOG = "The status is 0 where all was written, 1 where the design can't be converted, 2 where words or files are faulty."
@@ -34,10 +33,10 @@ def parser() -> Words:
     words = Words("csg2scad", _DESCRIPTION, _EPILOG)
     words.add_argument("file", nargs="?", default="-", metavar="FILE.csg", help="else standard input")
     words.add_argument("-o", dest="out", metavar="FILE", default="-", help="the source to write; else standard output")
-    words.add_argument("--unit", type=_unit, help="the step of the grid in OpenSCAD's lengths, as 1/20; else it is chosen")
+    words.add_argument("--unit", type=unit_argument, help="the step of the grid in OpenSCAD's lengths, as 1/20; else it is chosen")
     words.add_argument("--exact", action="store_true", help="leave no corner of a curve out: refuse where planes run out")
     words.add_argument("--planes", type=_count, default=PLANES, metavar="N", help=f"take so many planes at most; else {PLANES}")
-    words.add_argument("--flat", type=_unit, metavar="H", help="make a design in the plane H high")
+    words.add_argument("--flat", type=unit_argument, metavar="H", help="make a design in the plane H high")
     words.add_argument("--folder", metavar="DIR", help="where the files that the design imports are; else where FILE.csg is")
     return words
 
@@ -62,13 +61,6 @@ def _converted(asked: argparse.Namespace) -> int:
     say(conversion_told(name, found))
     write_out(asked.out, found.text)
     return 0
-
-
-def _unit(text: str) -> Fraction:
-    """A length above 0, written as a whole number, a decimal number or a fraction."""
-    if _UNIT.fullmatch(text) is None or Fraction(text) == 0:
-        raise argparse.ArgumentTypeError(f"{text!r} is no number above 0 like 2, 0.05 or 1/20")
-    return Fraction(text)
 
 
 def _count(text: str) -> int:

@@ -5,11 +5,12 @@ from __future__ import annotations
 import os
 from typing import Sequence
 
+from ..editor.checking import no_notes, notes
 from ..editor.serving import Serving, Settings
 from ..ending import ended
 from ..server.scripts import server_of_environment
 from .converting import told
-from .words import Words, folder_words, seconds_argument
+from .words import Words, reading_words, seconds_argument
 
 TOOL = "scadls"
 DESCRIPTION = "Tells an editor of OpenSCAD sources while one types, by the Language Server Protocol on standard input and output."
@@ -23,7 +24,7 @@ def parser() -> Words:
     """The words that there are."""
     words = Words(TOOL, DESCRIPTION, STATUSES)
     words.add_argument("--half", action="store_true", help="lengths may lie on half units")
-    folder_words(words)
+    reading_words(words)
     words.add_argument(
         "--seconds", type=seconds_argument, default=10.0, metavar="S", help="end an export after so many seconds; else 10"
     )
@@ -41,5 +42,6 @@ def _do(words: Sequence[str]) -> int:
     # Only the conversation has standard input and output: what else is printed is no message.
     source, sink = open(os.dup(0), "rb"), open(os.dup(1), "wb")
     os.dup2(2, 1)
-    settings = Settings(server_of_environment(), asked.half, asked.seconds, [os.path.abspath(it) for it in asked.folders])
-    return Serving(source, sink, settings).run()
+    folders = [os.path.abspath(it) for it in asked.folders]
+    noted = no_notes if asked.no_notes else notes
+    return Serving(source, sink, Settings(server_of_environment(), asked.half, asked.seconds, folders, noted)).run()

@@ -84,11 +84,11 @@ def source_words(words: Words, made: str, ending: str) -> None:
         default=[],
         help="assign a variable behind the source's own lines: this is what counts then",
     )
-    folder_words(words)
+    reading_words(words)
 
 
-def folder_words(words: Words) -> None:
-    """The words of a tool that reads what sources include."""
+def reading_words(words: Words) -> None:
+    """The words of each tool that reads sources with what they include."""
     words.add_argument(
         "-I",
         dest="folders",
@@ -97,6 +97,7 @@ def folder_words(words: Words) -> None:
         default=[],
         help="look in DIR too for what a source includes or uses, before the folders of OPENSCADPATH",
     )
+    words.add_argument("--no-notes", action="store_true", help="don't say where OpenSCAD takes a source for another solid")
 
 
 def seconds_argument(text: str) -> float:
