@@ -9,6 +9,7 @@ from __future__ import annotations
 
 import os
 from fractions import Fraction
+from typing import Callable, Sequence
 
 from ..ending import BadCall
 from ..files import say
@@ -24,15 +25,15 @@ _SHARE, _LEAST = 0.7, 64
 
 
 class Reader:
-    """Reads sources by OpenSCAD, and says what was changed of each."""
+    """Reads sources by OpenSCAD, and tells what it says and what was changed of each, on standard error or otherwise."""
 
-    def __init__(self, is_exact: bool, unit: "Fraction | None" = None) -> None:
-        self._is_exact, self._unit = is_exact, unit
+    def __init__(self, is_exact: bool, unit: "Fraction | None" = None, tell: "Callable[[str], None]" = say) -> None:
+        self._is_exact, self._unit, self._tell = is_exact, unit, tell
         self._units: "dict[str, Fraction | None]" = {}
         self._evaluated: "dict[str, tuple[list[Node], Front]]" = {}
         self._planes: "dict[str, int]" = {}
 
-    def __call__(self, file: str, definitions: "list[str]", folders: "list[str]") -> Source:
+    def __call__(self, file: str, definitions: "Sequence[str]", folders: "Sequence[str]") -> Source:
         """The source that comes of a file. Raises OSError, BadCall and Refused."""
         if file == "-":
             raise BadCall("OpenSCAD reads files alone, and not standard input")
@@ -42,9 +43,9 @@ class Reader:
         except NotThere as error:
             raise BadCall(f"--by-openscad runs OpenSCAD, and {error}") from error
         except NotEvaluated as error:
-            say(str(error))
+            self._tell(str(error))
             raise _refused(file, 1, 1, "Expected", "OpenSCAD has an error in this source, which stands above") from error
-        say(said)
+        self._tell(said)
         front = Front(os.path.dirname(os.path.abspath(file)))
         try:
             self._evaluated[file] = read(csg), front
@@ -57,7 +58,7 @@ class Reader:
         planes = int(self._planes[source.name] * _SHARE)
         if self._is_exact or planes < _LEAST:
             return None
-        say(f"{source.name}: its solid passes a limit of the server, so it is tried with {planes} planes at most\n")
+        self._tell(f"{source.name}: its solid passes a limit of the server, so it is tried with {planes} planes at most\n")
         return self._converted(source.name, planes)
 
     def _converted(self, file: str, planes: int) -> Source:
@@ -67,7 +68,7 @@ class Reader:
             found = converted(nodes, Wanted(is_exact=self._is_exact, planes=planes), front)
         except CsgFault as fault:
             raise _refused(file, fault.line, fault.column, fault.word, fault.said) from fault
-        say(conversion_told(file, found))
+        self._tell(conversion_told(file, found))
         lines = [Line(it, it, file, number) for number, it in enumerate(found.text.split(b"\n")[:-1], 1)]
         return Source(file, lines, (), len(lines), self._units[file], found.unit)
 
