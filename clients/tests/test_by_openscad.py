@@ -2,7 +2,6 @@
 
 import os
 import re
-import shutil
 import subprocess
 import sys
 import tempfile
@@ -16,8 +15,9 @@ from scadserve.openscad.reader import CsgFault, read
 from scadserve.solid.measures import box
 from tests.against_openscad import differences, of_4off, of_off
 from tests.calls import PROGRAM, TOP, Calls, needs_program
+from tests.needs import needs
 
-needs_openscad = unittest.skipUnless(shutil.which("openscad"), "OpenSCAD is not installed")
+needs_openscad = needs("openscad")
 SCAD2STL = os.path.join(TOP, "bin", "scad2stl")
 
 # Says that it made a solid of nothing, by writing an evaluated form without one.

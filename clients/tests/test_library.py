@@ -2,15 +2,15 @@
 
 import math
 import os
-import shutil
 import subprocess
 import sys
 import unittest
 
 from scadserve import Fault, Solid, solve
 from tests.calls import PROGRAM, TOP, Calls, needs_program
+from tests.needs import needs
 
-needs_openscad = unittest.skipUnless(shutil.which("openscad"), "OpenSCAD is not installed")
+needs_openscad = needs("openscad")
 LIBRARY = os.path.join(TOP, "library")
 #: The least radius by the number of corners.
 LEAST = {8: 3, 12: 4, 16: 7, 20: 12}

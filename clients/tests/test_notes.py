@@ -3,7 +3,6 @@
 from __future__ import annotations
 
 import os
-import shutil
 import subprocess
 import tempfile
 import unittest
@@ -15,8 +14,9 @@ from scadserve.source.differing import FORMS
 from scadserve.source.notes import Note, notes_of
 from scadserve.source.reading import source_of
 from tests.calls import PROGRAM, TOP, Calls, needs_program
+from tests.needs import needs
 
-needs_openscad = unittest.skipUnless(shutil.which("openscad"), "OpenSCAD is not installed")
+needs_openscad = needs("openscad")
 ROWS = [(form.name, row) for form in forms() for row in form.rows]
 SCAD2STL = os.path.join(TOP, "bin", "scad2stl")
 
@@ -75,6 +75,9 @@ class Forms(unittest.TestCase):
             "module m() children(); m() { $w = 7; cube($w); }",
             "$x = 1; module m() children(); m() { a = $x; cube(a); }",
             "module m() { for (i = [1 : 3]) { $i = i; children(); } } m() translate([3 * $i, 0, 0]) cube(1);",
+            "module m() { cylinder(r = 2, h = 1, $fn = 4); children(); } m() { $fn = 8; cube(1); }",
+            "$q = 1; module k() cube($q); module m() { k($q = 2); children(); } m() { n = $fn; cube(n + 1); }",
+            "module m() { cylinder(r = 2, h = 1, $fn = 4); children(); } m() { n = $fn; cube(n + 1); }",
             "module m(a) cube(a); $q = 1; m($q = 5, a = $q);",
             "cube([1, 2] == [1, 2] ? 2 : 1);",
             't = "ab"; cube(is_undef(t[0]) ? 1 : 2);',

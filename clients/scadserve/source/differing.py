@@ -105,17 +105,32 @@ class Found:
         return self._closed(it, self._reads, self._own_reads)
 
     def gives(self, it: Definition) -> frozenset[bytes]:
-        """The special names that a definition may assign or give to calls, in what it calls too."""
+        """The special names that a definition may assign, or give to calls with children, in what it calls too."""
         return self._closed(it, self._gives, self._own_gives)
 
     def _own_reads(self, it: Definition) -> set[bytes]:
         own = {self.text(at) for at in self.variables(Span(it.name, it.last)) if self.tokens[at].is_special()}
-        return own | ({b"$fn"} if any(self.text(call.name) in _ROUND for call in self.calls_in(it.body)) else set())
+        rounds = (call for call in self.calls_in(it.body) if self.text(call.name) in _ROUND)
+        return own | ({b"$fn"} if any(b"$fn" not in self.special_arguments(call) for call in rounds) else set())
 
     def _own_gives(self, it: Definition) -> set[bytes]:
-        own = {name for call in self.calls_in(it.body) for name in self.special_arguments(call)}
-        spans = (at for at in range(it.body.first, it.body.last) if self.tokens[at].is_special() and self.text(at + 1) == b"=")
-        return own | {self.text(at) for at in spans}
+        names = self._inner_names[bisect_left(self._inner_names, it.body.first) : bisect_left(self._inner_names, it.body.last)]
+        own = {self.text(at) for at in names if self.tokens[at].is_special()}
+        for call in self.calls_in(it.body):
+            instance = self._instances.get(call.name)
+            # (what a shape or a function is given reaches no children)
+            if instance is not None and (instance.children or self.meant(call) is not None):
+                own |= set(self.special_arguments(call))
+        return own
+
+    @cached_property
+    def _inner_names(self) -> Sequence[int]:
+        return [it.name for it in self.structure.inner_assignments]
+
+    @cached_property
+    def _instances(self) -> Mapping[int, Instance]:
+        """The instances by their cores."""
+        return {it.core: it for it in self.structure.instances}
 
     def _closed(self, it: Definition, known: dict[int, frozenset[bytes]], own: Callable[[Definition], set[bytes]]) -> frozenset[bytes]:
         """What a definition and those that it calls have of their own."""
@@ -401,7 +416,8 @@ def _text_member(found: Found) -> Iterator[int]:
 
 def _names_of_texts(found: Found) -> tuple[set[bytes], set[bytes]]:
     """The names that are assigned a text, and those that are assigned or stand for something else."""
-    texts, others = set(), {found.text(at) for it in found.structure.definitions for at in it.parameters}
+    texts: set[bytes] = set()
+    others = {found.text(at) for it in found.structure.definitions for at in it.parameters}
     for it in [*found.structure.assignments, *found.structure.inner_assignments]:
         is_text = it.last == it.name + 3 and found.tokens[it.name + 2].kind == "text"
         (texts if is_text else others).add(found.text(it.name))

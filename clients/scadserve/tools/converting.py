@@ -10,20 +10,24 @@ handed on to be written. What is wrong with a file is said on standard error, an
 from __future__ import annotations
 
 import os
+from argparse import Namespace
 from dataclasses import dataclass
+from fractions import Fraction
 from time import monotonic
-from typing import Callable, NamedTuple, Sequence
+from typing import TYPE_CHECKING, Callable, NamedTuple, Sequence
 
 from ..ending import BAD_CALL, BadCall, NO_MEMORY, PART_FAULT
 from ..files import called, identity, left_over, reason, refusal_to_write, say
 from ..server.scripts import SERVER, Complex, Malformed, NoMemory, Reply, ServerFailed, Solid, passed_limit
 from ..source.answering import answered
 from ..source.faults import STATUSES
-from ..source.notes import notes_told
 from ..source.reading import read_source, unused
 from ..source.sources import Refused, Source
 from ..source.telling import limit_told, refused_told, reply_told
 from .words import say_bad
+
+if TYPE_CHECKING:
+    from ..openscad.by_openscad import Reader
 
 NO_ANSWER = 125
 # (an unproved run takes a minute each time, and is not asked again which call led to a fault)
@@ -61,6 +65,16 @@ class Call:
     coarser: Callable[[Source], Source | None] | None = None
 
 
+def front_end(asked: Namespace, unit: Fraction | None = None) -> Reader | None:
+    """What reads sources by OpenSCAD's front end, where the words ask for that; the unit of each is this one, if there is one."""
+    if not asked.by_openscad:
+        return None
+    # (a third of the package, without which the tools are quicker to start)
+    from ..openscad.by_openscad import Reader
+
+    return Reader(asked.exact, unit)
+
+
 def told(tool: str, work: Callable[[], int]) -> int:
     """The status of a tool's work, with what is wrong with the whole call told."""
     try:
@@ -87,7 +101,7 @@ def convert(call: Call, write: Callable[[Source, str, Solid], int]) -> int:
         quick = monotonic() - began < QUICK if quick is None else quick
         out = next(outs)
         if call.has_notes and isinstance(reply, Solid):
-            say(notes_told(source))
+            _say_notes(source)
         try:
             statuses.append(_finished(call, *_smaller(call, source, reply), out, write, quick))
         except Refused as refused:
@@ -156,6 +170,13 @@ def _read(call: Call, file: str) -> Source:
     for name in unused(source):
         say(f"{source.name}: warning: the source never has {name}, which -D assigns\n")
     return source
+
+
+def _say_notes(source: Source) -> None:
+    """Says where OpenSCAD takes a source for another solid."""
+    from ..source.notes import notes_told
+
+    say(notes_told(source))
 
 
 def _smaller(call: Call, source: Source, reply: Reply) -> tuple[Source, Reply]:
