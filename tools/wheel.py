@@ -76,7 +76,8 @@ def _package() -> Iterator[File]:
     for file in sorted((TOP / "clients/scadserve").rglob("*")):
         if file.is_file() and file.suffix != ".pyc":
             yield f"scadserve/{file.relative_to(TOP / 'clients/scadserve').as_posix()}", file.read_bytes(), False
-    for file in (TOP / "docs/FAULTS.md", TOP / "docs/differences.txt", *sorted((TOP / "library").glob("*.scad"))):
+    pages = (TOP / "docs" / name for name in ("FAULTS.md", "OPENSCAD.md", "differences.txt"))
+    for file in (*pages, *sorted((TOP / "library").glob("*.scad"))):
         yield f"scadserve/release/{file.relative_to(TOP).as_posix()}", file.read_bytes(), False
 
 

@@ -10,7 +10,7 @@ from __future__ import annotations
 import os
 from dataclasses import replace
 from fractions import Fraction
-from typing import NamedTuple
+from typing import Callable, NamedTuple, Sequence
 
 from ..ending import BadCall
 from ..files import say
@@ -54,16 +54,16 @@ class _Evaluated(NamedTuple):
 
 
 class Reader:
-    """Reads sources by OpenSCAD, and says what was changed of each."""
+    """Reads sources by OpenSCAD, and tells what it says and what was changed of each, on standard error or otherwise."""
 
-    def __init__(self, wanted: Wanted, unit: "Fraction | None" = None) -> None:
-        self._wanted, self._unit = wanted, unit
+    def __init__(self, wanted: Wanted, unit: "Fraction | None" = None, tell: "Callable[[str], None]" = say) -> None:
+        self._wanted, self._unit, self._tell = wanted, unit, tell
         self._units: "dict[str, Fraction | None]" = {}
         self._evaluated: "dict[str, _Evaluated]" = {}
         self._warnings: "dict[str, int]" = {}
         self._planes: "dict[str, int]" = {}
 
-    def __call__(self, file: str, definitions: "list[str]", folders: "list[str]") -> Source:
+    def __call__(self, file: str, definitions: "Sequence[str]", folders: "Sequence[str]") -> Source:
         """The source that comes of a file. Raises OSError, BadCall and Refused."""
         if file == "-":
             raise BadCall("OpenSCAD reads files alone, and not standard input")
@@ -74,14 +74,14 @@ class Reader:
         except NotThere as error:
             raise BadCall(f"--by-openscad runs OpenSCAD, and {error}") from error
         except NotEvaluated as error:
-            say(str(error))
+            self._tell(str(error))
             raise _not_evaluated(file, error.error) from error
         warnings = warned(said)
         if warnings and self._wanted.is_strict:
             *others, last = (_told(file, it, "Warned", it.said) for it in warnings)
-            say("".join(map(refused_told, others)))
+            self._tell("".join(map(refused_told, others)))
             raise last
-        say(said)
+        self._tell(said)
         front = Front(os.path.dirname(os.path.abspath(file)), self._wanted.is_strict)
         try:
             self._evaluated[file] = _Evaluated(read(csg), front, len(warnings))
@@ -94,7 +94,7 @@ class Reader:
         planes = int(self._planes[source.name] * _SHARE)
         if self._wanted.is_exact or planes < _LEAST:
             return None
-        say(f"{source.name}: its solid passes a limit of the server, so it is tried with {planes} planes at most\n")
+        self._tell(f"{source.name}: its solid passes a limit of the server, so it is tried with {planes} planes at most\n")
         return self._converted(source.name, planes)
 
     def last(self, source: Source) -> str:
@@ -108,7 +108,7 @@ class Reader:
             found = converted(nodes, replace(self._wanted, planes=planes), front)
         except CsgFault as fault:
             raise _refused(file, fault) from fault
-        say(conversion_told(file, found))
+        self._tell(conversion_told(file, found))
         self._warnings[file] = self._evaluated[file].warnings + found.warnings
         lines = [Line(it, it, file, number) for number, it in enumerate(found.text.split(b"\n")[:-1], 1)]
         return Source(file, lines, (), len(lines), self._units[file], found.unit)

@@ -26,7 +26,8 @@ MOST_FILES, MOST_NESTED = 1_024, 64
 MOST_LINES = 16 * 4_096
 
 WORD = rb"(?P<word>include|use)[ \t\r\n]*<(?P<file>[^\t\r\n>]+)>"
-_ANY_WORD = re.compile(WORD)
+#: What names another file, wherever it stands, in a comment too.
+WORD_OF_FILE = re.compile(WORD)
 _PIECE = re.compile(WORD + b"|" + PIECE.pattern, re.DOTALL)
 _OPENING, _CLOSING = (b"(", b"[", b"{"), (b")", b"]", b"}")
 
@@ -113,7 +114,7 @@ class Folders:
     def join(self, file: File, opened: Sequence[str] = ()) -> Joined:
         """A file with all that it includes, while these files are opened. Raises Refused."""
         joined = Joined(file)
-        if opened or _ANY_WORD.search(file.data):
+        if opened or WORD_OF_FILE.search(file.data):
             self._add(joined, file, (*opened, file.identity()))
         else:
             _add_lines(joined, file, 0, len(file.data))

@@ -68,7 +68,7 @@ def zsh(name: str) -> str:
     """The function that completes a tool's words in zsh."""
     options, files = _words_of(name)
     specs = [it for action in options for it in _of_option(parser_of(name), action, name)]
-    if all(it.choices for it in files):
+    if files and all(it.choices for it in files):
         specs.append(f"1:word:({_choices(files)})")
     else:
         for it in files:

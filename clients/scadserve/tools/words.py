@@ -89,6 +89,11 @@ def source_words(words: Words, made: str, ending: str) -> None:
         default=[],
         help="assign a variable behind the source's own lines: this is what counts then",
     )
+    reading_words(words)
+
+
+def reading_words(words: Words) -> None:
+    """The words of each tool that reads sources with what they include."""
     words.add_argument(
         "-I",
         dest="folders",
@@ -98,6 +103,18 @@ def source_words(words: Words, made: str, ending: str) -> None:
         help="look in DIR too for what a source includes or uses, before the folders of OPENSCADPATH",
     )
     words.add_argument("--no-notes", action="store_true", help="don't say where OpenSCAD takes a source for another solid")
+
+
+def seconds_argument(text: str) -> float:
+    """A time in seconds. Raises ArgumentTypeError."""
+    try:
+        seconds = float(text)
+    except ValueError:
+        seconds = 0.0
+    # (no clock counts further, and neither is a number that is none)
+    if not 0 < seconds <= 1_000_000:
+        raise argparse.ArgumentTypeError(f"{text!r} is no number of seconds above 0")
+    return seconds
 
 
 def front_end_words(words: Words) -> None:
