@@ -125,7 +125,7 @@ class Told(Calls):
         turned = "linear_extrude(height = 5, twist = 200, slices = 1) translate([8, 0]) square([4, 2]);"
         status, said = self.told(turned)
         self.assertEqual(status, 1)
-        self.assertRegex(said, r"part\.scad: error: TooCoarse: a point of it would be off by [0-9.]+, and 0\.[0-9]+ is allowed: --tolerance")
+        self.assertRegex(said, r"part\.scad: error: TooCoarse: a point is off by [0-9.]+, and 0\.[0-9]+ is allowed: --tolerance")
         self.assertEqual(self.told(turned, "--fewer")[0], 0)
         self.assertEqual(self.told(turned, "--tolerance", "99")[0], 0)
         self.assertIn("and 1 is allowed", self.told(turned, "--fewer", "--tolerance", "1")[1])

@@ -132,7 +132,7 @@ class _Converter:
         most = math.inf if wanted.may_be_fewer else _TOLERANCE * _size(solid)
         most = most if wanted.tolerance is None else float(wanted.tolerance)
         if off > most:
-            said = f"a point of it would be off by {off:.2g}, and {most:.2g} is allowed"
+            said = f"a point is off by {off:.2g}, and {most:.2g} is allowed"
             # (more by what two digits may leave out)
             raise self._fault("TooCoarse", f"{said}: --tolerance {off * 1.06:.2g} allows that, or --fewer")
 
