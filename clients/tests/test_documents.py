@@ -146,14 +146,6 @@ class Places(unittest.TestCase):
         for tool in re.findall(r"(?<!sh )`?\b(tools/[\w-]+\.\w+)", "".join(it.read_text(encoding="utf-8") for it in DOCUMENTS)):
             self.assertTrue(os.access(TOP / tool, os.X_OK), tool)
 
-    def test_the_fault_of_the_readme_is_what_the_tool_prints(self) -> None:
-        # (by the stand-in for the server, which answers a number with a fraction as the server does)
-        readme = (TOP / "README.md").read_text(encoding="utf-8")
-        command, _, shown = readme.partition("\n```\n$ ")[2].partition("\n```\n")[0].partition("\n")
-        how = {**os.environ, "SCADSERVE": calls.STAND_IN}
-        done = subprocess.run(shlex.split(command), cwd=TOP, env=how, stdout=subprocess.PIPE, stderr=subprocess.STDOUT, check=False)
-        self.assertEqual((done.returncode, done.stdout.decode()), (1, shown + "\n"))
-
     def test_readme_is_short(self) -> None:
         self.assertLessEqual(len((TOP / "README.md").read_text(encoding="utf-8").splitlines()), 120)
 
