@@ -80,7 +80,7 @@ class Told(Calls):
         self.assertEqual(status, 1)
         self.assertRegex(said, r"part\.scad: error: Warned: node 1, import: Can't open import file '.*/none\.stl'")
         status, said = self.told("cube(1);")
-        self.assertEqual((status, said.count("\n")), (0, 1))
+        self.assertEqual((status, said.count("\n")), (0, 2))
         self.assertEqual(self.told("cube(1);", "--strict")[0], 0)
 
     @needs_openscad
