@@ -96,9 +96,13 @@ class Browser:
         return json.loads(message)
 
     def open(self, path):
-        """Opens a file, and waits until it has drawn its first frame."""
+        """Opens a file, and waits until it is there."""
+        self.visit(f"file://{path}")
+
+    def visit(self, address):
+        """Opens a page, and waits until it is there."""
         self.events.clear()
-        self.ask("Page.navigate", url=f"file://{path}")
+        self.ask("Page.navigate", url=address)
         self.wait("document.readyState === 'complete'")
 
     def run(self, script):

@@ -19,7 +19,7 @@ import re
 import signal
 import subprocess
 from time import monotonic
-from typing import Iterable, Sequence
+from typing import Callable, Iterable, Sequence
 
 from ..top import TOP
 from .replies import ANSWERED, SOURCE_LINES, Answers, Complex, Fault, Malformed, NoMemory, Ok, Refused, Reply
@@ -36,6 +36,8 @@ CLIENTS = 16
 COMMANDS = 8_192  # (of each client)
 
 NAME = re.compile("[a-z0-9]{1,16}")
+#: What is handed a process of the server once it is started.
+Started = Callable[["subprocess.Popen[bytes]"], None]
 _BESIDE = os.path.join(TOP, "scadserve")
 #: The starter beside this package, or else the one on the PATH.
 SERVER = (_BESIDE if os.path.exists(_BESIDE) else "scadserve",)
@@ -199,18 +201,20 @@ def run(
     workers: int | None = None,
     memo: int | None = None,
     until: float | None = None,
+    started: Started | None = None,
 ) -> list[Answers]:
     """What each script is answered: the replies of each client, by name. The server is these words before its own.
 
     `workers` are at most so many for an export (1 to 64, else 4), `memo` is the weight of what it keeps (0 to 2,000,000,
-    else 500,000), and `until` is the time of `time.monotonic` at which it is ended.
+    else 500,000), and `until` is the time of `time.monotonic` at which it is ended. `started` is handed each process, the
+    first of a session of its own, so that another thread may end it.
 
     Raises ServerFailed, or one of its kinds, where the server does not start, ends with a status other than 0 or takes too
     long, and Malformed where its output can't be what the script is answered.
     """
     options = [] if workers is None else ["--workers", str(workers)]
     options += [] if memo is None else ["--memo", str(memo)]
-    return [read(bytes(it), _output(it, server, options, until)) for it in scripts]
+    return [read(bytes(it), _output(it, server, options, until, started)) for it in scripts]
 
 
 def passed_limit(lines: Sequence[bytes]) -> Fault | None:
@@ -257,7 +261,9 @@ def _line(name: bytes, command: bytes) -> bytes:
     return b"%b %b%b\n" % (name, command, b"\r" * command.endswith(b"\r"))
 
 
-def _output(script: Script, server: Sequence[str], options: Sequence[str], until: float | None) -> bytes:
+def _output(
+    script: Script, server: Sequence[str], options: Sequence[str], until: float | None, started: Started | None
+) -> bytes:
     words = [*server, "run", *["--half"] * script.half, *options]
     try:
         # In a session of its own, so that all that the server starts can be ended with it.
@@ -265,6 +271,8 @@ def _output(script: Script, server: Sequence[str], options: Sequence[str], until
     except OSError as error:
         raise NotStarted(f"{server[0]} does not start: {error.strerror}", 127) from error
     try:
+        if started is not None:
+            started(process)
         output = process.communicate(bytes(script), None if until is None else max(0, until - monotonic()))[0]
     except BaseException as error:
         with contextlib.suppress(ProcessLookupError):

@@ -68,12 +68,18 @@ class Joined:
     behind: Sequence[bytes] = ()
 
 
-class Folders:
-    """The folders in which files are looked for, beside that of the file that names them, and how many were read."""
+def folders_of_environment() -> list[str]:
+    """The folders that OPENSCADPATH names."""
+    return list(filter(None, os.environ.get("OPENSCADPATH", "").split(os.pathsep)))
 
-    def __init__(self, folders: Sequence[str]) -> None:
-        of_environment = os.environ.get("OPENSCADPATH", "").split(os.pathsep)
-        self._folders = [*folders, *filter(None, of_environment)]
+
+class Folders:
+    """The folders in which files are looked for, beside that of the file that names them, and how many were read. Where
+    `roots` are given, which have no links in them, no file is there but the ordinary ones below these."""
+
+    def __init__(self, folders: Sequence[str], roots: Sequence[str] | None = None) -> None:
+        self._folders = [*folders, *folders_of_environment()]
+        self._roots = roots
         self._read = 0
 
     def first(self, path: str) -> File:
@@ -83,7 +89,7 @@ class Folders:
     def find(self, file: File, at: int, word: str, named: str, opened: Sequence[str]) -> File:
         """The file that a file names so at a byte. Raises Refused, also where it is one of those that are opened."""
         folder = os.path.dirname(file.path) if file.path != "-" else ""
-        there = [it for it in (os.path.join(it, named) for it in [folder, *self._folders]) if os.path.exists(it)]
+        there = [it for it in (os.path.join(it, named) for it in [folder, *self._folders]) if self._is_there(it)]
         path = next((it for it in there if not os.path.isdir(it)), None)
         if path is None:
             raise file.refused(at, "NoFile", f"{named} is a folder" if there else f"there is no file {named}")
@@ -99,6 +105,12 @@ class Folders:
         if len(data) > MOST_BYTES:
             raise file.refused(at, "TooLarge", f"{path} has more than a script's 1 MiB")
         return File(path, path, data, Origin(file.spot(at), word, file.origin))
+
+    def _is_there(self, path: str) -> bool:
+        if self._roots is None:
+            return os.path.exists(path)
+        real = os.path.realpath(path)
+        return os.path.isfile(real) and any(os.path.commonpath([real, it]) == it for it in self._roots)
 
     def join(self, file: File, opened: Sequence[str] = ()) -> Joined:
         """A file with all that it includes, while these files are opened. Raises Refused."""

@@ -22,6 +22,13 @@ def source_of(data: bytes, name: str, definitions: Sequence[str] = (), folders: 
     return _joined(Folders(folders), File("-", name, data), definitions)
 
 
+def source_within(
+    data: bytes, file: str, definitions: Sequence[str], folders: Sequence[str], roots: Sequence[str]
+) -> Source:
+    """The same of these bytes as the text of a file, be it there or not, which names no file but those below these roots."""
+    return _joined(Folders(folders, roots), File(file, file, data), definitions)
+
+
 def _joined(there: Folders, first: File, definitions: Sequence[str]) -> Source:
     source = Source(first.name, [], definitions, len(first.data.removesuffix(b"\n").split(b"\n")) if first.data else 0)
     source.lines = with_uses(there, there.join(first), source.sent())

@@ -29,11 +29,13 @@ def refused_told(refused: Refused) -> str:
     return _placed(None, refused.spot, refused.word, refused.said, refused.cure, refused.origin)
 
 
-def reply_told(source: Source, reply: Reply, half: bool = False, server: Sequence[str] | None = None) -> str:
+def reply_told(
+    source: Source, reply: Reply, half: bool = False, server: Sequence[str] | None = None, until: float | None = None
+) -> str:
     """What is said of an export that gave no solid, or an empty one. A server that answers at once is asked which calls
-    led to a fault."""
+    led to a fault, until the time of `time.monotonic` that is given."""
     if isinstance(reply, Fault):
-        return _fault_told(source, reply, half, server)
+        return _fault_told(source, reply, half, server, until)
     if isinstance(reply, Complex):
         said, cure = COMPLEX[reply.kind]
         return _told(f"{source.name}: error: complex {reply.kind}: {said}", "", cure)
@@ -41,7 +43,7 @@ def reply_told(source: Source, reply: Reply, half: bool = False, server: Sequenc
     return _told(f"{source.name}: error: {word}: {said}", "", cure)
 
 
-def _fault_told(source: Source, fault: Fault, half: bool, server: Sequence[str] | None) -> str:
+def _fault_told(source: Source, fault: Fault, half: bool, server: Sequence[str] | None, until: float | None) -> str:
     """What is said of a fault, its cause where the source shows it, and the calls that led there."""
     spot = source.spot(fault.line, fault.column)
     said, cure = what_is_wrong(fault.word, spot.text, spot.column)
@@ -49,7 +51,7 @@ def _fault_told(source: Source, fault: Fault, half: bool, server: Sequence[str] 
     if found is None or at is None:
         return _placed(source, spot, fault.word, said, cure_by_openscad(fault.word, cure), source.origin(fault.line))
     said, cure = details.cause(found, at, fault.word) or (said, cure)
-    calls = [found.tokens[it] for it in calls_to(found, at, fault.word, half, server)]
+    calls = [found.tokens[it] for it in calls_to(found, at, fault.word, half, server, until)]
     notes = [_note(source.spot(it.line + 1, it.start + 1), "called here") for it in calls]
     cure = cure_by_openscad(fault.word, cure)
     return _placed(source, spot, fault.word, said, cure, source.origin(fault.line), notes)

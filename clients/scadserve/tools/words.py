@@ -80,7 +80,7 @@ def source_words(words: Words, made: str, ending: str) -> None:
         dest="definitions",
         metavar="NAME=VALUE",
         action="append",
-        type=_definition,
+        type=definition,
         default=[],
         help="assign a variable behind the source's own lines: this is what counts then",
     )
@@ -114,8 +114,8 @@ def test_front_end(asked: argparse.Namespace) -> None:
         raise BadCall("--by-openscad chooses its grid itself, so it takes no --half")
 
 
-def _definition(text: str) -> str:
-    """One assignment, without the `;` behind it."""
+def definition(text: str) -> str:
+    """One assignment, without the `;` behind it. Raises ArgumentTypeError."""
     text = text.strip(" ").rstrip("; ")
     try:
         found = structure_of(tokens([text.encode("utf-8", "surrogateescape") + b";"]))
