@@ -1,5 +1,5 @@
 #!/usr/bin/env python3
-"""Makes the picture of the live page that README.md begins with: tools/picture.py [OUT], else gallery/live.png.
+"""Makes the picture of the live page that README.md begins with: tools/picture.py [OUT], else docs/live.png.
 
 It starts scadlive on examples/bracket.scad, opens the page in Chromium without a window, and writes what is seen there as a PNG
 of few colours. SCADSERVE in the environment names another program than ./scadserve, as for all tools.
@@ -22,7 +22,7 @@ sys.path.insert(0, str(TOP / "clients"))
 
 from tests.browser import BROWSER, Browser  # noqa: E402
 
-OUT = TOP / "gallery" / "live.png"
+OUT = TOP / "docs" / "live.png"
 WIDTH, HEIGHT = 1080, 620
 _COLOURS = 256
 
@@ -52,8 +52,8 @@ def seen(address: str) -> bytes:
     try:
         browser.visit(address)
         browser.wait("document.documentElement.dataset.shown && Number(view.dataset.frames) > 0")
-        # (what differs from one run to the next)
-        browser.run("document.getElementById('time').textContent = '3 ms'; document.activeElement.blur()")
+        # (the time is another one at each run)
+        browser.run("document.getElementById('time').parentElement.remove(); document.activeElement.blur()")
         browser.run("new Promise((done) => setTimeout(done, 700))")
         return browser.picture()
     finally:

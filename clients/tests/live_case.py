@@ -92,6 +92,10 @@ class Case(unittest.TestCase):
     words: "tuple[str, ...]" = ()
     server = STAND_IN
     environment: "dict[str, str]" = {}
+    #: The folder of the sources, and the one that it stands in.
+    folder: Path
+    around: Path
+    live: Live
 
     @classmethod
     def setUpClass(cls) -> None:

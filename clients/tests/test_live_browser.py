@@ -11,7 +11,7 @@ import time
 import unittest
 from fractions import Fraction
 from pathlib import Path
-from typing import Any
+from typing import Any, Tuple
 
 from scadserve.live import serving
 from scadserve.solid import closing, fouroff, measures
@@ -24,8 +24,9 @@ from tests.solids import CUT_CUBE, box, off
 from tests.test_off2html_browser import PAINTED, RESTS
 
 FIRST = "/* [Size] */\n// how wide it is\nw = 2; // [1:9]\nhollow = false;\nlook = \"plain\"; // [plain, round:a round one]\nat = [1, 2];\n"
-# The colour of edges, in light and in dark.
+# The browser's code of a key that is held.
 CONTROL = 2
+Point = Tuple[Fraction, Fraction, Fraction]
 
 
 class Page(live_case.Case):
@@ -334,6 +335,37 @@ class WithATextArea(Editing, Page):
         self.assertFalse(self.browser.run("document.querySelector('.CodeMirror') !== null"))
 
 
+def point(text: str) -> Point:
+    """The point of a corner "X Y Z W"."""
+    x, y, z, w = map(int, text.split())
+    return Fraction(x, w), Fraction(y, w), Fraction(z, w)
+
+
+def cut(start: Point, end: Point, corners: "set[Point]") -> "list[tuple[Point, Point]]":
+    """The parts of a way between the corners that lie inside it."""
+    along = [b - a for a, b in zip(start, end)]
+    axis = next(it for it in range(3) if along[it])
+    inside = []
+    for corner in corners:
+        part = (corner[axis] - start[axis]) / along[axis]
+        if 0 < part < 1 and all(a + part * d == c for a, d, c in zip(start, along, corner)):
+            inside.append((part, corner))
+    places = [start, *(it for _, it in sorted(inside)), end]
+    return list(zip(places, places[1:]))
+
+
+def ways_on_planes(drawn: "dict[str, Any]") -> "dict[tuple[Any, ...], list[tuple[Point, Point]]]":
+    """The ways of the loops on each plane."""
+    places = [point(it) for it in drawn["corners"]]
+    found: "dict[tuple[Any, ...], list[tuple[Point, Point]]]" = {}
+    for plane in drawn["planes"]:
+        ahead = [int(it) for it in plane["ahead"].split()]
+        off = sum(a * b for a, b in zip(ahead, places[plane["loops"][0][0]]))
+        ways = [(places[p], places[q]) for loop in plane["loops"] for p, q in zip(loop, loop[1:] + loop[:1])]
+        found.setdefault((*ahead, off), []).extend(ways)
+    return found
+
+
 @needs_browser
 class Solids(live_case.Case):
     """What the page finds in a 4OFF text is what pages of off2html show of it."""
@@ -348,25 +380,24 @@ class Solids(live_case.Case):
     def found(self, text: str, unit: str = "1") -> Any:
         return self.browser.run(f"import('./page/solid.js').then(({{ solidOf }}) => solidOf({json.dumps(text)}, '{unit}'))")
 
-    @staticmethod
-    def edges(drawn: "dict[str, Any]") -> "list[tuple[str, list[tuple[str, str]]]]":
-        """Each plane with the edges of its loops, in an order of their own."""
-        corners = drawn["corners"]
-        found = []
-        for plane in drawn["planes"]:
-            ways = [(corners[p], corners[q]) for loop in plane["loops"] for p, q in zip(loop, loop[1:] + loop[:1])]
-            found.append((plane["ahead"], sorted(ways)))
-        return sorted(found)
+    def assert_alike(self, one: "dict[str, Any]", other: "dict[str, Any]", name: str) -> None:
+        """Both draw the same edges on each plane. Where faces on a plane touch at a corner, loops may go on the one way or the other
+        there, and straight through the corner or not, so ways are cut at all corners."""
+        found, wanted = ways_on_planes(one), ways_on_planes(other)
+        self.assertEqual(set(found), set(wanted), name)
+        for plane, ways in found.items():
+            corners = {corner for way in (*ways, *wanted[plane]) for corner in way}
+            self.assertEqual(*(sorted(part for way in it for part in cut(*way, corners)) for it in (ways, wanted[plane])), name)
 
     def test_planes_and_measures_of_the_gallery(self) -> None:
-        texts = {it.name: it.read_text() for it in sorted(Path(TOP, "gallery").glob("*.4off"))}
+        texts = {it.name: it.read_text() for it in sorted(Path(TOP, "gallery").glob("*.4off")) if it.stat().st_size < 40_000}
         texts["cut cube"] = CUT_CUBE.decode()
         self.assertGreater(len(texts), 15)
         for name, text in texts.items():
             boundary = fouroff.read(text.encode())
             told = self.found(text)
             wanted = json.loads(json.dumps(planes(boundary, closing.close(boundary))))
-            self.assertEqual(self.edges(told["drawn"]), self.edges(wanted), name)
+            self.assert_alike(told["drawn"], wanted, name)
             volume = measures.volume(boundary)
             sides = [high - low for low, high in measures.box(boundary)]
             self.assertEqual(told["facts"]["volume"], measures.shown(*volume), name)

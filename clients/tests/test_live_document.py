@@ -12,8 +12,9 @@ import zipfile
 from pathlib import Path
 
 from scadserve.live import serving
+from scadserve.live.downloads import FORMATS
 from scadserve.live.exports import SHARED_PART
-from scadserve.live.serving import FORMATS
+from scadserve.live.folder import MOST_BYTES
 from scadserve.tools.catalogue import parser_of
 from tests import live_case
 from tests.calls import PROGRAM, TOP, needs_program
@@ -70,7 +71,7 @@ class Numbers(unittest.TestCase):
             f"http://127.0.0.1:{defaults['port']}/",
         ):
             self.assertIn(said, text)
-        self.assertEqual((SHARED_PART, serving.MOST_BYTES), (0.25, 1 << 20))
+        self.assertEqual((SHARED_PART, MOST_BYTES), (0.25, 1 << 20))
         for name in FORMATS:
             self.assertIn(f"`{name}`", text)
 

@@ -10,7 +10,8 @@ import time
 import unittest
 import zipfile
 from io import BytesIO
-from typing import Any, Iterator
+from typing import Any, Dict, Iterator, List, Tuple
+from urllib.parse import urlencode
 
 from scadserve.live import openscad
 from scadserve.source.sources import Refused
@@ -64,8 +65,8 @@ class Solids(live_case.Case):
 
     def test_the_unit_is_that_of_the_call_or_of_the_source(self) -> None:
         for unit, text, corner in (("1/10", "w = 5;", b"0.5 0.5 0.5"), (None, "// unit: 1/4\nw = 2;", b"0.5 0.5 0.5"), (None, "w=2;", b"2 2 2")):
-            query = {"format": "off", **({"unit": unit} if unit else {})}
-            self.assertIn(corner, self.live.solid(text, **query).body.splitlines())
+            words = urlencode({"format": "off", **({"unit": unit} if unit else {})})
+            self.assertIn(corner, self.live.ask("POST", f"/solid?{words}", text.encode()).body.splitlines())
         self.assertEqual(self.live.solid("// unit: 1/4\nw = 2;", format="json").json()["unit"], "1/4")
         bad = self.live.solid("// unit: no\nw = 2;", format="json").json()
         self.assertEqual((bad["unit"], bad["notes"][0]["line"], bad["notes"][0]["message"].partition(":")[0]), (None, 1, "BadUnit"))
@@ -141,7 +142,7 @@ class OpenScad(unittest.TestCase):
 
         for text in ("sphere(2);", "include <in.scad>", "use <MCAD/boxes.scad>", "// import it by hand, file by file", "imported = 1;"):
             tried(text)
-        refused = ("include </etc/passwd>", "use <../x.scad>", "include\n <../x>", 'x = "\\\n" include </etc/passwd>; "', "use <a/../../b>")
+        refused: Tuple[str, ...] = ("include </etc/passwd>", "use <../x.scad>", "include\n <../x>", 'x = "\\\n" include </etc/passwd>; "', "use <a/../../b>")
         refused += ('import("/etc/passwd");', 'import /* */ ("a.stl");', "surface(file = x);", 'linear_extrude(file = "a.dxf");')
         refused += ('dxf_dim(file="a");', 'import_stl("a");', "include <on.scad>", "use <pic.scad>", "include </etc/passwd")
         for text in refused:
@@ -176,7 +177,8 @@ class Files(live_case.Case):
         names += [".c.scad", ".hidden/d.scad", "e.stl", "deep", "deep/", "/a.scad", "%00.scad", "a.scad%00", "large.scad", "no.scad"]
         names += ["..%2fsecret.scad", "%2fetc%2fpasswd", f"{'x' * 300}.scad", f"{'x/' * 3000}a.scad", "a.scad/b.scad", "deep//b.scad", "./a.scad"]
         for name in names:
-            for method, headers in (("GET", {}), ("PUT", {"If-Match": "*"}), ("PUT", {"If-None-Match": "*"})):
+            tried: List[Tuple[str, Dict[str, str]]] = [("GET", {}), ("PUT", {"If-Match": "*"}), ("PUT", {"If-None-Match": "*"})]
+            for method, headers in tried:
                 if (name, headers) == ("no.scad", {"If-None-Match": "*"}):
                     continue
                 answer = self.live.ask(method, f"/files/{name}", None if method == "GET" else b"w = 9;", headers)

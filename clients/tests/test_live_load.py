@@ -47,6 +47,11 @@ def name_of(text: str) -> str:
     return f"t{hashlib.sha256(text.encode()).hexdigest()[:12]}.scad"
 
 
+def plain(told: str) -> bytes:
+    """What is told of a fault, without the calls that led there: on a busy machine scad2off doesn't ask for these."""
+    return "".join(it for it in told.splitlines(keepends=True) if ": note: called here" not in it).encode()
+
+
 class Client(threading.Thread):
     """A client that types for some seconds, and waits for no answer before the next key."""
 
@@ -103,7 +108,7 @@ class Load(live_case.Case):
             words = [*SCAD2OFF, "-d", "out", *texts]
             said = subprocess.run(words, cwd=folder, env=how, stderr=subprocess.PIPE, check=False).stderr.decode()
             faults = re.split(r"^(?=(?:[^ ]+\.scad:\d+:\d+: error: |\d+ files: ))", said, flags=re.MULTILINE)
-            found = {it.partition(":")[0]: it.encode() for it in faults[1:-1]}
+            found = {it.partition(":")[0]: plain(it) for it in faults[1:-1]}
             found.update({f"{it.stem}.scad": it.read_bytes() for it in Path(folder, "out").iterdir()})
         self.assertEqual(set(found), set(texts), said[-500:])
         return found
@@ -124,7 +129,7 @@ class Load(live_case.Case):
             for text, answer, _ in it.answers:
                 if answer.status != 409:
                     is_solid = answer.status == 200
-                    said = answer.body if is_solid else answer.json()["faults"][0]["told"].encode()
+                    said = answer.body if is_solid else plain(answer.json()["faults"][0]["told"])
                     texts[name_of(text)] = text
                     answered.setdefault(name_of(text), set()).add(said)
             self.assertIn(it.answers[-1][1].status, (200, 422))

@@ -141,7 +141,7 @@ def main(words: Sequence[str]) -> int:
         folders=folders,
         allow_empty=True,
         server=server_of_environment(),
-        read=reader,
+        read=lambda file, defined, around: reader(file, list(defined), list(around)),
         coarser=reader.coarser,
     )
     return ended(lambda: told("scadlive", lambda: convert(call, _written)))

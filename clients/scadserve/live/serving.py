@@ -221,7 +221,7 @@ class Handler(BaseHTTPRequestHandler):
             self._route(path, query)
         except Refusal as refusal:
             self.close_connection = True
-            self._send(refusal.status, "text/plain; charset=utf-8", f"{refusal}\n".encode(), **refusal.headers)
+            self._send(refusal.status, "text/plain; charset=utf-8", f"{refusal}\n".encode(), refusal.headers)
         except (BrokenPipeError, ConnectionError, TimeoutError):
             self.close_connection = True
         except Closed:
@@ -284,7 +284,7 @@ class Handler(BaseHTTPRequestHandler):
             cookie = f"{_COOKIE}={quote(token, safe='')}; Path={self.site.settings.base}/; HttpOnly; SameSite=Strict"
             raise Refusal(HTTPStatus.SEE_OTHER, **{"Location": "./", "Set-Cookie": cookie})
         try:
-            cookies = SimpleCookie(self.headers.get("Cookie", ""))
+            cookies: Any = SimpleCookie(self.headers.get("Cookie", ""))
         except CookieError:
             cookies = SimpleCookie()
         kept = unquote_to_bytes(cookies[_COOKIE].value).decode("utf-8", "replace") if _COOKIE in cookies else ""
@@ -356,7 +356,7 @@ class Handler(BaseHTTPRequestHandler):
             data = self.site.folder.read(name)
         except (NoSuchFile, OSError):
             raise Refusal(HTTPStatus.NOT_FOUND) from None
-        self._send(HTTPStatus.OK, "text/plain; charset=utf-8", data, **{"ETag": f'"{mark_of(data)}"'})
+        self._send(HTTPStatus.OK, "text/plain; charset=utf-8", data, {"ETag": f'"{mark_of(data)}"'})
 
     def _write_file(self, name: str) -> None:
         """Writes a file where it has the mark that is wanted, or where it isn't there and none is wanted."""
@@ -375,7 +375,7 @@ class Handler(BaseHTTPRequestHandler):
             raise Refusal(HTTPStatus.NOT_FOUND) from None
         except OSError as error:
             raise Refusal(HTTPStatus.FORBIDDEN, f"the file can't be written: {reason(error)}") from None
-        self._send(HTTPStatus.NO_CONTENT, "", b"", **{"ETag": f'"{mark_of(data)}"'})
+        self._send(HTTPStatus.NO_CONTENT, "", b"", {"ETag": f'"{mark_of(data)}"'})
 
     def _events(self) -> None:
         """Tells the marks of the files, and each change, until the client goes."""
@@ -383,7 +383,7 @@ class Handler(BaseHTTPRequestHandler):
             raise Refusal(HTTPStatus.SERVICE_UNAVAILABLE, "too many pages listen")
         try:
             self.close_connection = True
-            self._head(HTTPStatus.OK, "text/event-stream; charset=utf-8", Connection="close")
+            self._head(HTTPStatus.OK, "text/event-stream; charset=utf-8", {"Connection": "close"})
             known = None
             with self.site.watch as watch:
                 while True:
@@ -404,9 +404,10 @@ class Handler(BaseHTTPRequestHandler):
         try:
             solved = self.site.solver.solve(request)
             if form == "json":
-                told: dict[str, object] = {"solid": solved.text.decode(), "unit": str(solved.unit) if solved.unit else None}
-                told["notes"] = [it.as_json() for it in solved.notes]
-                self._send_json({**told, "parameters": found, "milliseconds": round(1000 * (monotonic() - began), 1)})
+                unit_said = str(solved.unit) if solved.unit else None
+                notes = [it.as_json() for it in solved.notes]
+                answer: dict[str, object] = {"solid": solved.text.decode(), "unit": unit_said, "notes": notes, "parameters": found}
+                self._send_json({**answer, "milliseconds": _since(began)})
                 return
             data = written(form, request.file, solved, unit)
         except Replaced:
@@ -414,12 +415,12 @@ class Handler(BaseHTTPRequestHandler):
         except NotSolved as fault:
             status = HTTPStatus.UNPROCESSABLE_ENTITY if fault.is_of_source else HTTPStatus.SERVICE_UNAVAILABLE
             faults, notes = [it.as_json() for it in fault.faults], [it.as_json() for it in fault.notes]
-            told = {"faults": faults, "notes": notes, "parameters": found}
-            self._send_json({**told, "milliseconds": round(1000 * (monotonic() - began), 1)}, status)
+            told: dict[str, object] = {"faults": faults, "notes": notes, "parameters": found}
+            self._send_json({**told, "milliseconds": _since(began)}, status)
             return
         name = os.path.basename(request.file)[: -len(".scad")] + FORMATS[form].ending
         disposition = f"attachment; filename*=UTF-8''{quote(name, safe='')}"
-        self._send(HTTPStatus.OK, FORMATS[form].media, data, _INERT, **{"Content-Disposition": disposition})
+        self._send(HTTPStatus.OK, FORMATS[form].media, data, {"Content-Disposition": disposition}, _INERT)
 
     def _format(self, query: Mapping[str, list[str]]) -> str:
         """The format that the query asks for, or else the first known one of Accept, or else a 4OFF text."""
@@ -494,16 +495,19 @@ class Handler(BaseHTTPRequestHandler):
     def _send_json(self, value: object, status: HTTPStatus = HTTPStatus.OK) -> None:
         self._send(status, _JSON, json.dumps(value, separators=(",", ":")).encode() + b"\n")
 
-    def _send(self, status: HTTPStatus, media: str, data: bytes, safe: Mapping[str, str] = _SAFE, **headers: str) -> None:
+    def _send(
+        self, status: HTTPStatus, media: str, data: bytes, headers: "Mapping[str, str] | None" = None, safe: Mapping[str, str] = _SAFE
+    ) -> None:
+        headers = dict(headers or {})
         if status != HTTPStatus.NO_CONTENT:
             headers["Content-Length"] = str(len(data))
         if self.close_connection:
             headers["Connection"] = "close"
-        self._head(status, media, safe, **headers)
+        self._head(status, media, headers, safe)
         if getattr(self, "command", None) != "HEAD":
             self._write(data)
 
-    def _head(self, status: HTTPStatus, media: str, safe: Mapping[str, str] = _SAFE, **headers: str) -> None:
+    def _head(self, status: HTTPStatus, media: str, headers: Mapping[str, str], safe: Mapping[str, str] = _SAFE) -> None:
         self.send_response(status)
         for name, value in {**({"Content-Type": media} if media else {}), **safe, **headers}.items():
             self.send_header(name, value)
@@ -518,6 +522,11 @@ class Handler(BaseHTTPRequestHandler):
 
 def _is_same(given: str, wanted: str) -> bool:
     return hmac.compare_digest(given.encode("utf-8", "replace"), wanted.encode("utf-8", "replace"))
+
+
+def _since(began: float) -> float:
+    """The milliseconds since a time."""
+    return round(1000 * (monotonic() - began), 1)
 
 
 def _one(query: Mapping[str, list[str]], name: str) -> str | None:

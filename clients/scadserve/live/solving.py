@@ -27,8 +27,6 @@ from .folder import Folder
 
 #: What a source is called that has no file.
 NO_FILE = "source.scad"
-# (a slow server isn't asked again which call led to a fault)
-_QUICK = 1.0
 _TOO_LONG = ("it takes longer than {} s, and was ended", "make it simpler, or start scadlive with more --seconds")
 _FAILED = ("the server gave no answer: {}", "look at what scadlive says in its terminal, and try again")
 
@@ -101,7 +99,7 @@ class Solver:
     def __init__(self, folder: Folder, libraries: Sequence[str], server: Sequence[str], jobs: int, seconds: float) -> None:
         self.libraries, self._server, self._seconds = libraries, server, seconds
         #: The folders whose files a source may name.
-        self.roots = [folder.path, *map(os.path.realpath, [*libraries, *folders_of_environment()])]
+        self.roots = [folder.path, *(os.path.realpath(it) for it in [*libraries, *folders_of_environment()])]
         self.exports = Exports(server, jobs, seconds)
         self._asking = threading.BoundedSemaphore(jobs)
 
@@ -134,18 +132,16 @@ class Solver:
         limit = passed_limit(source.sent())
         if limit:
             raise NotSolved([told_of(limit_told(source, limit), limit.word, source.spot(limit.line, limit.column))])
-        began = monotonic()
         found, reply = self.exports.reply(request.client, source, request.half)
         notes = [Note(f"the source never has {it}, which is assigned behind it", request.file) for it in unused(source)]
         if not isinstance(reply, Solid):
-            raise self._not_solved(found, reply, request.half, monotonic() - began < _QUICK, notes)
+            raise self._not_solved(found, reply, request.half, notes)
         unit, about_unit = _unit(source)
         return Solved(reply.text, unit, [*notes, *about_unit])
 
-    def _not_solved(self, source: Source, reply: Reply, half: bool, is_quick: bool, notes: Sequence[Note]) -> NotSolved:
-        server = self._server if is_quick else None
+    def _not_solved(self, source: Source, reply: Reply, half: bool, notes: Sequence[Note]) -> NotSolved:
         with self._asking:
-            told = reply_told(source, reply, half, server, monotonic() + self._seconds)
+            told = reply_told(source, reply, half, self._server, monotonic() + self._seconds)
         if isinstance(reply, Fault):
             return NotSolved([told_of(told, reply.word, source.spot(reply.line, reply.column))], True, notes)
         word, _, _ = told.partition("error: ")[2].partition(": ")

@@ -95,15 +95,13 @@ function covered({ axis, ways }, corners) {
     steps[Math.max(start, end)] -= by;
   }
   const left = [];
-  let [cover, since] = [0, 0];
-  ends.forEach((corner, at) => {
-    if (steps[at] && cover) {
-      left.push(cover > 0 ? [ends[since], corner] : [corner, ends[since]]);
+  let cover = 0;
+  for (let at = 0; at + 1 < ends.length; at++) {
+    cover += steps[at];
+    if (cover) {
+      left.push(cover > 0 ? [ends[at], ends[at + 1]] : [ends[at + 1], ends[at]]);
     }
-    if (steps[at]) {
-      [cover, since] = [cover + steps[at], at];
-    }
-  });
+  }
   return left;
 }
 
