@@ -84,15 +84,15 @@ def ours(file, folder, is_plan):
     """Our text of a source, None where it is refused, how long it takes, and what is said."""
     out = os.path.join(folder, "part.4off")
     if not is_plan:
-        took, status, said, _ = timed([f"{TOP}/scad2off", "--by-openscad", file, "-o", out])
+        took, status, said, _ = timed([f"{TOP}/bin/scad2off", "--by-openscad", file, "-o", out])
     else:
         csg, source = os.path.join(folder, "part.csg"), os.path.join(folder, "part.scad")
         where = os.path.dirname(os.path.abspath(file))
         took, status, said, _ = timed(["openscad", "-o", csg, file])
-        more, status, said, _ = timed([f"{TOP}/csg2scad", "--flat", "1", "--folder", where, csg, "-o", source])
+        more, status, said, _ = timed([f"{TOP}/bin/csg2scad", "--flat", "1", "--folder", where, csg, "-o", source])
         took += more
         if status == 0:
-            more, status, besides, _ = timed([f"{TOP}/scad2off", source, "-o", out])
+            more, status, besides, _ = timed([f"{TOP}/bin/scad2off", source, "-o", out])
             took, said = took + more, said + besides
     if status != 0:
         return None, took, said
@@ -114,7 +114,7 @@ def is_closed(text, folder):
     source, mesh = os.path.join(folder, "part.4off"), os.path.join(folder, "part.stl")
     with open(source, "wb") as it:
         it.write(text)
-    timed([f"{TOP}/off2stl", source, "-o", mesh])
+    timed([f"{TOP}/bin/off2stl", source, "-o", mesh])
     said = timed(["admesh", mesh])[3]
     return bool(re.search(r"Total disconnected facets +: +0 +0\n", said)) and bool(re.search(r"Facets added +: +0\n", said))
 

@@ -21,7 +21,7 @@ from tests.browser import Browser, needs_browser
 from tests.calls import TOP
 from tests.live_case import PATIENCE
 from tests.solids import CUT_CUBE, box, off
-from tests.test_off2html_browser import PAINTED, RESTS
+from tests.page_case import PAINTED, RESTS
 
 FIRST = "/* [Size] */\n// how wide it is\nw = 2; // [1:9]\nhollow = false;\nlook = \"plain\"; // [plain, round:a round one]\nat = [1, 2];\n"
 # The browser's code of a key that is held.
@@ -256,7 +256,7 @@ class Editing:
 
 
 @needs_browser
-@unittest.skipUnless(serving.CODEMIRROR.is_dir(), "libjs-codemirror is not installed")
+@unittest.skipUnless(serving.CODEMIRROR.is_dir(), "needs libjs-codemirror")
 class WithCodeMirror(Editing, Page):
     def test_it_is_codemirror(self) -> None:
         self.assertTrue(self.browser.run("document.querySelector('.CodeMirror') !== null"))

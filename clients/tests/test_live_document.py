@@ -18,6 +18,7 @@ from scadserve.live.folder import MOST_BYTES
 from scadserve.tools.catalogue import parser_of
 from tests import live_case
 from tests.calls import PROGRAM, TOP, needs_program
+from tests.needs import needs
 from tests.test_live_guard import BAD
 
 PAGE = Path(TOP, "docs", "LIVE.md")
@@ -37,10 +38,10 @@ def console() -> "list[tuple[str, str]]":
 
 
 @needs_program
-@unittest.skipUnless(shutil.which("curl"), "curl is not installed")
+@needs("curl")
 class Commands(live_case.Case):
     server = PROGRAM
-    words = ("--seconds", "60")
+    words = ("--seconds", "600")
 
     def test_each_line_prints_what_the_page_says(self) -> None:
         commands = console()
@@ -76,7 +77,7 @@ class Numbers(unittest.TestCase):
             self.assertIn(f"`{name}`", text)
 
 
-@unittest.skipUnless(shutil.which("systemd-analyze"), "systemd-analyze is not installed")
+@needs("systemd-analyze")
 class Service(unittest.TestCase):
     def test_systemd_finds_nothing_wrong_with_it(self) -> None:
         with tempfile.TemporaryDirectory() as folder:

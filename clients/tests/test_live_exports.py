@@ -18,11 +18,11 @@ from scadserve.server.scripts import Fault, OutOfTime, ServerFailed, Solid
 from scadserve.source.reading import source_of
 from scadserve.source.sources import Source
 from tests.calls import STAND_IN
+from tests.live_case import BUSY, PATIENCE
 from tests.stand_in import BOX
 
 # Has a run go on until it is ended; the stand-in answers whatever else in no time.
 COSTLY = "//= wait\n"
-PATIENCE = 60
 
 
 def source(text: str) -> Source:
@@ -118,7 +118,7 @@ class Queue(unittest.TestCase):
         self.assertEqual(len(self.scripts()), 1)
 
     def test_a_run_past_its_seconds_is_ended_and_its_clients_are_tried_one_by_one(self) -> None:
-        exports = self.begin(2, 2.0)
+        exports = self.begin(2, 2.0 * BUSY)
         ends = [self.hold(exports)[0]]
         # (one job is held, and the other one takes what waits by then)
         asked = {n: self.ask(exports, f"c{n}", f"w = {n};") for n in range(1, 5)}
@@ -130,7 +130,7 @@ class Queue(unittest.TestCase):
             costly.result(PATIENCE)
 
     def test_a_costly_client_is_alone_from_then_on_and_costs_others_no_time(self) -> None:
-        exports = self.begin(2, 1.2)
+        exports = self.begin(2, 1.2 * BUSY)
         with self.assertRaises(OutOfTime):
             self.ask(exports, "costly", COSTLY).result(PATIENCE)
         again = self.ask(exports, "costly", COSTLY)

@@ -17,7 +17,7 @@ from scadserve.live import openscad
 from scadserve.source.sources import Refused
 from scadserve.version import VERSION
 from tests import live_case
-from tests.live_case import PATIENCE, Live
+from tests.live_case import BUSY, PATIENCE, Live
 from tests.stand_in import BOX
 
 CUBE = BOX.format(1).encode()
@@ -25,7 +25,7 @@ SECRET = "// the secret of another folder\n"
 
 
 class Solids(live_case.Case):
-    words = ("--seconds", "2", "-I", "library")
+    words = ("--seconds", f"{2 * BUSY:.1f}", "-I", "library")
 
     @classmethod
     def make(cls) -> None:

@@ -23,6 +23,8 @@ from tests import live_case
 from tests.calls import PROGRAM, SCAD2OFF, needs_program
 from tests.live_case import Answer
 
+# (many clients at once take all processors)
+ALONE = True
 CLIENTS = 32
 SECONDS = float(os.environ.get("SCADLIVE_SECONDS", "6"))
 # Seconds between two keys of a client.
@@ -92,7 +94,7 @@ class Client(threading.Thread):
 @needs_program
 class Load(live_case.Case):
     server = PROGRAM
-    words = ("--seconds", "60")
+    words = ("--seconds", "600")
 
     def memory(self) -> int:
         """How many kilobytes of memory the server holds."""

@@ -4,16 +4,16 @@ from __future__ import annotations
 
 import unittest
 
-from scadserve.openscad.front import program
 from tests import live_case
 from tests.calls import PROGRAM, needs_program
+from tests.needs import needs
 
 
 @needs_program
-@unittest.skipUnless(program(), "openscad is not installed")
+@needs("openscad")
 class ByOpenScad(live_case.Case):
     server = PROGRAM
-    words = ("--seconds", "50")
+    words = ("--seconds", "600")
 
     @classmethod
     def make(cls) -> None:

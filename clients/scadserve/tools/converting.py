@@ -10,9 +10,10 @@ handed on to be written. What is wrong with a file is said on standard error, an
 from __future__ import annotations
 
 import os
+from argparse import Namespace
 from dataclasses import dataclass
 from time import monotonic
-from typing import Callable, NamedTuple, Sequence
+from typing import TYPE_CHECKING, Callable, NamedTuple, Sequence
 
 from ..ending import BAD_CALL, BadCall, NO_MEMORY, PART_FAULT
 from ..files import called, identity, left_over, reason, refusal_to_write, say
@@ -23,6 +24,9 @@ from ..source.reading import read_source, unused
 from ..source.sources import Refused, Source
 from ..source.telling import limit_told, refused_told, reply_told
 from .words import say_bad
+
+if TYPE_CHECKING:
+    from ..openscad.by_openscad import Reader
 
 NO_ANSWER = 125
 # (an unproved run takes a minute each time, and is not asked again which call led to a fault)
@@ -56,6 +60,16 @@ class Call:
     read: Callable[[str, Sequence[str], Sequence[str]], Source] = read_source
     #: A source of the same file whose solid is smaller, for one that passes a limit of the server; None where there is none.
     coarser: Callable[[Source], Source | None] | None = None
+
+
+def front_end(asked: Namespace) -> Reader | None:
+    """What reads sources by OpenSCAD's front end, where the words ask for that."""
+    if not asked.by_openscad:
+        return None
+    # (a third of the package, without which the tools are quicker to start)
+    from ..openscad.by_openscad import Reader
+
+    return Reader(asked.exact)
 
 
 def told(tool: str, work: Callable[[], int]) -> int:
