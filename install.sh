@@ -33,6 +33,14 @@ cp -R "$top/README.md" "$top/PROVED" "$top/docs" "$top/examples" "$top/gallery" 
 cp "$top"/man/*.1 "$share/man/man1"
 cp "$top"/completion/bash/* "$share/bash-completion/completions"
 cp "$top"/completion/zsh/* "$share/zsh/$ZSH_FUNCTIONS"
+# (systemd looks for a program in the system's folders alone)
+mkdir -p "$share/systemd/user"
+while IFS= read -r line; do
+    case $line in
+    ExecStart=scadlive*) printf 'ExecStart="%s/bin/scadlive"%s\n' "$1" "${line#ExecStart=scadlive}" ;;
+    *) printf '%s\n' "$line" ;;
+    esac
+done <"$top/clients/scadserve/live/scadlive.service" >"$share/systemd/user/scadlive.service"
 mkdir -p "$lib/bin"
 while read -r tool; do
     cp "$top/$tool" "$lib/$tool"

@@ -211,6 +211,8 @@ class Release(unittest.TestCase):
             for place in (f"man/man1/{name}.1", f"bash-completion/completions/{name}", f"zsh/site-functions/_{name}"):
                 self.assertTrue((share / place).is_file(), place)
         self.assertEqual(sorted(os.listdir(prefix / "bin")), sorted((STARTER, *TOOLS)))
+        service = (share / "systemd/user/scadlive.service").read_text()
+        self.assertIn(f'\nExecStart="{prefix}/bin/scadlive" %h/scad\n', service)
 
     def test_a_changed_program_is_not_installed(self) -> None:
         moved = self.folder / "changed"

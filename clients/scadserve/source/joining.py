@@ -72,14 +72,20 @@ class Joined:
     behind: Sequence[bytes] = ()
 
 
+def folders_of_environment() -> list[str]:
+    """The folders that OPENSCADPATH names."""
+    return list(filter(None, os.environ.get("OPENSCADPATH", "").split(os.pathsep)))
+
+
 class Folders:
     """The folders in which files are looked for, beside that of the file that names them, and how many were read. Files are
-    bounded by what a script may have, or not."""
+    bounded by what a script may have, or not. Where `roots` are given, which have no links in them, no file is there but the
+    ordinary ones below these and those of the library."""
 
-    def __init__(self, folders: Sequence[str], is_bounded: bool = True) -> None:
+    def __init__(self, folders: Sequence[str], is_bounded: bool = True, roots: Sequence[str] | None = None) -> None:
         self._is_bounded = is_bounded
-        of_environment = os.environ.get("OPENSCADPATH", "").split(os.pathsep)
-        self._folders = [*folders, *filter(None, of_environment), LIBRARY]
+        self._folders = [*folders, *folders_of_environment(), LIBRARY]
+        self._roots = None if roots is None else [*roots, os.path.realpath(LIBRARY)]
         self._read = 0
 
     def first(self, path: str) -> File:
@@ -89,7 +95,7 @@ class Folders:
     def find(self, file: File, at: int, word: str, named: str, opened: Sequence[str]) -> File:
         """The file that a file names so at a byte. Raises Refused, also where it is one of those that are opened."""
         folder = os.path.dirname(file.path) if file.path != "-" else ""
-        there = [it for it in (os.path.join(it, named) for it in [folder, *self._folders]) if os.path.exists(it)]
+        there = [it for it in (os.path.join(it, named) for it in [folder, *self._folders]) if self._is_there(it)]
         path = next((it for it in there if not os.path.isdir(it)), None)
         if path is None:
             raise file.refused(at, "NoFile", f"{named} is a folder" if there else f"there is no file {named}")
@@ -110,6 +116,12 @@ class Folders:
 
     def _bytes_of(self, path: str) -> bytes:
         return read_file(path, MOST_BYTES + 1 if self._is_bounded else -1)
+
+    def _is_there(self, path: str) -> bool:
+        if self._roots is None:
+            return os.path.exists(path)
+        real = os.path.realpath(path)
+        return os.path.isfile(real) and any(os.path.commonpath([real, it]) == it for it in self._roots)
 
     def join(self, file: File, opened: Sequence[str] = ()) -> Joined:
         """A file with all that it includes, while these files are opened. Raises Refused."""

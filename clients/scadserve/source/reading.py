@@ -22,6 +22,13 @@ def source_of(data: bytes, name: str, definitions: Sequence[str] = (), folders: 
     return joined_source(Folders(folders), File("-", name, data), definitions)
 
 
+def source_within(
+    data: bytes, file: str, definitions: Sequence[str], folders: Sequence[str], roots: Sequence[str]
+) -> Source:
+    """The same of these bytes as the text of a file, be it there or not, which names no file but those below these roots."""
+    return joined_source(Folders(folders, roots=roots), File(file, file, data), definitions)
+
+
 def joined_source(there: Folders, first: File, definitions: Sequence[str] = ()) -> Source:
     """The same of a file that was read already. Raises Refused."""
     source = Source(first.name, [], definitions, len(first.data.removesuffix(b"\n").split(b"\n")) if first.data else 0)

@@ -14,7 +14,7 @@ from .catalogue import STARTER, TOOLS, parser_of
 from .manual import help_of, value_of
 
 # The ending of the files that a tool reads, by the first part of its name.
-_ENDINGS = {"scad": ".scad", "off": ".4off", "csg": ".csg"}
+_ENDINGS = {"scad": ".scad", "off": ".4off", "csg": ".csg", "scadlive": ".scad"}
 _BASH = """# Completes the words of {name} in bash.
 _{name}() {{
     local word=${{COMP_WORDS[COMP_CWORD]}} before=${{COMP_WORDS[COMP_CWORD - 1]}}

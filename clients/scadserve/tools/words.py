@@ -85,7 +85,7 @@ def source_words(words: Words, made: str, ending: str) -> None:
         dest="definitions",
         metavar="NAME=VALUE",
         action="append",
-        type=_definition,
+        type=definition,
         default=[],
         help="assign a variable behind the source's own lines: this is what counts then",
     )
@@ -174,8 +174,8 @@ def length_argument(text: str) -> Fraction:
     return Fraction(text)
 
 
-def _definition(text: str) -> str:
-    """One assignment, without the `;` behind it."""
+def definition(text: str) -> str:
+    """One assignment, without the `;` behind it. Raises ArgumentTypeError."""
     text = text.strip(" ").rstrip("; ")
     try:
         found = structure_of(tokens([text.encode("utf-8", "surrogateescape") + b";"]))
