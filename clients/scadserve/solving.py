@@ -14,9 +14,6 @@ from pathlib import Path
 from time import monotonic
 from typing import Iterable, Mapping, Sequence, Union
 
-from .openscad.by_openscad import Reader
-from .openscad.conversion import Wanted
-from .openscad.front import program
 from .server.replies import Complex, Reply
 from .server.replies import Fault as ToldFault
 from .server.replies import Solid as ToldSolid
@@ -283,6 +280,11 @@ class _ByOpenscad(_Reading):
     """Sources that OpenSCAD evaluates. A text is a file for it, in a folder that is there for so long."""
 
     def __init__(self, folders: Sequence[str]) -> None:
+        # (it is much to load, and most sources need none of it)
+        from .openscad.by_openscad import Reader
+        from .openscad.conversion import Wanted
+        from .openscad.front import program
+
         super().__init__(folders)
         if program() is None:
             raise FileNotFoundError(errno.ENOENT, "OpenSCAD is not installed", os.environ.get("OPENSCAD") or "openscad")

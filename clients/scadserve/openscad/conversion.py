@@ -148,7 +148,7 @@ class _Converter:
     def _unit(self, solid: Solid) -> Fraction:
         """The step of the grid."""
         all_leaves = list(leaves(solid))
-        greatest = max(max(map(abs, corner)) for leaf in all_leaves for corner in leaf.corners)
+        greatest = max(abs(number) for leaf in all_leaves for corner in leaf.corners for number in corner)
         # (where sides run along no axis, a corner is rounded as the sum of two)
         room = ROOM + 0.49 if all(it.frame is None for it in all_leaves) else ROOM - 1
         units = UNITS if self._wanted.unit is None else [self._wanted.unit]

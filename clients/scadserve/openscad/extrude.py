@@ -175,12 +175,13 @@ class Extrusion:
             self._detail.is_off(off)
             whole = [(End(0.0, 0.0), End(0.0, 1.0))]
             return self._joined(outline, sound, whole, whole, True)
-        parts = []
+        parts: list[Solid | None] = []
         for it in steps:
             ends = End(it.turned, it.low), End(it.turned, it.high)
             part = self._joined(outline, sound, [ends], [ends], True)
             layer = self._layer(ends, steps)
-            within = None if part is None or layer is None else joined(INTERSECTION, [layer, part])
+            both: list[Solid | None] = [layer, part]
+            within: Solid | None = None if part is None or layer is None else joined(INTERSECTION, both)
             parts.append(part if part is None or within is None else Carved(within, [], part))
         return joined(UNION, parts)
 
@@ -207,7 +208,7 @@ class Extrusion:
         self, outline: Outline, sound: Sequence[tuple[Loop, list[Loop]]], slices: list[Slice], longer: list[Slice], is_straight: bool
     ) -> Solid | None:
         """The solid of closed lines without their holes."""
-        parts = []
+        parts: list[Solid | None] = []
         for loop, holes in sound:
             filled = self._filled(outline, loop, slices, is_straight)
             parts.append(joined(DIFFERENCE, [filled, *(self._filled(outline, hole, longer, is_straight) for hole in holes)]))
@@ -227,7 +228,7 @@ class Extrusion:
         """The solid of what a closed line bounds, in the form with fewer planes."""
         cut, carving = self._forms(outline, loop) if is_straight else (pieces_of(outline, loop), None)
         ring = loop if area2(loop) > 0 else loop[::-1]
-        pieces = joined(UNION, [self._piece(it, slices, ring) for it in cut])
+        pieces: Solid | None = joined(UNION, [self._piece(it, slices, ring) for it in cut])
         if pieces is None or carving is None:
             return pieces
         lids: list[tuple[Leaf, list[Vector]]] = []

@@ -157,7 +157,7 @@ def _run(words: Sequence[str], folders: Sequence[str] = ()) -> str:
     """What OpenSCAD says. Raises NotThere."""
     # (OpenSCAD's own folder of the user goes before our library, which it knows nothing of)
     own = os.path.expanduser("~/.local/share/OpenSCAD/libraries")
-    path = [*map(os.path.abspath, folders), *filter(None, [os.environ.get("OPENSCADPATH")]), own, LIBRARY]
+    path = [*(os.path.abspath(it) for it in folders), *filter(None, [os.environ.get("OPENSCADPATH")]), own, LIBRARY]
     how = {**os.environ, "OPENSCADPATH": os.pathsep.join(path)}
     name = program()
     if name is None:

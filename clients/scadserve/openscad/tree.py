@@ -10,7 +10,7 @@ import math
 from collections import Counter
 from contextlib import contextmanager
 from dataclasses import dataclass, field
-from typing import Generic, Iterable, Iterator, List, Optional, Sequence, TypeVar, Union
+from typing import Any, Generic, Iterable, Iterator, List, Optional, Sequence, TypeVar, Union, overload
 
 from .reader import CsgFault, Node
 
@@ -70,7 +70,8 @@ class Faced:
     faces: "List[List[int]]"
 
 
-Solid = Union[Leaf, "Join[Leaf]", Carved, Faced]
+Part = Union[Leaf, Carved, Faced]
+Solid = Union[Leaf, Carved, Faced, "Join[Part]"]
 
 
 def joined(operation: str, parts: "Sequence[Optional[Union[L, Join[L]]]]") -> "Optional[Union[L, Join[L]]]":
@@ -92,12 +93,21 @@ def _flattened(parts: "Sequence[Union[L, Join[L]]]") -> "List[Union[L, Join[L]]]
     return found
 
 
-def leaves(tree: "Optional[Union[L, Join[L]]]") -> Iterable[L]:
+# (the first names the leaves of solids, which the second would call parts)
+@overload
+def leaves(tree: "Optional[Solid]") -> Iterable[Leaf]: ...  # type: ignore[misc]
+
+
+@overload
+def leaves(tree: "Optional[Union[L, Join[L]]]") -> Iterable[L]: ...
+
+
+def leaves(tree: Any) -> Iterable[Any]:
     """The leaves, from left to right; of a polyhedron one with all its corners."""
     if isinstance(tree, Carved):
-        yield from leaves(tree.pieces)  # type: ignore[misc]
+        yield from leaves(tree.pieces)
     elif isinstance(tree, Faced):
-        yield tree.leaf  # type: ignore[misc]
+        yield tree.leaf
     elif isinstance(tree, Join):
         for it in tree.parts:
             yield from leaves(it)
@@ -160,7 +170,7 @@ def is_mirrored(m: Matrix) -> bool:
 
 def frame_of(m: Matrix) -> Matrix | None:
     """A matrix without its move; None where it turns axes by quarters alone."""
-    if all(sorted(map(abs, row[:3]))[1] < 1e-12 for row in m):
+    if all(sorted(abs(it) for it in row[:3])[1] < 1e-12 for row in m):
         return None
     return tuple((*row[:3], 0.0) for row in m)
 
@@ -179,7 +189,7 @@ def is_level(m: Matrix) -> bool:
     (a, b, *_), (c, d, *_), (e, f, *_) = m
     normal = (c * f - e * d, e * b - a * f, a * d - c * b)
     length = math.sqrt(sum(it * it for it in normal))
-    return length == 0 or max(map(abs, normal)) > length * (1 - 1e-10)
+    return length == 0 or max(abs(it) for it in normal) > length * (1 - 1e-10)
 
 
 @dataclass
