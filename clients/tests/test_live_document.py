@@ -11,11 +11,13 @@ import unittest
 import zipfile
 from pathlib import Path
 
-from scadserve.live import serving
-from scadserve.live.downloads import FORMATS
+from scadserve.live import downloads, serving
 from scadserve.live.exports import SHARED_PART
 from scadserve.live.folder import MOST_BYTES
+from scadserve.live.media import FORMATS
+from scadserve.solid.formats import WRITERS
 from scadserve.tools.catalogue import parser_of
+from scadserve.tools.exporting import ending_of
 from tests import live_case
 from tests.calls import PROGRAM, TOP, needs_program
 from tests.needs import needs
@@ -75,6 +77,8 @@ class Numbers(unittest.TestCase):
         self.assertEqual((SHARED_PART, MOST_BYTES), (0.25, 1 << 20))
         for name in FORMATS:
             self.assertIn(f"`{name}`", text)
+        self.assertEqual(list(FORMATS), list(downloads._WRITERS))
+        self.assertEqual({it: FORMATS[it].ending for it in WRITERS}, {it: ending_of(it) for it in WRITERS})
 
 
 @needs("systemd-analyze")

@@ -118,16 +118,17 @@ class Queue(unittest.TestCase):
         self.assertEqual(len(self.scripts()), 1)
 
     def test_a_run_past_its_seconds_is_ended_and_its_clients_are_tried_one_by_one(self) -> None:
-        exports = self.begin(2, 2.0 * BUSY)
-        ends = [self.hold(exports)[0]]
-        # (one job is held, and the other one takes what waits by then)
-        asked = {n: self.ask(exports, f"c{n}", f"w = {n};") for n in range(1, 5)}
+        exports = self.begin(1, 2.0 * BUSY)
+        end, _ = self.hold(exports)
         costly = self.ask(exports, "costly", COSTLY)
+        asked = {n: self.ask(exports, f"c{n}", f"w = {n};") for n in range(1, 5)}
+        self.until(lambda: len(exports._waiting) == 5)
+        end.set()
         for n, answer in asked.items():
             self.assert_side(answer, n)
-        ends[0].set()
         with self.assertRaises(OutOfTime):
             costly.result(PATIENCE)
+        self.assertEqual([it.count(b" export\n") for it in self.scripts()], [5, 1, 1, 1, 1, 1])
 
     def test_a_costly_client_is_alone_from_then_on_and_costs_others_no_time(self) -> None:
         exports = self.begin(2, 1.2 * BUSY)

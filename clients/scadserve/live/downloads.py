@@ -1,16 +1,16 @@
-"""The files that are made of a solid, by the name of their format: what each is called for the web, and its bytes."""
+"""The files that are made of a solid, by the names of their formats, which `media` has."""
 
 from __future__ import annotations
 
 from fractions import Fraction
-from typing import Callable, NamedTuple
+from typing import Callable
 
 from ..ending import BadCall
 from ..solid import closing, fouroff
 from ..solid.formats import WRITERS
 from ..source.units import MILLIMETRE
 from ..tools import off2tool
-from ..tools.exporting import ending_of, export
+from ..tools.exporting import export
 from ..tools.off2tool import BadSolid
 from ..view.drawing import VIEW, Camera, drawing
 from ..view.page import Shown, page
@@ -20,20 +20,12 @@ from .solving import NotSolved, Solved, Told, empty_told
 _WIDTH = 480
 
 
-class Format(NamedTuple):
-    """A format: its ending, its media type, and how a file of it is made of a solid whose file has this name."""
-
-    ending: str
-    media: str
-    write: Callable[[str, Solved, "Fraction | None"], bytes]
-
-
 def written(form: str, name: str, solved: Solved, unit: Fraction | None) -> bytes:
     """The file of a solid in a format. A unit that is asked for counts as the tools have it. Raises NotSolved."""
     if form != "4off" and not fouroff.read(solved.text).faces:
         raise empty_told(name)
     try:
-        return FORMATS[form].write(name, solved, unit or solved.unit)
+        return _WRITERS[form](name, solved, unit or solved.unit)
     except (BadSolid, BadCall) as bad:
         said = str(bad).partition("error: ")[2] or str(bad)
         raise NotSolved([Told("BadSolid", said, "take another format or unit", f"{bad}\n", name)]) from None
@@ -64,11 +56,10 @@ def _page(name: str, solved: Solved, unit: Fraction | None) -> bytes:
     return page(Shown(off2tool.stem(name), boundary, rings, off2tool.check(name, boundary, rings), unit=unit))
 
 
-_MEDIA = {"stl": "model/stl", "binstl": "model/stl", "off": "model/vnd.off", "obj": "model/obj", "3mf": "model/3mf"}
-#: The formats by name.
-FORMATS = {
-    "4off": Format(".4off", "model/vnd.4off", _text),
-    **{it: Format(ending_of(it), _MEDIA[it], _mesh(it)) for it in WRITERS},
-    "svg": Format(".svg", "image/svg+xml", _drawing),
-    "html": Format(".html", "text/html; charset=utf-8", _page),
+#: How a file is made in each format: of the name of the source, the solid, and how many millimetres a unit is.
+_WRITERS: dict[str, Callable[[str, Solved, "Fraction | None"], bytes]] = {
+    "4off": _text,
+    **{it: _mesh(it) for it in WRITERS},
+    "svg": _drawing,
+    "html": _page,
 }

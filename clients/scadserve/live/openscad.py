@@ -19,13 +19,10 @@ from time import monotonic
 from typing import NamedTuple, Sequence
 
 from ..ending import PART_FAULT, ended
-from ..openscad.by_openscad import Reader
 from ..server.scripts import OutOfTime, ServerFailed, Solid, server_of_environment
 from ..source.joining import MOST_BYTES
 from ..source.sources import Refused, Source, Spot
 from ..source.units import unit_of
-from ..tools.converting import Call, convert, told
-from ..tools.words import write_out
 from .exports import Process
 
 # The folder in which the package stands.
@@ -130,6 +127,10 @@ def _refused(file: str, data: bytes, at: int, word: str, said: str, cure: str) -
 
 def main(words: Sequence[str]) -> int:
     """Writes the unit and the 4OFF text that come of a file. The words are its name, how many folders, these, and definitions."""
+    # (which a page that never asks for it isn't to wait for)
+    from ..openscad.by_openscad import Reader
+    from ..tools.converting import Call, convert, told
+
     name, count, *rest = words
     folders, definitions = rest[: int(count)], rest[int(count) :]
     reader = Reader(is_exact=False)
@@ -148,6 +149,8 @@ def main(words: Sequence[str]) -> int:
 
 
 def _written(source: Source, out: str, solid: Solid) -> int:
+    from ..tools.words import write_out
+
     unit = unit_of(source)
     write_out(out, (str(unit) if unit else "").encode() + b"\n" + solid.text)
     return 0

@@ -32,9 +32,9 @@ from ..openscad.front import program
 from ..source.units import unit_argument
 from ..tools.words import definition
 from ..version import VERSION
-from .downloads import FORMATS, written
 from .exports import Closed, Replaced
 from .folder import MOST_BYTES, Folder, NoSuchFile, mark_of
+from .media import FORMATS
 from .parameters import parameters
 from .solving import NO_FILE, NotSolved, Request, Solver
 from .watching import Watch
@@ -409,6 +409,8 @@ class Handler(BaseHTTPRequestHandler):
                 answer: dict[str, object] = {"solid": solved.text.decode(), "unit": unit_said, "notes": notes, "parameters": found}
                 self._send_json({**answer, "milliseconds": _since(began)})
                 return
+            from .downloads import written  # (which takes a while to load)
+
             data = written(form, request.file, solved, unit)
         except Replaced:
             raise Refusal(HTTPStatus.CONFLICT, "a newer text of this client has come") from None
