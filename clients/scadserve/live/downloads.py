@@ -10,7 +10,7 @@ from ..solid import closing, fouroff
 from ..solid.formats import WRITERS
 from ..source.units import MILLIMETRE
 from ..tools import off2tool
-from ..tools.exporting import export
+from ..tools.exporting import Lengths, export
 from ..tools.off2tool import BadSolid
 from ..view.drawing import VIEW, Camera, drawing
 from ..view.page import Shown, page
@@ -37,7 +37,7 @@ def _text(_: str, solved: Solved, __: Fraction | None) -> bytes:
 
 def _mesh(form: str) -> Callable[[str, Solved, "Fraction | None"], bytes]:
     def write(name: str, solved: Solved, unit: Fraction | None) -> bytes:
-        mesh, _ = export(name, fouroff.read(solved.text), unit or MILLIMETRE, form)
+        mesh, _ = export(name, fouroff.read(solved.text), Lengths(unit or MILLIMETRE, solved.step), form)
         return WRITERS[form](mesh)
 
     return write
@@ -53,7 +53,7 @@ def _drawing(name: str, solved: Solved, _: Fraction | None) -> bytes:
 def _page(name: str, solved: Solved, unit: Fraction | None) -> bytes:
     boundary = fouroff.read(solved.text)
     rings = closing.close(boundary)
-    return page(Shown(off2tool.stem(name), boundary, rings, off2tool.check(name, boundary, rings), unit=unit))
+    return page(Shown(off2tool.stem(name), boundary, rings, off2tool.check(name, boundary, rings), unit=solved.scale(unit)))
 
 
 #: How a file is made in each format: of the name of the source, the solid, and how many millimetres a unit is.

@@ -22,7 +22,7 @@ from ..ending import PART_FAULT, ended
 from ..server.scripts import OutOfTime, ServerFailed, Solid, server_of_environment
 from ..source.joining import MOST_BYTES
 from ..source.sources import Refused, Source, Spot
-from ..source.units import unit_of
+from ..source.units import MILLIMETRE
 from .exports import Process
 
 # The folder in which the package stands.
@@ -33,10 +33,11 @@ _MOST_FILES = 256
 
 
 class Evaluated(NamedTuple):
-    """What came of a source: its 4OFF text and its unit, or its fault, and what else was said of it."""
+    """What came of a source: its 4OFF text, its unit and the step of the text's grid, or its fault, and what else was said."""
 
     text: bytes | None
     unit: Fraction | None
+    step: Fraction
     fault: str
     said: list[str]
 
@@ -79,13 +80,14 @@ def _evaluated(status: int, out: bytes, said: str, name: str, file: str) -> Eval
     """What the process says, in which the file has its own name again."""
     said = re.sub(rf"^{re.escape(name)}\b", lambda _: file, said, flags=re.MULTILINE)
     if status == 0:
-        unit, _, text = out.partition(b"\n")
-        return Evaluated(text, Fraction(unit.decode()) if unit else None, "", said.splitlines())
+        lengths, _, text = out.partition(b"\n")
+        step, *unit = (Fraction(it.decode()) for it in lengths.split())
+        return Evaluated(text, unit[0] if unit else None, step, "", said.splitlines())
     if status != PART_FAULT:
         raise ServerFailed(said.strip() or f"OpenSCAD's front end ended with status {status}", status)
     before, error, behind = said.partition(": error: ")
     lines = before.splitlines()
-    return Evaluated(None, None, lines[-1] + error + behind if error else said, lines[:-1])
+    return Evaluated(None, None, MILLIMETRE, lines[-1] + error + behind if error else said, lines[:-1])
 
 
 def test_reads(text: bytes, file: str, roots: Sequence[str], libraries: Sequence[str]) -> None:
@@ -126,14 +128,15 @@ def _refused(file: str, data: bytes, at: int, word: str, said: str, cure: str) -
 
 
 def main(words: Sequence[str]) -> int:
-    """Writes the unit and the 4OFF text that come of a file. The words are its name, how many folders, these, and definitions."""
+    """Writes the step, the unit if there is one, and the 4OFF text that come of a file. The words are its name, how many folders, these, and definitions."""
     # (which a page that never asks for it isn't to wait for)
     from ..openscad.by_openscad import Reader
+    from ..openscad.conversion import Wanted
     from ..tools.converting import Call, convert, told
 
     name, count, *rest = words
     folders, definitions = rest[: int(count)], rest[int(count) :]
-    reader = Reader(is_exact=False)
+    reader = Reader(Wanted())
     call = Call(
         "scadlive",
         [name],
@@ -151,8 +154,8 @@ def main(words: Sequence[str]) -> int:
 def _written(source: Source, out: str, solid: Solid) -> int:
     from ..tools.words import write_out
 
-    unit = unit_of(source)
-    write_out(out, (str(unit) if unit else "").encode() + b"\n" + solid.text)
+    lengths = [source.step, *([source.unit] if source.unit else [])]
+    write_out(out, " ".join(map(str, lengths)).encode() + b"\n" + solid.text)
     return 0
 
 

@@ -404,7 +404,8 @@ class Handler(BaseHTTPRequestHandler):
         try:
             solved = self.site.solver.solve(request)
             if form == "json":
-                unit_said = str(solved.unit) if solved.unit else None
+                scale = solved.scale()
+                unit_said = str(scale) if scale else None
                 notes = [it.as_json() for it in solved.notes]
                 answer: dict[str, object] = {"solid": solved.text.decode(), "unit": unit_said, "notes": notes, "parameters": found}
                 self._send_json({**answer, "milliseconds": _since(began)})

@@ -20,7 +20,7 @@ from ..source.joining import folders_of_environment
 from ..source.reading import source_within, unused
 from ..source.sources import Refused, Source, Spot
 from ..source.telling import limit_told, refused_told, reply_told
-from ..source.units import unit_of
+from ..source.units import MILLIMETRE, unit_of
 from . import openscad
 from .exports import Exports
 from .folder import Folder
@@ -86,11 +86,18 @@ class NotSolved(Exception):
 
 @dataclass(frozen=True)
 class Solved:
-    """A solid: its 4OFF text, how many millimetres the source says a unit is, and what is noted."""
+    """A solid: its 4OFF text, how many millimetres the source says a unit is, what is noted, and how many units a length of
+    the text is."""
 
     text: bytes
     unit: Fraction | None
     notes: list[Note] = field(default_factory=list)
+    step: Fraction = MILLIMETRE
+
+    def scale(self, unit: Fraction | None = None) -> Fraction | None:
+        """How many millimetres a length of the text is, by this unit or the source's; None where that isn't known."""
+        unit = unit or self.unit
+        return unit * self.step if unit else self.step if self.step != MILLIMETRE else None
 
 
 class Solver:
@@ -154,7 +161,7 @@ class Solver:
         notes = [Note(it) for it in found.said if it.strip()]
         if found.text is None:
             raise NotSolved([told_of(found.fault, _word(found.fault), None, request.file)], True, notes)
-        return Solved(found.text, found.unit, notes)
+        return Solved(found.text, found.unit, notes, found.step)
 
 
 def empty_told(name: str) -> NotSolved:
