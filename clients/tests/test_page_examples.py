@@ -20,7 +20,9 @@ from typing import Iterator, NamedTuple
 from scadserve import Solid, solve
 from tests.calls import PROGRAM, TOP, needs_program
 
-PAGES = [Path(TOP, "README.md"), *(it for it in sorted(Path(TOP, "docs").glob("*.md")) if it.name != "STATEMENT.md")]
+# The generated page has no commands, and those of the live page want its server, with which test_live_document runs them.
+OTHERS = ("STATEMENT.md", "LIVE.md")
+PAGES = [Path(TOP, "README.md"), *(it for it in sorted(Path(TOP, "docs").glob("*.md")) if it.name not in OTHERS)]
 # What a page sees of the repository, and may not write to.
 SEEN = ("bin", "bench", "clients", "docs", "examples", "gallery", "library")
 # Programs that a block of commands may need beside the tools.
