@@ -19,7 +19,7 @@ from typing import Sequence
 from .extrude import turns
 from .frames import frames
 from .front import Front
-from .grid import PLANES, ROOM, Rounded, Rounder, TooMany, placed, written
+from .grid import PLANES, ROOM, Grid, Rounded, Rounder, TooMany, placed, written_grid
 from .reader import CsgFault, Node
 from .space import Space
 from .tree import IDENTITY, Detail, Leaf, Solid, dimension, leaves
@@ -54,9 +54,29 @@ class Conversion:
     told: list[str]
 
 
+@dataclass(frozen=True)
+class Design:
+    """A design on the grid with all its corners, of any size: it may have more planes and shapes than a source."""
+
+    grid: Grid
+    unit: Fraction
+    off: float
+    told: list[str]
+
+
 def converted(nodes: Sequence[Node], wanted: Wanted, front: Front) -> Conversion:
-    """The source of a design. Raises CsgFault where there is none that has its solid."""
+    """The source of a design, without corners of curves where planes or shapes run out. Raises CsgFault where there is none."""
     return _Converter(_solid_nodes(nodes, wanted), wanted, front).conversion()
+
+
+def of_any_size(nodes: Sequence[Node], wanted: Wanted, front: Front) -> Conversion | Design:
+    """The source of a design, or the design itself where that has more planes or shapes than a source. Raises CsgFault."""
+    return _Converter(_solid_nodes(nodes, wanted), wanted, front).of_any_size()
+
+
+def whole(nodes: Sequence[Node], wanted: Wanted, front: Front) -> Design:
+    """A design with all its corners. Raises CsgFault where it has no solid."""
+    return _Converter(_solid_nodes(nodes, wanted), wanted, front).design()
 
 
 def _solid_nodes(nodes: Sequence[Node], wanted: Wanted) -> list[Node]:
@@ -88,14 +108,46 @@ class _Converter:
             rounded = self._rounder.rounded(solid, unit)
         except TooMany as many:
             unit, detail, rounded = self._within(solid, unit, detail, many)
+        return self._source(unit, detail, rounded)
+
+    def of_any_size(self) -> Conversion | Design:
+        """The source, or the design where that has more planes or shapes than a source."""
+        detail = Detail(most_sides=math.inf)
+        solid = self._solid(detail)
+        unit = self._unit(solid)
+        try:
+            return self._source(unit, detail, self._rounder.rounded(solid, unit))
+        except TooMany:
+            return self._design(solid, unit, detail)
+
+    def design(self) -> Design:
+        """The design with all its corners, and what is told of it."""
+        detail = Detail(most_sides=math.inf)
+        solid = self._solid(detail)
+        return self._design(solid, self._unit(solid), detail)
+
+    def _source(self, unit: Fraction, detail: Detail, rounded: Rounded) -> Conversion:
+        tree = self._sound(detail, rounded)
+        told = self._told(unit, detail, rounded)
+        comments = "".join(f"// {it}\n" for it in told[1:] if it not in self._front.said)
+        text = f"// unit: {unit}\n" + comments + "".join(f"{it}\n" for it in written_grid(tree))
+        return Conversion(text.encode("ascii", "replace"), unit, rounded.moved + detail.off, told)
+
+    def _design(self, solid: Solid, unit: Fraction, detail: Detail) -> Design:
+        rounded = Rounder(None).rounded(solid, unit)
+        tree = self._sound(detail, rounded)
+        return Design(tree, unit, rounded.moved + detail.off, self._told(unit, detail, rounded))
+
+    def _sound(self, detail: Detail, rounded: Rounded) -> Grid:
+        """The tree of a design. Raises CsgFault where it is nothing, or isn't exact and should be."""
         if self._wanted.is_exact and detail.hulls:
             raise detail.hulls[0].fault("NotConvex", "a slice of it has hollow sides, and isn't cut into convex parts")
         if rounded.tree is None:
             raise self._fault("Empty", "this design makes no solid at all" + "".join(_vanished(rounded)))
-        told = [_unit_told(unit, rounded), *_fewer_told(detail), *_vanished(rounded), *self._front.said]
-        comments = "".join(f"// {it}\n" for it in told[1:] if it not in self._front.said)
-        text = f"// unit: {unit}\n" + comments + "".join(f"{it}\n" for it in written(rounded.tree))
-        return Conversion(text.encode("ascii", "replace"), unit, rounded.moved + detail.off, told)
+        return rounded.tree
+
+    def _told(self, unit: Fraction, detail: Detail, rounded: Rounded) -> list[str]:
+        return [_unit_told(unit, rounded), *_fewer_told(detail), *_vanished(rounded), *self._front.said]
 
     def _fault(self, word: str, said: str) -> CsgFault:
         return CsgFault(self._nodes[0].line, self._nodes[0].column, word, said)

@@ -37,6 +37,9 @@ class CsgFault(Exception):
         super().__init__(f"{line}:{column}: {word}: {said}")
         self.line, self.column, self.word, self.said = line, column, word, said
 
+    def __reduce__(self) -> tuple[object, ...]:
+        return type(self), (self.line, self.column, self.word, self.said)
+
 
 @dataclass(frozen=True)
 class Node:

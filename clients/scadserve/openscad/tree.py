@@ -196,6 +196,8 @@ class Detail:
     steps: list[tuple[Node, int]] = field(default_factory=list)
     #: Extrusions of which slices are the hulls of their corners, though their sides are hollow.
     hulls: list[Node] = field(default_factory=list)
+    #: So many sides of slices may be cut into convex parts; more have more planes than a part may have.
+    most_sides: float = _MOST_SIDES
     _besides: float = 0.0
     _sides: int = 0
 
@@ -232,9 +234,9 @@ class Detail:
             self.hulls.append(node)
 
     def may_cut(self, sides: int) -> bool:
-        """Whether slices with so many sides may be cut into convex parts: where so few are that two planes for each may suffice."""
+        """Whether slices with so many sides may be cut into convex parts: where there are so few that two planes for each may suffice."""
         self._sides += sides
-        return self.cuts and self._sides <= _MOST_SIDES
+        return self.cuts and self._sides <= self.most_sides
 
     def ring(self, count: int, radius: float, share: float = 1.0) -> tuple[list[int], float]:
         """Which of so many corners of a circle are kept, and how far that is off, up to a share of what it may be.

@@ -41,7 +41,7 @@ def close(boundary: Boundary) -> list[Ring]:
                 line = line_through(boundary.corners[edge[0]], boundary.corners[edge[1]])
                 lines[edge] = lines[edge[::-1]] = line
                 ends.setdefault(line, set()).update(edge)
-    along = {line: _sorted_along(line, corners, boundary.corners) for line, corners in ends.items() if len(corners) > 2}
+    along = {line: sorted_along(line, corners, boundary.corners) for line, corners in ends.items() if len(corners) > 2}
     places = {line: {corner: at for at, corner in enumerate(corners)} for line, corners in along.items()}
 
     def from_start(edge: tuple[int, int]) -> list[int]:
@@ -67,7 +67,7 @@ def line_through(p: Corner, q: Corner) -> Line:
     return tuple(number // divisor for number in direction + moment)
 
 
-def _sorted_along(line: Line, corners: Iterable[int], points: Sequence[Corner]) -> list[int]:
+def sorted_along(line: Line, corners: Iterable[int], points: Sequence[Corner]) -> list[int]:
     """The corners in the direction of the line on which they lie."""
     axis = next(i for i in range(3) if line[i])
 

@@ -16,12 +16,17 @@ from typing import Callable, NamedTuple, Sequence
 
 from ..ending import BAD_CALL, BadCall, NO_MEMORY, PART_FAULT
 from ..files import called, identity, left_over, reason, refusal_to_write, say
+from ..openscad.by_openscad import LargeSource, refused
+from ..openscad.reader import CsgFault
 from ..server.scripts import SERVER, Complex, Malformed, NoMemory, Reply, ServerFailed, Solid, passed_limit
+from ..solid.surface import NotClosed
 from ..source.answering import answered
 from ..source.faults import STATUSES
 from ..source.reading import read_source, unused
 from ..source.sources import Refused, Source
 from ..source.telling import limit_told, refused_told, reply_told
+from ..tiles.making import made, text_of
+from ..tiles.progress import Progress
 from .words import say_bad
 
 NO_ANSWER = 125
@@ -56,6 +61,10 @@ class Call:
     read: Callable[[str, Sequence[str], Sequence[str]], Source] = read_source
     #: A source of the same file whose solid is smaller, for one that passes a limit of the server; None where there is none.
     coarser: Callable[[Source], Source | None] | None = None
+    #: The same source as one whose solid is made by tiles; None where there is none.
+    larger: Callable[[Source], LargeSource | None] | None = None
+    #: How many tiles are made side by side, where that is said.
+    jobs: int | None = None
 
 
 def told(tool: str, work: Callable[[], int]) -> int:
@@ -77,14 +86,17 @@ def convert(call: Call, write: Callable[[Source, str, Solid], int]) -> int:
     """The highest status of the files of a call, each of whose solids was written to its place by `write`, which gives a
     status and says what is wrong. Raises BadCall, and what `run` of `server` raises."""
     parts, statuses = parts_of(call)
-    outs = iter([it.out for it in parts])
     began = monotonic()
     quick = None
-    for source, reply in answered([it.source for it in parts], call.half, call.server):
-        quick = monotonic() - began < QUICK if quick is None else quick
-        out = next(outs)
+    replies = answered([it.source for it in parts if not isinstance(it.source, LargeSource)], call.half, call.server)
+    for source, out in parts:
         try:
-            statuses.append(_finished(call, *_smaller(call, source, reply), out, write, quick))
+            if isinstance(source, LargeSource):
+                statuses.append(_finished(call, source, _of_tiles(call, source), out, write, True))
+                continue
+            source, reply = next(replies)
+            quick = monotonic() - began < QUICK if quick is None else quick
+            statuses.append(_finished(call, *_other(call, source, reply), out, write, quick))
         except Refused as refused:
             _say_of(call, out, refused_told(refused))
             statuses.append(PART_FAULT)
@@ -115,7 +127,7 @@ def parts_of(call: Call) -> tuple[list[Part], list[int]]:
             if identity(out, 1) in sources:
                 raise BadCall(f"cannot write {called(out, 'standard output')}: that is a source")
             source = _read(call, file)
-            limit = passed_limit(source.sent())
+            limit = None if isinstance(source, LargeSource) else passed_limit(source.sent())
             if limit:
                 _say_of(call, out, limit_told(source, limit))
                 statuses.append(PART_FAULT)
@@ -153,14 +165,33 @@ def _read(call: Call, file: str) -> Source:
     return source
 
 
-def _smaller(call: Call, source: Source, reply: Reply) -> tuple[Source, Reply]:
-    """The source and its answer, or those of one of the same file that is within the server's limits. Raises Refused."""
-    while isinstance(reply, Complex) and call.coarser is not None:
-        coarser = call.coarser(source)
+def _other(call: Call, source: Source, reply: Reply) -> tuple[Source, Reply]:
+    """The source and its answer; where that is a limit, those of the same file by tiles, or with fewer planes. Raises Refused."""
+    while isinstance(reply, Complex):
+        large = call.larger(source) if call.larger else None
+        if large is not None:
+            return large, _of_tiles(call, large)
+        coarser = call.coarser(source) if call.coarser else None
         if coarser is None:
             break
         [(source, reply)] = answered([coarser], call.half, call.server)
     return source, reply
+
+
+def _of_tiles(call: Call, source: LargeSource) -> Solid:
+    """The solid of a source by tiles, and how many there were is said. Raises Refused, and what `run` of `server` raises."""
+    assert source.design is not None
+    progress = Progress(source.name)
+    try:
+        found = made(source.design.grid, call.server, call.jobs, progress=progress)
+    except CsgFault as fault:
+        raise refused(source.name, fault) from fault
+    except NotClosed as fault:
+        raise Malformed(f"{source.name}: the solids of its tiles don't fit one another: {fault}") from fault
+    finally:
+        progress.end()
+    say(f"{source.name}: made of {found.tiles} tiles; each tile's text is proved, and that they join to a closed surface is checked\n")
+    return text_of(found.surface)
 
 
 def _finished(

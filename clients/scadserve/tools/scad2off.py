@@ -27,7 +27,7 @@ def _do(words: Sequence[str]) -> int:
     asked = options_of(words)
     if asked.explain is not None:
         return _explained(asked.explain)
-    reader = Reader(asked.exact) if asked.by_openscad else None
+    reader = Reader(asked.exact, asked.fewer) if asked.by_openscad else None
     call = Call(
         TOOL,
         asked.files,
@@ -41,6 +41,8 @@ def _do(words: Sequence[str]) -> int:
         begins=(b"4OFF\n",),
         read=reader or read_source,
         coarser=reader.coarser if reader else None,
+        larger=reader.larger if reader else None,
+        jobs=asked.jobs,
     )
     return _script_written(call) if asked.script else convert(call, _text_written)
 

@@ -41,7 +41,7 @@ def main(words: Sequence[str]) -> int:
 
 def _do(words: Sequence[str]) -> int:
     asked = _read_words(words)
-    reader = Reader(asked.exact) if asked.by_openscad else None
+    reader = Reader(asked.exact, asked.fewer) if asked.by_openscad else None
     call = Call(
         TOOL,
         asked.files,
@@ -54,6 +54,8 @@ def _do(words: Sequence[str]) -> int:
         begins=BEGINS,
         read=reader or (read_source if asked.unit else _source_with_unit),
         coarser=reader.coarser if reader else None,
+        larger=reader.larger if reader else None,
+        jobs=asked.jobs,
     )
     return convert(call, lambda source, out, solid: off2tool.told(TOOL, lambda: _write(asked, source, out, solid)))
 

@@ -7,6 +7,7 @@ from __future__ import annotations
 
 import argparse
 import os
+import re
 from typing import Mapping, NoReturn, Sequence
 
 from ..ending import BadCall
@@ -101,17 +102,28 @@ def front_end_words(words: Words) -> None:
         action="store_true",
         help="let OpenSCAD evaluate the source, and build the solid of its corners rounded to a grid; what is changed is told",
     )
+    words.add_argument("--exact", action="store_true", help="with --by-openscad: refuse a slice that could be a hull alone")
     words.add_argument(
-        "--exact", action="store_true", help="with --by-openscad: leave no corner of a curve out, and refuse where planes run out"
+        "--fewer",
+        action="store_true",
+        help="with --by-openscad: where a part has more planes than a source may have, leave corners of curves out",
     )
+    words.add_argument("--jobs", type=_jobs, metavar="N", help="how many tiles of a large part are made side by side; else as many as processors")
 
 
 def test_front_end(asked: argparse.Namespace) -> None:
     """Raises BadCall where words go with OpenSCAD's front end alone, or not with it."""
-    if asked.exact and not asked.by_openscad:
-        raise BadCall("--exact is for --by-openscad")
+    for word in ("exact", "fewer", "jobs"):
+        if getattr(asked, word) and not asked.by_openscad:
+            raise BadCall(f"--{word} is for --by-openscad")
     if asked.half and asked.by_openscad:
         raise BadCall("--by-openscad chooses its grid itself, so it takes no --half")
+
+
+def _jobs(text: str) -> int:
+    if not re.fullmatch("[1-9][0-9]{0,2}", text):
+        raise argparse.ArgumentTypeError(f"{text!r} is no number from 1 to 999")
+    return int(text)
 
 
 def _definition(text: str) -> str:
