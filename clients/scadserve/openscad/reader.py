@@ -26,8 +26,8 @@ _TOKEN = re.compile(
 _BLANK = re.compile(r"(?:\s|//[^\n]*|/\*.*?\*/)*", re.DOTALL)
 _WORDS: dict[str, Value] = {"true": True, "false": False, "undef": None, "nan": math.nan, "inf": math.inf}
 _OF_TEXT = {"text", "size", "spacing", "font", "direction", "language", "script", "halign", "valign", "$fn", "$fa", "$fs"}
-#: Nodes inside one another: more than these have no reader here.
-DEEPEST = 400
+#: Nodes inside one another, and nodes in all: more than these have no reader here.
+DEEPEST, MOST_NODES = 400, 100_000
 
 
 class CsgFault(Exception):
@@ -135,6 +135,7 @@ def read(text: str) -> list[Node]:
     tokens = _Tokens(text)
     top: list[Node] = []
     within = [top]
+    count = 0
     while tokens.kind is not None or len(within) > 1:
         if tokens.kind == "symbol" and tokens.word == "}" and len(within) > 1:
             tokens.next()
@@ -142,6 +143,9 @@ def read(text: str) -> list[Node]:
             continue
         node = _head(tokens)
         within[-1].append(node)
+        count += 1
+        if count > MOST_NODES:
+            raise node.fault("TooManyNodes", f"the design has more than {MOST_NODES} nodes")
         if tokens.kind == "symbol" and tokens.word == ";":
             tokens.next()
             continue

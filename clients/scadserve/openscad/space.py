@@ -61,6 +61,7 @@ class Space:
         if height <= 0 or min(low, high) < 0 or max(low, high) <= 0:
             return None
         count = fragments(node, max(low, high))
+        self._detail.take(node, 2 * count)
         kept, off = self._detail.ring(count, max(low, high) * stretch(matrix))
         self._detail.is_off(off)
         self._detail.note(node, len(kept), count)
@@ -76,6 +77,7 @@ class Space:
             return None
         count = fragments(node, radius)
         rings = (count + 1) // 2
+        self._detail.take(node, count * rings)
         kept, off = self._detail.ring(count, radius * stretch(matrix), 0.5)
         # (the first ring and the middle one, of which there may be two, stay, and the lower half is as the upper one)
         half, besides = list(range(rings // 2 + 1)), 0.0

@@ -21,6 +21,8 @@ IDENTITY: Matrix = ((1.0, 0.0, 0.0, 0.0), (0.0, 1.0, 0.0, 0.0), (0.0, 0.0, 1.0, 
 UNION, DIFFERENCE, INTERSECTION = "union", "difference", "intersection"
 # More sides of slices than these have more planes than a part may have.
 _MOST_SIDES = 512
+#: The curves of a design have at most so many corners together.
+MOST_CORNERS = 400_000
 
 
 @dataclass(frozen=True)
@@ -200,6 +202,13 @@ class Detail:
     most_sides: float = _MOST_SIDES
     _besides: float = 0.0
     _sides: int = 0
+    _corners: int = 0
+
+    def take(self, node: Node, corners: int) -> None:
+        """Notes that a curve has so many corners, before they are made. Raises CsgFault where all have too many."""
+        self._corners += corners
+        if self._corners > MOST_CORNERS:
+            raise node.fault("TooManyCorners", f"with it the curves of the design have {self._corners} corners, and {MOST_CORNERS} is the most")
 
     def is_off(self, distance: float) -> None:
         """Notes that some point is so far off."""
@@ -258,7 +267,7 @@ class Detail:
 
         The first and the last stay.
         """
-        for kept in range(1, count):
+        for kept in range(1, count) if self.most else ():
             found = sorted({(it * count * 2 + kept) // (2 * kept) for it in range(kept + 1)})
             gap = max(after - before for before, after in zip(found, found[1:]))
             off = radius * (1 - math.cos(gap * step / 2))
@@ -275,8 +284,12 @@ def fragments(node: Node, radius: float) -> int:
     if radius < 2**-20 or math.isinf(fn) or math.isnan(fn):  # type: ignore[arg-type]
         return 3
     if fn > 0:  # type: ignore[operator]
-        return int(max(fn, 3))  # type: ignore[type-var, arg-type]
-    return math.ceil(max(min(360 / fa, radius * 2 * math.pi / fs), 5))  # type: ignore[operator]
+        count = int(max(fn, 3))  # type: ignore[type-var, arg-type]
+    else:
+        count = math.ceil(max(min(360 / fa, radius * 2 * math.pi / fs), 5))  # type: ignore[operator]
+    if count > MOST_CORNERS:
+        raise node.fault("TooManyCorners", f"it has {count} corners, and {MOST_CORNERS} is the most")
+    return count
 
 
 def circle(radius: float, count: int, kept: Iterable[int]) -> list[tuple[float, float]]:

@@ -12,14 +12,14 @@ one design, and are refused. Faces of one plane on both sides of a wall are cut 
 from __future__ import annotations
 
 from dataclasses import dataclass
-from typing import Iterable, Sequence
+from typing import AbstractSet, Iterable, Sequence
 
 from ..solid import closing
 from ..solid.closing import ears, line_through
 from ..solid.fouroff import Boundary, Corner, Plane, flatten
 from ..solid.merging import merged
 from ..solid.surface import NO_SIDE, NotClosed, Side, Surface, next_side, nodes_of, pair, surface_of
-from .cutting import Box
+from .cutting import Box, either
 
 
 @dataclass(frozen=True)
@@ -32,18 +32,32 @@ class Part:
     planes: "list[Plane]"
 
 
-def part_of(boundary: Boundary, box: Box) -> Part:
-    """What of the boundary of a tile's solid is that of the whole. Raises NotClosed where more than walls is left out."""
+class NotOfTile(ValueError):
+    """A solid isn't that of a tile: why not."""
+
+
+def part_of(boundary: Boundary, box: Box, planes: "AbstractSet[Plane]") -> Part:
+    """What of the boundary of a tile's solid is that of the whole, which lies on these planes, of which each is one of two opposite ones.
+
+    Raises NotOfTile where the solid isn't in the box, lies on other planes, or isn't closed within the tile.
+    """
+    if not all(box[axis] * it[3] <= it[axis] <= box[axis + 3] * it[3] for it in boundary.corners for axis in range(3)):
+        raise NotOfTile("a corner of it is outside of its tile")
     walls = {plane for axis in range(3) for plane in (_wall(axis, -1, -box[axis]), _wall(axis, 1, box[axis + 3]))}
     kept = [at for at, plane in enumerate(boundary.planes) if plane not in walls]
     inner = Boundary(boundary.corners, [boundary.faces[it] for it in kept], [boundary.planes[it] for it in kept])
-    surface = merged(surface_of(inner, closing.close(inner), is_part=True))
+    if not all(either(it) in planes for it in inner.planes):
+        raise NotOfTile("a face of it lies on a plane that no shape of its tile has")
+    try:
+        surface = merged(surface_of(inner, closing.close(inner), is_part=True))
+    except NotClosed as fault:
+        raise NotOfTile(str(fault)) from None
     numbers: "dict[int, int]" = {}
     starts = [numbers.setdefault(surface.places[it], len(numbers)) for it in surface.starts]
     corners = [boundary.corners[it] for it in numbers]
     for side, twin in enumerate(surface.twins):
         if twin == NO_SIDE and not _is_on_wall(corners[starts[side]], corners[starts[next_side(side)]], box):
-            raise NotClosed("not closed: a face ends within a tile")
+            raise NotOfTile("it is not closed: a face ends within the tile")
     return Part(corners, starts, surface.twins, surface.planes)
 
 

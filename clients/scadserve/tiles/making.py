@@ -3,24 +3,20 @@
 from __future__ import annotations
 
 from dataclasses import dataclass
-from fractions import Fraction
-from typing import Callable, Iterator, Sequence
+from typing import Callable, Sequence
 
 from ..openscad.grid import Grid
-from ..openscad.reader import CsgFault
 from ..server.batches import batches
-from ..server.replies import Complex, Fault, NoMemory, Reply
+from ..server.replies import Complex, Fault, Malformed, NoMemory, Reply
 from ..server.replies import Solid as ToldSolid
-from ..server.scripts import OutOfMemory, passed_limit, run
+from ..server.scripts import OutOfMemory, run
 from ..solid import fouroff
 from ..solid.surface import Surface
-from .cutting import Box, Fill, Limits, Tile, count_of, halved, near_leaves, whole_box, whole_tree, within
+from .cutting import Limits, Tile
+from .dividing import facets_of, halves, pieces, sources
 from .gluing import Part, glued, part_of
-from .shapes import TooMuch, source
 from .side_by_side import done, processors
 
-# What of a design goes to one process at a time has about so many facets.
-_FACETS_AT_ONCE = 2400
 # Limits of the server that a smaller tile may be within.
 _OF_SIZE = ("TooManyPlanes", "TooManyParts", "TooManyLines", "TooLarge")
 
@@ -45,100 +41,49 @@ def made(
     Raises CsgFault where a tile can't be halved, NotClosed where what is put together isn't closed, and what `run` of `server`
     raises.
     """
-    pieces = _pieces(grid, limits)
-    sizes = [count_of(it, 10**9)[0] for it in pieces]
+    found = pieces(grid, limits)
+    sizes = [facets_of(it, 10**9) for it in found]
     solver = _Solver(server, limits)
-    parts: "list[list[Part]]" = [[] for _ in pieces]
+    parts: "list[list[Part]]" = [[] for _ in found]
     tiles = finished = 0
-    for number, found in done(solver, pieces, jobs or processors()):
-        parts[number] = found
-        tiles += len(found)
+    for number, of_piece in done(solver, found, jobs or processors()):
+        parts[number] = of_piece
+        tiles += len(of_piece)
         finished += sizes[number]
         progress(tiles, finished / max(1, sum(sizes)))
-    return Made(glued(it for found in parts for it in found), tiles)
-
-
-def _pieces(grid: Grid, limits: Limits) -> "list[Tile]":
-    """Parts of a design, of which each goes to one process."""
-    tree = whole_tree(grid)
-    box = whole_box(tree)
-    whole = within(tree, box)
-    found = []
-    waiting = [] if isinstance(whole, Fill) else [Tile(box, whole)]
-    while waiting:
-        tile = waiting.pop()
-        if count_of(tile, _FACETS_AT_ONCE)[0] <= _FACETS_AT_ONCE:
-            found.append(tile)
-        else:
-            waiting += _halves(tile)
-    return found
-
-
-def _halves(tile: Tile) -> "list[Tile]":
-    """The parts of a tile. Raises CsgFault where there are none."""
-    found = halved(tile)
-    if found is None:
-        node = next(near_leaves(tile.tree)).leaf.node
-        raise CsgFault(node.line, node.column, "TooManyPlanes", f"{node.name}: {_place_of(tile.box)} has more planes or shapes than a part may have")
-    return found
-
-
-def _place_of(box: Box) -> str:
-    return f"the box from {', '.join(map(str, box[:3]))} to {', '.join(map(str, box[3:]))} of the grid"
+    return Made(glued(it for of_piece in parts for it in of_piece), tiles)
 
 
 class _Solver:
-    """Makes the parts of a boundary that are in a tile."""
+    """Makes the parts of a boundary that are in a piece of a design."""
 
     def __init__(self, server: "Sequence[str]", limits: Limits) -> None:
         self._server, self._limits = server, limits
 
     def __call__(self, piece: Tile) -> "list[Part]":
-        """The parts of the tiles of a piece."""
+        """The part of each tile of a piece."""
         found = []
-        waiting = list(self._sources([piece]))
+        waiting = list(sources([piece], self._limits))
         while waiting:
             again = []
-            for (tile, _), reply in zip(waiting, self._replies([lines for _, lines in waiting])):
+            for it, reply in zip(waiting, self._replies([it.lines for it in waiting])):
                 if isinstance(reply, ToldSolid):
-                    found.append(part_of(fouroff.read(reply.text), tile.box))
+                    found.append(part_of(fouroff.read(reply.text), it.tile.box, it.planes))
                 elif isinstance(reply, Complex) or (isinstance(reply, Fault) and reply.word in _OF_SIZE):
-                    again += _halves(tile)
+                    again += halves(it.tile)
                 elif isinstance(reply, NoMemory):
-                    raise OutOfMemory("the server ran out of memory", 6)
+                    raise OutOfMemory("memory ran out in the server", 6)
                 else:
-                    raise AssertionError(f"a tile is answered with {reply}")
-            waiting = list(self._sources(again))
+                    raise Malformed(f"a tile is answered {bytes(reply).decode().strip()}")
+            waiting = list(sources(again, self._limits))
         return found
 
-    def _sources(self, tiles: "list[Tile]") -> "Iterator[tuple[Tile, list[bytes]]]":
-        """Tiles that are within the limits, with their sources."""
-        waiting = tiles[::-1]
-        while waiting:
-            tile = waiting.pop()
-            lines = self._source(tile)
-            if lines is None:
-                waiting += _halves(tile)[::-1]
-            elif lines:
-                yield tile, lines
-
-    def _source(self, tile: Tile) -> "list[bytes] | None":
-        """The source of a tile, without lines where nothing is in it; None where it passes a limit."""
-        facets, leaves = count_of(tile, self._limits.facets)
-        if facets > self._limits.facets or leaves > self._limits.shapes:
-            return None
-        try:
-            lines = source(tile, self._limits)
-        except TooMuch:
-            return None
-        return None if lines and passed_limit(lines) else lines or []
-
-    def _replies(self, sources: "list[list[bytes]]") -> "list[Reply]":
+    def _replies(self, of_tiles: "list[list[bytes]]") -> "list[Reply]":
         found: "dict[int, Reply]" = {}
-        for batch in batches(sources, False):
+        for batch in batches(of_tiles, False):
             [answers] = run([batch.script], self._server, 1)
             found.update(batch.replies(answers))
-        return [found[it] for it in range(len(sources))]
+        return [found[it] for it in range(len(of_tiles))]
 
 
 def text_of(surface: Surface) -> ToldSolid:

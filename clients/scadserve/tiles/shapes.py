@@ -37,14 +37,24 @@ class Shape:
     text: str
 
 
-def source(tile: Tile, limits: Limits) -> "list[bytes] | None":
-    """The lines of a tile's source; None where nothing of the design is in it. Raises TooMuch."""
+@dataclass(frozen=True)
+class TileSource:
+    """A tile with the lines of its source, and the planes of the design on which faces of its solid may lie, each one of two opposite
+    ones."""
+
+    tile: Tile
+    lines: "list[bytes]"
+    planes: "set[Plane]"
+
+
+def source(tile: Tile, limits: Limits) -> "TileSource | None":
+    """The source of a tile; None where nothing of the design is in it. Raises TooMuch."""
     shapes = _Shapes(tile.box, limits)
     tree = shapes.of(tile.tree)
     if tree is None:
         return None
     whole = Join(INTERSECTION, [Shape(shape_text(block(tile.box))), tree])
-    return [it.encode("ascii") for it in written(whole, lambda it: it.text)]
+    return TileSource(tile, [it.encode("ascii") for it in written(whole, lambda it: it.text)], shapes.planes)
 
 
 class _Shapes:
@@ -54,7 +64,7 @@ class _Shapes:
         self._box, self._limits = box, limits
         a, b, c, x, y, z = box
         self._corners = [(i, j, k) for i in (a, x) for j in (b, y) for k in (c, z)]
-        self._planes: "set[Plane]" = set()
+        self.planes: "set[Plane]" = set()
         self._count = self._others = 0
 
     def of(self, tree: Tree) -> "Shape | Join[Shape] | None":
@@ -74,10 +84,10 @@ class _Shapes:
 
     def _shape(self, text: str, planes: "Sequence[Plane]", others: int) -> Shape:
         """A shape with these planes and about so many others."""
-        self._planes.update(map(either, planes))
+        self.planes.update(map(either, planes))
         self._others += others
         self._count += 1
-        if len(self._planes) + self._others > self._limits.planes or self._count > self._limits.shapes:
+        if len(self.planes) + self._others > self._limits.planes or self._count > self._limits.shapes:
             raise TooMuch
         return Shape(text)
 

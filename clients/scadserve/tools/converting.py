@@ -25,6 +25,7 @@ from ..source.faults import STATUSES
 from ..source.reading import read_source, unused
 from ..source.sources import Refused, Source
 from ..source.telling import limit_told, refused_told, reply_told
+from ..tiles.gluing import NotOfTile
 from ..tiles.making import made, text_of
 from ..tiles.progress import Progress
 from .words import say_bad
@@ -186,8 +187,8 @@ def _of_tiles(call: Call, source: LargeSource) -> Solid:
         found = made(source.design.grid, call.server, call.jobs, progress=progress)
     except CsgFault as fault:
         raise refused(source.name, fault) from fault
-    except NotClosed as fault:
-        raise Malformed(f"{source.name}: the solids of its tiles don't fit one another: {fault}") from fault
+    except (NotClosed, NotOfTile) as fault:
+        raise Malformed(f"{source.name}: the solids of its tiles make no whole: {fault}") from fault
     finally:
         progress.end()
     say(f"{source.name}: made of {found.tiles} tiles; each tile's text is proved, and that they join to a closed surface is checked\n")

@@ -108,7 +108,12 @@ def front_end_words(words: Words) -> None:
         action="store_true",
         help="with --by-openscad: where a part has more planes than a source may have, leave corners of curves out",
     )
-    words.add_argument("--jobs", type=_jobs, metavar="N", help="how many tiles of a large part are made side by side; else as many as processors")
+    jobs_word(words, "how many tiles of a large part are made side by side")
+
+
+def jobs_word(words: Words, what: str) -> None:
+    """The word for how much is done side by side."""
+    words.add_argument("--jobs", type=_jobs, metavar="N", help=f"{what}; else as many as there are processors")
 
 
 def test_front_end(asked: argparse.Namespace) -> None:
