@@ -9,9 +9,9 @@ from random import Random
 from typing import Mapping
 
 from scadserve.openscad.exact_hull import hull
-from scadserve.openscad.grid import Body, Grid
+from scadserve.openscad.grid import Body, Grid, split, written_grid
 from scadserve.openscad.reader import Node
-from scadserve.openscad.tree import DIFFERENCE, INTERSECTION, UNION, Join
+from scadserve.openscad.tree import DIFFERENCE, INTERSECTION, UNION, Join, joined
 from scadserve.solid.fouroff import Boundary, Plane, flatten
 
 NODE = Node("made", {}, "", 1, 1)
@@ -75,6 +75,7 @@ def design(chance: Random, planes: int, size: int = 400, step: int = 25) -> Grid
         else:
             count = chance.randrange(4, max(6, min(200, left)))
             radii = chance.choice([(1, 1), (2, 1), (1, 0), (2, 0)])
+            count = count if radii[1] else min(count, 40)
             unit = chance.randrange(step, size // 3, step)
             parts.append(cone(place(), radii[0] * unit, radii[1] * unit, chance.randrange(step, size, step), count))
             left -= count + 2
@@ -88,6 +89,19 @@ def _joined(chance: Random, parts: "list[Grid]") -> Grid:
     at = chance.randrange(1, len(parts))
     operation = chance.choice([UNION, UNION, UNION, DIFFERENCE, DIFFERENCE, INTERSECTION] if len(parts) < 12 else [UNION, UNION, DIFFERENCE])
     return Join(operation, [_joined(chance, parts[:at]), _joined(chance, parts[at:])])
+
+
+def one_source(grid: Grid) -> str:
+    """A design as one source, in which leaves with many corners are unions of hulls."""
+
+    def parted(tree: Grid) -> Grid:
+        if isinstance(tree, Join):
+            return Join(tree.operation, [parted(it) for it in tree.parts])
+        found = joined(UNION, [Body(it, tree.node) for it in split(tree.hull)])
+        assert found is not None
+        return found
+
+    return "\n".join(written_grid(parted(grid)))
 
 
 def areas(boundary: Boundary) -> "Mapping[Plane, Fraction]":

@@ -9,7 +9,6 @@ import unittest
 from random import Random
 
 from scadserve.openscad.exact_hull import hull
-from scadserve.openscad.grid import written_grid
 from scadserve.openscad.reader import CsgFault
 from scadserve.openscad.tree import DIFFERENCE, UNION, Join
 from scadserve.server.scripts import ServerFailed
@@ -17,7 +16,7 @@ from scadserve.solid import fouroff, measures
 from scadserve.solid.surface import NotClosed
 from scadserve.solving import Solid, solve
 from scadserve.tiles.cutting import EMPTY, FULL, Limits, Near, Tile, halved, near_leaves, whole_box, whole_tree, within
-from scadserve.tiles.dividing import pieces, sources
+from scadserve.tiles.dividing import halves, pieces, sources
 from scadserve.tiles.gluing import NotOfTile, glued, part_of
 from scadserve.tiles.making import made, text_of
 from scadserve.tiles.shapes import _Shapes, leaf_pieces
@@ -25,7 +24,7 @@ from scadserve.tiles.side_by_side import done
 from tests import chance
 from tests.calls import PROGRAM, TOP, needs_program
 
-SMALL = Limits(planes=40, facets=120, shapes=20)
+SMALL = Limits(planes=100, facets=100, shapes=20)
 
 
 def boxes(low, high):
@@ -77,7 +76,7 @@ class Cut(unittest.TestCase):
         tree = whole_tree(grid)
         self.assertIsNone(halved(Tile((0, 0, 0, 4, 4, 4), within(tree, (0, 0, 0, 4, 4, 4)))))
         with self.assertRaises(CsgFault) as caught:
-            list(sources([Tile((0, 0, 0, 4, 4, 4), tree)], Limits(planes=2)))
+            halves(Tile((0, 0, 0, 4, 4, 4), tree))
         self.assertEqual(caught.exception.word, "TooManyPlanes")
         self.assertIn("between 0, 0, 0 and 4, 4, 4", caught.exception.said)
 
@@ -204,7 +203,7 @@ class WithTheProgram(unittest.TestCase):
     """Designs by tiles and as one source: the same solid."""
 
     def assert_same(self, grid, limits=SMALL):
-        [one] = solve(["\n".join(written_grid(grid))], server=PROGRAM)
+        [one] = solve([chance.one_source(grid)], server=PROGRAM)
         self.assertIsInstance(one, Solid, one)
         whole = made(grid, [PROGRAM], 2, limits)
         joined = fouroff.read(text_of(whole.surface).text)

@@ -19,6 +19,8 @@ from .shapes import TileSource, TooMuch, source
 
 # A piece has about so many facets.
 _FACETS_AT_ONCE = 2400
+# Where a tile is so small, as at the tip of a cone with many sides, smaller ones have no fewer facets, and the server's own limits hold.
+_SMALL, _OWN_LIMITS = 8, Limits(planes=4000, facets=4000, shapes=1000)
 
 
 def pieces(grid: Grid, limits: Limits) -> "list[Tile]":
@@ -60,18 +62,28 @@ def sources(tiles: "Sequence[Tile]", limits: Limits) -> "Iterator[TileSource]":
     waiting = list(tiles[::-1])
     while waiting:
         tile = waiting.pop()
-        facets, leaves = count_of(tile, limits.facets)
         try:
-            if facets > limits.facets or leaves > limits.shapes:
-                raise TooMuch
-            found = source(tile, limits)
-            if found is not None and passed_limit(found.lines):
-                raise TooMuch
+            found = _within_limits(tile, _OWN_LIMITS if _is_small(tile.box) else limits)
         except TooMuch:
             waiting += halves(tile)[::-1]
             continue
         if found is not None:
             yield found
+
+
+def _is_small(box: Box) -> bool:
+    return max(high - low for low, high in zip(box, box[3:])) <= _SMALL
+
+
+def _within_limits(tile: Tile, limits: Limits) -> "TileSource | None":
+    """The source of a tile; None where nothing is in it. Raises TooMuch."""
+    facets, leaves = count_of(tile, limits.facets)
+    if facets > limits.facets or leaves > limits.shapes:
+        raise TooMuch
+    found = source(tile, limits)
+    if found is not None and passed_limit(found.lines):
+        raise TooMuch
+    return found
 
 
 __all__ = ["CsgFault", "TileSource", "facets_of", "halves", "pieces", "sources"]

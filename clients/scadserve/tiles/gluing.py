@@ -15,7 +15,7 @@ from dataclasses import dataclass
 from typing import AbstractSet, Iterable, Sequence
 
 from ..solid import closing
-from ..solid.closing import ears, line_through
+from ..solid.closing import ears
 from ..solid.fouroff import Boundary, Corner, Plane, flatten
 from ..solid.merging import merged
 from ..solid.surface import NO_SIDE, NotClosed, Side, Surface, next_side, nodes_of, pair, surface_of
@@ -116,7 +116,7 @@ class _Gluing:
 
     def _cut(self, corners: "Sequence[Corner]", border: "Sequence[Side]") -> None:
         """Cuts triangles at the border anew, so that no corner of another one is inside an edge there."""
-        inside = _inside([(self._starts[it], self._starts[next_side(it)]) for it in border], corners)
+        inside = closing.corners_inside([(self._starts[it], self._starts[next_side(it)]) for it in border], corners)
         cut = {side: found for side, found in zip(border, inside) if found}
         for triangle in sorted({it // 3 for it in cut}):
             self._cut_triangle(triangle, cut, corners)
@@ -147,21 +147,3 @@ class _Gluing:
                 self._twins[side] = twin
                 if twin != NO_SIDE:
                     self._twins[twin] = side
-
-
-def _inside(edges: "Sequence[tuple[int, int]]", corners: "Sequence[Corner]") -> "list[list[int]]":
-    """For each edge the corners of others on its line that are inside it, in its direction."""
-    lines = [line_through(corners[p], corners[q]) for p, q in edges]
-    ends: "dict[closing.Line, set[int]]" = {}
-    for line, edge in zip(lines, edges):
-        ends.setdefault(line, set()).update(edge)
-    along = {line: closing.sorted_along(line, found, corners) for line, found in ends.items() if len(found) > 2}
-    places = {line: {corner: at for at, corner in enumerate(found)} for line, found in along.items()}
-    found = []
-    for line, (p, q) in zip(lines, edges):
-        if line not in along:
-            found.append([])
-            continue
-        start, end = places[line][p], places[line][q]
-        found.append(along[line][start + 1 : end] if start < end else along[line][end + 1 : start][::-1])
-    return found

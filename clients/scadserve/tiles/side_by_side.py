@@ -58,8 +58,8 @@ class _Team(Generic[P, T]):
             if self._give(pipe):
                 busy.add(pipe)
         while busy:
-            for pipe in wait(list(busy)):
-                assert isinstance(pipe, Connection)
+            for ready in wait(list(busy)):
+                pipe = next(it for it in busy if it is ready)
                 number, found, error = self._taken(pipe)
                 if error is not None:
                     raise error

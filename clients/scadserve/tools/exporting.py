@@ -23,7 +23,7 @@ from ..solid.fouroff import Boundary
 from ..solid.measures import Volume, box, shown
 from ..solid.merging import merged
 from ..solid.meshes import Mesh, mesh
-from ..solid.surface import NotClosed, surface_of
+from ..solid.surface import NotClosed, Surface, surface_of
 from ..source.units import unit_argument
 from . import off2tool
 from .off2tool import BadSolid
@@ -65,6 +65,13 @@ def export(file: str, boundary: Boundary, unit: Fraction, form: str) -> tuple[Me
         surface = merged(surface_of(boundary, rings))
     except NotClosed as fault:
         raise BadSolid(f"{called(file)}: error: {fault}") from None
+    return export_closed(file, boundary, rings, surface, unit, form)
+
+
+def export_closed(
+    file: str, boundary: Boundary, rings: Sequence[closing.Ring], surface: Surface, unit: Fraction, form: str
+) -> tuple[Mesh, str]:
+    """The same of a boundary whose rings are closed, and of its surface. Raises BadSolid."""
     solid = mesh(off2tool.stem(file), surface, unit, form)
     volume = off2tool.check(file, boundary, solid.triangles)
     if not solid.triangles:

@@ -5,7 +5,7 @@ from __future__ import annotations
 from typing import Sequence
 
 from ..ending import BAD_CALL, BadCall, ended
-from ..openscad.by_openscad import Reader
+from ..openscad.by_openscad import LargeSource, Reader
 from ..server.batches import batches
 from ..server.scripts import Solid, server_of_environment
 from ..source.faults import explanation
@@ -63,6 +63,9 @@ def _script_written(call: Call) -> int:
     parts, statuses = parts_of(call)
     if statuses:
         return max(statuses)
+    for it in parts:
+        if isinstance(it.source, LargeSource):
+            raise BadCall(f"{it.source.name} is made by tiles, and --script prints the script of one source (--fewer makes it one)")
     scripts = [bytes(it.script) for it in batches([it.source.sent() for it in parts], call.half)]
     if len(scripts) != 1:
         raise BadCall(f"these files make {len(scripts)} scripts, and --script prints one")

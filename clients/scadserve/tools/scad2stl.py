@@ -18,9 +18,10 @@ from ..solid.formats import BEGINS, WRITERS
 from ..source.reading import read_source
 from ..source.sources import Source
 from ..source.units import MILLIMETRE, unit_of
+from ..tiles.making import JoinedSolid, boundary_of
 from . import off2tool
 from .converting import Call, convert, told
-from .exporting import ending_of, export, format_of, mesh_words
+from .exporting import ending_of, export, export_closed, format_of, mesh_words
 from .scad2off_words import STATUSES
 from .words import Words, front_end_words, outs_of, source_words, test_front_end, test_outs, write_out
 
@@ -74,7 +75,11 @@ def _write(asked: Namespace, source: Source, out: str, solid: Solid) -> None:
         unit = asked.unit * (unit_of(source) or MILLIMETRE)
     file = "-" if source.name == called("-") else source.name
     with off2tool.nothing_old(out, BEGINS):
-        mesh, line = export(file, fouroff.read(solid.text), unit, asked.format)
+        if isinstance(solid, JoinedSolid):
+            boundary = boundary_of(solid.surface)
+            mesh, line = export_closed(file, boundary, boundary.faces, solid.surface, unit, asked.format)
+        else:
+            mesh, line = export(file, fouroff.read(solid.text), unit, asked.format)
     write_out(out, WRITERS[asked.format](mesh))
     say(line)
 
