@@ -136,7 +136,7 @@ class Glued(unittest.TestCase):
     PLANES = sides((0, 0, 0), (2, 1, 1))
 
     def part(self, low, high, box):
-        return part_of(fouroff.read(boxes(low, high)), box, self.PLANES)
+        return part_of(*fouroff.numbers_of(boxes(low, high)), box, self.PLANES)
 
     def parts(self):
         return [self.part(*self.LEFT, (-1, -1, -1, 1, 2, 2)), self.part(*self.RIGHT, (1, -1, -1, 3, 2, 2))]
@@ -154,7 +154,7 @@ class Glued(unittest.TestCase):
             glued([left])
         with self.assertRaises(NotClosed):
             glued([left, left])
-        lower = part_of(fouroff.read(boxes((1, 0, 0), (2, 1, 2))), (1, -1, -1, 3, 2, 3), {*self.PLANES, (0, 0, 1, 2)})
+        lower = part_of(*fouroff.numbers_of(boxes((1, 0, 0), (2, 1, 2))), (1, -1, -1, 3, 2, 3), {*self.PLANES, (0, 0, 1, 2)})
         with self.assertRaises(NotClosed):
             glued([left, lower])
 

@@ -76,6 +76,7 @@ class Reader:
         if self._is_fewer:
             return None
         nodes, front, comment = self._evaluated[source.name]
+        say(f"{source.name}: its solid passes a limit of the server, so it is made by tiles\n")
         try:
             return _large(source.name, whole(nodes, Wanted(is_exact=self._is_exact), front), comment)
         except CsgFault as fault:

@@ -130,7 +130,8 @@ def parts_of(index: Index, files: "dict[str, str]", jobs: "int | None") -> "list
     def work(tile: OneTile) -> Part:
         file = files[tile.name]
         try:
-            return part_of(fouroff.read(read_file(file)), tile.box, set(tile.planes))
+            boundary = fouroff.read(read_file(file))
+            return part_of(boundary.corners, boundary.faces, tile.box, set(tile.planes))
         except fouroff.Malformed as fault:
             raise BadTile(f"{file}:{fault.line}: error: {fault.reason}") from None
         except NotOfTile as fault:

@@ -16,7 +16,7 @@ from typing import AbstractSet, Iterable, Sequence
 
 from ..solid import closing
 from ..solid.closing import ears
-from ..solid.fouroff import Boundary, Corner, Plane, flatten
+from ..solid.fouroff import Boundary, Corner, Plane, flatten, plane_of
 from ..solid.merging import merged
 from ..solid.surface import NO_SIDE, NotClosed, Side, Surface, next_side, nodes_of, pair, surface_of
 from .cutting import Box, either
@@ -36,38 +36,49 @@ class NotOfTile(ValueError):
     """A solid isn't that of a tile: why not."""
 
 
-def part_of(boundary: Boundary, box: Box, planes: "AbstractSet[Plane]") -> Part:
+def part_of(corners: "Sequence[Corner]", faces: "Sequence[tuple[int, ...]]", box: Box, planes: "AbstractSet[Plane]") -> Part:
     """What of the boundary of a tile's solid is that of the whole, which lies on these planes, of which each is one of two opposite ones.
 
     Raises NotOfTile where the solid isn't in the box, lies on other planes, or isn't closed within the tile.
     """
-    if not all(box[axis] * it[3] <= it[axis] <= box[axis + 3] * it[3] for it in boundary.corners for axis in range(3)):
-        raise NotOfTile("a corner of it is outside of its tile")
-    walls = {plane for axis in range(3) for plane in (_wall(axis, -1, -box[axis]), _wall(axis, 1, box[axis + 3]))}
-    kept = [at for at, plane in enumerate(boundary.planes) if plane not in walls]
-    inner = Boundary(boundary.corners, [boundary.faces[it] for it in kept], [boundary.planes[it] for it in kept])
-    if not all(either(it) in planes for it in inner.planes):
-        raise NotOfTile("a face of it lies on a plane that no shape of its tile has")
+    walls = [_walls_of(it, box) for it in corners]
+    inner = Boundary(list(corners), [it for it in faces if not _common(walls, it)], [])
+    for face in inner.faces:
+        plane = plane_of(corners[face[0]], corners[face[1]], corners[face[2]])
+        if plane is None or either(plane) not in planes:
+            raise NotOfTile("a face of it lies on a plane that no shape of its tile has")
+        inner.planes.append(plane)
     try:
         surface = merged(surface_of(inner, closing.close(inner), is_part=True))
     except NotClosed as fault:
         raise NotOfTile(str(fault)) from None
-    numbers: "dict[int, int]" = {}
-    starts = [numbers.setdefault(surface.places[it], len(numbers)) for it in surface.starts]
-    corners = [boundary.corners[it] for it in numbers]
+    starts = [surface.places[it] for it in surface.starts]
     for side, twin in enumerate(surface.twins):
-        if twin == NO_SIDE and not _is_on_wall(corners[starts[side]], corners[starts[next_side(side)]], box):
+        if twin == NO_SIDE and not walls[starts[side]] & walls[starts[next_side(side)]]:
             raise NotOfTile("it is not closed: a face ends within the tile")
-    return Part(corners, starts, surface.twins, surface.planes)
+    numbers: "dict[int, int]" = {}
+    starts = [numbers.setdefault(it, len(numbers)) for it in starts]
+    return Part([corners[it] for it in numbers], starts, surface.twins, surface.planes)
 
 
-def _wall(axis: int, direction: int, place: int) -> Plane:
-    return (direction * (axis == 0), direction * (axis == 1), direction * (axis == 2), place)
+def _walls_of(corner: Corner, box: Box) -> int:
+    """On which walls of a tile a corner is, one bit for each. Raises NotOfTile where it is outside of them."""
+    x, y, z, w = corner
+    found = 0
+    for axis, place in enumerate((x, y, z)):
+        low, high = box[axis] * w, box[axis + 3] * w
+        if not low <= place <= high:
+            raise NotOfTile("a corner of it is outside of its tile")
+        found |= (place == low) << axis | (place == high) << axis + 3
+    return found
 
 
-def _is_on_wall(p: Corner, q: Corner, box: Box) -> bool:
-    """Whether two corners are on one side of a box."""
-    return any(p[it % 3] == box[it] * p[3] and q[it % 3] == box[it] * q[3] for it in range(6))
+def _common(walls: "Sequence[int]", face: "Sequence[int]") -> int:
+    """The wall on which all corners of a face are; 0 where there is none."""
+    found = walls[face[0]]
+    for it in face[1:]:
+        found &= walls[it]
+    return found
 
 
 def glued(parts: "Iterable[Part]") -> Surface:

@@ -69,7 +69,7 @@ class _Solver:
             again = []
             for it, reply in zip(waiting, self._replies([it.lines for it in waiting])):
                 if isinstance(reply, ToldSolid):
-                    found.append(part_of(fouroff.read(reply.text), it.tile.box, it.planes))
+                    found.append(part_of(*fouroff.numbers_of(reply.text), it.tile.box, it.planes))
                 elif isinstance(reply, Complex) or (isinstance(reply, Fault) and reply.word in _OF_SIZE):
                     again += halves(it.tile)
                 elif isinstance(reply, NoMemory):
@@ -97,7 +97,7 @@ class JoinedSolid(ToldSolid):
 def boundary_of(surface: Surface) -> Boundary:
     """The boundary whose faces are the triangles of a surface, with its corners in the order in which they have them."""
     numbers: "dict[int, int]" = {}
-    faces = []
+    faces: "list[tuple[int, ...]]" = []
     for at in range(len(surface.planes)):
         a, b, c = (numbers.setdefault(surface.places[it], len(numbers)) for it in surface.triangle(at))
         faces.append((a, b, c))
@@ -109,6 +109,6 @@ def text_of(surface: Surface) -> JoinedSolid:
     boundary = boundary_of(surface)
     lines = ["4OFF", f"{len(boundary.corners)} {len(boundary.faces)} 0"]
     lines += ["%d %d %d %d" % it for it in boundary.corners]
-    lines += ["3 %d %d %d" % (a, b, c) for a, b, c in boundary.faces]
+    lines += ["3 %d %d %d" % it for it in boundary.faces]
     text = "".join(f"{it}\n" for it in lines).encode("ascii")
     return JoinedSolid(len(boundary.corners), len(boundary.faces), text, surface)

@@ -53,8 +53,12 @@ def source(tile: Tile, limits: Limits) -> "TileSource | None":
     tree = shapes.of(tile.tree)
     if tree is None:
         return None
-    whole = Join(INTERSECTION, [Shape(shape_text(block(tile.box))), tree])
-    return TileSource(tile, [it.encode("ascii") for it in written(whole, lambda it: it.text)], shapes.planes)
+    whole: "Shape | Join[Shape]" = Join(INTERSECTION, [Shape(shape_text(block(tile.box))), tree])
+    return TileSource(tile, [it.encode("ascii") for it in written(whole, _text)], shapes.planes)
+
+
+def _text(shape: Shape) -> str:
+    return shape.text
 
 
 class _Shapes:
