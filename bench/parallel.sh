@@ -29,8 +29,8 @@ seconds() {
     awk -v began="$began" -v ended="$(date +%s.%N)" 'BEGIN { printf "%.1f", ended - began }'
 }
 
-echo "one call: $(seconds "$top/scad2off" -d "$work/one" "$work"/parts/*.scad) s"
-echo "parallel: $(seconds parallel --will-cite -n 256 "$top/scad2off" -d "$work/many" ::: "$work"/parts/*.scad) s"
+echo "one call: $(seconds "$top/bin/scad2off" -d "$work/one" "$work"/parts/*.scad) s"
+echo "parallel: $(seconds parallel --will-cite -n 256 "$top/bin/scad2off" -d "$work/many" ::: "$work"/parts/*.scad) s"
 if diff -r "$work/one" "$work/many" >/dev/null; then
     echo "the same $(ls "$work/one" | wc -l) texts"
 else

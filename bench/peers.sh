@@ -54,7 +54,7 @@ instructions() {
 
 # One source through both.
 both() {
-    "$top/scad2off" --script "$work/part.scad" >"$work/part.script" || exit 1
+    "$top/bin/scad2off" --script "$work/part.scad" >"$work/part.script" || exit 1
     ours=$(milliseconds 50 ours)
     said=$(grep -m 1 -E '^[0-9]+ (solid|fault|complex|nomem)' "$work/said")
     theirs=$(milliseconds 1 openscad -o "$work/part.off" "$work/part.scad")

@@ -31,7 +31,8 @@ from scadserve.solid.surface import NotClosed  # noqa: E402
 from scadserve.solving import Solid, solve  # noqa: E402
 from scadserve.tiles.cutting import Limits, near_leaves, whole_tree  # noqa: E402
 from scadserve.tiles.gluing import NotOfTile  # noqa: E402
-from scadserve.tiles.making import made, text_of  # noqa: E402
+from scadserve.tiles.joined import text_of  # noqa: E402
+from scadserve.tiles.making import made  # noqa: E402
 from tests import chance  # noqa: E402
 
 SMALLER = Limits(planes=200, facets=400, shapes=80)

@@ -1,5 +1,5 @@
-# What is known of the program at crates/scadserve/out. Read by the starter, by .ci/run and by tools/release.sh, which have set
-# `top`, the folder of the sources.
+# What is known of the program at crates/scadserve/out. Read by the starter, by .ci/run and by tools that need the program, which
+# have set `top`, the folder of the sources.
 #
 # The program is that of the sources where a line of a record holds its sum and theirs. .ci/run writes the records: one beside
 # the program, which goes where `rt ci` makes the program anew, and one for each user, so that a program is known again in
@@ -14,47 +14,52 @@ sources() {
     (cd "$top" && find crates.txt HANDLES crates/*/src crates/*/specs crates/*/proofs "$@" 2>/dev/null) || :
 }
 
+# (sha256sum writes its lines whole, so four of them side by side may share a pipe)
 sum_of_sources() {
-    sources ! -type d -print0 | LC_ALL=C sort -z | (cd "$top" && xargs -0 sha256sum) | sha256sum | cut -c 1-64
+    sources ! -type d -print0 | (cd "$top" && xargs -0 -n 400 -P 4 sha256sum) | LC_ALL=C sort -k 2 | sha256sum | cut -c 1-64
+}
+
+sum_of() {
+    sha256sum <"$1" | cut -c 1-64
 }
 
 sum_of_program() {
-    sha256sum <"$program" | cut -c 1-64
+    sum_of "$program"
+}
+
+# The version of the C library that the program needs.
+libc_of_program() {
+    grep -ao 'GLIBC_[0-9.]*' "$program" | sort -uV | tail -n 1 | cut -d _ -f 2
+}
+
+# Runs find over a program and the sources, and over the folders above the sources, which may be moved as they are.
+sources_and() {
+    one=$1
+    shift
+    (cd "$top" && find "$one" crates.txt HANDLES crates -path 'crates/*/out' ! -path 'crates/*/*/out' -prune -o "$@" 2>/dev/null)
 }
 
 # What tells whether a file or folder was touched: nobody can set the last time.
 as_it_stands='%p %i %C@\n'
 
-# Runs find over the program too, and over the folders above the sources, which may be moved as they are.
-sources_and_program() {
-    (cd "$top" && find crates.txt HANDLES crates/scadserve/out/scadserve crates \
-        -path 'crates/*/out' ! -path 'crates/*/*/out' -prune -o "$@" 2>/dev/null)
+# What tells, in one line, whether a program, the sources or these folders were touched.
+as_all_stand() {
+    { echo "$top" && sources_and "$1" -printf "$as_it_stands"; } | sha256sum
 }
 
 # Whether the program is there and was proved and built from the sources. What was found so is not summed again until one of
 # the files is touched. What was touched just now might be once more at the same time, so that is summed again.
 is_built() {
     [ -x "$program" ] || return 1
-    if [ -s "$program.seen" ] && sources_and_program -printf "$as_it_stands" | cmp -s - "$program.seen"; then
+    stand=$(as_all_stand "$program")
+    if grep -qxF "$stand" "$program.seen" 2>/dev/null; then
         return 0
     fi
-    seen=$(mktemp "$program.XXXXXX" 2>/dev/null) || seen=
-    if [ -n "$seen" ]; then
-        sources_and_program -printf "$as_it_stands" >"$seen"
-    fi
     pair="$(sum_of_program) $(sum_of_sources)"
-    found=1
-    if is_recorded "$pair" || { rt_ci_left_it && keep_record "$pair"; }; then
-        found=0
+    is_recorded "$pair" || { rt_ci_left_it && keep_record "$pair"; } || return 1
+    if [ -z "$(sources_and "$program" -newerct '2 seconds ago' -print -quit)" ]; then
+        { echo "$stand" >"$program.seen"; } 2>/dev/null || :
     fi
-    if [ -n "$seen" ]; then
-        if [ $found -eq 0 ] && [ -z "$(sources_and_program -newerct '2 seconds ago' -print -quit)" ]; then
-            mv -f "$seen" "$program.seen"
-        else
-            rm -f "$seen"
-        fi
-    fi 2>/dev/null
-    return $found
 }
 
 is_recorded() {

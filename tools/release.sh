@@ -5,16 +5,12 @@ set -eu
 unset CDPATH
 top=$(dirname "$(dirname "$(readlink -f "$0")")")
 . "$top/tools/built.sh"
+. "$top/tools/gate.sh"
 umask 022
 
 stop() {
     echo "release: $*" >&2
     exit 1
-}
-
-# The words behind this one in what the gate left.
-gate() {
-    sed -n "s/^$1 //p" "$top/out/gate"
 }
 
 git() {
@@ -27,11 +23,8 @@ $changes"
 commit=$(git rev-parse HEAD)
 [ -f "$top/out/gate" ] && [ "$(gate commit)" = "$commit" ] ||
     stop "no green gate is known of this commit, $commit: run \`bash .ci/run\` first"
-gate gate | grep -qx '[1-9][0-9]* passed, 0 failed' || stop "the gate is not green: $(gate gate)"
-gate tests | grep -qx '[1-9][0-9]* passed, 0 failed.*' || stop "the tests are not green: $(gate tests)"
-[ "$(gate sources)" = "$(sum_of_sources)" ] || stop "the sources are not those of the gate"
-[ -x "$program" ] || stop "the program that the gate built is gone: run \`bash .ci/run\` again"
-[ "$(gate program)" = "$(sum_of_program)" ] || stop "the program is not the one that the gate built of these sources"
+fault=$(fault_of_gate)
+[ -z "$fault" ] || stop "$fault"
 
 date=$(git log -1 --format=%ct)
 version=$(cat "$top/clients/scadserve/VERSION")
@@ -75,13 +68,12 @@ package=$work/package
 mkdir -p "$package/DEBIAN"
 DESTDIR=$package ZSH_FUNCTIONS=vendor-completions "$here/install.sh" /usr
 gzip -9n "$package"/usr/share/man/man1/*.1
-libc=$(grep -ao 'GLIBC_[0-9.]*' "$program" | sort -uV | tail -n 1 | cut -d _ -f 2)
 cat >"$package/DEBIAN/control" <<END
 Package: scadserve
 Version: $version
 Architecture: amd64
 Maintainer: $(git log -1 --format='%an <%ae>')
-Depends: libc6 (>= $libc), python3 (>= 3.9)
+Depends: libc6 (>= $(libc_of_program)), python3 (>= 3.9)
 Section: graphics
 Priority: optional
 Installed-Size: $(find "$package/usr" -type f -printf '%s\n' | awk '{ n += int(($1 + 1023) / 1024) } END { print n }')

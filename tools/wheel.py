@@ -62,13 +62,13 @@ def build_sdist(folder: str, config_settings: Optional[Dict[str, str]] = None) -
 
 
 def _program() -> Optional[Path]:
-    """The proved program: that of a release, or the one that was built of the sources that stand here."""
+    """The proved program: that of a release, or the one of the sources that stand here, which was built here or is in boot/."""
     if not (TOP / "crates.txt").exists():
-        found = TOP / "libexec/scadserve"
-        return found if found.exists() else None
-    words = ["sh", "-c", 'top=$0; . "$top/tools/built.sh"; is_built', str(TOP)]
-    is_built = subprocess.run(words, stdout=subprocess.DEVNULL, check=False).returncode == 0
-    return TOP / "crates/scadserve/out/scadserve" if is_built else None
+        program = TOP / "libexec/scadserve"
+        return program if program.exists() else None
+    find = 'top=$0; . "$top/tools/built.sh"; . "$top/tools/unpack.sh"; { is_built || is_unpacked; } && echo "$program"'
+    found = subprocess.run(["sh", "-c", find, str(TOP)], stdout=subprocess.PIPE, text=True, check=False)
+    return Path(found.stdout.rstrip("\n")) if found.returncode == 0 else None
 
 
 def _package() -> Iterator[File]:

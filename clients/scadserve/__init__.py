@@ -8,8 +8,23 @@
 `scadserve.server` writes scripts of edits, shows and exports of several clients, and reads what they are answered.
 """
 
+from __future__ import annotations
+
+from typing import TYPE_CHECKING
+
 from .server.scripts import BadScript, BadWords, Malformed, NotStarted, OutOfMemory, OutOfTime, ReadFault, ServerFailed, WriteFault
-from .solving import Fault, Point, Solid, Source, solve
+
+if TYPE_CHECKING:
+    from .solving import Fault, Point, Solid, Source, solve
 
 __all__ = ["solve", "Solid", "Fault", "Point", "Source"]
 __all__ += ["ServerFailed", "NotStarted", "BadWords", "BadScript", "ReadFault", "WriteFault", "OutOfMemory", "OutOfTime", "Malformed"]
+
+
+def __getattr__(name: str) -> object:
+    """What `solving` has, which is loaded only where it is asked for: the tools are quicker to start without."""
+    if name not in __all__:
+        raise AttributeError(f"module {__name__!r} has no attribute {name!r}")
+    from . import solving
+
+    return getattr(solving, name)

@@ -14,7 +14,7 @@ import unittest
 
 NAMES = ("chromium", "chromium-browser", "google-chrome", "google-chrome-stable", "chrome")
 BROWSER = next(filter(None, map(shutil.which, NAMES)), None)
-needs_browser = unittest.skipUnless(BROWSER, "there is no chromium")
+needs_browser = unittest.skipUnless(BROWSER, "needs chromium")
 # Seconds in which the browser answers, and in which what is waited for comes.
 PATIENCE = 100
 WORDS = ("--headless=new", "--no-sandbox", "--disable-gpu", "--hide-scrollbars", "--remote-debugging-pipe", "--no-first-run")

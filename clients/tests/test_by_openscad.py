@@ -1,7 +1,6 @@
 """`--by-openscad`: what comes of OpenSCAD's front end, compared with what OpenSCAD itself makes of a few parts."""
 
 import os
-import shutil
 import subprocess
 import sys
 import tempfile
@@ -15,8 +14,9 @@ from scadserve.openscad.reader import CsgFault, read
 from scadserve.solid.measures import box
 from tests.against_openscad import differences, of_4off, of_off
 from tests.calls import PROGRAM, TOP, Calls, needs_program
+from tests.needs import needs
 
-needs_openscad = unittest.skipUnless(shutil.which("openscad"), "OpenSCAD is not installed")
+needs_openscad = needs("openscad")
 SCAD2STL = os.path.join(TOP, "bin", "scad2stl")
 
 # Says that it made a solid of nothing, by writing an evaluated form without one.

@@ -12,6 +12,7 @@ from scadserve.tools import scad2off
 from scadserve.solid.fouroff import read
 from scadserve.solid.measures import box, volume
 from tests.calls import PROGRAM, STAND_IN, Calls, needs_program
+from tests.needs import needs
 from tests.tool_case import Case
 
 # Of each case the files, part.scad among them, and the box and the volume of its solid, worked out by hand.
@@ -236,7 +237,7 @@ class Solids(Sources):
         said = "part.scad: warning: the source never has w, which -D assigns\n"
         self.assertEqual(self.solid("-D", "w=7")[1:], (6, said))
 
-    @unittest.skipUnless(shutil.which("openscad"), "openscad is not installed")
+    @needs("openscad")
     def test_each_case_is_the_solid_that_openscad_makes(self):
         for name, (files, *wanted) in CASES.items():
             with self.subTest(name):

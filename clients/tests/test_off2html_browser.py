@@ -1,8 +1,4 @@
-"""Pages of off2html in a browser: what they show, and what keys, mouse, fingers and a changed file do.
-
-Lengths in the picture are worked out by hand: a unit is 0.46 times the smaller side of the canvas by the radius of the ball round
-the box. A box of 2 x 3 x 6 has a ball of 7/2.
-"""
+"""Pages of off2html in a browser: what they show, and what keys, mouse, fingers and a changed file do."""
 
 import os
 import subprocess
@@ -10,124 +6,11 @@ import time
 import unittest
 from fractions import Fraction
 
-from scadserve.tools import off2html
-from tests import tool_case
-from tests.browser import Browser, needs_browser
 from tests.calls import TOP
+from tests.page_case import BRICK, Case
 from tests.solids import CUT_CUBE, box, off
 
-# Waits until the picture rests.
-RESTS = """new Promise((done) => {
-    let [frames, since] = ["", 0];
-    const look = () => {
-        const now = performance.now();
-        if (view.dataset.frames !== frames) {
-            [frames, since] = [view.dataset.frames, now];
-        }
-        now - since > 500 ? done(true) : setTimeout(look, 50);
-    };
-    look();
-})"""
-# What is painted: how wide and high, where its middle is from that of the canvas, and how many pixels each colour has.
-PAINTED = """(() => {
-    const { width, height } = view;
-    const pixels = new Uint32Array(view.getContext("2d").getImageData(0, 0, width, height).data.buffer);
-    let [left, right, top, bottom] = [width, -1, height, -1];
-    const counts = new Map();
-    for (let y = 0; y < height; y++) {
-        // (the axes are below on the left)
-        for (let x = y > height - 100 ? 100 : 0; x < width; x++) {
-            const pixel = pixels[y * width + x];
-            if (pixel >>> 31) {
-                left = Math.min(left, x);
-                right = Math.max(right, x);
-                top = Math.min(top, y);
-                bottom = Math.max(bottom, y);
-                counts.set(pixel, (counts.get(pixel) ?? 0) + 1);
-            }
-        }
-    }
-    const colours = {};
-    counts.forEach((count, pixel) => (colours[`${pixel & 255} ${(pixel >> 8) & 255} ${(pixel >> 16) & 255}`] = count));
-    return { wide: right - left + 1, high: bottom - top + 1, x: (left + right + 1 - width) / 2, y: (top + bottom + 1 - height) / 2, colours };
-})()"""
-# The most frames that were drawn within a second while a drag went on for some seconds.
-FRAMES = """new Promise((done) => {
-    const drawn = [];
-    const began = performance.now();
-    let [x, frames] = [200, view.dataset.frames];
-    const send = (type) => view.dispatchEvent(new PointerEvent(type, { pointerId: 1, clientX: x, clientY: 300, buttons: 1 }));
-    view.setPointerCapture = () => {};
-    send("pointerdown");
-    const go = (now) => {
-        x += 4;
-        send("pointermove");
-        if (view.dataset.frames !== frames) {
-            frames = view.dataset.frames;
-            drawn.push(now);
-        }
-        if (performance.now() - began < SECONDS * 1000) {
-            requestAnimationFrame(go);
-        } else {
-            send("pointerup");
-            done(Math.max(...drawn.map((end) => drawn.filter((one) => one <= end && one > end - 1000).length)));
-        }
-    };
-    requestAnimationFrame(go);
-})"""
 LINE = "29 43 58"
-BRICK = off(box((0, 0, 0), (2, 3, 6)))
-
-
-@needs_browser
-class Case(tool_case.Case):
-    tool = off2html
-    shown = 0
-
-    @classmethod
-    def setUpClass(cls):
-        cls.browser = Browser(640, 560)
-        cls.addClassCleanup(cls.browser.close)
-
-    def show(self, data, *words):
-        """Opens the page of a solid, which is a new one: one that was open keeps its view."""
-        self.shown += 1
-        self.place = self.path(f"{self.shown}.html")
-        self.assertEqual(self.call(*words, "-o", self.place, self.file("a.4off", data)), (0, ""))
-        self.open(self.place)
-
-    def open(self, path):
-        self.browser.open(path)
-        self.browser.wait("Number(view.dataset.frames) > 0")
-        self.width, self.height = self.browser.run("[view.clientWidth, view.clientHeight]")
-        left, top = self.browser.run("[view.getBoundingClientRect().left, view.getBoundingClientRect().top]")
-        self.middle = (left + self.width / 2, top + self.height / 2)
-        self.unit = 0.46 * min(self.width, self.height) / 3.5
-
-    def press(self, *keys):
-        for key in keys:
-            self.browser.key(key.removeprefix("Shift+"), key.startswith("Shift+"))
-
-    def painted(self):
-        self.browser.run(RESTS)
-        return self.browser.run(PAINTED)
-
-    def assert_painted(self, wide, high, x=0, y=0, size=1.0):
-        """A rectangle of so many units is painted, with its middle so many pixels to the right of that of the canvas and below."""
-        found = self.painted()
-        for name, expected in (("wide", wide * self.unit * size), ("high", high * self.unit * size), ("x", x), ("y", y)):
-            self.assertAlmostEqual(found[name], expected, delta=2.5, msg=name)
-
-    def faces(self):
-        """The colours that faces have."""
-        return {colour for colour, pixels in self.painted()["colours"].items() if pixels > 2500}
-
-    def told(self):
-        return self.browser.run("document.getElementById('corner').textContent")
-
-    def at(self, right, up):
-        """Where a place so many units from the middle of the canvas is on the screen."""
-        return self.middle[0] + right * self.unit, self.middle[1] - up * self.unit
 
 
 class Shown(Case):
@@ -292,6 +175,51 @@ class Corners(Case):
         self.painted()
         self.assertEqual(self.hover(1, 3), "corner (4/15, 0, 4/5), about (0.266667, 0, 0.8)")
 
+    def test_what_is_told_does_not_move_the_picture(self):
+        long = Fraction(2 * 10**30 + 1, 10**30)
+        self.addCleanup(self.browser.resize, 640, 560)
+        for width in (360, 480, 639):
+            self.browser.resize(width, 560)
+            self.show(off(box((-long, 0, 0), (0, 3, 6))), "--view", "0", "0")
+            self.painted()
+            size = self.browser.run("[view.clientWidth, view.clientHeight, document.documentElement.scrollHeight]")
+            for x, z in ((-1, -3), (1, -3), (1, 3), (-1, 3)):
+                exact = f"-{long.numerator}/{long.denominator}" if x < 0 else "0"
+                self.assertRegex(self.hover(x, z), rf"\Acorner \({exact}, 0, {3 + z}\)")
+            self.assertEqual(self.browser.run("[view.clientWidth, view.clientHeight, document.documentElement.scrollHeight]"), size)
+            # All of it is seen, and the pointer goes through it.
+            self.assertTrue(self.browser.run("corner.scrollHeight <= corner.clientHeight && corner.clientHeight > 0"))
+            place = "corner.getBoundingClientRect()"
+            self.assertNotEqual(self.browser.run(f"document.elementFromPoint({place}.left + 9, {place}.top + 2).id"), "corner")
+
+    def look_at(self, *place, zoom):
+        """Loads the page again, from the front, with this place in the middle."""
+        view = f"{{ azimuth: 0, elevation: 0, centre: {list(place)}, zoom: {zoom} }}"
+        switches = "{ hasEdges: true, isDark: false, isWatching: false }"
+        # (the page takes the view that was kept; what it would keep itself is left out)
+        self.browser.run(f"history.replaceState({{ view: {view}, switches: {switches} }}, '')")
+        self.browser.run("history.replaceState = () => {}; document.body.id = 'old'; location.reload()")
+        self.browser.wait("document.body.id !== 'old' && Number(view.dataset.frames) > 0")
+        self.painted()
+
+    def test_a_corner_between_nearer_faces_is_told_however_large_it_is_shown(self):
+        # A box to the left of it is nearer, and so is one above it. The picture keeps its depth in 24 bits, here to 16 pixels.
+        gap = Fraction(1, 10**12)
+        left, above = box((-2, 0, 0), (-gap, Fraction(1, 4), 9)), box((-3, Fraction(1, 2), 6 + gap), (2, Fraction(3, 4), 9))
+        self.show(off(box((0, 1, 0), (2, 2, 6)) + left + above))
+        for away in range(6):
+            self.look_at(0, 8 + away / 7, 6, zoom=1e6)
+            self.assertEqual(self.hover(0, 0), "corner (0, 1, 6)")
+
+    def test_of_corners_at_one_place_the_one_in_front_is_told(self):
+        # Seen from the front the lower edge of the box behind is the upper one of the box before it.
+        front, behind = box((0, 0, 0), (2, 1, 1)), box((0, 2, 1), (2, 3, 2))
+        for faces in (front + behind, behind + front):
+            self.show(off(faces), "--view", "0", "0")
+            self.unit = 0.46 * min(self.width, self.height) / (17**0.5 / 2)
+            self.painted()
+            self.assertEqual([self.hover(x, 0) for x in (-1, 1)], ["corner (0, 0, 1)", "corner (2, 0, 1)"])
+
     def test_keys_go_from_corner_to_corner(self):
         self.show(BRICK, "--view", "30", "30")
         self.painted()
@@ -353,21 +281,6 @@ class Watched(Case):
         self.assertEqual(self.browser.run("document.querySelector('[data-key=w]').ariaPressed"), "true")
         self.call("-o", self.place, self.file("a.4off", off(box((0, 0, 0), (2, 3, 5)))))
         self.volume(30)
-
-
-class Speed(Case):
-    def test_twenty_thousand_faces_turn_at_thirty_frames_a_second(self):
-        boxes = [box((3 * x, 3 * y, 0), (3 * x + 2, 3 * y + 2, 2 + (x * y) % 7)) for x in range(58) for y in range(58)]
-        self.show(off([face for it in boxes for face in it]))
-        self.assertEqual(self.browser.run("document.querySelector('#facts dd').textContent"), "20184")
-        best = 0
-        for _ in range(5):
-            best = max(best, self.browser.run(FRAMES.replace("SECONDS", "4")))
-            if best >= 30:
-                return
-        if os.getloadavg()[0] > (os.cpu_count() or 1):
-            self.skipTest(f"the machine is busy: {best} frames a second")
-        self.fail(f"{best} frames a second")
 
 
 if __name__ == "__main__":

@@ -3,7 +3,6 @@
 import contextlib
 import os
 import re
-import shutil
 import socket
 import subprocess
 import sys
@@ -12,6 +11,7 @@ import time
 import unittest
 
 from tests.calls import PROGRAM, STAND_IN, TOP, Calls, needs_program
+from tests.needs import needs
 from tests.stand_in import BOX
 
 
@@ -21,7 +21,7 @@ def blocks(kind):
         return re.findall(rf"```{kind}\n(.*?)```", it.read(), re.DOTALL)
 
 
-@unittest.skipUnless(shutil.which("make"), "make is not installed")
+@needs("make")
 class Make(Calls):
     """A folder of parts that share a library: what changed is made anew, and what has a fault leaves nothing behind."""
 
@@ -71,7 +71,7 @@ class Make(Calls):
         self.assertEqual(self.read("b.4off"), BOX.format(8).encode())
 
 
-@unittest.skipUnless(shutil.which("socat"), "socat is not installed")
+@needs("socat")
 class Service(Calls):
     """The server on the loopback address under limits, by the lines of the recipe."""
 
@@ -154,7 +154,7 @@ class Service(Calls):
             with self.listening():
                 self.assertEqual(self.served(script.read()), output.read())
 
-    @unittest.skipUnless(shutil.which("systemd-analyze"), "systemd is not installed")
+    @needs("systemd-analyze")
     def test_systemd_finds_nothing_wrong_with_the_units(self):
         with tempfile.TemporaryDirectory() as folder:
             for name, text in zip(("scadserve.socket", "scadserve@.service"), blocks("ini")):

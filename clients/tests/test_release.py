@@ -19,6 +19,7 @@ from pathlib import Path
 from scadserve.tools.catalogue import STARTER, STARTERS, TOOLS
 from scadserve.version import VERSION
 from tests.calls import TOP
+from tests.needs import needs
 
 NAME = f"scadserve-{VERSION}-x86_64-linux"
 TARBALL, PACKAGE = f"{NAME}.tar.gz", f"scadserve_{VERSION}_amd64.deb"
@@ -26,8 +27,8 @@ TARBALL, PACKAGE = f"{NAME}.tar.gz", f"scadserve_{VERSION}_amd64.deb"
 TAKEN = "README.md CHANGELOG.md CONTRIBUTING.md clients docs examples gallery install.sh memory.sh pyproject.toml scadserve tools .gitignore".split()
 # (the Python that runs this, and no rt)
 PATH = f"{os.path.dirname(sys.executable)}:/usr/bin:/bin"
-HAS_ALL = all(shutil.which(it) for it in ("git", "dpkg-deb", "tar", "gzip"))
 TRY_IT = "scad2off examples/bracket.scad -o $0/b.4off && off2stl $0/b.4off -o $0/b.stl && off2svg $0/b.4off -o $0/b.svg"
+WHEEL = "import sys; sys.path.insert(0, 'tools'); import wheel; print(wheel.build_wheel(sys.argv[1]))"
 
 
 def run(*words: str, at: Path, **environment: str) -> subprocess.CompletedProcess[str]:
@@ -83,7 +84,7 @@ def build(at: Path, gate: str = "7 passed, 0 failed", tests: str = "3 passed, 0 
     (at / "out/gate").write_text("".join(f"{word} {it}\n" for word, it in told.items()))
 
 
-@unittest.skipUnless(HAS_ALL, "git, dpkg-deb, tar and gzip make releases")
+@needs("git", "dpkg-deb", "tar", "gzip")
 class Release(unittest.TestCase):
     folder: Path
 
@@ -227,8 +228,7 @@ class Release(unittest.TestCase):
                     self.assertTrue((page.parent / target).exists(), f"{page.name}: {target}")
 
     def test_pip_makes_a_wheel_of_it_with_the_server(self) -> None:
-        build = "import sys; sys.path.insert(0, 'tools'); import wheel; print(wheel.build_wheel(sys.argv[1]))"
-        words = ["python3", "-B", "-c", build]
+        words = ["python3", "-B", "-c", WHEEL]
         made = []
         for at in (self.here, self.here, self.one):
             done = run(*words, str(self.folder), at=at)
@@ -245,9 +245,21 @@ class Release(unittest.TestCase):
             self.assertIn("Requires-Python: >=3.9\n", it.read(f"scadserve-{VERSION}.dist-info/METADATA").decode())
             self.assertNotIn("Requires-Dist", it.read(f"scadserve-{VERSION}.dist-info/METADATA").decode())
 
+    @needs("xz")
+    def test_a_clone_with_its_program_packed_makes_a_wheel_with_the_server(self) -> None:
+        at = self.folder / "packed"
+        git(self.folder, "clone", "-q", str(self.one), str(at))
+        build(at)
+        self.assertEqual(run("tools/boot.sh", at=at).stderr, "")
+        shutil.rmtree(at / "crates/scadserve/out")
+        done = run("python3", "-B", "-c", WHEEL, str(self.folder), at=at)
+        self.assertEqual((done.stdout, done.stderr), (f"scadserve-{VERSION}-py3-none-linux_x86_64.whl\n", ""))
+        with zipfile.ZipFile(self.folder / done.stdout.strip()) as it:
+            self.assertEqual(it.read("scadserve/release/libexec/scadserve"), (self.one / "crates/scadserve/out/scadserve").read_bytes())
+
     def test_pip_installs_the_tools_and_the_module(self) -> None:
         if "--python" not in run("python3", "-m", "pip", "--help", at=self.folder).stdout:
-            self.skipTest("there is no pip that installs for another Python")
+            self.skipTest("needs pip")
         room = self.folder / "room"
         self.assertEqual(run("python3", "-m", "venv", "--without-pip", str(room), at=self.folder).returncode, 0)
         words = ["python3", "-m", "pip", "--python", str(room / "bin/python"), "install", "--no-index", "--quiet"]

@@ -2,7 +2,6 @@
 
 import os
 import re
-import shutil
 import subprocess
 import unittest
 import xml.etree.ElementTree as ElementTree
@@ -11,6 +10,7 @@ from fractions import Fraction
 
 from tests import touching
 from tests.calls import PROGRAM, TOP, Calls, needs_program
+from tests.needs import needs
 
 CORE = "{http://schemas.microsoft.com/3dmanufacturing/core/2015/02}"
 
@@ -161,7 +161,7 @@ SIZES = {"one": (2.5, 1, 1), "two": (4, 1.5, 0.1), "three": (3.5, 1, 1), "four":
 class ByTheProgram(Case):
     def setUp(self):
         super().setUp()
-        self.environment = {**self.environment, "SCADSERVE": PROGRAM, "PATH": TOP + os.pathsep + self.environment["PATH"]}
+        self.environment = {**self.environment, "SCADSERVE": PROGRAM, "PATH": os.path.join(TOP, "bin") + os.pathsep + self.environment["PATH"]}
 
     def write_folder(self):
         os.mkdir(self.path("lib"))
@@ -180,7 +180,7 @@ class ByTheProgram(Case):
         self.assertEqual((status, said[-1]), (0, "4 files: 4 solids, 0 faults"))
         self.assert_sizes("out")
 
-    @unittest.skipUnless(shutil.which("make"), "make is not installed")
+    @needs("make")
     def test_a_folder_with_a_library_by_make(self):
         self.write_folder()
         with open(os.path.join(TOP, "docs", "RECIPES.md"), encoding="utf-8") as it:

@@ -18,7 +18,8 @@ from scadserve.solving import Solid, solve
 from scadserve.tiles.cutting import EMPTY, FULL, Limits, Near, Tile, halved, near_leaves, whole_box, whole_tree, within
 from scadserve.tiles.dividing import halves, pieces, sources
 from scadserve.tiles.gluing import NotOfTile, glued, part_of
-from scadserve.tiles.making import made, text_of
+from scadserve.tiles.joined import text_of
+from scadserve.tiles.making import made
 from scadserve.tiles.shapes import _Shapes, leaf_pieces
 from scadserve.tiles.side_by_side import done
 from tests import chance

@@ -4,7 +4,6 @@ from __future__ import annotations
 
 import os
 import re
-import shutil
 import subprocess
 import sys
 import tempfile
@@ -17,11 +16,12 @@ from scadserve.tools import manual
 from scadserve.tools.catalogue import STARTER, STARTERS, TOOLS, parser_of
 from scadserve.version import VERSION
 from tests.calls import TOP, Calls
+from tests.needs import needs
 
 ALL = (STARTER, *TOOLS)
-needs_man = unittest.skipUnless(shutil.which("man"), "man is not installed")
-needs_bash = unittest.skipUnless(shutil.which("bash"), "bash is not installed")
-needs_zsh = unittest.skipUnless(shutil.which("zsh"), "zsh is not installed")
+needs_man = needs("man")
+needs_bash = needs("bash")
+needs_zsh = needs("zsh")
 
 
 class Starters(Calls):

@@ -1,6 +1,5 @@
 """What ./scadserve says and does where the proved program is there, and where it isn't, with a stand-in for `rt`."""
 
-import hashlib
 import os
 import pty
 import shutil
@@ -8,17 +7,8 @@ import subprocess
 import time
 import unittest
 
-from tests.calls import TOP, Calls
+from tests.starter import CRATES, Starter
 
-# Says what it was given, as the program would, and then what `rt try` says of the run.
-RT = """#!/bin/sh
-printf '%s\\n' "$PWD" "$@" >"$RT_LOG"
-cat
-echo "from the program" >&2
-{ALSO}
-printf 'checked: ended status={STATUS}\\nrun=ended status={STATUS} runners=1 races=unchecked proved=no\\n' >&2
-exit {STATUS}
-"""
 PAST_1_MIB = """echo '| xxxx' >&2
 echo "checked: no-answer: the program wrote more than 1048576 bytes to standard output or to standard error" >&2
 echo "run=no-answer proved=no" >&2
@@ -26,44 +16,11 @@ exit 6"""
 FAULT = """echo "checked: fault: an index is out of bounds" >&2
 echo "run=fault proved=no" >&2
 exit 4"""
-UTILITIES = "sh cat cmp cut dirname find grep head mkdir mktemp mv readlink rm sed sha256sum sleep sort stat tail xargs".split()
 COST = "about a minute, each time; `bash .ci/run` once, in {}, takes about an hour, and then it takes milliseconds"
-CRATES = "# all: crates\nbelow may_wait=1:\nscadserve: below\n"
 PROGRAM = '#!/bin/sh\necho proved "$@"\ncat\nexit 3\n'
 
 
-class Unproved(Calls):
-    def setUp(self):
-        super().setUp()
-        self.top = self.path("top")
-        for folder in ("tools", "crates/scadserve/src", "crates/below/src", "crates/below/specs"):
-            os.makedirs(os.path.join(self.top, folder))
-        for name in ("scadserve", "memory.sh", "tools/built.sh"):
-            shutil.copy(os.path.join(TOP, name), os.path.join(self.top, name))
-        self.write("top/HANDLES", "Handles allowed: none.\n")
-        self.write("top/crates.txt", CRATES)
-        self.write("top/crates/scadserve/src/main.rt", "fn main() {}\n")
-        self.write("top/crates/below/src/lib.rt", "1\n")
-        self.write("top/crates/below/specs/Lib.antt", "2\n")
-        # Nothing but these utilities is on the path, and maybe a stand-in for rt.
-        os.mkdir(self.path("bin"))
-        for name in UTILITIES:
-            os.symlink(shutil.which(name), self.path(f"bin/{name}"))
-        self.environment.update(PATH=self.path("bin"), RT_LOG=self.path("rt.log"), TMPDIR=self.log)
-        self.environment.update(XDG_STATE_HOME=self.path("state"))
-
-    def program(self, name, text):
-        os.chmod(self.path(self.write(name, text)), 0o755)
-
-    def rt(self, status=0, also=":"):
-        self.program("bin/rt", RT.replace("{STATUS}", str(status)).replace("{ALSO}", also))
-
-    def serve(self, *words, tool=None, environment=None):
-        tool = tool or f"{self.top}/scadserve"
-        status, out, error = self.call(*words, stdin=b"a show\n", tool=tool, environment=environment)
-        self.assertEqual(os.listdir(self.log), [])
-        return status, out, error.decode()
-
+class Unproved(Starter):
     def test_the_cost_of_a_run_is_told_before_it_and_how_to_avoid_it(self):
         self.rt()
         status, out, error = self.serve("run", "--memo", "0")
@@ -135,13 +92,9 @@ class Unproved(Calls):
         self.program(f"{top or self.top}/crates/scadserve/out/scadserve", PROGRAM)
 
     def record(self, place):
-        """Writes the line that says of which sources the program is, by sums that are made here."""
-        names = ["HANDLES", "crates.txt", "crates/below/specs/Lib.antt", "crates/below/src/lib.rt"]
-        names.append("crates/scadserve/src/main.rt")
-        listed = "".join(f"{hashlib.sha256(self.read('top/' + it)).hexdigest()}  {it}\n" for it in names)
-        program = hashlib.sha256(self.read("top/crates/scadserve/out/scadserve")).hexdigest()
+        """Writes the line that says of which sources the program is."""
         os.makedirs(os.path.dirname(self.path(place)), exist_ok=True)
-        self.write(place, f"{program} {hashlib.sha256(listed.encode()).hexdigest()}\n")
+        self.write(place, f"{self.sum_of('top/crates/scadserve/out/scadserve')} {self.sum_of_sources()}\n")
 
     def assert_proved(self, top=None):
         """The proved program runs, twice, and nothing else is said."""
@@ -165,11 +118,11 @@ class Unproved(Calls):
         self.record("top/crates/scadserve/out/scadserve.proved")
         time.sleep(2.2)
         self.assert_proved()
-        os.remove(self.path("bin/sha256sum"))
+        os.remove(self.path("bin/xargs"))
         self.assert_proved()
         os.utime(self.path("top/crates/below/src/lib.rt"))
         self.assert_unproved()
-        os.symlink(shutil.which("sha256sum"), self.path("bin/sha256sum"))
+        os.symlink(shutil.which("xargs"), self.path("bin/xargs"))
         self.assert_proved()
 
     def test_a_changed_source_is_found_whatever_its_date_and_size(self):

@@ -11,11 +11,18 @@ from __future__ import annotations
 
 import os
 import re
-from dataclasses import dataclass
+from functools import partial
+from typing import Sequence
 
 from ..ending import BadCall
 from ..files import say
-from ..source.sources import Line, Refused, Source, Spot
+from ..server.replies import Malformed, Solid
+from ..solid.surface import NotClosed
+from ..source.sources import LargeSource, Line, Refused, Source, Spot
+from ..tiles.gluing import NotOfTile
+from ..tiles.joined import text_of
+from ..tiles.making import made
+from ..tiles.progress import Progress
 from .conversion import Conversion, Design, Wanted, converted, of_any_size, whole
 from .front import Front, NotEvaluated, NotThere, evaluated
 from .grid import PLANES
@@ -24,13 +31,6 @@ from .reader import CsgFault, Node, read
 # By so much fewer planes are taken, and down to so many.
 _SHARE, _LEAST = 0.7, 64
 _COMMENT = re.compile(r"(?:[ \t]*//[^\n]*\n)*")
-
-
-@dataclass
-class LargeSource(Source):
-    """A source that isn't sent, since its design passes a limit: it has comments alone, and its solid is made by tiles."""
-
-    design: "Design | None" = None
 
 
 class Reader:
@@ -100,7 +100,22 @@ class Reader:
 def _large(file: str, design: Design, comment: str) -> LargeSource:
     """The source of a design that is made by tiles."""
     lines = _lines(file, comment, b"// unit: %b\n" % str(design.unit).encode())
-    return LargeSource(file, lines, (), len(lines), design)
+    return LargeSource(file, lines, (), len(lines), partial(_of_tiles, file, design))
+
+
+def _of_tiles(file: str, design: Design, server: Sequence[str], jobs: int | None) -> Solid:
+    """The solid of a design by tiles; how many there were is said. Raises Refused, Malformed, and what `run` of `server` raises."""
+    progress = Progress(file)
+    try:
+        found = made(design.grid, server, jobs, progress=progress)
+    except CsgFault as fault:
+        raise refused(file, fault) from fault
+    except (NotClosed, NotOfTile) as fault:
+        raise Malformed(f"{file}: the solids of its tiles make no whole: {fault}") from fault
+    finally:
+        progress.end()
+    say(f"{file}: made of {found.tiles} tiles; each tile's text is proved, and that they join to a closed surface is checked\n")
+    return text_of(found.surface)
 
 
 def _lines(file: str, comment: str, text: bytes) -> "list[Line]":

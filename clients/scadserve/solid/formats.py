@@ -5,8 +5,6 @@ from __future__ import annotations
 import io
 import re
 import struct
-import zipfile
-from html import escape
 from typing import Callable, Sequence
 
 from .measures import direction
@@ -66,6 +64,10 @@ _RELATIONS = f"""{_XML}
 
 def _3mf(solid: Mesh) -> bytes:
     """The 3MF core specification: a package of one model in millimetres with one object."""
+    # (these take as long to load as all other formats)
+    import zipfile
+    from html import escape
+
     lines = [
         _XML,
         '<model unit="millimeter" xml:lang="en" xmlns="http://schemas.microsoft.com/3dmanufacturing/core/2015/02">',

@@ -3,7 +3,9 @@
 from __future__ import annotations
 
 from dataclasses import dataclass
-from typing import NamedTuple, Sequence
+from typing import Callable, NamedTuple, Sequence
+
+from ..server.replies import Solid
 
 
 class Spot(NamedTuple):
@@ -92,6 +94,19 @@ class Source:
     def origin(self, line: int) -> Origin | None:
         """Where the file of a line of what is sent is included or used."""
         return None if self.is_at_end(line) else self.lines[line - 1].origin
+
+
+@dataclass
+class LargeSource(Source):
+    """A source that isn't sent, since its design passes a limit: it has comments alone. Its solid is put together of parts, which are
+    made by a server, that its words start, so many of them side by side."""
+
+    make: Callable[[Sequence[str], int | None], Solid] | None = None
+
+    def solid(self, server: Sequence[str], jobs: int | None) -> Solid:
+        """Its solid. Raises Refused, Malformed, and what `run` of `server` raises."""
+        assert self.make is not None
+        return self.make(server, jobs)
 
 
 class Refused(Exception):

@@ -5,8 +5,6 @@ from __future__ import annotations
 from typing import Sequence
 
 from ..server.scripts import Complex, Fault, Reply, Solid
-from . import details
-from .callers import calls_to
 from .faults import COMPLEX, EMPTY, LIMITS, NO_MEMORY, cure_by_openscad, excerpt, what_is_wrong
 from .sources import Origin, Refused, Source, Spot
 from .structure import NoProgram, Structure, structure_of
@@ -48,6 +46,10 @@ def _fault_told(source: Source, fault: Fault, half: bool, server: Sequence[str] 
     found, at = _at(source, fault)
     if found is None or at is None:
         return _placed(source, spot, fault.word, said, cure_by_openscad(fault.word, cure), source.origin(fault.line))
+    # (what is loaded only where a source has a fault leaves a call without one quicker)
+    from . import details
+    from .callers import calls_to
+
     said, cure = details.cause(found, at, fault.word) or (said, cure)
     calls = [found.tokens[it] for it in calls_to(found, at, fault.word, half, server)]
     notes = [_note(source.spot(it.line + 1, it.start + 1), "called here") for it in calls]

@@ -11,7 +11,6 @@ from ..server.replies import Complex, Fault, Malformed, NoMemory, Reply
 from ..server.replies import Solid as ToldSolid
 from ..server.scripts import OutOfMemory, run
 from ..solid import fouroff
-from ..solid.fouroff import Boundary
 from ..solid.surface import Surface
 from .cutting import Limits, Tile
 from .dividing import facets_of, halves, pieces, sources
@@ -85,30 +84,3 @@ class _Solver:
             [answers] = run([batch.script], self._server, 1)
             found.update(batch.replies(answers))
         return [found[it] for it in range(len(of_tiles))]
-
-
-@dataclass(frozen=True)
-class JoinedSolid(ToldSolid):
-    """A solid that is put together, as it would be told, and its surface, whose triangles are the faces of its text."""
-
-    surface: Surface
-
-
-def boundary_of(surface: Surface) -> Boundary:
-    """The boundary whose faces are the triangles of a surface, with its corners in the order in which they have them."""
-    numbers: "dict[int, int]" = {}
-    faces: "list[tuple[int, ...]]" = []
-    for at in range(len(surface.planes)):
-        a, b, c = (numbers.setdefault(surface.places[it], len(numbers)) for it in surface.triangle(at))
-        faces.append((a, b, c))
-    return Boundary([surface.corners[it] for it in numbers], faces, surface.planes)
-
-
-def text_of(surface: Surface) -> JoinedSolid:
-    """A surface as a 4OFF text."""
-    boundary = boundary_of(surface)
-    lines = ["4OFF", f"{len(boundary.corners)} {len(boundary.faces)} 0"]
-    lines += ["%d %d %d %d" % it for it in boundary.corners]
-    lines += ["3 %d %d %d" % it for it in boundary.faces]
-    text = "".join(f"{it}\n" for it in lines).encode("ascii")
-    return JoinedSolid(len(boundary.corners), len(boundary.faces), text, surface)

@@ -17,7 +17,8 @@ STARTERS = (STARTER, *(f"bin/{name}" for name in TOOLS))
 STATUSES = (
     "The status is 0 where the whole output was written, 2 where the words are others, 3 where the input is no script, 4 where "
     "it can't be read, 5 where the output can't be written, and 6 where memory ran out. Where no proved program of these "
-    "sources is there, it is 125 where an unproved run gave no answer, and 127 where there is no rt to run them."
+    "sources is there, it is 125 where an unproved run gave no answer, and 127 where there is no rt to run them. "
+    "SCADSERVE_BOOT=no in the environment leaves out the program that comes with the sources, in boot/."
 )
 
 

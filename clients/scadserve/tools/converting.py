@@ -10,25 +10,23 @@ handed on to be written. What is wrong with a file is said on standard error, an
 from __future__ import annotations
 
 import os
+from argparse import Namespace
 from dataclasses import dataclass
 from time import monotonic
-from typing import Callable, NamedTuple, Sequence
+from typing import TYPE_CHECKING, Callable, NamedTuple, Sequence
 
 from ..ending import BAD_CALL, BadCall, NO_MEMORY, PART_FAULT
 from ..files import called, identity, left_over, reason, refusal_to_write, say
-from ..openscad.by_openscad import LargeSource, refused
-from ..openscad.reader import CsgFault
 from ..server.scripts import SERVER, Complex, Malformed, NoMemory, Reply, ServerFailed, Solid, passed_limit
-from ..solid.surface import NotClosed
 from ..source.answering import answered
 from ..source.faults import STATUSES
 from ..source.reading import read_source, unused
-from ..source.sources import Refused, Source
+from ..source.sources import LargeSource, Refused, Source
 from ..source.telling import limit_told, refused_told, reply_told
-from ..tiles.gluing import NotOfTile
-from ..tiles.making import made, text_of
-from ..tiles.progress import Progress
 from .words import say_bad
+
+if TYPE_CHECKING:
+    from ..openscad.by_openscad import Reader
 
 NO_ANSWER = 125
 # (an unproved run takes a minute each time, and is not asked again which call led to a fault)
@@ -68,6 +66,16 @@ class Call:
     jobs: int | None = None
 
 
+def front_end(asked: Namespace) -> Reader | None:
+    """What reads sources by OpenSCAD's front end, where the words ask for that."""
+    if not asked.by_openscad:
+        return None
+    # (a third of the package, without which the tools are quicker to start)
+    from ..openscad.by_openscad import Reader
+
+    return Reader(asked.exact, asked.fewer)
+
+
 def told(tool: str, work: Callable[[], int]) -> int:
     """The status of a tool's work, with what is wrong with the whole call told."""
     try:
@@ -93,7 +101,7 @@ def convert(call: Call, write: Callable[[Source, str, Solid], int]) -> int:
     for source, out in parts:
         try:
             if isinstance(source, LargeSource):
-                statuses.append(_finished(call, source, _of_tiles(call, source), out, write, True))
+                statuses.append(_finished(call, source, source.solid(call.server, call.jobs), out, write, True))
                 continue
             source, reply = next(replies)
             quick = monotonic() - began < QUICK if quick is None else quick
@@ -171,28 +179,12 @@ def _other(call: Call, source: Source, reply: Reply) -> tuple[Source, Reply]:
     while isinstance(reply, Complex):
         large = call.larger(source) if call.larger else None
         if large is not None:
-            return large, _of_tiles(call, large)
+            return large, large.solid(call.server, call.jobs)
         coarser = call.coarser(source) if call.coarser else None
         if coarser is None:
             break
         [(source, reply)] = answered([coarser], call.half, call.server)
     return source, reply
-
-
-def _of_tiles(call: Call, source: LargeSource) -> Solid:
-    """The solid of a source by tiles, and how many there were is said. Raises Refused, and what `run` of `server` raises."""
-    assert source.design is not None
-    progress = Progress(source.name)
-    try:
-        found = made(source.design.grid, call.server, call.jobs, progress=progress)
-    except CsgFault as fault:
-        raise refused(source.name, fault) from fault
-    except (NotClosed, NotOfTile) as fault:
-        raise Malformed(f"{source.name}: the solids of its tiles make no whole: {fault}") from fault
-    finally:
-        progress.end()
-    say(f"{source.name}: made of {found.tiles} tiles; each tile's text is proved, and that they join to a closed surface is checked\n")
-    return text_of(found.surface)
 
 
 def _finished(

@@ -182,7 +182,7 @@ def run_texts() -> dict[str, bytes]:
         for name in ROUND:
             sources.append(f"{folder}/{name}.scad")
             write_file(sources[-1], of_round[f"gallery/{name}.scad"])
-        subprocess.run([f"{TOP}/scad2off", "-d", folder, *sources], check=True)
+        subprocess.run([f"{TOP}/bin/scad2off", "-d", folder, *sources], check=True)
         return {name: read_file(f"{folder}/{name}.4off") for name in PARTS}
 
 

@@ -12,7 +12,7 @@ from ..files import reason, refusal_to_write, say
 from ..solid.surface import NotClosed
 from ..tiles.folder import INDEX, BadIndex, BadTile, Index, parts_of, read_index, texts_of
 from ..tiles.gluing import glued
-from ..tiles.making import text_of
+from ..tiles.joined import text_of
 from . import off2tool
 from .off2tool import BadSolid
 from .words import Words, jobs_word, write_out

@@ -5,13 +5,12 @@ from __future__ import annotations
 from typing import Sequence
 
 from ..ending import BAD_CALL, BadCall, ended
-from ..openscad.by_openscad import LargeSource, Reader
 from ..server.batches import batches
 from ..server.scripts import Solid, server_of_environment
 from ..source.faults import explanation
 from ..source.reading import read_source
-from ..source.sources import Source
-from .converting import Call, convert, parts_of, told
+from ..source.sources import LargeSource, Source
+from .converting import Call, convert, front_end, parts_of, told
 from .scad2off_words import options_of, parser as parser
 from .words import outs_of, say_bad, write_out
 
@@ -27,7 +26,7 @@ def _do(words: Sequence[str]) -> int:
     asked = options_of(words)
     if asked.explain is not None:
         return _explained(asked.explain)
-    reader = Reader(asked.exact, asked.fewer) if asked.by_openscad else None
+    reader = front_end(asked)
     call = Call(
         TOOL,
         asked.files,

@@ -11,16 +11,15 @@ from typing import Sequence
 
 from ..ending import BadCall, ended
 from ..files import called, say
-from ..openscad.by_openscad import Reader
 from ..server.scripts import Solid, server_of_environment
 from ..solid import fouroff
 from ..solid.formats import BEGINS, WRITERS
 from ..source.reading import read_source
 from ..source.sources import Source
 from ..source.units import MILLIMETRE, unit_of
-from ..tiles.making import JoinedSolid, boundary_of
+from ..tiles.joined import JoinedSolid, boundary_of
 from . import off2tool
-from .converting import Call, convert, told
+from .converting import Call, convert, front_end, told
 from .exporting import ending_of, export, export_closed, format_of, mesh_words
 from .scad2off_words import STATUSES
 from .words import Words, front_end_words, outs_of, source_words, test_front_end, test_outs, write_out
@@ -42,7 +41,7 @@ def main(words: Sequence[str]) -> int:
 
 def _do(words: Sequence[str]) -> int:
     asked = _read_words(words)
-    reader = Reader(asked.exact, asked.fewer) if asked.by_openscad else None
+    reader = front_end(asked)
     call = Call(
         TOOL,
         asked.files,

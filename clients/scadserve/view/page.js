@@ -65,6 +65,11 @@ function direction(numbers) {
   return scaled.map((number) => number / length);
 }
 
+/** How far a depth may be off that a raster keeps, in 24 bits, when it was computed in more of them. */
+function rounding(depth) {
+  return Math.abs(depth) * 2 ** -22;
+}
+
 /** The solid of the page: its exact corners, and its planes with the loops round the faces on them. */
 class Solid {
   constructor({ corners, planes, unit }) {
@@ -343,7 +348,7 @@ class Raster {
     const slope = length > 0 ? (places[to + 1 - along] - places[from + 1 - along]) / length : 0;
     const steep = length > 0 ? (places[to + 2] - places[from + 2]) / length : 0;
     const aside = places[from + 1 - along] - (thick - 1) / 2;
-    const nearer = places[from + 2] + thick + 1;
+    const nearer = places[from + 2] + thick + 1 + Math.max(rounding(places[from + 2]), rounding(places[to + 2]));
     for (let here = begin; here < stop; here++) {
       const way = here + 0.5 - start;
       const inside = way < 0 ? 0 : way > length ? length : way;
@@ -368,16 +373,14 @@ class Raster {
   isSeen(x, y, depth) {
     const column = Math.floor(x);
     const row = Math.floor(y);
-    if (column < 0 || row < 0 || column >= this.width || row >= this.height) {
-      return false;
-    }
+    // (stays so where no pixel is beside it)
     let farthest = Infinity;
     for (let above = Math.max(0, row - 1); above <= Math.min(this.height - 1, row + 1); above++) {
       for (let left = Math.max(0, column - 1); left <= Math.min(this.width - 1, column + 1); left++) {
         farthest = Math.min(farthest, this.depths[above * this.width + left]);
       }
     }
-    return farthest <= depth + 2;
+    return farthest <= depth + 2 + rounding(depth);
   }
 }
 
@@ -525,16 +528,22 @@ class Painter {
     return this.#nearCorners.has(corner) && this.raster.isSeen(...this.places.subarray(3 * corner, 3 * corner + 3));
   }
 
-  /** The corner that is seen nearest to a place on the canvas, within reach; else NOTHING. */
+  /**
+   * The corner that is seen nearest to a place on the canvas, within reach; else NOTHING. Of corners that are equally near, up to a
+   * pixel, it is the one in front, and of those that are equally far in front the one with the least number.
+   */
   cornerAt(x, y) {
-    let [found, least] = [NOTHING, REACH * this.scale];
+    const seen = [];
     for (let corner = 0; corner < this.solid.corners.length; corner++) {
-      const distance = Math.hypot(this.places[3 * corner] - x * this.scale, this.places[3 * corner + 1] - y * this.scale);
-      if (distance < least && this.isSeen(corner)) {
-        [found, least] = [corner, distance];
+      const [across, down, depth] = this.places.subarray(3 * corner, 3 * corner + 3);
+      const distance = Math.hypot(across - x * this.scale, down - y * this.scale);
+      if (distance < REACH * this.scale && this.isSeen(corner)) {
+        seen.push({ corner, distance, depth });
       }
     }
-    return found;
+    const least = Math.min(...seen.map(({ distance }) => distance));
+    const near = seen.filter(({ distance }) => distance <= least + 1);
+    return near.reduce((one, other) => (other.depth > one.depth + 1 ? other : one), near[0])?.corner ?? NOTHING;
   }
 }
 
