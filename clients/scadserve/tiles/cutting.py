@@ -75,10 +75,26 @@ class Convex:
 
 @dataclass(frozen=True)
 class Near:
-    """What of a leaf counts in a tile: the numbers of its facets that may go through the tile."""
+    """What of a leaf counts in a tile: the numbers of its facets that may go through the tile.
+
+    Where a corner of the leaf is inside the tile, these facets alone tell of each point of the tile whether it is in the leaf: on the
+    way to a point inside both, a point that is out of the leaf comes ahead of a facet to it, which goes through the tile. Where no
+    corner is known there, the leaf may be beside the tile, and all its facets are asked.
+    """
 
     leaf: Convex
     facets: "Sequence[int]"
+    has_corner: bool = False
+
+    def holds(self, point: Point, times: int = 1) -> bool:
+        """Whether a point of the tile, whose coordinates are given so many times as large, is in the leaf or on it."""
+        x, y, z = point
+        planes = self.leaf.planes
+        for at in self.facets:
+            a, b, c, d = planes[at]
+            if a * x + b * y + c * z > d * times:
+                return False
+        return self.has_corner or self.leaf.holds(point, times)
 
 
 Tree = Union[Near, "Join[Near]"]
@@ -112,7 +128,7 @@ def whole_tree(grid: Grid) -> Tree:
     if isinstance(grid, Join):
         return Join(grid.operation, [whole_tree(it) for it in grid.parts])
     leaf = Convex(grid.hull, grid.node)
-    return Near(leaf, range(len(leaf.planes)))
+    return Near(leaf, range(len(leaf.planes)), True)
 
 
 def near_leaves(tree: Tree) -> "Iterator[Near]":
@@ -207,11 +223,15 @@ def _near(near: Near, box: Box) -> "Near | Fill":
         if ahead > -beside:
             found.append(at)
     if found:
-        return Near(leaf, found)
+        return Near(leaf, found, any(_is_inside(leaf.hull.corners[it], box) for at in found for it in leaf.rings[at]))
     # (no facet goes through the box, so all of it is on the side of its middle)
-    if any(planes[at][0] * sx + planes[at][1] * sy + planes[at][2] * sz > 2 * planes[at][3] for at in near.facets):
-        return EMPTY
-    return FULL if leaf.holds((sx, sy, sz), 2) else EMPTY
+    return FULL if near.holds((sx, sy, sz), 2) else EMPTY
+
+
+def _is_inside(point: Point, box: Box) -> bool:
+    """Whether a point is in a box and not at its border."""
+    x, y, z = point
+    return box[0] < x < box[3] and box[1] < y < box[4] and box[2] < z < box[5]
 
 
 def halved(tile: Tile) -> "list[Tile] | None":

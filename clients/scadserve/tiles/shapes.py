@@ -111,16 +111,8 @@ class _Shapes:
         corners = leaf.hull.corners
         found = {number for at in near.facets for number in _ring_near(leaf, at, self._box)}
         points = [corners[it] for it in sorted(found)]
-        ahead = [leaf.planes[it] for it in near.facets]
-        held = [it for it in self._corners if all(a * it[0] + b * it[1] + c * it[2] <= d for a, b, c, d in ahead)]
-        # (where the leaf has inner points in the tile, the facets near it tell of each point of the tile; else all facets are asked)
-        is_sure = any(_is_inside(it, self._box) for it in points)
-        more = [it for it in held if is_sure or leaf.holds(it)]
-        return [*points, *(it for it in more if it not in points)]
-
-
-def _is_inside(point: Point, box: Box) -> bool:
-    return all(low < it < high for it, low, high in zip(point, box, box[3:]))
+        held = [it for it in self._corners if near.holds(it)]
+        return [*points, *(it for it in held if it not in points)]
 
 
 def _meet(one: Box, other: Box) -> bool:
