@@ -1,15 +1,15 @@
 #!/usr/bin/env python3
 """Designs by tiles: that they are the solids they should be, and what they take.
 
-    bench/tiles.py chance [--count N] [--seed N] [--least N] [--most N]   # designs by chance, each made in three ways where that can be
-    bench/tiles.py growth [--most N]                                     # rows of balls with bores, at one density
+    bench/tiles.py chance [--count N] [--seed N] [--least N] [--most N]   # designs by chance, each in three ways if that can be
+    bench/tiles.py growth [--most N]                                      # rows of balls with bores, at one density
 
-`chance` makes designs of the test's own kind (`clients/tests/chance.py`) of between so many planes, by two sizes of tiles, and as one
-source where that is within the limits of the server. All have to have the same areas on the same planes, exactly. A line is printed
-for each, and the last one counts them; the status is 1 where one differs.
+`chance` makes designs of the test's own kind (`clients/tests/chance.py`) of between so many planes, by two sizes of tiles,
+and as one source where that is within the limits of the server. All have to have the same areas on the same planes, exactly.
+A line is printed for each, and the last one counts them; the status is 1 where one differs.
 
-`growth` prints for designs of more and more planes how many tiles they have and how long they take by the clock. SCADSERVE in the
-environment names the program.
+`growth` prints for designs of more and more planes how many tiles they have and how long they take by the clock. SCADSERVE in
+the environment names the program.
 """
 
 from __future__ import annotations
@@ -75,7 +75,8 @@ def by_chance(asked: argparse.Namespace) -> int:
             differing += 1
             said.append(f"DIFFERENT: {fault}")
         print(f"{asked.seed + number}: {planes_of(grid)} planes, {', '.join(said)}, {monotonic() - began:.1f} s", flush=True)
-    print(f"{asked.count - differing - refused} of {asked.count} are the same, {alone} of them as one source too; {refused} are refused")
+    same = asked.count - differing - refused
+    print(f"{same} of {asked.count} are the same, {alone} of them as one source too; {refused} are refused")
     return 1 if differing else 0
 
 

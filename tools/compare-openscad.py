@@ -3,11 +3,12 @@
 
     tools/compare-openscad.py [--kept DIR] [FILE.scad | DIR ..]
 
-Without a FILE it takes bench/openscad and the examples that OpenSCAD ships, and of a folder all sources in it. A row of a table is
-printed for each: whether it passes, how many seconds both took (ours by the clock and of all processors, OpenSCAD's of its one),
-of how many tiles ours is made, how far a point may be off, also as a share of the part's size, and what stops it or differs. Where
-OpenSCAD makes no solid, a refusal passes; what it makes of a plan is that of `linear_extrude(1)`. DIR keeps OpenSCAD's meshes, which
-may take minutes. The status is 0 where nothing differs, 1 where something does, and 2 where openscad, admesh or a file is missing.
+Without a FILE it takes bench/openscad and the examples that OpenSCAD ships, and of a folder all sources in it. A row of a
+table is printed for each: whether it passes, how many seconds both took (ours by the clock and of all processors, OpenSCAD's
+of its one), of how many tiles ours is made, how far a point may be off, also as a share of the part's size, and what stops it
+or differs. Where OpenSCAD makes no solid, a refusal passes; what it makes of a plan is that of `linear_extrude(1)`. DIR keeps
+OpenSCAD's meshes, which may take minutes. The status is 0 where nothing differs, 1 where something does, and 2 where
+openscad, admesh or a file is missing.
 """
 
 import argparse

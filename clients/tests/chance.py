@@ -1,5 +1,5 @@
-"""Designs put together by chance on the grid, for tests of tiles: boxes, balls and cones with faces on common planes, with edges that
-touch, and on walls of tiles and off them."""
+"""Designs put together by chance on the grid, for tests of tiles: boxes, balls and cones with faces on common planes, with
+edges that touch, and on walls of tiles and off them."""
 
 from __future__ import annotations
 
@@ -56,7 +56,7 @@ def body(points: "list[tuple[int, int, int]]") -> Body:
 
 
 def design(chance: Random, planes: int, size: int = 400, step: int = 25) -> Grid:
-    """A design of about so many planes. Places are multiples of a step, so that faces and edges of several shapes come together."""
+    """A design of about so many planes. Places are multiples of a step, so that faces and edges come together."""
 
     def place() -> "tuple[int, int, int]":
         return tuple(chance.randrange(-size, size + 1, step) for _ in range(3))  # type: ignore[return-value]
@@ -87,7 +87,8 @@ def _joined(chance: Random, parts: "list[Grid]") -> Grid:
     if len(parts) == 1:
         return parts[0]
     at = chance.randrange(1, len(parts))
-    operation = chance.choice([UNION, UNION, UNION, DIFFERENCE, DIFFERENCE, INTERSECTION] if len(parts) < 12 else [UNION, UNION, DIFFERENCE])
+    most = [UNION, UNION, DIFFERENCE]
+    operation = chance.choice([*most, *most, INTERSECTION] if len(parts) < 12 else most)
     return Join(operation, [_joined(chance, parts[:at]), _joined(chance, parts[at:])])
 
 
@@ -105,7 +106,7 @@ def one_source(grid: Grid) -> str:
 
 
 def areas(boundary: Boundary) -> "Mapping[Plane, Fraction]":
-    """By the plane of faces twice the area of all faces on it, as seen along an axis: what two texts of one solid have in common."""
+    """By the plane of faces twice the area of all on it, as seen along an axis: what two texts of one solid have in common."""
     found: "dict[Plane, Fraction]" = {}
     for ring, plane in zip(boundary.faces, boundary.planes):
         flat = [(Fraction(x, w), Fraction(y, w)) for x, y, w in flatten([boundary.corners[it] for it in ring], plane)]

@@ -103,7 +103,8 @@ class Shapes(unittest.TestCase):
 
     def test_by_chance(self):
         rolled = Random(3)
-        bodies = [chance.ball((10, 0, -7), 300, 30), chance.cone((0, 0, 0), 200, 0, 500, 60), chance.cone((0, 0, 0), 200, 180, 400, 90)]
+        cones = [chance.cone((0, 0, 0), 200, 0, 500, 60), chance.cone((0, 0, 0), 200, 180, 400, 90)]
+        bodies = [chance.ball((10, 0, -7), 300, 30), *cones]
         count = 0
         for body in bodies:
             for _ in range(60):
@@ -214,7 +215,8 @@ class WithTheProgram(unittest.TestCase):
 
     def test_a_ball_with_a_bore_and_boxes_that_touch(self):
         ball = Join(DIFFERENCE, [chance.ball((0, 0, 0), 200, 12), chance.cone((0, 0, -300), 60, 60, 600, 10)])
-        beside = [chance.box((150, -50, -50), (100, 100, 100)), chance.box((250, 50, 50), (50, 50, 50)), chance.box((150, -50, -50), (30, 100, 200))]
+        places = [((150, -50, -50), (100, 100, 100)), ((250, 50, 50), (50, 50, 50)), ((150, -50, -50), (30, 100, 200))]
+        beside = [chance.box(*it) for it in places]
         self.assertGreater(self.assert_same(Join(UNION, [ball, *beside])), 2)
 
     def test_designs_by_chance(self):

@@ -20,8 +20,13 @@ from tests.tool_case import Case
 needs_parallel = unittest.skipUnless(shutil.which("parallel"), "GNU parallel is not installed")
 
 # Four boxes in a row: 12 planes, and 8 with two of them alone.
-ROW = "".join(f"multmatrix([[1, 0, 0, {x}], [0, 1, 0, 0], [0, 0, 1, 0], [0, 0, 0, 1]]) {{ cube(size = [1, 1, 1], center = false); }}\n" for x in (0, 10, 20, 30))
-BALL = "difference() { sphere($fn = 20, $fa = 12, $fs = 2, r = 4); cylinder($fn = 16, $fa = 12, $fs = 2, h = 9, r1 = 1, r2 = 2, center = true); }\n"
+CUBE = "multmatrix([[1, 0, 0, {}], [0, 1, 0, 0], [0, 0, 1, 0], [0, 0, 0, 1]]) {{ cube(size = [1, 1, 1], center = false); }}\n"
+ROW = "".join(CUBE.format(x) for x in (0, 10, 20, 30))
+BALL = """difference() {
+    sphere($fn = 20, $fa = 12, $fs = 2, r = 4);
+    cylinder($fn = 16, $fa = 12, $fs = 2, h = 9, r1 = 1, r2 = 2, center = true);
+}
+"""
 
 
 def two_boxes(*places):
@@ -38,9 +43,9 @@ class Folder(Case):
 
     def setUp(self):
         super().setUp()
-        csg2scad_words = [self.file("row.csg", ROW.encode()), "--unit", "1", "--tiles", self.path("tiles"), "--planes", "8", "--jobs", "2"]
         self.tool = csg2scad
-        self.assertEqual(self.call(*csg2scad_words)[0], 0)
+        words = ["--unit", "1", "--tiles", self.path("tiles"), "--planes", "8", "--jobs", "2"]
+        self.assertEqual(self.call(self.file("row.csg", ROW.encode()), *words)[0], 0)
         self.tool = off2join
 
     def put(self, name, text):
@@ -55,7 +60,8 @@ class Folder(Case):
         self.put("0001.4off", two_boxes(0, 10))
         self.put("0002.4off", two_boxes(20, 30))
         status, said = self.call(self.path("tiles"), "-o", self.path("row.4off"))
-        self.assertEqual((status, said), (0, "tiles: 2 tiles joined to a closed surface of 48 triangles, which is checked; print by off2stl --unit 1\n"))
+        told = "tiles: 2 tiles joined to a closed surface of 48 triangles, which is checked; print by off2stl --unit 1\n"
+        self.assertEqual((status, said), (0, told))
         self.assertEqual(measures.volume(fouroff.read(self.bytes_of("row.4off"))).value, 4)
 
     def test_texts_may_be_in_several_folders(self):
@@ -74,7 +80,8 @@ class Folder(Case):
         self.put("0002.4off", two_boxes(20, 30))
         self.assert_fault(1, words, "0001.4off: error: it isn't the text of this tile: a corner of it is outside of its tile")
         self.put("0001.4off", boxes((0, 0, 0), (2, 1, 1)))
-        self.assert_fault(1, words, "0001.4off: error: it isn't the text of this tile: a face of it lies on a plane that no shape")
+        other = "0001.4off: error: it isn't the text of this tile: a face of it lies on a plane that no shape of its tile has"
+        self.assert_fault(1, words, other)
         self.put("0001.4off", two_boxes(0, 10)[:-3])
         self.assert_fault(1, words, "0001.4off:30: error: the text breaks off")
 
@@ -103,7 +110,8 @@ class Folder(Case):
         ball = self.file("ball.csg", b"sphere($fn = 60, $fa = 12, $fs = 2, r = 4);\n")
         status, said = self.call(ball, "-o", self.path("ball.scad"))
         self.assertEqual((status, os.path.exists(self.path("ball.scad"))), (1, False))
-        self.assertIn("ball.csg: error: TooManyPlanes: it has more planes or shapes than a source may have\n    cure: --tiles DIR", said)
+        self.assertIn("ball.csg: error: TooManyPlanes: it has more planes or shapes than a source may have\n", said)
+        self.assertIn("    cure: --tiles DIR", said)
         status, said = self.call(ball, "--fewer", "-o", self.path("ball.scad"))
         self.assertEqual(status, 0)
         self.assertIn("fewer corners on curves", said)
@@ -124,8 +132,10 @@ class Machines(Calls):
             ls tiles/*.scad | sed -n 'n;p' | parallel -j 2 -n 4 scad2off --allow-empty -d two
             off2join tiles one two -o ball.4off
             scad2off --by-openscad ball.scad -o whole.4off"""
-        self.write("ball.scad", "difference() { sphere(r = 4, $fn = 20); cylinder(h = 9, r1 = 1, r2 = 2, center = true, $fn = 16); }")
-        done = subprocess.run(["sh", "-c", script], cwd=self.folder, env=self.environment, capture_output=True, text=True, check=False)
+        bore = "cylinder(h = 9, r1 = 1, r2 = 2, center = true, $fn = 16);"
+        self.write("ball.scad", f"difference() {{ sphere(r = 4, $fn = 20); {bore} }}")
+        how = {"cwd": self.folder, "env": self.environment, "capture_output": True, "text": True, "check": False}
+        done = subprocess.run(["sh", "-c", script], **how)
         self.assertEqual(done.returncode, 0, done.stderr)
         joined, whole = fouroff.read(self.read("ball.4off")), fouroff.read(self.read("whole.4off"))
         self.assertEqual(measures.volume(joined), measures.volume(whole))
@@ -139,7 +149,8 @@ class Ended(Calls):
         super().setUp()
         self.write("part.scad", "sphere(r = 4, $fn = 60);\n")
         csg = "sphere($fn = 60, $fa = 12, $fs = 2, r = 4);\n"
-        self.openscad = self.script("openscad", f"import sys\nwords = sys.argv[1:]\nopen(words[words.index('-o') + 1], 'w').write({csg!r})\n")
+        write = f"open(sys.argv[sys.argv.index('-o') + 1], 'w').write({csg!r})\n"
+        self.openscad = self.script("openscad", f"import sys\n{write}")
 
     def script(self, name, text):
         place = self.path(self.write(name, f"#!{sys.executable}\n{text}"))
@@ -160,7 +171,8 @@ class Ended(Calls):
         self.assertNotIn("part.4off", self.names())
 
     def test_ctrl_c_ends_all_of_it(self):
-        server = self.script("server", f"import os, sys, time\nopen(os.path.join({self.folder!r}, f'pid.{{os.getpid()}}'), 'w')\ntime.sleep(50)\n")
+        note = f"open(os.path.join({self.folder!r}, f'pid.{{os.getpid()}}'), 'w')\n"
+        server = self.script("server", f"import os, time\n{note}time.sleep(50)\n")
         process = self.started(server)
         began = time.monotonic()
         while len([it for it in self.names() if it.startswith("pid.")]) < 2 and time.monotonic() - began < 40:
@@ -196,13 +208,13 @@ class Bounds(unittest.TestCase):
         from scadserve.openscad.front import Front
         from scadserve.openscad.reader import CsgFault
 
-        fine = "$fn = 0, $fa = 12, $fs = 2"
+        fine, square = "$fa = 12, $fs = 2", "{ square(size = [1, 3], center = false); }"
         for text, said in (
-            ("group() {\n sphere($fn = 1000000, $fa = 12, $fs = 2, r = 20);\n}", "2:2: TooManyCorners: sphere: it has 1000000 corners"),
-            ("sphere($fn = 2000, $fa = 12, $fs = 2, r = 20);", "1:1: TooManyCorners: sphere: with it the curves of the design have 2000000"),
-            (f"linear_extrude(height = 4, twist = 9, slices = 1000000, {fine}) {{ square(size = [1, 3], center = false); }}", "TooManyCorners: linear_extrude"),
-            ("rotate_extrude(angle = 360, $fn = 200000, $fa = 12, $fs = 2) { square(size = [1, 3], center = false); }", "TooManyCorners: rotate_extrude"),
-            ("cube(size = [1, 1, 1], center = false);\n" * 100_001, "100001:1: TooManyNodes: cube: the design has more than 100000 nodes"),
+            (f"group() {{\n sphere($fn = 1000000, {fine}, r = 20);\n}}", "2:2: TooManyCorners: sphere: it has 1000000 corners"),
+            (f"sphere($fn = 2000, {fine}, r = 9);", "1:1: TooManyCorners: sphere: with it the curves of the design have 2"),
+            (f"linear_extrude(height = 4, twist = 9, slices = 100000000, $fn = 0, {fine}) {square}", "linear_extrude: with it"),
+            (f"rotate_extrude(angle = 360, $fn = 200000, {fine}) {square}", "TooManyCorners: rotate_extrude"),
+            ("cube(size = [1, 1, 1], center = false);\n" * 100_001, "100001:1: TooManyNodes: cube"),
         ):
             began = time.process_time()
             with self.assertRaises(CsgFault) as caught:

@@ -3,8 +3,8 @@
     reader = Reader(is_exact=False, is_fewer=False)
     call = Call(.., read=reader, larger=reader.larger, coarser=reader.coarser)
 
-Where a design, or the solid of its source, passes a limit of the server, it is made by tiles; or else, where that is asked for, it is
-converted once more with fewer planes.
+Where a design, or the solid of its source, passes a limit of the server, it is made by tiles; or else, where that is asked
+for, it is converted once more with fewer planes.
 """
 
 from __future__ import annotations
@@ -53,7 +53,8 @@ class Reader:
             raise BadCall(f"--by-openscad runs OpenSCAD, and {error}") from error
         except NotEvaluated as error:
             say(str(error))
-            raise refused(file, CsgFault(1, 1, "Expected", "OpenSCAD has an error in this source, which stands above")) from error
+            fault = CsgFault(1, 1, "Expected", "OpenSCAD has an error in this source, which stands above")
+            raise refused(file, fault) from error
         say(said)
         comment = _COMMENT.match(text)
         front = Front(os.path.dirname(os.path.abspath(file)))
@@ -104,7 +105,7 @@ def _large(file: str, design: Design, comment: str) -> LargeSource:
 
 
 def _of_tiles(file: str, design: Design, server: Sequence[str], jobs: int | None) -> Solid:
-    """The solid of a design by tiles; how many there were is said. Raises Refused, Malformed, and what `run` of `server` raises."""
+    """The solid of a design by tiles; tells how many there were. Raises Refused, Malformed, and what `run` of `server` does."""
     progress = Progress(file)
     try:
         found = made(design.grid, server, jobs, progress=progress)

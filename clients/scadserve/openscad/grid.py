@@ -307,7 +307,7 @@ def shape_text(body: Hull) -> str:
 
 
 def hull_text(points: "Iterable[Point]") -> str:
-    """The hull of points as a shape of a source: the first three are clockwise as seen from outside, and the fourth is behind them."""
+    """The hull of points as a shape of a source: the first three are clockwise seen from outside, the fourth is behind them."""
     return f"hull() polyhedron([{', '.join(map(_list, points))}], F);"
 
 

@@ -208,7 +208,8 @@ class Detail:
         """Notes that a curve has so many corners, before they are made. Raises CsgFault where all have too many."""
         self._corners += corners
         if self._corners > MOST_CORNERS:
-            raise node.fault("TooManyCorners", f"with it the curves of the design have {self._corners} corners, and {MOST_CORNERS} is the most")
+            said = f"with it the curves of the design have {self._corners} corners, and {MOST_CORNERS} is the most"
+            raise node.fault("TooManyCorners", said)
 
     def is_off(self, distance: float) -> None:
         """Notes that some point is so far off."""
@@ -243,7 +244,7 @@ class Detail:
             self.hulls.append(node)
 
     def may_cut(self, sides: int) -> bool:
-        """Whether slices with so many sides may be cut into convex parts: where there are so few that two planes for each may suffice."""
+        """Whether slices with so many sides may be cut into convex parts: where so few are that two planes each suffice."""
         self._sides += sides
         return self.cuts and self._sides <= self.most_sides
 

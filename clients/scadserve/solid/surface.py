@@ -97,7 +97,7 @@ def nodes_of(starts: Sequence[int], twins: Sequence[Side]) -> tuple[list[int], l
 
 
 def fan_of(first: Side, twins: Sequence[Side]) -> list[Side]:
-    """The sides that begin at the node of one, counterclockwise seen from outside; from the border on, where that goes there."""
+    """The sides that begin at the node of one, counterclockwise seen from outside; where the border goes there, from it on."""
     fan = [first]
     while (side := twins[previous_side(fan[-1])]) != first:
         if side == NO_SIDE:
@@ -119,8 +119,8 @@ def pair(
     twins: list[Side],
     planes: Sequence[Plane],
 ) -> int:
-    """Makes twins of the sides at each edge between faces; tells at how many that can't be done, since they are not met as often
-    one way as the other. Raises NotClosed."""
+    """Makes twins of the sides at each edge between faces; tells at how many that can't be done, since they are not met as
+    often one way as the other. Raises NotClosed."""
     unpaired = overlapping = 0
     for (p, q), sides in rims.items():
         forward = sum(starts[side] == p for side in sides)

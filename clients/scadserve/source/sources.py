@@ -98,8 +98,8 @@ class Source:
 
 @dataclass
 class LargeSource(Source):
-    """A source that isn't sent, since its design passes a limit: it has comments alone. Its solid is put together of parts, which are
-    made by a server, that its words start, so many of them side by side."""
+    """A source that isn't sent, since its design passes a limit: it has comments alone. Its solid is put together of parts,
+    which are made by a server, that its words start, so many of them side by side."""
 
     make: Callable[[Sequence[str], int | None], Solid] | None = None
 

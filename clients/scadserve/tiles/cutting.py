@@ -3,9 +3,9 @@
     for tile in tiles(whole_tree(grid), box, Limits()):
         tile.tree, tile.box
 
-On which side of the design a point of a tile lies depends on the facets alone that go through the tile. So a leaf is handed down
-to a part of a tile with the facets that went through the tile itself, and to a leaf none of whose facets goes through it a tile
-is FULL or EMPTY. Joins with these fall away.
+On which side of the design a point of a tile lies depends on the facets alone that go through the tile. So a leaf is handed
+down to a part of a tile with the facets that went through the tile itself, and to a leaf none of whose facets goes through it
+a tile is FULL or EMPTY. Joins with these fall away.
 """
 
 from __future__ import annotations
@@ -16,7 +16,7 @@ from enum import Enum
 from typing import Iterator, Sequence, Union
 
 from ..openscad.exact_hull import Hull, Plane, Point
-from ..openscad.grid import Body, Grid
+from ..openscad.grid import Grid
 from ..openscad.reader import Node
 from ..openscad.tree import DIFFERENCE, INTERSECTION, UNION, Join
 
@@ -77,9 +77,9 @@ class Convex:
 class Near:
     """What of a leaf counts in a tile: the numbers of its facets that may go through the tile.
 
-    Where a corner of the leaf is inside the tile, these facets alone tell of each point of the tile whether it is in the leaf: on the
-    way to a point inside both, a point that is out of the leaf comes ahead of a facet to it, which goes through the tile. Where no
-    corner is known there, the leaf may be beside the tile, and all its facets are asked.
+    Where a corner of the leaf is inside the tile, these facets alone tell of each point of the tile whether it is in the
+    leaf: on the way to a point inside both, a point that is out of the leaf comes ahead of a facet to it, which goes through
+    the tile. Where no corner is known there, the leaf may be beside the tile, and all its facets are asked.
     """
 
     leaf: Convex
@@ -285,6 +285,3 @@ def either(plane: Plane) -> Plane:
     """The one of two opposite planes that stands for both."""
     a, b, c, d = plane
     return plane if (a, b, c) > (0, 0, 0) else (-a, -b, -c, -d)
-
-
-__all__ = ["Body", "Box", "Convex", "Fill", "Limits", "Near", "Tile", "Tree", "block", "box_of", "whole_tree", "whole_box", "halved"]

@@ -12,14 +12,14 @@ from __future__ import annotations
 from typing import Iterator, Sequence
 
 from ..openscad.grid import Grid
-from ..openscad.reader import CsgFault
 from ..server.scripts import passed_limit
 from .cutting import Box, Fill, Limits, Tile, count_of, halved, near_leaves, whole_box, whole_tree, within
 from .shapes import TileSource, TooMuch, source
 
 # A piece has about so many facets.
 _FACETS_AT_ONCE = 2400
-# Where a tile is so small, as at the tip of a cone with many sides, smaller ones have no fewer facets, and the server's own limits hold.
+# Where a tile is so small, as at the tip of a cone with many sides, smaller ones have no fewer facets, and the server's own
+# limits hold.
 _SMALL, _OWN_LIMITS = 8, Limits(planes=4000, facets=4000, shapes=1000)
 
 
@@ -49,7 +49,8 @@ def halves(tile: Tile) -> "list[Tile]":
     found = halved(tile)
     if found is None:
         node = next(near_leaves(tile.tree)).leaf.node
-        raise node.fault("TooManyPlanes", f"it has more planes or shapes than a part may have {_place_of(tile.box)}, where it can't be halved")
+        said = f"it has more planes or shapes than a part may have {_place_of(tile.box)}, where it can't be halved"
+        raise node.fault("TooManyPlanes", said)
     return found
 
 
@@ -84,6 +85,3 @@ def _within_limits(tile: Tile, limits: Limits) -> "TileSource | None":
     if found is not None and passed_limit(found.lines):
         raise TooMuch
     return found
-
-
-__all__ = ["CsgFault", "TileSource", "facets_of", "halves", "pieces", "sources"]

@@ -1,8 +1,8 @@
 """A folder with a design's tiles, which are made anywhere: a source for each tile, and an index of all of them.
 
-The index says of each tile its box, the planes on which faces of its solid may lie, and the sum of its source, and it ends with its
-own sum. So a text that is put in a tile's place is told from that tile's: its corners are in the box, its faces lie on those planes,
-and its edges on walls meet those of the tiles beside it.
+The index says of each tile its box, the planes on which faces of its solid may lie, and the sum of its source, and it ends
+with its own sum. So a text that is put in a tile's place is told from that tile's: its corners are in the box, its faces lie
+on those planes, and its edges on walls meet those of the tiles beside it.
 """
 
 from __future__ import annotations
@@ -17,6 +17,7 @@ from typing import Any, Sequence
 from ..files import read_file, write_file
 from ..openscad.conversion import Design
 from ..solid import fouroff
+from ..solid.fouroff import Plane
 from .cutting import Box, Limits, Tile
 from .dividing import pieces, sources
 from .gluing import NotOfTile, Part, part_of
@@ -36,7 +37,7 @@ class OneTile:
 
     name: str
     box: Box
-    planes: "list[tuple[int, int, int, int]]"
+    planes: "list[Plane]"
     sum_of_source: str
 
 
@@ -54,9 +55,9 @@ def write_folder(folder: str, name: str, design: Design, limits: Limits, jobs: "
     Raises OSError where a file can't be written, and CsgFault where the design can't be cut.
     """
     found = pieces(design.grid, limits)
-    of_pieces: "list[list[tuple[Box, list[bytes], list[tuple[int, int, int, int]]]]]" = [[] for _ in found]
+    of_pieces: "list[list[tuple[Box, list[bytes], list[Plane]]]]" = [[] for _ in found]
 
-    def work(piece: Tile) -> "list[tuple[Box, list[bytes], list[tuple[int, int, int, int]]]]":
+    def work(piece: Tile) -> "list[tuple[Box, list[bytes], list[Plane]]]":
         return [(it.tile.box, it.lines, sorted(it.planes)) for it in sources([piece], limits)]
 
     for number, made in done(work, found, jobs or processors()):
@@ -65,8 +66,8 @@ def write_folder(folder: str, name: str, design: Design, limits: Limits, jobs: "
     width = max(4, len(str(len(all_tiles))))
     tiles = []
     for number, (box, lines, planes) in enumerate(all_tiles, 1):
-        head = [b"// unit: %b" % str(design.unit).encode(), b"// tile %d of %d of %b" % (number, len(all_tiles), name.encode("ascii", "replace"))]
-        text = b"".join(it + b"\n" for it in [*head, *lines])
+        head = f"// unit: {design.unit}\n// tile {number} of {len(all_tiles)} of {name}\n".encode("ascii", "replace")
+        text = head + b"".join(it + b"\n" for it in lines)
         own = f"{number:0{width}}"
         write_file(os.path.join(folder, f"{own}.scad"), text)
         tiles.append({"name": own, "box": box, "planes": [n for it in planes for n in it], "source": _sum(text)})
@@ -90,10 +91,14 @@ def read_index(folder: str) -> Index:
         own = index.pop("sum")
         if index["kind"] != _KIND or own != _sum(_printed(index)):
             raise BadIndex("it isn't as csg2scad wrote it")
-        tiles = [OneTile(it["name"], _box(it["box"]), list(zip(*[iter(it["planes"])] * 4)), it["source"]) for it in index["tiles"]]
+        tiles = [OneTile(it["name"], _box(it["box"]), _planes(it["planes"]), it["source"]) for it in index["tiles"]]
         return Index(Fraction(index["unit"]), tiles)
     except (KeyError, TypeError, AttributeError, ValueError) as error:
         raise error if isinstance(error, BadIndex) else BadIndex("it is no index of tiles") from None
+
+
+def _planes(numbers: "Sequence[int]") -> "list[Plane]":
+    return list(zip(numbers[::4], numbers[1::4], numbers[2::4], numbers[3::4]))
 
 
 def _box(numbers: "Sequence[int]") -> Box:

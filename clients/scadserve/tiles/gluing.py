@@ -3,10 +3,10 @@
     part = part_of(fouroff.read(text), tile_box)
     whole = glued([part, ..])
 
-What a tile prints on the planes of its walls is wall, since no facet of the design lies there. The other faces are a part of the
-boundary of the whole, whose border lies on walls. There each edge meets the edges of other tiles along its line: corners that end
-some of these are put into it, and then each is paired with one that goes the other way. If one is left over, the solids are none of
-one design, and are refused. Faces of one plane on both sides of a wall are cut anew together.
+What a tile prints on the planes of its walls is wall, since no facet of the design lies there. The other faces are a part of
+the boundary of the whole, whose border lies on walls. There each edge meets the edges of other tiles along its line: corners
+that end some of these are put into it, and then each is paired with one that goes the other way. If one is left over, the
+solids are none of one design, and are refused. Faces of one plane on both sides of a wall are cut anew together.
 """
 
 from __future__ import annotations
@@ -24,7 +24,7 @@ from .cutting import Box, either
 
 @dataclass(frozen=True)
 class Part:
-    """The part of a boundary that is in a tile, as triangles: the corner at which each side begins, its twin, and each plane."""
+    """The part of a boundary in a tile, as triangles: the corner at which each side begins, its twin, and each plane."""
 
     corners: "list[Corner]"
     starts: "list[int]"
@@ -37,7 +37,8 @@ class NotOfTile(ValueError):
 
 
 def part_of(corners: "Sequence[Corner]", faces: "Sequence[tuple[int, ...]]", box: Box, planes: "AbstractSet[Plane]") -> Part:
-    """What of the boundary of a tile's solid is that of the whole, which lies on these planes, of which each is one of two opposite ones.
+    """What of the boundary of a tile's solid is that of the whole, which lies on these planes, of which each is one of two
+    opposite ones.
 
     Raises NotOfTile where the solid isn't in the box, lies on other planes, or isn't closed within the tile.
     """

@@ -1,11 +1,11 @@
 """The source of a tile: its box, and in it the shapes that leaves of the design come to there.
 
-A small leaf stands as it is. Of another one the hull of two kinds of points does: the corners of the facets that go through the tile,
-and the corners of the tile that are in the leaf. Within the tile that hull and the leaf are the same: each corner of what they have
-there is a corner of the tile, or it is on a facet that goes through the tile.
+A small leaf stands as it is. Of another one the hull of two kinds of points does: the corners of the facets that go through
+the tile, and the corners of the tile that are in the leaf. Within the tile that hull and the leaf are the same: each corner
+of what they have there is a corner of the tile, or it is on a facet that goes through the tile.
 
-A hull has 128 points at most. Where more facets than that meet in one corner, as at the tip of a cone, no tile is small enough: such
-a leaf is the union of hulls, each of an inner point and of some of its facets.
+A hull has 128 points at most. Where more facets than that meet in one corner, as at the tip of a cone, no tile is small
+enough: such a leaf is the union of hulls, each of an inner point and of some of its facets.
 """
 
 from __future__ import annotations
@@ -39,8 +39,8 @@ class Shape:
 
 @dataclass(frozen=True)
 class TileSource:
-    """A tile with the lines of its source, and the planes of the design on which faces of its solid may lie, each one of two opposite
-    ones."""
+    """A tile with the lines of its source, and the planes of the design on which faces of its solid may lie, each one of two
+    opposite ones."""
 
     tile: Tile
     lines: "list[bytes]"
@@ -121,7 +121,7 @@ def _meet(one: Box, other: Box) -> bool:
 
 
 def _first_four(leaf: Convex, facets: "Sequence[int]", points: "Sequence[Point]") -> "list[Point] | None":
-    """Four of the points, of which the first three are clockwise as seen from outside; None where all points are on one plane."""
+    """Four of the points, of which the first three are clockwise seen from outside; None where all points are on one plane."""
     known = set(points)
     for at in facets:
         on = [it for it in (leaf.hull.corners[it] for it in leaf.rings[at]) if it in known][:3]

@@ -3,8 +3,8 @@
     for number, found in done(work, pieces, jobs):
         ..
 
-`work` is called with each piece in one of the processes, which know what stands in memory when they start. What it gives goes back
-as it comes. At an exception here, as at Ctrl-C, all processes are ended, and with them what they have started.
+`work` is called with each piece in one of the processes, which know what stands in memory when they start. What it gives goes
+back as it comes. At an exception here, as at Ctrl-C, all processes are ended, and with them what they have started.
 """
 
 from __future__ import annotations
@@ -29,8 +29,8 @@ def processors() -> int:
 
 
 def done(work: "Callable[[P], T]", pieces: "Sequence[P]", jobs: int) -> "Iterator[tuple[int, T]]":
-    """The number of each piece with what is made of it, as it comes. Raises what `work` raises, and ServerFailed where a process
-    is ended from outside."""
+    """The number of each piece with what is made of it, as it comes. Raises what `work` raises, and ServerFailed where a
+    process is ended from outside."""
     team = _Team(work, pieces, min(jobs, len(pieces)))
     try:
         yield from team.results()

@@ -175,7 +175,7 @@ def _read(call: Call, file: str) -> Source:
 
 
 def _other(call: Call, source: Source, reply: Reply) -> tuple[Source, Reply]:
-    """The source and its answer; where that is a limit, those of the same file by tiles, or with fewer planes. Raises Refused."""
+    """The source and its answer; where that is a limit, those by tiles, or with fewer planes. Raises Refused."""
     while isinstance(reply, Complex):
         large = call.larger(source) if call.larger else None
         if large is not None:

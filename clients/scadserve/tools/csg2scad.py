@@ -39,12 +39,10 @@ def parser() -> Words:
     words.add_argument("--unit", type=_unit, help="the step of the grid in OpenSCAD's lengths, as 1/20; else it is chosen")
     words.add_argument("--exact", action="store_true", help="refuse a slice that could be a hull alone")
     words.add_argument("--fewer", action="store_true", help="where planes run out, leave corners of curves out")
-    words.add_argument(
-        "--tiles", metavar="DIR", help="write a source for each tile of the design to the new folder DIR, of which off2join joins the texts"
-    )
-    words.add_argument(
-        "--planes", type=_count, metavar="N", help=f"take so many planes at most; else {PLANES}, or {Limits().planes} for a tile"
-    )
+    of_tiles = "write a source for each tile of the design to the new folder DIR; off2join joins their texts"
+    words.add_argument("--tiles", metavar="DIR", help=of_tiles)
+    of_planes = f"take so many planes at most; else {PLANES}, or {Limits().planes} for a tile"
+    words.add_argument("--planes", type=_count, metavar="N", help=of_planes)
     jobs_word(words, "how many pieces of the design are cut into tiles side by side")
     words.add_argument("--flat", type=_unit, metavar="H", help="make a design in the plane H high")
     words.add_argument("--folder", metavar="DIR", help="where the files that the design imports are; else where FILE.csg is")

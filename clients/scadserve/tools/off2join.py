@@ -18,8 +18,10 @@ from .off2tool import BadSolid
 from .words import Words, jobs_word, write_out
 
 TOOL = "off2join"
-_DESCRIPTION = "Puts the texts of a design's tiles together: NAME.4off of each NAME.scad in a folder that csg2scad --tiles has written."
-_EPILOG = "The status is 0 where all was written, 1 where a text is missing or isn't its tile's, 2 where words or files are faulty."
+_DESCRIPTION = """Puts the texts of a design's tiles together: NAME.4off of each NAME.scad in a folder that csg2scad --tiles has
+written."""
+_EPILOG = """The status is 0 where all was written, 1 where a text is missing or isn't its tile's, 2 where words or files are
+faulty."""
 _SHOWN = 8
 
 
@@ -31,7 +33,8 @@ def main(words: Sequence[str]) -> int:
 def parser() -> Words:
     """The words that there are."""
     words = Words(TOOL, _DESCRIPTION, _EPILOG)
-    words.add_argument("folders", nargs="+", metavar="DIR", help="the folder that csg2scad wrote, and those in which texts are, if not in it")
+    of_folders = "the folder that csg2scad wrote, and those in which texts are, if not in it"
+    words.add_argument("folders", nargs="+", metavar="DIR", help=of_folders)
     words.add_argument("-o", dest="out", metavar="OUT", default="-", help="the file to write; else standard output")
     jobs_word(words, "how many texts are read side by side")
     return words
@@ -46,7 +49,8 @@ def _join(words: Sequence[str]) -> None:
     index = _index(folder)
     texts = texts_of(index, others or [folder])
     if texts.missing:
-        shown = ", ".join(texts.missing[:_SHOWN]) + (f" and {len(texts.missing) - _SHOWN} more" if len(texts.missing) > _SHOWN else "")
+        more = len(texts.missing) - _SHOWN
+        shown = ", ".join(texts.missing[:_SHOWN]) + (f" and {more} more" if more > 0 else "")
         raise BadSolid(f"{folder}: error: {len(texts.missing)} of {len(index.tiles)} tiles have no text yet: {shown}", 1)
     try:
         surface = glued(parts_of(index, texts.files, asked.jobs))

@@ -64,7 +64,8 @@ def _script_written(call: Call) -> int:
         return max(statuses)
     for it in parts:
         if isinstance(it.source, LargeSource):
-            raise BadCall(f"{it.source.name} is made by tiles, and --script prints the script of one source (--fewer makes it one)")
+            said = "is made by tiles, and --script prints the script of one source (--fewer makes it one)"
+            raise BadCall(f"{it.source.name} {said}")
     scripts = [bytes(it.script) for it in batches([it.source.sent() for it in parts], call.half)]
     if len(scripts) != 1:
         raise BadCall(f"these files make {len(scripts)} scripts, and --script prints one")
