@@ -9,6 +9,7 @@ import subprocess
 import sys
 import time
 import unittest
+from unittest import mock
 
 from scadserve.openscad.reader import read
 from scadserve.solid import fouroff, measures
@@ -214,10 +215,11 @@ class Bounds(unittest.TestCase):
             (f"sphere($fn = 2000, {fine}, r = 9);", "1:1: TooManyCorners: sphere: with it the curves of the design have 2"),
             (f"linear_extrude(height = 4, twist = 9, slices = 100000000, $fn = 0, {fine}) {square}", "linear_extrude: with it"),
             (f"rotate_extrude(angle = 360, $fn = 200000, {fine}) {square}", "TooManyCorners: rotate_extrude"),
-            ("cube(size = [1, 1, 1], center = false);\n" * 100_001, "100001:1: TooManyNodes: cube"),
+            ("cube(size = [1, 1, 1], center = false);\n" * 101, "101:1: TooManyNodes: cube: the design has more than 100 nodes"),
         ):
             began = time.process_time()
-            with self.assertRaises(CsgFault) as caught:
+            # (reading as many nodes as there may be takes seconds)
+            with self.assertRaises(CsgFault) as caught, mock.patch("scadserve.openscad.reader.MOST_NODES", 100):
                 of_any_size(read(text), Wanted(), Front("."))
             self.assertIn(said, str(caught.exception))
             self.assertLess(time.process_time() - began, 20)
