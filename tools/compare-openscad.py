@@ -1,16 +1,19 @@
 #!/usr/bin/env python3
 """Compares what `scad2off --by-openscad` gives with what OpenSCAD makes of the same sources: box, volume, points, closed meshes.
 
-    tools/compare-openscad.py [--kept DIR] [FILE.scad ..]
+    tools/compare-openscad.py [--kept DIR] [FILE.scad | DIR ..]
 
-Without a FILE it takes bench/openscad and the examples that OpenSCAD ships. A row of a table is printed for each: whether it
-passes, how many processor seconds both took, how far a point may be off, and what stops it or differs. Where OpenSCAD makes no solid, a refusal
-passes; what it makes of a plan is that of `linear_extrude(1)` (`--flat 1`). DIR keeps OpenSCAD's meshes, which may take minutes.
-The status is 0 where nothing differs, 1 where something does, and 2 where openscad, admesh or a file is missing.
+Without a FILE it takes bench/openscad and the examples that OpenSCAD ships, and of a folder all sources in it. A row of a
+table is printed for each: whether it passes, how many seconds both took (ours by the clock and of all processors, OpenSCAD's
+of its one), of how many tiles ours is made, how far a point may be off, also as a share of the part's size, and what stops it
+or differs. Where OpenSCAD makes no solid, a refusal passes; what it makes of a plan is that of `linear_extrude(1)`. DIR keeps
+OpenSCAD's meshes, which may take minutes. The status is 0 where nothing differs, 1 where something does, and 2 where
+openscad, admesh or a file is missing.
 """
 
 import argparse
 import glob
+import math
 import os
 import re
 import resource
@@ -18,6 +21,7 @@ import shutil
 import subprocess
 import sys
 import tempfile
+import time
 
 TOP = os.path.dirname(os.path.dirname(os.path.realpath(__file__)))
 sys.path.insert(0, os.path.join(TOP, "clients"))
@@ -59,9 +63,14 @@ def evaluated_form(file):
     return reader.printed(nodes, {it: os.path.join(os.path.dirname(os.path.abspath(file)), it) for it in names})
 
 
+def base_of(file, kept):
+    """Where what is kept of a source begins."""
+    return os.path.join(kept, os.path.splitext(os.path.basename(file))[0])
+
+
 def theirs(file, kept):
     """OpenSCAD's mesh of a source as a text, "" where it makes none, and how long it takes; whether the source is a plan."""
-    base = os.path.join(kept, os.path.splitext(os.path.basename(file))[0])
+    base = base_of(file, kept)
     if not os.path.exists(base + ".time"):
         took, status, said, _ = timed(["openscad", "--render", "-o", base + ".off", file])
         is_plan = status != 0 and "not a 3D object" in said
@@ -80,24 +89,16 @@ def theirs(file, kept):
         return it.read(), float(took), is_plan == "True"
 
 
-def ours(file, folder, is_plan):
-    """Our text of a source, None where it is refused, how long it takes, and what is said."""
+def ours(file, folder):
+    """Our text of a source, None where it is refused, how long it takes by the clock and of processors, and what is said."""
     out = os.path.join(folder, "part.4off")
-    if not is_plan:
-        took, status, said, _ = timed([f"{TOP}/bin/scad2off", "--by-openscad", file, "-o", out])
-    else:
-        csg, source = os.path.join(folder, "part.csg"), os.path.join(folder, "part.scad")
-        where = os.path.dirname(os.path.abspath(file))
-        took, status, said, _ = timed(["openscad", "-o", csg, file])
-        more, status, said, _ = timed([f"{TOP}/bin/csg2scad", "--flat", "1", "--folder", where, csg, "-o", source])
-        took += more
-        if status == 0:
-            more, status, besides, _ = timed([f"{TOP}/bin/scad2off", source, "-o", out])
-            took, said = took + more, said + besides
+    began = time.monotonic()
+    took, status, said, _ = timed([f"{TOP}/bin/scad2off", "--by-openscad", file, "-o", out])
+    by_clock = time.monotonic() - began
     if status != 0:
-        return None, took, said
+        return None, by_clock, took, said
     with open(out, "rb") as it:
-        return it.read(), took, said
+        return it.read(), by_clock, took, said
 
 
 def off_and_unit(said):
@@ -124,7 +125,7 @@ def compared(file, kept):
     name = os.path.splitext(os.path.basename(file))[0]
     with tempfile.TemporaryDirectory() as folder:
         mesh, their_time, is_plan = theirs(file, kept)
-        text, our_time, said = ours(file, folder, is_plan)
+        text, by_clock, our_time, said = ours(base_of(file, kept) + "-plan.scad" if is_plan else file, folder)
         what, off, passes = "", "", False
         if text is None:
             refusal = re.search(r"error: (.+)", said)
@@ -134,24 +135,39 @@ def compared(file, kept):
             what = f"OpenSCAD makes no solid within {LONGEST} s of a processor"
         else:
             distance, unit = off_and_unit(said)
-            found = differences(of_4off(text, unit), of_off(mesh), distance)
+            body = of_4off(text, unit)
+            found = differences(body, of_off(mesh), distance)
             found += [] if is_closed(text, folder) else ["admesh finds it open"]
-            off, what, passes = f"{distance:.2g}", "; ".join(found), not found
-    plan = " (1 high)" if is_plan else ""
-    return f"| {name}{plan} | {'yes' if passes else 'no'} | {our_time:.1f} | {their_time:.1f} | {off} | {what} |", passes
+            size = math.dist(*zip(*body.box()))
+            off, what, passes = f"{distance:.2g} (1/{size / distance:.0f})", "; ".join(found), not found
+    tiles = re.search(r"made of (\d+) tiles", said)
+    cells = [
+        name + (" (1 high)" if is_plan else ""), "yes" if passes else "no", f"{by_clock:.1f}", f"{our_time:.1f}",
+        f"{their_time:.1f}", tiles[1] if tiles else "", off, what,
+    ]  # fmt: skip
+    return f"| {' | '.join(cells)} |", passes
+
+
+def sources_of(asked):
+    """The files that are asked for, of folders all sources in them."""
+    found = []
+    for it in asked:
+        found += sorted(glob.glob(f"{glob.escape(it)}/**/*.scad", recursive=True)) if os.path.isdir(it) else [it]
+    return [os.path.abspath(it) for it in found]
 
 
 def main():
     parser = argparse.ArgumentParser(description="Compares --by-openscad with OpenSCAD.", allow_abbrev=False)
     parser.add_argument("--kept", metavar="DIR", help="where OpenSCAD's meshes are kept")
-    parser.add_argument("files", nargs="*", metavar="FILE.scad")
+    parser.add_argument("files", nargs="*", metavar="FILE.scad", help="a source, or a folder of sources")
     asked = parser.parse_args()
-    files = [os.path.abspath(it) for it in asked.files] or sorted(glob.glob(f"{TOP}/bench/openscad/*.scad")) + sorted(glob.glob(EXAMPLES))
+    files = sources_of(asked.files) or sorted(glob.glob(f"{TOP}/bench/openscad/*.scad")) + sorted(glob.glob(EXAMPLES))
     missing = [it for it in ("openscad", "admesh") if not shutil.which(it)] + [it for it in files if not os.path.exists(it)]
     if missing:
         print(f"not there: {', '.join(missing)}", file=sys.stderr)
         return 2
-    print("| Source | Passes | s | s, OpenSCAD | off by at most | Otherwise |\n|---|---|---|---|---|---|", flush=True)
+    heads = ["Source", "Passes", "s", "s of processors", "s, OpenSCAD", "Tiles", "Off by at most", "Otherwise"]
+    print(f"| {' | '.join(heads)} |\n{'|---' * len(heads)}|", flush=True)
     with tempfile.TemporaryDirectory() as folder:
         if asked.kept:
             os.makedirs(asked.kept, exist_ok=True)

@@ -12,7 +12,7 @@ from fractions import Fraction
 from functools import cached_property
 from pathlib import Path
 from time import monotonic
-from typing import Iterable, Mapping, Sequence, Union
+from typing import Iterable, Iterator, Mapping, Sequence, Union
 
 from .server.replies import Complex, Reply
 from .server.replies import Fault as ToldFault
@@ -28,7 +28,7 @@ from .source.answering import answered
 from .source.notes import Note as Note
 from .source.notes import notes_of
 from .source.reading import read_source, source_of, unused
-from .source.sources import Refused
+from .source.sources import LargeSource, Refused
 from .source.sources import Source as ReadSource
 from .source.telling import limit_told, refused_told, reply_told
 
@@ -174,9 +174,9 @@ def solve(
     found = [reading.read(it, f"<source {number}>", assigned) for number, it in enumerate(given, 1)]
     if assigned and not by_openscad:
         _test_used(found)
-    sound = [it for it in found if isinstance(it, ReadSource)]
-    told = iter(answered(sound, half, words, workers, memo, until))
-    return [it if isinstance(it, Fault) else reading.solid(*next(told), words, until) for it in found]
+    sent = [it for it in found if isinstance(it, ReadSource) and not isinstance(it, LargeSource)]
+    told = iter(answered(sent, half, words, workers, memo, until))
+    return [it if isinstance(it, Fault) else reading.answer(it, told, words, until) for it in found]
 
 
 def _listed(sources: Iterable[Source]) -> list[Source]:
@@ -265,7 +265,13 @@ class _Reading:
             return source_of(_bytes(source), name, definitions, self.folders)
         return read_source(os.fspath(source), definitions, self.folders)
 
-    def solid(self, source: ReadSource, reply: Reply, server: Sequence[str], until: float | None) -> Solid | Fault:
+    def answer(
+        self, source: ReadSource, told: Iterator[tuple[ReadSource, Reply]], server: Sequence[str], until: float | None
+    ) -> Solid | Fault:
+        """What a source is answered: the next of what those that were sent are told. Raises what `run` of `server` raises."""
+        return self._solid(*next(told))
+
+    def _solid(self, source: ReadSource, reply: Reply) -> Solid | Fault:
         """What the export of a source was answered."""
         if isinstance(reply, ToldSolid):
             return Solid(reply.text, tuple(notes_of(source)))
@@ -322,19 +328,23 @@ class _ByOpenscad(_Reading):
         name = self._names.get(file, file)
         return replace(fault, file=fault.file.replace(file, name), message=(self._lines[file] + fault.message).replace(file, name))
 
-    def solid(self, source: ReadSource, reply: Reply, server: Sequence[str], until: float | None) -> Solid | Fault:
-        """What the export was answered, or that of the same source with fewer planes, where it passes a limit."""
+    def answer(
+        self, source: ReadSource, told: Iterator[tuple[ReadSource, Reply]], server: Sequence[str], until: float | None
+    ) -> Solid | Fault:
+        """What a source is answered; where it, or its solid, passes a limit, its solid is made by tiles."""
         self._told.clear()
-        smaller: ReadSource | None = source
-        while isinstance(reply, Complex) and smaller is not None:
-            try:
-                smaller = self._reader.coarser(source)
-            except Refused as refused:
-                return self._called(_refused(refused), source.name)
-            if smaller is not None:
-                [(source, reply)] = answered([smaller], False, server, until=until)
+        try:
+            if isinstance(source, LargeSource):
+                reply: Reply = source.solid(server, until=until)
+            else:
+                source, reply = next(told)
+                large = self._reader.larger(source) if isinstance(reply, Complex) else None
+                if large is not None:
+                    source, reply = large, large.solid(server, until=until)
+        except Refused as refused:
+            return self._called(_refused(refused), source.name)
         lines = (self._lines[source.name] + "".join(self._told)).replace(source.name, self._names.get(source.name, source.name))
-        found = super().solid(source, reply, server, until)
+        found = self._solid(source, reply)
         if isinstance(found, Fault):
             return self._called(found, source.name)
         return Solid(found.text, (), source.step, tuple(lines.splitlines()))

@@ -80,7 +80,7 @@ class Told(Calls):
         self.assertEqual(status, 1)
         self.assertRegex(said, r"part\.scad: error: Warned: node 1, import: Can't open import file '.*/none\.stl'")
         status, said = self.told("cube(1);")
-        self.assertEqual((status, said.count("\n")), (0, 2))
+        self.assertEqual((status, "warning" in said), (0, False))
         self.assertEqual(self.told("cube(1);", "--strict")[0], 0)
 
     @needs_openscad
@@ -164,9 +164,9 @@ class Forms(unittest.TestCase):
             (f"cube(size = [2, 2, 2]) {{ {CUBE} }}", "1:24: Expected: a ; should stand here"),
             ("cube(size = [2, 2, 2], center = 1);", "1:1: BadArgument: cube: center is neither true nor false"),
             ("cube(size = [2, 1e300, 2]);", "1:1: OutOfRange: cube: size holds 1e+300, and numbers up to 1e+12 are read"),
-            ("cylinder($fn = 1000000, h = 1, r1 = 1, r2 = 1);", "TooManyPlanes: cylinder: it has 1000000 corners of a circle, and 10000 are read"),
-            ("sphere($fn = 9999, r = 1);", "TooManyPlanes: sphere: it has 49995000 corners, and 1000000 are read"),
-            ("linear_extrude(height = 1, twist = 9, slices = 1e9) { square(size = [1, 1]); }", "it has 1000000000 slices, and 10000 are read"),
+            ("cylinder($fn = 1000000, h = 1, r1 = 1, r2 = 1);", "TooManyCorners: cylinder: it has 1000000 corners of a circle, and 10000 is the most"),
+            ("sphere($fn = 9999, r = 1);", "TooManyCorners: sphere: with it the curves of the design have 49995000 corners, and 400000"),
+            ("linear_extrude(height = 1, twist = 9, slices = 1e9) { square(size = [1, 1]); }", "it has 1000000000 slices, and 10000 is the most"),
             ("multmatrix([[1e12, 0, 0, 0], [0, 1, 0, 0], [0, 0, 1, 0], [0, 0, 0, 1]]) {" * 30 + CUBE + "}" * 30, "OutOfRange"),
             ("hull() { }", "Empty: this design makes no solid at all"),
             ("cube(size = [0.0001, 1, 1]);", "Empty: this design makes no solid at all. vanished, since it is thinner than the grid: cube at 1:1, node 1"),
@@ -177,7 +177,7 @@ class Forms(unittest.TestCase):
     def test_so_many_nodes_are_read(self):
         with mock.patch("scadserve.openscad.reader.MOST_NODES", 3):
             self.assertEqual(len(read(CUBE * 3)), 3)
-            self.assertIn("1:118: TooManyParts: cube: more than 3 nodes", self.fault(CUBE * 4))
+            self.assertIn("1:118: TooManyNodes: cube: the design has more than 3 nodes", self.fault(CUBE * 4))
 
     def test_nodes_in_one_another_as_deep_as_they_are_read(self):
         for name in ("group", "difference", "hull"):
@@ -189,7 +189,7 @@ class Forms(unittest.TestCase):
         ball = "sphere($fn = -5, $fa = 0, $fs = 0, r = {0});"
         self.assertEqual(fragments(read(ball.format(0.01))[0], 0.01), 7)
         self.assertEqual(fragments(read(ball.format(5))[0], 5), 3142)
-        self.assertIn("sphere: it has 4936082 corners, and 1000000 are read", self.fault(ball.format(5)))
+        self.assertIn("sphere: with it the curves of the design have 4936082 corners, and 400000 is the most", self.fault(ball.format(5)))
 
     def test_what_vanishes_as_a_whole_and_what_loses_a_piece(self):
         # (an arrow whose tip is a tenth of the grid wide, and a plate that is thinner than it)

@@ -1,8 +1,10 @@
 """Sources by OpenSCAD's own front end: OpenSCAD evaluates a file, and what is sent to the server is the source that comes of it.
 
-    call = Call(.., read=Reader(Wanted()), coarser=Reader.coarser)
+    reader = Reader(Wanted())
+    call = Call(.., read=reader, larger=reader.larger, coarser=reader.coarser, last=reader.last)
 
-Where the solid of such a source passes a limit of the server, it is converted once more with fewer planes.
+Where a design, or the solid of its source, passes a limit of the server, it is made by tiles; or else, where that is asked
+for, it is converted once more with fewer planes.
 """
 
 from __future__ import annotations
@@ -10,16 +12,23 @@ from __future__ import annotations
 import os
 from dataclasses import replace
 from fractions import Fraction
+from functools import partial
 from typing import Callable, NamedTuple, Sequence
 
 from ..ending import BadCall
 from ..files import say
+from ..server.replies import Malformed, Solid
+from ..solid.surface import NotClosed
 from ..source.faults import FAULTS
-from ..source.sources import Line, Refused, Source, Spot
+from ..source.sources import LargeSource, Line, Refused, Source, Spot
 from ..source.telling import refused_told
 from ..source.units import unit_of_file
+from ..tiles.gluing import NotOfTile
+from ..tiles.joined import text_of
+from ..tiles.making import made
+from ..tiles.progress import Progress
 from . import included
-from .conversion import Conversion, Wanted, converted
+from .conversion import Conversion, Design, Wanted, converted, of_any_size, whole
 from .front import Front, NotEvaluated, NotThere, Told, evaluated, warned
 from .grid import PLANES
 from .reader import CsgFault, Node, read
@@ -39,6 +48,8 @@ _CURES = {
     "OutOfRange": "move it to the middle, or make it smaller",
     "TooManyPlanes": "take fewer fragments ($fn), or make several parts of it",
     "TooManyParts": "make several parts of it",
+    "TooManyCorners": "take fewer fragments ($fn) or slices",
+    "TooManyNodes": "make several parts of it",
     "NotConvex": "join convex shapes by union; corners of a polyhedron's faces go clockwise as seen from outside",
 }
 _ABOVE = "what OpenSCAD says stands above"
@@ -54,7 +65,10 @@ class _Evaluated(NamedTuple):
 
 
 class Reader:
-    """Reads sources by OpenSCAD, and tells what it says and what was changed of each, on standard error or otherwise."""
+    """Reads sources by OpenSCAD, and tells what it says and what was changed of each, on standard error or otherwise.
+
+    Where a design passes a limit of a source, its solid is made by tiles, or, where fewer corners are wanted, of these.
+    """
 
     def __init__(self, wanted: Wanted, unit: "Fraction | None" = None, tell: "Callable[[str], None]" = say) -> None:
         self._wanted, self._unit, self._tell = wanted, unit, tell
@@ -92,10 +106,21 @@ class Reader:
     def coarser(self, source: Source) -> Source | None:
         """The source of the same file with fewer planes; None where there is none. Raises Refused."""
         planes = int(self._planes[source.name] * _SHARE)
-        if self._wanted.is_exact or planes < _LEAST:
+        if not self._wanted.may_be_fewer or planes < _LEAST:
             return None
         self._tell(f"{source.name}: its solid passes a limit of the server, so it is tried with {planes} planes at most\n")
         return self._converted(source.name, planes)
+
+    def larger(self, source: Source) -> LargeSource | None:
+        """The same source as one that is made by tiles; None where that isn't asked for. Raises Refused."""
+        if self._wanted.may_be_fewer:
+            return None
+        nodes, front, _ = self._evaluated[source.name]
+        self._tell(f"{source.name}: its solid passes a limit of the server, so it is made by tiles\n")
+        try:
+            return self._large(source.name, whole(nodes, self._wanted, front))
+        except CsgFault as fault:
+            raise _refused(source.name, fault) from fault
 
     def last(self, source: Source) -> str:
         """What is told last of a part: how often OpenSCAD warned of it."""
@@ -105,16 +130,46 @@ class Reader:
         nodes, front, _ = self._evaluated[file]
         self._planes[file] = planes
         try:
-            found = converted(nodes, replace(self._wanted, planes=planes), front)
+            wanted = replace(self._wanted, planes=planes)
+            found = converted(nodes, wanted, front) if wanted.may_be_fewer else of_any_size(nodes, wanted, front)
         except CsgFault as fault:
             raise _refused(file, fault) from fault
         self._tell(conversion_told(file, found))
+        if isinstance(found, Design):
+            return self._large(file, found)
         self._warnings[file] = self._evaluated[file].warnings + found.warnings
-        lines = [Line(it, it, file, number) for number, it in enumerate(found.text.split(b"\n")[:-1], 1)]
+        lines = _lines(file, found.text)
         return Source(file, lines, (), len(lines), self._units[file], found.unit)
 
+    def _large(self, file: str, design: Design) -> LargeSource:
+        """The source of a design that is made by tiles."""
+        self._warnings[file] = self._evaluated[file].warnings + design.warnings
+        lines = _lines(file, f"// unit: {design.unit}\n".encode())
+        make = partial(self._of_tiles, file, design)
+        return LargeSource(file, lines, (), len(lines), self._units[file], design.unit, make)
 
-def conversion_told(name: str, found: Conversion) -> str:
+    def _of_tiles(self, file: str, design: Design, server: "Sequence[str]", jobs: int | None, until: float | None) -> Solid:
+        """The solid of a design by tiles; tells how many there were. Raises Refused, Malformed, and what `run` of `server` does."""
+        progress = Progress(file, self._tell is say)
+        try:
+            found = made(design.grid, server, jobs, progress=progress, until=until)
+        except CsgFault as fault:
+            raise _refused(file, fault) from fault
+        except (NotClosed, NotOfTile) as fault:
+            raise Malformed(f"{file}: the solids of its tiles make no whole: {fault}") from fault
+        finally:
+            progress.end()
+        proved = "each tile's text is proved, and that they join to a closed surface is checked"
+        self._tell(f"{file}: made of {found.tiles} tiles; {proved}\n")
+        return text_of(found.surface)
+
+
+def _lines(file: str, text: bytes) -> "list[Line]":
+    """The lines of a text that comes of a file."""
+    return [Line(it, it, file, number) for number, it in enumerate(text.split(b"\n")[:-1], 1)]
+
+
+def conversion_told(name: str, found: "Conversion | Design") -> str:
     """What is told of a conversion, a line each."""
     return "".join(f"{name}: {it}\n" for it in found.told)
 

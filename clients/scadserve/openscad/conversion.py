@@ -4,7 +4,8 @@
     conversion.text, conversion.unit, conversion.told
 
 The grid is the finest of a list on which all corners have room, or a coarser one of it on which no corner moves. Where more
-planes or shapes come of it than a design may have, corners of curves are left out, by as little as suffices.
+planes or shapes come of it than a source may have, a design is one of any size (`of_any_size`), or corners of curves are left
+out, by as little as suffices (`converted`).
 """
 
 from __future__ import annotations
@@ -14,13 +15,13 @@ import math
 import sys
 from dataclasses import dataclass
 from fractions import Fraction
-from typing import Sequence
+from typing import Callable, Sequence, TypeVar
 
 from .dimensions import Sorting
 from .extrude import turns
 from .frames import frames
 from .front import Front
-from .grid import PLANES, ROOM, Rounded, Rounder, TooMany, placed, written
+from .grid import PLANES, ROOM, Grid, Rounded, Rounder, TooMany, placed, written_grid
 from .reader import DEEPEST, CsgFault, Node
 from .space import Space
 from .tree import IDENTITY, Detail, Leaf, Solid, leaves
@@ -70,12 +71,42 @@ class Conversion:
     warnings: int = 0
 
 
+@dataclass(frozen=True)
+class Design:
+    """A design on the grid with all its corners, of any size: it may have more planes and shapes than a source. The rest is as of
+    a conversion."""
+
+    grid: Grid
+    unit: Fraction
+    off: float
+    told: list[str]
+    warnings: int
+
+
+T = TypeVar("T")
+
+
 def converted(nodes: Sequence[Node], wanted: Wanted, front: Front) -> Conversion:
-    """The source of a design. Raises CsgFault where there is none that has its solid."""
+    """The source of a design, without corners of curves where planes or shapes run out. Raises CsgFault where there is none."""
+    return _of(nodes, wanted, front, _Converter.conversion)
+
+
+def of_any_size(nodes: Sequence[Node], wanted: Wanted, front: Front) -> Conversion | Design:
+    """The source of a design, or the design itself where that has more planes or shapes than a source. Raises CsgFault."""
+    return _of(nodes, wanted, front, _Converter.of_any_size)
+
+
+def whole(nodes: Sequence[Node], wanted: Wanted, front: Front) -> Design:
+    """A design with all its corners. Raises CsgFault where it has no solid."""
+    return _of(nodes, wanted, front, _Converter.design)
+
+
+def _of(nodes: Sequence[Node], wanted: Wanted, front: Front, make: Callable[[_Converter], T]) -> T:
+    """What is made of a design. Raises CsgFault."""
     sys.setrecursionlimit(max(sys.getrecursionlimit(), _FRAMES * DEEPEST))
     try:
         solid_nodes, left_out = _solid_nodes(nodes, wanted)
-        return _Converter(solid_nodes, left_out, wanted, front).conversion()
+        return make(_Converter(solid_nodes, left_out, wanted, front))
     except ArithmeticError:
         raise CsgFault(1, 1, "OutOfRange", "a corner or a factor of it is too large to be worked with") from None
 
@@ -114,17 +145,44 @@ class _Converter:
             rounded = self._rounder.rounded(solid, unit)
         except TooMany as many:
             unit, detail, rounded = self._within(solid, unit, detail, many)
+        return self._source(solid, unit, detail, rounded)
+
+    def of_any_size(self) -> Conversion | Design:
+        """The source, or the design where that has more planes or shapes than a source."""
+        detail = Detail(most_sides=math.inf)
+        solid = self._solid(detail)
+        unit = self._unit(solid)
+        try:
+            return self._source(solid, unit, detail, self._rounder.rounded(solid, unit))
+        except TooMany:
+            return self._design(solid, unit, detail)
+
+    def design(self) -> Design:
+        """The design with all its corners, and what is told of it."""
+        detail = Detail(most_sides=math.inf)
+        solid = self._solid(detail)
+        return self._design(solid, self._unit(solid), detail)
+
+    def _source(self, solid: Solid, unit: Fraction, detail: Detail, rounded: Rounded) -> Conversion:
+        tree = self._sound(solid, detail, rounded)
+        told = self._told(unit, detail, rounded)
+        comments = "".join(f"// {it}\n" for it in told[1:] if it not in self._front.said)
+        text = f"// unit: {unit}\n" + comments + "".join(f"{it}\n" for it in written_grid(tree))
+        return Conversion(text.encode("ascii", "replace"), unit, rounded.moved + detail.off, told, self._warnings())
+
+    def _design(self, solid: Solid, unit: Fraction, detail: Detail) -> Design:
+        rounded = Rounder(None).rounded(solid, unit)
+        tree = self._sound(solid, detail, rounded)
+        return Design(tree, unit, rounded.moved + detail.off, self._told(unit, detail, rounded), self._warnings())
+
+    def _sound(self, solid: Solid, detail: Detail, rounded: Rounded) -> Grid:
+        """The tree of a design. Raises CsgFault where it is nothing, isn't exact and should be, or is off by more than it may be."""
         if self._wanted.is_exact and detail.hulls:
             raise detail.hulls[0].fault("NotConvex", "a slice of it has hollow sides, and isn't cut into convex parts")
         if rounded.tree is None:
             raise self._fault("Empty", NO_SOLID + "".join(f". {it}" for it in _vanished(rounded)))
         self._check_tolerance(solid, rounded.moved + detail.off)
-        left = [*_left_out_told(self._left_out), *_inward_told(detail)]
-        told = [_unit_told(unit, rounded), *_fewer_told(detail), *_vanished(rounded), *left, *self._front.said]
-        comments = "".join(f"// {it}\n" for it in told[1:] if it not in self._front.said)
-        text = f"// unit: {unit}\n" + comments + "".join(f"{it}\n" for it in written(rounded.tree))
-        warnings = len(self._left_out) + self._front.warnings()
-        return Conversion(text.encode("ascii", "replace"), unit, rounded.moved + detail.off, told, warnings)
+        return rounded.tree
 
     def _check_tolerance(self, solid: Solid, off: float) -> None:
         """Raises CsgFault where some point is farther off than it may be."""
@@ -135,6 +193,14 @@ class _Converter:
             said = f"a point is off by {off:.2g}, and {most:.2g} is allowed"
             # (more by what two digits may leave out)
             raise self._fault("TooCoarse", f"{said}: --tolerance {off * 1.06:.2g} allows that, or --fewer")
+
+    def _told(self, unit: Fraction, detail: Detail, rounded: Rounded) -> list[str]:
+        left = [*_left_out_told(self._left_out), *_inward_told(detail)]
+        return [_unit_told(unit, rounded), *_fewer_told(detail), *_vanished(rounded), *left, *self._front.said]
+
+    def _warnings(self) -> int:
+        """Of how much OpenSCAD warned."""
+        return len(self._left_out) + self._front.warnings()
 
     def _fault(self, word: str, said: str) -> CsgFault:
         return CsgFault(self._nodes[0].line, self._nodes[0].column, word, said)

@@ -115,7 +115,7 @@ def hull(points: Iterable[Point]) -> Hull | None:
             seen = [{(it[(axis + 1) % 3], it[(axis + 2) % 3]) for it in different if it[axis] == end} for end in sorted(ends)]
             if seen[0] == seen[1]:
                 return _prism(convex_pieces.hull(seen[0]), sorted(ends), axis)
-    first = _tetrahedron(different)
+    first = tetrahedron(different)
     if first is None:
         return None
     return _with_facets(different, _Growing(different, first).grow())
@@ -148,7 +148,7 @@ def _prism(ring: Sequence[tuple[int, int]], ends: Sequence[int], axis: int) -> H
     return Hull(corners, facets)
 
 
-def _tetrahedron(points: Sequence[Point]) -> tuple[int, int, int, int] | None:
+def tetrahedron(points: Sequence[Point]) -> tuple[int, int, int, int] | None:
     """Four points that are not on one plane, the first three counterclockwise seen from outside; None where there are none."""
     if len(points) < 4:
         return None

@@ -60,6 +60,7 @@ class Extrusion:
         """The solid; None where it has no height."""
         if self._height <= 0:
             return None
+        self._detail.take(self._node, self._count * sum(len(loop) for it in leaves(self._plan) for loop in it.loops))
         steps = self._steps()
         if steps:
             self._detail.note_steps(self._node, len(steps))

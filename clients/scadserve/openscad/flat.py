@@ -96,6 +96,7 @@ class Plane:
         if radius <= 0:
             return None
         count = fragments(node, radius)
+        self._detail.take(node, count)
         kept, off = self._detail.ring(count, radius * stretch(matrix))
         self._detail.is_off(off)
         self._detail.note(node, len(kept), count)

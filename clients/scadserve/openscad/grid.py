@@ -11,7 +11,7 @@ import math
 from bisect import bisect, bisect_left
 from dataclasses import dataclass, field
 from fractions import Fraction
-from typing import Iterable, Iterator, List, Mapping, Union
+from typing import Callable, Iterable, Iterator, List, Mapping, Sequence, TypeVar, Union
 
 from .exact_hull import Hull, Plane, Point, hull
 from .frames import Frame, basis, whole
@@ -56,9 +56,12 @@ class TooMany(Exception):
 
 
 class Rounder:
-    """Rounds designs with at most so many planes; hulls that it has taken are known, wherever they stand."""
+    """Rounds designs with at most so many planes, or with any number; hulls that it has taken are known, wherever they stand.
 
-    def __init__(self, planes: int) -> None:
+    Where there is no bound, leaves stay whole however many corners they have, since tiles cut them.
+    """
+
+    def __init__(self, planes: "int | None") -> None:
         self._planes = planes
         self._known: "dict[tuple[Point, ...], Hull | None]" = {}
 
@@ -83,18 +86,18 @@ class Rounder:
 
     def _bodies(self, body: Hull, node: Node, found: Rounded) -> "Grid | None":
         """A hull as shapes of a source. Raises TooMany."""
-        parts = split(body)
+        parts = [body] if self._planes is None else split(body)
         for it in parts:
             self._count(it.facets, found)
             found.shapes += 1 if _is_plain(it) else 2
-        if found.shapes > SHAPES:
+        if self._planes is not None and found.shapes > SHAPES:
             raise TooMany("TooManyParts")
         return joined(UNION, [Body(it, node) for it in parts])
 
     def _count(self, planes: "Iterable[Plane]", found: Rounded) -> None:
         """Notes planes. Raises TooMany."""
         found.planes.update(map(_either, planes))
-        if len(found.planes) > self._planes:
+        if self._planes is not None and len(found.planes) > self._planes:
             raise TooMany("TooManyPlanes")
 
     def _carved(self, solid: Faced, unit: float, found: Rounded) -> "Grid | None":
@@ -247,10 +250,18 @@ def _is_plain(body: Hull) -> bool:
     return len(body.facets) <= _MOST_FACETS and max(map(len, body.facets.values())) <= _MOST_FACETS
 
 
-def written(tree: Grid) -> Iterator[str]:
-    """The lines of the source that has this solid; deep joins are modules of their own."""
+L = TypeVar("L")
+
+
+def written_grid(tree: Grid) -> Iterator[str]:
+    """The lines of the source that has the solid of a design on the grid."""
+    return written(tree, lambda it: shape_text(it.hull))
+
+
+def written(tree: "Union[L, Join[L]]", text_of: "Callable[[L], str]") -> Iterator[str]:
+    """The lines of a source of shapes, of which each has a text; deep joins are modules of their own."""
     modules: List[List[str]] = []
-    body = list(_written(tree, 0, modules))
+    body = list(_written(tree, 0, modules, text_of))
     if any(line.startswith("hull()") for line in [*body, *(it for module in modules for it in module)]):
         yield "F = [[0, 1, 2], [0, 3, 1], [1, 3, 2], [2, 3, 0]];"
     for number, lines in enumerate(modules, 1):
@@ -260,22 +271,23 @@ def written(tree: Grid) -> Iterator[str]:
     yield from body
 
 
-def _written(tree: Grid, depth: int, modules: List[List[str]]) -> Iterator[str]:
+def _written(tree: "Union[L, Join[L]]", depth: int, modules: List[List[str]], text_of: "Callable[[L], str]") -> Iterator[str]:
     if not isinstance(tree, Join):
-        yield from _broken(_shape(tree.hull))
+        yield from _broken(text_of(tree))
         return
     if depth == 24:
-        lines = list(_written(tree, 0, modules))
+        lines = list(_written(tree, 0, modules, text_of))
         modules.append(lines)
         yield f"part_{len(modules)}();"
         return
     yield f"{tree.operation}() {{"
     for it in tree.parts:
-        yield from _written(it, depth + 2, modules)
+        yield from _written(it, depth + 2, modules, text_of)
     yield "}"
 
 
-def _shape(body: Hull) -> str:
+def shape_text(body: Hull) -> str:
+    """A hull as a shape of a source."""
     low = tuple(min(axis) for axis in zip(*body.corners))
     high = tuple(max(axis) for axis in zip(*body.corners))
     if len(body.corners) == 8 and all(at in (a, b) for it in body.corners for at, a, b in zip(it, low, high)):
@@ -291,7 +303,12 @@ def _shape(body: Hull) -> str:
         return f"polyhedron([{', '.join(map(_list, body.corners))}], [{faces}]);"
     first = _first_four(body)
     rest = [it for at, it in enumerate(body.corners) if at not in first]
-    return f"hull() polyhedron([{', '.join(map(_list, [*(body.corners[it] for it in first), *rest]))}], F);"
+    return hull_text([*(body.corners[it] for it in first), *rest])
+
+
+def hull_text(points: "Iterable[Point]") -> str:
+    """The hull of points as a shape of a source: the first three are clockwise seen from outside, the fourth is behind them."""
+    return f"hull() polyhedron([{', '.join(map(_list, points))}], F);"
 
 
 def _prism(body: Hull, low: int, high: int) -> "List[int] | None":

@@ -27,10 +27,8 @@ _TOKEN = re.compile(
 )
 _BLANK = re.compile(r"(?:\s|//[^\n]*|/\*.*?\*/)*", re.DOTALL)
 _WORDS: dict[str, Value] = {"true": True, "false": False, "undef": None, "nan": math.nan, "inf": math.inf}
-#: Nodes inside one another: more than these have no reader here.
-DEEPEST = 400
-#: So many nodes are read.
-MOST_NODES = 100_000
+#: Nodes inside one another, and nodes in all: more than these have no reader here.
+DEEPEST, MOST_NODES = 400, 100_000
 #: Numbers greater than this in size are no lengths, angles or factors of a part that can be built.
 GREATEST = 1e12
 
@@ -41,6 +39,9 @@ class CsgFault(Exception):
     def __init__(self, line: int, column: int, word: str, said: str, ordinal: int = 0) -> None:
         super().__init__(f"{line}:{column}: {word}: {said}")
         self.line, self.column, self.word, self.said, self.ordinal = line, column, word, said, ordinal
+
+    def __reduce__(self) -> tuple[object, ...]:
+        return type(self), (self.line, self.column, self.word, self.said, self.ordinal)
 
 
 @dataclass(frozen=True)
@@ -176,7 +177,7 @@ def read(text: str) -> list[Node]:
         count += 1
         node = _head(tokens, count)
         if count > MOST_NODES:
-            raise node.fault("TooManyParts", f"more than {MOST_NODES} nodes")
+            raise node.fault("TooManyNodes", f"the design has more than {MOST_NODES} nodes")
         within[-1].append(node)
         if node.name in LEAVES or (tokens.kind == "symbol" and tokens.word == ";"):
             tokens.take(";")

@@ -11,8 +11,8 @@ from .flat import FINE, Plan, Plane, Render
 from .polyhedron import Surface, columns, cut, faces_of, looks_inward
 from .reader import Node
 from .steps import OF_OUTLINES
-from .tree import bounded, circle, frame_of, fragments, is_mirrored, is_union, joined, leaves, matrix_of, moved, stretch, times
-from .tree import DIFFERENCE, IDENTITY, INTERSECTION, MOST_OF_BALL, UNION, Detail, Faced, Join, Leaf, Matrix, Solid, Vector
+from .tree import circle, frame_of, fragments, is_mirrored, is_union, joined, leaves, matrix_of, moved, stretch, times
+from .tree import DIFFERENCE, IDENTITY, INTERSECTION, UNION, Detail, Faced, Join, Leaf, Matrix, Solid, Vector
 from .turned import Turned
 
 #: What renders a node of space: the points and the faces of its boundary.
@@ -61,6 +61,7 @@ class Space:
         if height <= 0 or min(low, high) < 0 or max(low, high) <= 0:
             return None
         count = fragments(node, max(low, high))
+        self._detail.take(node, 2 * count)
         kept, off = self._detail.ring(count, max(low, high) * stretch(matrix))
         self._detail.is_off(off)
         self._detail.note(node, len(kept), count)
@@ -76,7 +77,7 @@ class Space:
             return None
         count = fragments(node, radius)
         rings = (count + 1) // 2
-        bounded(node, "corners", count * rings, MOST_OF_BALL)
+        self._detail.take(node, count * rings)
         kept, off = self._detail.ring(count, radius * stretch(matrix), 0.5)
         # (the first ring and the middle one, of which there may be two, stay, and the lower half is as the upper one)
         half, besides = list(range(rings // 2 + 1)), 0.0

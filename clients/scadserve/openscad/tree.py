@@ -21,8 +21,8 @@ IDENTITY: Matrix = ((1.0, 0.0, 0.0, 0.0), (0.0, 1.0, 0.0, 0.0), (0.0, 0.0, 1.0, 
 UNION, DIFFERENCE, INTERSECTION = "union", "difference", "intersection"
 # More sides of slices than these have more planes than a part may have.
 _MOST_SIDES = 512
-#: More corners of a circle, slices of an extrusion, and corners of a ball than these are no part that can be built.
-MOST_CORNERS, MOST_SLICES, MOST_OF_BALL = 10_000, 10_000, 1_000_000
+#: More corners of a circle, and slices of an extrusion, than these are no part that can be built, nor more corners of all curves.
+MOST_OF_CIRCLE, MOST_SLICES, MOST_CORNERS = 10_000, 10_000, 400_000
 
 
 @dataclass(frozen=True)
@@ -210,8 +210,18 @@ class Detail:
     hulls: list[Node] = field(default_factory=list)
     #: Polyhedra whose faces looked inward, and were turned.
     inward: list[Node] = field(default_factory=list)
+    #: So many sides of slices may be cut into convex parts; more have more planes than a part may have.
+    most_sides: float = _MOST_SIDES
     _besides: float = 0.0
     _sides: int = 0
+    _corners: int = 0
+
+    def take(self, node: Node, corners: int) -> None:
+        """Notes that a curve has so many corners, before they are made. Raises CsgFault where all have too many."""
+        self._corners += corners
+        if self._corners > MOST_CORNERS:
+            said = f"with it the curves of the design have {self._corners} corners, and {MOST_CORNERS} is the most"
+            raise node.fault("TooManyCorners", said)
 
     def is_off(self, distance: float) -> None:
         """Notes that some point is so far off."""
@@ -251,9 +261,9 @@ class Detail:
             self.inward.append(node)
 
     def may_cut(self, sides: int) -> bool:
-        """Whether slices with so many sides may be cut into convex parts: where so few are that two planes for each may suffice."""
+        """Whether slices with so many sides may be cut into convex parts: where so few are that two planes each suffice."""
         self._sides += sides
-        return self.cuts and self._sides <= _MOST_SIDES
+        return self.cuts and self._sides <= self.most_sides
 
     def ring(self, count: int, radius: float, share: float = 1.0) -> tuple[list[int], float]:
         """Which of so many corners of a circle are kept, and how far that is off, up to a share of what it may be.
@@ -275,7 +285,7 @@ class Detail:
 
         The first and the last stay.
         """
-        for kept in range(1, count):
+        for kept in range(1, count) if self.most else ():
             found = sorted({(it * count * 2 + kept) // (2 * kept) for it in range(kept + 1)})
             gap = max(after - before for before, after in zip(found, found[1:]))
             off = radius * (1 - math.cos(gap * step / 2))
@@ -290,7 +300,7 @@ def fragments(node: Node, radius: float) -> int:
     if radius < 2**-20 or not math.isfinite(fn):
         return 3
     count = max(fn, 3.0) if fn > 0 else math.ceil(max(min(quotient(360, fa), quotient(radius * 2 * math.pi, fs), 2.0**31), 5))
-    return bounded(node, "corners of a circle", int(count), MOST_CORNERS)
+    return bounded(node, "corners of a circle", int(count), MOST_OF_CIRCLE)
 
 
 def curve(node: Node) -> tuple[float, float, float]:
@@ -309,7 +319,7 @@ def quotient(dividend: float, divisor: float) -> float:
 def bounded(node: Node, what: str, count: int, most: int) -> int:
     """The count, of which a node makes no more than so many. Raises CsgFault."""
     if count > most:
-        raise node.fault("TooManyPlanes", f"it has {count} {what}, and {most} are read")
+        raise node.fault("TooManyCorners", f"it has {count} {what}, and {most} is the most")
     return count
 
 

@@ -39,6 +39,7 @@ class Turned:
         side = 1 if high > 1e-9 else -1
         radius = greatest(self._plan, lambda x, _: abs(x))
         count = max(int(fragments(self._node, radius) * abs(self._turn) / (2 * math.pi) + 1e-9), 1)
+        self._detail.take(self._node, count * len(xs))
         step = self._turn / count
         if self._is_round:
             kept, off = self._detail.ring(count, radius)

@@ -107,6 +107,9 @@ class ServerFailed(Exception):
         super().__init__(said)
         self.status, self.output = status, output
 
+    def __reduce__(self) -> tuple[object, ...]:
+        return type(self), (str(self), self.status, self.output)
+
 
 class NotStarted(ServerFailed):
     """The server could not be started."""

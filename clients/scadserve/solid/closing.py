@@ -33,28 +33,30 @@ Ways = Counter[tuple[int, int]]
 
 def close(boundary: Boundary) -> list[Ring]:
     """The faces in order, each with the corners that lie on its edges put into them."""
+    inside = iter(corners_inside([edge for face in boundary.faces for edge in edges(face)], boundary.corners))
+    return [tuple(corner for start in face for corner in (start, *next(inside))) for face in boundary.faces]
+
+
+def corners_inside(ways_of: Sequence[tuple[int, int]], points: Sequence[Corner]) -> list[list[int]]:
+    """For each edge the ends of others on its line that are inside it, in its direction."""
     lines = {}
     ends: dict[Line, set[int]] = {}
-    for face in boundary.faces:
-        for edge in edges(face):
-            if edge not in lines:
-                line = line_through(boundary.corners[edge[0]], boundary.corners[edge[1]])
-                lines[edge] = lines[edge[::-1]] = line
-                ends.setdefault(line, set()).update(edge)
-    along = {line: _sorted_along(line, corners, boundary.corners) for line, corners in ends.items() if len(corners) > 2}
+    for edge in ways_of:
+        if edge not in lines:
+            line = line_through(points[edge[0]], points[edge[1]])
+            lines[edge] = lines[edge[::-1]] = line
+            ends.setdefault(line, set()).update(edge)
+    along = {line: _sorted_along(line, corners, points) for line, corners in ends.items() if len(corners) > 2}
     places = {line: {corner: at for at, corner in enumerate(corners)} for line, corners in along.items()}
 
-    def from_start(edge: tuple[int, int]) -> list[int]:
-        """The start of the edge and the corners inside it, in order."""
+    def inside(edge: tuple[int, int]) -> list[int]:
         line = lines[edge]
         if line not in along:
-            return [edge[0]]
+            return []
         start, end = places[line][edge[0]], places[line][edge[1]]
-        if start < end:
-            return along[line][start:end]
-        return along[line][end + 1 : start + 1][::-1]
+        return along[line][start + 1 : end] if start < end else along[line][end + 1 : start][::-1]
 
-    return [tuple(corner for edge in edges(face) for corner in from_start(edge)) for face in boundary.faces]
+    return [inside(edge) for edge in ways_of]
 
 
 def line_through(p: Corner, q: Corner) -> Line:

@@ -68,6 +68,30 @@ def read(data: bytes) -> Boundary:
     return Boundary(corners, rings, planes)
 
 
+def numbers_of(data: bytes) -> tuple[list[Corner], list[tuple[int, ...]]]:
+    """The corners and the faces of a text that the server has just printed, of which nothing is tested again."""
+    lines = data.decode("ascii").split("\n")
+    vertices = int(lines[1].partition(" ")[0])
+    corners = []
+    for line in lines[2 : 2 + vertices]:
+        x, y, z, w = map(int, line.split(" "))
+        corners.append((x, y, z, w))
+    return corners, [tuple(map(int, line.split(" ")[1:])) for line in lines[2 + vertices : -1]]
+
+
+def plane_of(p: Corner, q: Corner, r: Corner) -> Plane | None:
+    """The plane through three corners, from ahead of which they go counterclockwise; None where they are on one line."""
+    x, y, z, w = p
+    ux, uy, uz = q[0] * w - x * q[3], q[1] * w - y * q[3], q[2] * w - z * q[3]
+    vx, vy, vz = r[0] * w - x * r[3], r[1] * w - y * r[3], r[2] * w - z * r[3]
+    a, b, c = uy * vz - uz * vy, uz * vx - ux * vz, ux * vy - uy * vx
+    if not (a or b or c):
+        return None
+    d = a * x + b * y + c * z
+    divisor = gcd(a * w, b * w, c * w, d)
+    return a * w // divisor, b * w // divisor, c * w // divisor, d // divisor
+
+
 def _lines(data: bytes) -> list[str]:
     """The lines of a text that ends with a newline, without their newlines."""
     try:
@@ -126,15 +150,9 @@ def _rings(lines: list[str], vertices: int) -> list[tuple[int, ...]]:
 
 def _plane(ring: Sequence[Corner], line: int) -> Plane:
     """The plane of a face, from ahead of which its corners go counterclockwise, once round, each turning left."""
-    (x, y, z, w), second, third = ring[:3]
-    ux, uy, uz = (second[i] * w - ring[0][i] * second[3] for i in range(3))
-    vx, vy, vz = (third[i] * w - ring[0][i] * third[3] for i in range(3))
-    a, b, c = uy * vz - uz * vy, uz * vx - ux * vz, ux * vy - uy * vx
-    d = a * x + b * y + c * z
-    divisor = gcd(a * w, b * w, c * w, d)
-    if divisor == 0 or not (a or b or c):
+    plane = plane_of(*ring[:3])
+    if plane is None:
         raise Malformed(line, "three corners of the face in a row lie on one line")
-    plane = (a * w // divisor, b * w // divisor, c * w // divisor, d // divisor)
     if any(plane[0] * p[0] + plane[1] * p[1] + plane[2] * p[2] != plane[3] * p[3] for p in ring[3:]):
         raise Malformed(line, "the face is not flat")
     if not _is_convex(flatten(ring, plane)):

@@ -10,12 +10,10 @@ from __future__ import annotations
 
 from collections import deque
 from heapq import heapify, heappop, heappush
-from typing import Iterator, NamedTuple, Optional, Sequence
+from typing import Iterable, Iterator, NamedTuple, Optional, Sequence
 
 from .fouroff import Flat, Plane, flatten, turn
-from .surface import NotClosed, Side, Surface, next_side, previous_side
-
-_NO_SIDE = -1
+from .surface import NO_SIDE, NotClosed, Side, Surface, fan_of, next_side, previous_side
 
 
 class _Hole(NamedTuple):
@@ -27,10 +25,13 @@ class _Hole(NamedTuple):
     plane: Plane
 
 
-def merged(surface: Surface) -> Surface:
-    """The same surface with fewer triangles. Raises NotClosed where faces on one plane overlap at a corner."""
+def merged(surface: Surface, nodes: "Optional[Iterable[int]]" = None) -> Surface:
+    """The same surface with fewer triangles, where some nodes are named by taking out these alone.
+
+    Raises NotClosed where faces on one plane overlap at a corner.
+    """
     merging = _Merging(surface)
-    merging.take_out()
+    merging.take_out(range(len(surface.places)) if nodes is None else nodes)
     return merging.rest()
 
 
@@ -44,14 +45,14 @@ class _Merging:
         # Triangles that are no part of it any more.
         self._gone: set[int] = set()
         # Of each node one of the sides that begin there.
-        self._first = [_NO_SIDE] * len(self._places)
+        self._first = [NO_SIDE] * len(self._places)
         for side, node in enumerate(self._starts):
             self._first[node] = side
 
-    def take_out(self) -> None:
-        """Takes out each node that isn't needed, those with the fewest triangles first, so that no fan grows long."""
+    def take_out(self, nodes: Iterable[int]) -> None:
+        """Takes out each of these nodes that isn't needed, those with the fewest triangles first, so that no fan grows long."""
         waiting = []
-        for node in range(len(self._places)):
+        for node in nodes:
             fan = self._fan(node)
             if self._bends(fan) is not None:
                 waiting.append((len(fan), node))
@@ -73,20 +74,21 @@ class _Merging:
         sides = [3 * at + i for at in left for i in range(3)]
         nodes: dict[int, int] = {}
         starts = [nodes.setdefault(self._starts[side], len(nodes)) for side in sides]
-        twins = [3 * numbers[self._twins[side] // 3] + self._twins[side] % 3 for side in sides]
+        twins = [NO_SIDE if it == NO_SIDE else 3 * numbers[it // 3] + it % 3 for it in (self._twins[side] for side in sides)]
         places = [self._places[node] for node in nodes]
         return Surface(self._corners, places, starts, twins, [self._planes[at] for at in left])
 
     def _fan(self, node: int) -> list[Side]:
-        """The sides that begin at a node, counterclockwise seen from outside."""
-        fan = [self._first[node]]
-        while (side := self._twins[previous_side(fan[-1])]) != fan[0]:
-            fan.append(side)
-        return fan
+        """The sides that begin at a node, counterclockwise seen from outside, from the border on where the node is there."""
+        return fan_of(self._first[node], self._twins)
 
     def _bends(self, fan: Sequence[Side]) -> Optional[list[int]]:
         """Where in a fan another plane begins: nowhere, or at the two ends of one straight edge. None where it is needed."""
         planes = [self._planes[side // 3] for side in fan]
+        if self._twins[fan[0]] == NO_SIDE:
+            # (the border is an edge of one plane, which is straight, or the node is needed)
+            is_one = all(it == planes[0] for it in planes)
+            return [0] if is_one and self._is_along(fan[0], next_side(fan[0]), previous_side(fan[-1])) else None
         bends = [at for at in range(len(fan)) if planes[at] != planes[at - 1]]
         if len(bends) == 2 and self._is_straight(fan, *bends):
             return bends
@@ -94,9 +96,11 @@ class _Merging:
 
     def _is_straight(self, fan: Sequence[Side], one: int, other: int) -> bool:
         """Whether a fan's node lies on the line between the ends of these two of its sides."""
-        plane = self._planes[fan[one] // 3]
-        ends = [self._starts[fan[one]], *(self._starts[next_side(fan[at])] for at in (one, other))]
-        tip, p, q = self._flat(ends, plane)
+        return self._is_along(fan[one], next_side(fan[one]), next_side(fan[other]))
+
+    def _is_along(self, side: Side, one: Side, other: Side) -> bool:
+        """Whether the node at which a side begins lies on the line between those of two others, all on one plane."""
+        tip, p, q = self._flat([self._starts[it] for it in (side, one, other)], self._planes[side // 3])
         if turn(tip, p, q) != 0:
             return False
         (u, v), (x, y) = ([end[i] * tip[2] - tip[i] * end[2] for i in range(2)] for end in (p, q))
@@ -104,10 +108,10 @@ class _Merging:
 
     def _take_out(self, node: int, fan: list[Side], bends: list[int]) -> None:
         """Takes out a node, whose fan lies on one plane, or on another one from each of these two places on."""
-        parts = [fan[bends[0] : bends[1]], fan[bends[1] :] + fan[: bends[0]]] if bends else [fan]
+        parts = [fan[bends[0] : bends[1]], fan[bends[1] :] + fan[: bends[0]]] if len(bends) == 2 else [fan]
         holes = [self._hole(part, bool(bends)) for part in parts]
         self._gone |= {side // 3 for side in fan}
-        along = _NO_SIDE
+        along = NO_SIDE
         for hole in holes:
             along = self._fill(node, hole, along)
 
@@ -140,7 +144,7 @@ class _Merging:
 
     def _join(self, side: Side, other: Side) -> None:
         self._twins[side] = other
-        if other != _NO_SIDE:
+        if other != NO_SIDE:
             self._twins[other] = side
 
     def _flat(self, nodes: Sequence[int], plane: Plane) -> list[Flat]:

@@ -16,6 +16,7 @@ from .fouroff import Boundary, Corner, Plane, determinant
 
 #: The sides of triangle t are 3t, 3t + 1 and 3t + 2, counterclockwise seen from outside.
 Side = int
+NO_SIDE = -1
 
 
 class NotClosed(ValueError):
@@ -24,14 +25,14 @@ class NotClosed(ValueError):
 
 @dataclass
 class Surface:
-    """A closed surface of triangles."""
+    """A surface of triangles, closed where nothing else is said."""
 
     corners: list[Corner]
     #: The number of the corner of each node.
     places: list[int]
     #: The node at which each side begins.
     starts: list[int]
-    #: The same edge as a side of the neighbour, which goes the other way.
+    #: The same edge as a side of the neighbour, which goes the other way; NO_SIDE at the border of what isn't closed.
     twins: list[Side]
     #: The plane of each triangle, whose direction points outward.
     planes: list[Plane]
@@ -51,8 +52,11 @@ def previous_side(side: Side) -> Side:
     return side + 2 if side % 3 == 0 else side - 1
 
 
-def surface_of(boundary: Boundary, rings: Sequence[Ring]) -> Surface:
-    """The surface of a boundary, whose faces go round these closed rings. Raises NotClosed."""
+def surface_of(boundary: Boundary, rings: Sequence[Ring], is_part: bool = False) -> Surface:
+    """The surface of a boundary, whose faces go round these closed rings. Raises NotClosed.
+
+    A part of a boundary has a border: edges that are not met as often one way as the other.
+    """
     starts: list[int] = []
     twins: list[Side] = []
     planes: list[Plane] = []
@@ -63,14 +67,16 @@ def surface_of(boundary: Boundary, rings: Sequence[Ring]) -> Surface:
             planes.append(plane)
             for p, q in edges(triangle):
                 starts.append(p)
-                twins.append(own.pop((q, p), -1))
+                twins.append(own.pop((q, p), NO_SIDE))
                 if twins[-1] < 0:
                     own[p, q] = len(twins) - 1
                 else:
                     twins[twins[-1]] = len(twins) - 1
         for (p, q), side in own.items():
             rims.setdefault((min(p, q), max(p, q)), []).append(side)
-    _pair(boundary, rims, starts, twins, planes)
+    unpaired = pair(boundary.corners, rims, starts, twins, planes)
+    if unpaired and not is_part:
+        raise NotClosed(f"not closed: {unpaired} edges are not met as often one way as the other")
     nodes, places = nodes_of(starts, twins)
     return Surface(boundary.corners, places, nodes, twins, planes)
 
@@ -83,23 +89,38 @@ def nodes_of(starts: Sequence[int], twins: Sequence[Side]) -> tuple[list[int], l
     nodes = [-1] * len(starts)
     places: list[int] = []
     for first in range(len(starts)):
-        side = first
-        while nodes[side] < 0:
-            nodes[side] = len(places)
-            side = twins[previous_side(side)]
-        if nodes[first] == len(places):
+        if nodes[first] < 0:
+            for side in fan_of(first, twins):
+                nodes[side] = len(places)
             places.append(starts[first])
     return nodes, places
 
 
-def _pair(
-    boundary: Boundary,
+def fan_of(first: Side, twins: Sequence[Side]) -> list[Side]:
+    """The sides that begin at the node of one, counterclockwise seen from outside; where the border goes there, from it on."""
+    fan = [first]
+    while (side := twins[previous_side(fan[-1])]) != first:
+        if side == NO_SIDE:
+            # (what is left is on the other side of the first)
+            before: list[Side] = []
+            side = first
+            while twins[side] != NO_SIDE:
+                side = next_side(twins[side])
+                before.append(side)
+            return before[::-1] + fan
+        fan.append(side)
+    return fan
+
+
+def pair(
+    corners: Sequence[Corner],
     rims: dict[tuple[int, int], list[Side]],
     starts: Sequence[int],
     twins: list[Side],
     planes: Sequence[Plane],
-) -> None:
-    """Makes twins of the sides at each edge between faces. Raises NotClosed."""
+) -> int:
+    """Makes twins of the sides at each edge between faces; tells at how many that can't be done, since they are not met as
+    often one way as the other. Raises NotClosed."""
     unpaired = overlapping = 0
     for (p, q), sides in rims.items():
         forward = sum(starts[side] == p for side in sides)
@@ -108,14 +129,13 @@ def _pair(
             continue
         if forward > 1:
             onward = {side: starts[side] == p for side in sides}
-            sides = _round(boundary.corners[p], boundary.corners[q], onward, planes)
+            sides = _round(corners[p], corners[q], onward, planes)
             overlapping += any(onward[side] != bool(at % 2) for at, side in enumerate(sides))
         for side, other in zip(sides[::2], sides[1::2]):
             twins[side], twins[other] = other, side
-    if unpaired:
-        raise NotClosed(f"not closed: {unpaired} edges are not met as often one way as the other")
     if overlapping:
         raise NotClosed(f"its faces overlap at {overlapping} edges")
+    return unpaired
 
 
 def _round(p: Corner, q: Corner, onward: dict[Side, bool], planes: Sequence[Plane]) -> list[Side]:

@@ -4,7 +4,9 @@ from __future__ import annotations
 
 from dataclasses import dataclass
 from fractions import Fraction
-from typing import NamedTuple, Sequence
+from typing import Callable, NamedTuple, Sequence
+
+from ..server.replies import Solid
 
 #: The unit of a source that says none.
 MILLIMETRE = Fraction(1)
@@ -105,6 +107,19 @@ class Source:
     def origin(self, line: int) -> Origin | None:
         """Where the file of a line of what is sent is included or used."""
         return None if self.is_at_end(line) else self.lines[line - 1].origin
+
+
+@dataclass
+class LargeSource(Source):
+    """A source that isn't sent, since its design passes a limit: it has comments alone. Its solid is put together of parts,
+    which are made by a server, that its words start, so many of them side by side, until a time at which these are ended."""
+
+    make: Callable[[Sequence[str], int | None, float | None], Solid] | None = None
+
+    def solid(self, server: Sequence[str], jobs: int | None = None, until: float | None = None) -> Solid:
+        """Its solid. Raises Refused, Malformed, and what `run` of `server` raises."""
+        assert self.make is not None
+        return self.make(server, jobs, until)
 
 
 class Refused(Exception):

@@ -22,7 +22,7 @@ from ..server.scripts import SERVER, Complex, Malformed, NoMemory, Reply, Server
 from ..source.answering import answered
 from ..source.faults import STATUSES
 from ..source.reading import read_source, unused
-from ..source.sources import Refused, Source
+from ..source.sources import LargeSource, Refused, Source
 from ..source.telling import limit_told, refused_told, reply_told
 from .words import say_bad, wanted_of
 
@@ -63,6 +63,10 @@ class Call:
     read: Callable[[str, Sequence[str], Sequence[str]], Source] = read_source
     #: A source of the same file whose solid is smaller, for one that passes a limit of the server; None where there is none.
     coarser: Callable[[Source], Source | None] | None = None
+    #: The same source as one whose solid is made by tiles; None where there is none.
+    larger: Callable[[Source], LargeSource | None] | None = None
+    #: How many tiles are made side by side, where that is said.
+    jobs: int | None = None
     #: What is said of a source last, when what was made of it is written.
     last: Callable[[Source], str] | None = None
 
@@ -96,16 +100,19 @@ def convert(call: Call, write: Callable[[Source, str, Solid], int]) -> int:
     """The highest status of the files of a call, each of whose solids was written to its place by `write`, which gives a
     status and says what is wrong. Raises BadCall, and what `run` of `server` raises."""
     parts, statuses = parts_of(call)
-    outs = iter([it.out for it in parts])
     began = monotonic()
     quick = None
-    for source, reply in answered([it.source for it in parts], call.half, call.server):
-        quick = monotonic() - began < QUICK if quick is None else quick
-        out = next(outs)
-        if call.has_notes and isinstance(reply, Solid):
-            _say_notes(source)
+    replies = answered([it.source for it in parts if not isinstance(it.source, LargeSource)], call.half, call.server)
+    for source, out in parts:
         try:
-            statuses.append(_finished(call, *_smaller(call, source, reply), out, write, quick))
+            if isinstance(source, LargeSource):
+                statuses.append(_finished(call, source, source.solid(call.server, call.jobs), out, write, True))
+                continue
+            source, reply = next(replies)
+            quick = monotonic() - began < QUICK if quick is None else quick
+            if call.has_notes and isinstance(reply, Solid):
+                _say_notes(source)
+            statuses.append(_finished(call, *_other(call, source, reply), out, write, quick))
         except Refused as refused:
             _say_of(call, out, refused_told(refused))
             statuses.append(PART_FAULT)
@@ -136,7 +143,7 @@ def parts_of(call: Call) -> tuple[list[Part], list[int]]:
             if identity(out, 1) in sources:
                 raise BadCall(f"cannot write {called(out, 'standard output')}: that is a source")
             source = _read(call, file)
-            limit = passed_limit(source.sent())
+            limit = None if isinstance(source, LargeSource) else passed_limit(source.sent())
             if limit:
                 _say_of(call, out, limit_told(source, limit))
                 statuses.append(PART_FAULT)
@@ -181,10 +188,13 @@ def _say_notes(source: Source) -> None:
     say(notes_told(source))
 
 
-def _smaller(call: Call, source: Source, reply: Reply) -> tuple[Source, Reply]:
-    """The source and its answer, or those of one of the same file that is within the server's limits. Raises Refused."""
-    while isinstance(reply, Complex) and call.coarser is not None:
-        coarser = call.coarser(source)
+def _other(call: Call, source: Source, reply: Reply) -> tuple[Source, Reply]:
+    """The source and its answer; where that is a limit, those by tiles, or with fewer planes. Raises Refused."""
+    while isinstance(reply, Complex):
+        large = call.larger(source) if call.larger else None
+        if large is not None:
+            return large, large.solid(call.server, call.jobs)
+        coarser = call.coarser(source) if call.coarser else None
         if coarser is None:
             break
         [(source, reply)] = answered([coarser], call.half, call.server)

@@ -12,12 +12,14 @@ from ..ending import BAD_CALL, BadCall, PART_FAULT, ended
 from ..files import called, identity, read_file, reason, refusal_to_write, say
 from ..openscad import reader
 from ..openscad.by_openscad import conversion_told, warnings_told
-from ..openscad.conversion import converted
+from ..openscad.conversion import Design, converted, of_any_size, whole
 from ..openscad.front import Front
 from ..openscad.grid import PLANES
 from ..openscad.reader import CsgFault
 from ..source.units import unit_argument
-from .words import Words, front_end_wishes, say_bad, wanted_of, write_out
+from ..tiles.cutting import Limits
+from ..tiles.folder import write_folder
+from .words import Words, front_end_wishes, jobs_word, say_bad, wanted_of, write_out
 
 _DESCRIPTION = """Writes the solid of OpenSCAD's evaluated form, as openscad --render -o part.csg part.scad writes it, as a source of
 scad2off: each convex leaf as the hull of its corners, rounded to a grid. What was changed is told on standard error."""
@@ -35,8 +37,11 @@ def parser() -> Words:
     words.add_argument("file", nargs="?", default="-", metavar="FILE.csg", help="else standard input")
     words.add_argument("-o", dest="out", metavar="FILE", default="-", help="the source to write; else standard output")
     words.add_argument("--unit", type=unit_argument, help="the step of the grid in OpenSCAD's lengths, as 1/20; else it is chosen")
-    words.add_argument("--exact", action="store_true", help="leave no corner of a curve out: refuse where planes run out")
-    words.add_argument("--planes", type=_count, default=PLANES, metavar="N", help=f"take so many planes at most; else {PLANES}")
+    of_tiles = "write a source for each tile of the design to the new folder DIR; off2join joins their texts"
+    words.add_argument("--tiles", metavar="DIR", help=of_tiles)
+    of_planes = f"take so many planes at most; else {PLANES}, or {Limits().planes} for a tile"
+    words.add_argument("--planes", type=_count, metavar="N", help=of_planes)
+    jobs_word(words, "how many pieces of the design are cut into tiles side by side")
     front_end_wishes(words)
     words.add_argument("--folder", metavar="DIR", help="where the files that the design imports are; else where FILE.csg is")
     return words
@@ -52,16 +57,42 @@ def _told(words: Sequence[str]) -> int:
 
 def _converted(asked: argparse.Namespace) -> int:
     name = called(asked.file)
+    if asked.tiles is not None and (asked.fewer or asked.out != "-"):
+        raise BadCall("--tiles writes many sources, with all corners, so it takes no -o and no --fewer")
     text = _text(asked.file, asked.out)
-    wanted = replace(wanted_of(asked), unit=asked.unit, planes=asked.planes)
+    wanted = replace(wanted_of(asked), unit=asked.unit, planes=asked.planes or PLANES)
+    front = Front(asked.folder or os.path.dirname(os.path.abspath(asked.file)), asked.strict)
     try:
-        found = converted(reader.read(text), wanted, Front(asked.folder or os.path.dirname(os.path.abspath(asked.file)), asked.strict))
+        nodes = reader.read(text)
+        if asked.tiles is not None:
+            return _tiles_written(asked, name, whole(nodes, wanted, front))
+        found = converted(nodes, wanted, front) if asked.fewer else of_any_size(nodes, wanted, front)
     except CsgFault as fault:
         say(f"{name}:{fault.line}:{fault.column}: error: {fault.word}: {fault.said}\n")
+        return PART_FAULT
+    if isinstance(found, Design):
+        say(f"{name}: error: TooManyPlanes: it has more planes or shapes than a source may have\n")
+        say("    cure: --tiles DIR writes it as many sources, and --fewer leaves corners of curves out\n")
         return PART_FAULT
     say(conversion_told(name, found))
     write_out(asked.out, found.text)
     say(warnings_told(name, found.warnings))
+    return 0
+
+
+def _tiles_written(asked: argparse.Namespace, name: str, design: Design) -> int:
+    """Writes the tiles of a design to a folder. Raises BadCall and CsgFault."""
+    limits = Limits(planes=asked.planes) if asked.planes else Limits()
+    try:
+        os.makedirs(asked.tiles, exist_ok=True)
+        if os.listdir(asked.tiles):
+            raise BadCall(f"the folder {asked.tiles} is not empty")
+        count = write_folder(asked.tiles, os.path.basename(name), design, limits, asked.jobs)
+    except OSError as error:
+        raise BadCall(f"cannot write to the folder {asked.tiles}: {error.strerror}") from error
+    say(conversion_told(name, design))
+    say(f"{name}: {count} tiles in {asked.tiles}: scad2off --allow-empty -d DIR makes their texts, and off2join joins these\n")
+    say(warnings_told(name, design.warnings))
     return 0
 
 

@@ -24,7 +24,7 @@ from ..solid.fouroff import Boundary
 from ..solid.measures import Volume, box, rounded, shown
 from ..solid.merging import merged
 from ..solid.meshes import Mesh, mesh
-from ..solid.surface import NotClosed, surface_of
+from ..solid.surface import NotClosed, Surface, surface_of
 from ..source.units import MILLIMETRE, unit_argument
 from . import off2tool
 from .off2tool import BadSolid
@@ -80,6 +80,13 @@ def export(file: str, boundary: Boundary, lengths: Lengths, form: str) -> tuple[
         surface = merged(surface_of(boundary, rings))
     except NotClosed as fault:
         raise BadSolid(f"{called(file)}: error: {fault}") from None
+    return export_closed(file, boundary, rings, surface, lengths, form)
+
+
+def export_closed(
+    file: str, boundary: Boundary, rings: Sequence[closing.Ring], surface: Surface, lengths: Lengths, form: str
+) -> tuple[Mesh, str]:
+    """The same of a boundary whose rings are closed, and of its surface. Raises BadSolid."""
     solid = mesh(off2tool.stem(file), surface, lengths.unit, form, lengths.step)
     volume = off2tool.check(file, boundary, solid.triangles)
     if not solid.triangles:

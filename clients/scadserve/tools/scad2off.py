@@ -12,7 +12,7 @@ from ..solid.measures import shown
 from ..source.differences import explained
 from ..source.faults import explanation
 from ..source.reading import read_source
-from ..source.sources import MILLIMETRE, Source
+from ..source.sources import MILLIMETRE, LargeSource, Source
 from ..source.units import with_unit
 from .converting import Call, convert, front_end, parts_of, told
 from .scad2off_words import options_of, parser as parser
@@ -45,6 +45,8 @@ def _do(words: Sequence[str]) -> int:
         begins=(b"4OFF\n",),
         read=reader or (lambda *it: with_unit(read_source(*it))),
         coarser=reader.coarser if reader else None,
+        larger=reader.larger if reader else None,
+        jobs=asked.jobs,
         last=reader.last if reader else None,
     )
     return _script_written(call) if asked.script else convert(call, _text_written)
@@ -66,6 +68,10 @@ def _script_written(call: Call) -> int:
     parts, statuses = parts_of(call)
     if statuses:
         return max(statuses)
+    for it in parts:
+        if isinstance(it.source, LargeSource):
+            said = "is made by tiles, and --script prints the script of one source (--fewer makes it one)"
+            raise BadCall(f"{it.source.name} {said}")
     scripts = [bytes(it.script) for it in batches([it.source.sent() for it in parts], call.half)]
     if len(scripts) != 1:
         raise BadCall(f"these files make {len(scripts)} scripts, and --script prints one")

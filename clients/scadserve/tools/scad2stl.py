@@ -17,9 +17,10 @@ from ..solid.formats import BEGINS, WRITERS
 from ..source.reading import read_source
 from ..source.sources import Source
 from ..source.units import MILLIMETRE, with_unit
+from ..tiles.joined import JoinedSolid, boundary_of
 from . import off2tool
 from .converting import Call, convert, front_end, told
-from .exporting import Lengths, ending_of, export, format_of, mesh_words
+from .exporting import Lengths, ending_of, export, export_closed, format_of, mesh_words
 from .scad2off_words import STATUSES
 from .words import Words, front_end_words, outs_of, source_words, test_front_end, test_outs, write_out
 
@@ -54,6 +55,8 @@ def _do(words: Sequence[str]) -> int:
         begins=BEGINS,
         read=reader or (lambda *it: with_unit(read_source(*it), asked.unit)),
         coarser=reader.coarser if reader else None,
+        larger=reader.larger if reader else None,
+        jobs=asked.jobs,
         last=reader.last if reader else None,
     )
     return convert(call, lambda source, out, solid: off2tool.told(TOOL, lambda: _write(asked, source, out, solid)))
@@ -64,7 +67,11 @@ def _write(asked: Namespace, source: Source, out: str, solid: Solid) -> None:
     lengths = Lengths(source.unit or MILLIMETRE, source.step, asked.exact_numbers)
     file = "-" if source.name == called("-") else source.name
     with off2tool.nothing_old(out, BEGINS):
-        mesh, line = export(file, fouroff.read(solid.text), lengths, asked.format)
+        if isinstance(solid, JoinedSolid):
+            boundary = boundary_of(solid.surface)
+            mesh, line = export_closed(file, boundary, boundary.faces, solid.surface, lengths, asked.format)
+        else:
+            mesh, line = export(file, fouroff.read(solid.text), lengths, asked.format)
     write_out(out, WRITERS[asked.format](mesh))
     say(line)
 

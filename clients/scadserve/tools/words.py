@@ -124,14 +124,13 @@ def front_end_words(words: Words) -> None:
         action="store_true",
         help="let OpenSCAD evaluate the source, and build the solid of its corners rounded to a grid; what is changed is told",
     )
-    words.add_argument(
-        "--exact", action="store_true", help="with --by-openscad: leave no corner of a curve out, and refuse where planes run out"
-    )
     front_end_wishes(words, "with --by-openscad: ")
+    jobs_word(words, "with --by-openscad: how many tiles of a large part are made side by side")
 
 
 def front_end_wishes(words: Words, when: str = "") -> None:
     """What may be asked of a design that OpenSCAD has evaluated."""
+    words.add_argument("--exact", action="store_true", help=f"{when}refuse a slice that could be a hull alone")
     words.add_argument("--flat", type=length_argument, metavar="H", help=f"{when}make a design in the plane H high")
     words.add_argument("--strict", action="store_true", help=f"{when}take what OpenSCAD warns of, or leaves out, for a fault")
     words.add_argument(
@@ -140,26 +139,32 @@ def front_end_wishes(words: Words, when: str = "") -> None:
         metavar="D",
         help=f"{when}refuse a solid that is off by more than D, else by more than a hundredth of its size",
     )
-    words.add_argument("--fewer", action="store_true", help=f"{when}leave corners of curves out where planes run out, however far that is off")
+    of_fewer = "leave corners of curves out where planes of one source run out, however far that is off"
+    words.add_argument("--fewer", action="store_true", help=f"{when}{of_fewer}")
 
 
 def wanted_of(asked: argparse.Namespace) -> Wanted:
-    """What is asked for by these words."""
+    """What is asked for by these words. Raises BadCall."""
     # (the front end is loaded where it is asked for alone, so that the tools start quickly)
     from ..openscad.conversion import Wanted
 
+    if asked.exact and asked.fewer:
+        raise BadCall("--exact and --fewer can't both be given")
     return Wanted(
         is_exact=asked.exact, height=asked.flat, tolerance=asked.tolerance, may_be_fewer=asked.fewer, is_strict=asked.strict
     )
 
 
+def jobs_word(words: Words, what: str) -> None:
+    """The word for how much is done side by side."""
+    words.add_argument("--jobs", type=_jobs, metavar="N", help=f"{what}; else as many as there are processors")
+
+
 def test_front_end(asked: argparse.Namespace) -> None:
     """Raises BadCall where words go with OpenSCAD's front end alone, or not with it."""
-    for word in ("exact", "flat", "strict", "tolerance", "fewer"):
+    for word in ("exact", "flat", "strict", "tolerance", "fewer", "jobs"):
         if getattr(asked, word) and not asked.by_openscad:
             raise BadCall(f"--{word} is for --by-openscad")
-    if asked.exact and asked.fewer:
-        raise BadCall("--exact and --fewer can't both be given")
     if asked.half and asked.by_openscad:
         raise BadCall("--by-openscad chooses its grid itself, so it takes no --half")
 
@@ -172,6 +177,12 @@ def length_argument(text: str) -> Fraction:
     if _LENGTH.fullmatch(text) is None or Fraction(text) == 0:
         raise argparse.ArgumentTypeError(f"{text!r} is no number above 0 like 2, 0.05 or 1/20")
     return Fraction(text)
+
+
+def _jobs(text: str) -> int:
+    if not re.fullmatch("[1-9][0-9]{0,2}", text):
+        raise argparse.ArgumentTypeError(f"{text!r} is no number from 1 to 999")
+    return int(text)
 
 
 def definition(text: str) -> str:

@@ -1,0 +1,73 @@
+"""`off2join`: the texts of a design's tiles as one text.
+
+A folder of tiles is what `csg2scad --tiles FOLDER` writes; `scad2off --allow-empty -d` makes the text of each tile anywhere.
+"""
+
+from __future__ import annotations
+
+from typing import Sequence
+
+from ..ending import BadCall
+from ..files import reason, refusal_to_write, say
+from ..solid.surface import NotClosed
+from ..tiles.folder import INDEX, BadIndex, BadTile, Index, parts_of, read_index, texts_of
+from ..tiles.gluing import glued
+from ..tiles.joined import text_of
+from . import off2tool
+from .off2tool import BadSolid
+from .words import Words, jobs_word, write_out
+
+TOOL = "off2join"
+_DESCRIPTION = """Puts the texts of a design's tiles together: NAME.4off of each NAME.scad in a folder that csg2scad --tiles has
+written."""
+_EPILOG = """The status is 0 where all was written, 1 where a text is missing or isn't its tile's, 2 where words or files are
+faulty."""
+_SHOWN = 8
+
+
+def main(words: Sequence[str]) -> int:
+    """Runs the tool on its words, without its name; gives its status."""
+    return off2tool.run(TOOL, _join, words)
+
+
+def parser() -> Words:
+    """The words that there are."""
+    words = Words(TOOL, _DESCRIPTION, _EPILOG)
+    of_folders = "the folder that csg2scad wrote, and those in which texts are, if not in it"
+    words.add_argument("folders", nargs="+", metavar="DIR", help=of_folders)
+    words.add_argument("-o", dest="out", metavar="OUT", default="-", help="the file to write; else standard output")
+    jobs_word(words, "how many texts are read side by side")
+    return words
+
+
+def _join(words: Sequence[str]) -> None:
+    asked = parser().parse_intermixed_args(words)
+    folder, *others = asked.folders
+    refusal = refusal_to_write(asked.out)
+    if refusal:
+        raise BadCall(f"cannot write {asked.out}: {refusal}")
+    index = _index(folder)
+    texts = texts_of(index, others or [folder])
+    if texts.missing:
+        more = len(texts.missing) - _SHOWN
+        shown = ", ".join(texts.missing[:_SHOWN]) + (f" and {more} more" if more > 0 else "")
+        raise BadSolid(f"{folder}: error: {len(texts.missing)} of {len(index.tiles)} tiles have no text yet: {shown}", 1)
+    try:
+        surface = glued(parts_of(index, texts.files, asked.jobs))
+    except BadTile as fault:
+        raise BadSolid(str(fault), 1) from None
+    except NotClosed as fault:
+        raise BadSolid(f"{folder}: error: the texts of its tiles make no whole: {fault}", 1) from None
+    write_out(asked.out, text_of(surface).text)
+    told = f"{len(index.tiles)} tiles joined to a closed surface of {len(surface.planes)} triangles, which is checked"
+    say(f"{folder}: {told}; print by off2stl --unit {index.unit}\n")
+
+
+def _index(folder: str) -> Index:
+    """The index of a folder. Raises BadCall."""
+    try:
+        return read_index(folder)
+    except OSError as error:
+        raise BadCall(f"cannot open {folder}/{INDEX}: {reason(error)}") from None
+    except BadIndex as fault:
+        raise BadCall(f"{folder}/{INDEX}: {fault}") from None
