@@ -130,13 +130,14 @@ class Form(unittest.TestCase):
                 if not is_code and not line.startswith(("|", "    ")):
                     self.assertLessEqual(len(line), 128, f"{page.name}:{number}")
 
-    def test_each_choice_has_its_reason_and_what_was_tried(self) -> None:
+    def test_each_choice_has_its_reason(self) -> None:
         pages = [it for it in PAGES if it.parent.name == "decisions" and it.name != "README.md"]
         self.assertTrue(pages)
         for page in pages:
             for entry in re.split(r"^- ", page.read_text(encoding="utf-8"), flags=re.MULTILINE)[1:]:
                 entry = " ".join(entry.split("\n\n")[0].split())
-                self.assertRegex(entry, r"^\*\*.+?\*\*.* \*Why:\* .+ \*Tried:\* .+", page.name)
+                self.assertRegex(entry, r"^\*\*.+?\*\*.* \*Why:\* .+?( \*(Tried|Considered):\* .+)?$", page.name)
+                self.assertNotRegex(entry, r"(?i):\* nothing else", page.name)
 
     def test_the_list_of_choices_names_each_page(self) -> None:
         folder = TOP / "docs/decisions"
