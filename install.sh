@@ -26,13 +26,21 @@ share=$root/share
 rm -rf "$lib" "$share/doc/scadserve"
 mkdir -p "$root/bin" "$lib/docs" "$share/doc/scadserve" "$share/man/man1" "$share/bash-completion/completions"
 mkdir -p "$share/zsh/${ZSH_FUNCTIONS:=site-functions}"
-cp -R "$top/clients" "$top/libexec" "$top/memory.sh" "$lib"
-# (the tools read this page)
-cp "$top/docs/FAULTS.md" "$lib/docs"
+cp -R "$top/clients" "$top/library" "$top/libexec" "$top/memory.sh" "$lib"
+# (the tools read these)
+cp "$top/docs/FAULTS.md" "$top/docs/differences.txt" "$lib/docs"
 cp -R "$top/README.md" "$top/PROVED" "$top/docs" "$top/examples" "$top/gallery" "$share/doc/scadserve"
 cp "$top"/man/*.1 "$share/man/man1"
 cp "$top"/completion/bash/* "$share/bash-completion/completions"
 cp "$top"/completion/zsh/* "$share/zsh/$ZSH_FUNCTIONS"
+# (systemd looks for a program in the system's folders alone)
+mkdir -p "$share/systemd/user"
+while IFS= read -r line; do
+    case $line in
+    ExecStart=scadlive*) printf 'ExecStart="%s/bin/scadlive"%s\n' "$1" "${line#ExecStart=scadlive}" ;;
+    *) printf '%s\n' "$line" ;;
+    esac
+done <"$top/clients/scadserve/live/scadlive.service" >"$share/systemd/user/scadlive.service"
 mkdir -p "$lib/bin"
 while read -r tool; do
     cp "$top/$tool" "$lib/$tool"

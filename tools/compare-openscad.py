@@ -102,8 +102,8 @@ def ours(file, folder, is_plan):
 
 def off_and_unit(said):
     """How far a point may be off, and the unit, of what the last conversion said."""
-    said = said[said.rindex(": unit ") :]
-    unit = Fraction(re.search(r": unit ([\d/]+)", said)[1])
+    said = said[said.rindex(": on a grid of ") :]
+    unit = Fraction(re.search(r": on a grid of ([\d/]+)", said)[1])
     found = [re.search(pattern, said) for pattern in (r"moved by ([\d.e+-]+)", r"off by more than ([\d.e+-]+)")]
     # (two digits are told, and corners that have not moved are within a fiftieth of a step)
     return sum(float(it[1]) * 1.06 for it in found if it) + float(unit) * 0.03 + 1e-4, float(unit)

@@ -32,6 +32,20 @@ class Failure(Exception):
     """A name that leads nowhere, or a form that is not known."""
 
 
+class Token(str):
+    """A word of some lines, with the number of its line and its column, both from 0."""
+
+    line: int
+    column: int
+
+
+def token_at(text: str, line: int, column: int) -> Token:
+    """A word with its place."""
+    token = Token(text)
+    token.line, token.column = line, column
+    return token
+
+
 class Target(NamedTuple):
     """Where a name leads: `spec`, a definition; `type`, a type of the sources; `module`, a file of definitions."""
 
@@ -62,14 +76,14 @@ class Definition(NamedTuple):
     section: tuple[str, ...]  # what the file says of it and of what follows
 
 
-def tokens_of(lines: Iterable[str]) -> list[str]:
-    """The words of some lines, without comments."""
-    found: list[str] = []
-    for line in lines:
-        for token in TOKEN.findall(line):
-            if token == "--":
+def tokens_of(lines: Iterable[str], first: int = 0, column: int = 0) -> list[Token]:
+    """The words of some lines, without comments. The first line has this number, and each begins at this column."""
+    found: list[Token] = []
+    for number, line in enumerate(lines, first):
+        for match in TOKEN.finditer(line):
+            if match[0] == "--":
                 break
-            found.append(token)
+            found.append(token_at(match[0], number, column + match.start()))
     return found
 
 
@@ -179,6 +193,7 @@ class Library:
         self.top = top
         self.crates = {it.name for it in (top / "crates").iterdir() if it.is_dir()}
         self.files: dict[tuple[str, str], SpecFile] = {}
+        self.walked: dict[Target, list[tuple[Target, str, Token]]] = {}
 
     def file(self, crate: str, module: str) -> SpecFile:
         """A file of definitions, read once."""
@@ -207,10 +222,21 @@ class Library:
 
     def reached_by(self, definition: Definition) -> list[tuple[Target, str]]:
         """The names that a definition reaches, in the order of its words, each with the word."""
+        return [(target, word) for target, word, _ in self.named_in(definition) if target != definition.target]
+
+    def named_in(self, definition: Definition) -> list[tuple[Target, str, Token]]:
+        """The names that a definition and the lines round it have, its own among them, each with its word and its place: the
+        line from 0, and below 0 in a line round it. Each definition is walked once."""
+        if definition.target not in self.walked:
+            self.walked[definition.target] = self.walk_over(definition)
+        return self.walked[definition.target]
+
+    def walk_over(self, definition: Definition) -> list[tuple[Target, str, Token]]:
+        """The same, by a walk over its words."""
         walk = Walk(self, self.file(definition.target.crate, definition.target.module))
-        for group in definition.groups:
-            _, _, parameters = group.line.partition(" _ ")
-            walk.walk(tokens_of([parameters.replace(" where", "")]))
+        for depth, group in enumerate(definition.groups):
+            before, sign, parameters = group.line.partition(" _ ")
+            walk.walk(tokens_of([parameters.replace(" where", "")], depth - len(definition.groups), len(before + sign)))
         signature, equations = divided(definition)
         walk.walk(signature)
         for equation in equations:
@@ -219,7 +245,7 @@ class Library:
             walk.patterns(equation[1:ends])
             walk.walk(equation[ends + 1 :])
             walk.frames.pop()
-        return [it for it in walk.found if it[0] != definition.target]
+        return walk.found
 
 
 class Walk:
@@ -230,15 +256,15 @@ class Walk:
         """A walk over words of this file, in which nothing is bound yet."""
         self.library, self.file = library, file
         self.frames: list[set[str]] = [set()]
-        self.found: list[tuple[Target, str]] = []
+        self.found: list[tuple[Target, str, Token]] = []
 
-    def walk(self, tokens: list[str]) -> None:
+    def walk(self, tokens: list[Token]) -> None:
         """Goes over all words."""
         at = 0
         while at < len(tokens):
             at = self.step(tokens, at)
 
-    def step(self, tokens: list[str], at: int) -> int:
+    def step(self, tokens: list[Token], at: int) -> int:
         """Goes over one word, or over what a binder binds, and gives the place behind it."""
         token = tokens[at]
         following = tokens[at + 1] if at + 1 < len(tokens) else ""
@@ -262,7 +288,7 @@ class Walk:
             self.word(token)
         return at + 1
 
-    def case(self, tokens: list[str], at: int) -> int:
+    def case(self, tokens: list[Token], at: int) -> int:
         """Goes over the pattern of a case, where one stands behind this bracket or stroke."""
         upto = tokens.index("↦", at) if "↦" in tokens[at:] else at
         if upto == at or set(tokens[at + 1 : upto]) & {"[", "|", "]"}:
@@ -270,7 +296,7 @@ class Walk:
         self.patterns(tokens[at + 1 : upto])
         return upto + 1
 
-    def binder(self, tokens: list[str], at: int) -> int:
+    def binder(self, tokens: list[Token], at: int) -> int:
         """Binds the names of a function, up to the word that ends with a dot."""
         while not tokens[at].endswith("."):
             self.frames[-1].update(NAME.findall(tokens[at]))
@@ -278,17 +304,17 @@ class Walk:
         self.frames[-1].update(NAME.findall(tokens[at]))
         return at + 1
 
-    def patterns(self, tokens: list[str]) -> None:
+    def patterns(self, tokens: list[Token]) -> None:
         """The patterns of an equation: names of variants are reached, all others are bound."""
         for token in tokens:
             word = token.split(".")[0]
             target = self.file.scope.get(word)
             if target and (word in VALUES or self.library.is_variant(self.file, token)):
-                self.found.append((target, token.split(".")[-1]))
+                self.found.append((target, token.split(".")[-1], token))
             elif NAME.match(word):
                 self.frames[-1].add(word)
 
-    def word(self, token: str) -> None:
+    def word(self, token: Token) -> None:
         """A word that isn't bound is reached; one that leads nowhere is an error."""
         first, *rest = token.split(".")
         is_none = not first or first[0].isdigit() or first[0] == '"' or token in LANGUAGE or token in ",;[]"
@@ -297,10 +323,10 @@ class Walk:
         target = self.file.scope.get(token) or self.file.scope.get(first)
         if target is None:
             raise Failure(f"{self.file.path}: {token} leads nowhere")
-        self.found.append((target, rest[0] if rest and target.kind in ("module", "type") else first))
+        self.found.append((target, rest[0] if rest and target.kind in ("module", "type") else first, token))
 
 
-def bound_names(tokens: list[str], at: int) -> list[str]:
+def bound_names(tokens: list[Token], at: int) -> list[str]:
     """The names that a bracket binds: those before its `:`."""
     names: list[str] = []
     while at < len(tokens) and NAME.fullmatch(tokens[at]):
@@ -309,7 +335,7 @@ def bound_names(tokens: list[str], at: int) -> list[str]:
     return names if at < len(tokens) and tokens[at] == ":" else []
 
 
-def divided(definition: Definition) -> tuple[list[str], list[list[str]]]:
+def divided(definition: Definition) -> tuple[list[Token], list[list[Token]]]:
     """The words of a definition's signature, or of all of a record or a type, and those of each of its equations."""
     lines = definition.lines
     if re.match(r"\s*(?:abbrev |unfoldable )?(?:pub )?(?:data|record) ", lines[0]):
@@ -318,11 +344,11 @@ def divided(definition: Definition) -> tuple[list[str], list[list[str]]]:
     begins = " " * margin + definition.target.name + " "
     starts = [at for at, it in enumerate(lines) if at and it.startswith(begins)]
     signature = tokens_of(lines[: starts[0]] if starts else lines)
-    equations = [tokens_of(lines[a:b]) for a, b in zip(starts, starts[1:] + [len(lines)])]
+    equations = [tokens_of(lines[a:b], a) for a, b in zip(starts, starts[1:] + [len(lines)])]
     return signature[signature.index(":") + 1 :], equations
 
 
-def end_of_patterns(equation: list[str]) -> int:
+def end_of_patterns(equation: list[Token]) -> int:
     """Where the `=` of an equation stands: the first one outside of brackets."""
     depth = 0
     for at, token in enumerate(equation):
@@ -332,16 +358,18 @@ def end_of_patterns(equation: list[str]) -> int:
     raise Failure(f"no equation: {' '.join(equation)}")
 
 
-def fields_of(definition: Definition) -> list[str]:
+def fields_of(definition: Definition) -> list[Token]:
     """The words of a record or a type: each field or variant binds its name for what follows."""
     lines = definition.lines
     header = next((at + 1 for at, it in enumerate(lines) if it.endswith(" where")), len(lines))
     skipped = ("abbrev", "unfoldable", "pub", "data", "record", "where", definition.target.name)
     found = [it for it in tokens_of(lines[:header]) if it not in skipped]
-    for line in lines[header:]:
+    for number, line in enumerate(lines[header:], header):
         match = re.match(r"\s+(?!--)(?:pub )?([^:(){}]+) : (.*)$", line)
         if match:
-            found += [it for name in match[1].split() for it in ("let", name)] + tokens_of([match[2]])
+            names = tokens_of([match[1]], number, match.start(1))
+            found += [it for name in names for it in (token_at("let", number, name.column), name)]
+            found += tokens_of([match[2]], number, match.start(2))
         else:
-            found += tokens_of([line])
+            found += tokens_of([line], number)
     return found

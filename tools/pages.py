@@ -1,5 +1,6 @@
 #!/usr/bin/env python3
-"""Writes the tables of crates in docs/PROOFS.md from what each crate says of itself: ./tools/pages.py [--check]
+"""Writes the tables of crates in docs/PROOFS.md from what each crate says of itself, and that of the forms in docs/OPENSCAD.md
+that OpenSCAD takes otherwise from docs/differences.txt: ./tools/pages.py [--check]
 
 A crate's row has the first sentence of what its root file says, and the crates stand in the layers of crates.txt, as
 tools/house.py reads them. With --check nothing is written, and the status is 1 where the tables are out of date. A crate that
@@ -10,12 +11,15 @@ from __future__ import annotations
 
 import sys
 from pathlib import Path
+from typing import Callable
 
 from house import House, read, summary
 
 TOP = Path(__file__).resolve().parent.parent
-PAGE = "docs/PROOFS.md"
-BEGIN, END = "<!-- The tables of crates, written by tools/pages.py: -->\n", "<!-- End of the tables. -->\n"
+sys.path.insert(0, str(TOP / "clients"))
+
+from scadserve.source.differences import forms  # noqa: E402
+
 
 
 class Failure(Exception):
@@ -39,13 +43,39 @@ def tables(house: House, top: Path) -> str:
     return "\n".join(["", *lines])
 
 
-def renewed(page: str, top: Path) -> str:
-    """The page with the tables as they are now."""
-    before, begin, rest = page.partition(BEGIN)
-    _, end, behind = rest.partition(END)
-    if not begin or not end:
-        raise Failure(f"{PAGE} lacks the marks between which the tables stand")
-    return before + begin + tables(read(top), top) + end + behind
+def differences() -> str:
+    """The table of the forms that differ, each with its first source."""
+    lines = ["| Form | What differs | Source | OpenSCAD | Here |", "|---|---|---|---|---|"]
+    for it in forms():
+        row = it.rows[0]
+        lines.append(f"| {it.name} | {it.says} | `{row.source}` | {row.there} | {row.here} |")
+    return "\n".join(["", *lines, "", ""])
+
+
+#: Each page with the marks between which what is written stands, and what that is.
+WRITTEN: tuple[tuple[str, str, str, Callable[[], str]], ...] = (
+    (
+        "docs/PROOFS.md",
+        "<!-- The tables of crates, written by tools/pages.py: -->\n",
+        "<!-- End of the tables. -->\n",
+        lambda: tables(read(TOP), TOP),
+    ),
+    (
+        "docs/OPENSCAD.md",
+        "<!-- The forms that differ, written by tools/pages.py: -->\n",
+        "<!-- End of the forms. -->\n",
+        differences,
+    ),
+)
+
+
+def renewed(name: str, page: str, begin: str, end: str, written: str) -> str:
+    """The page with what is written between its marks as it is now."""
+    before, found, rest = page.partition(begin)
+    _, ended, behind = rest.partition(end)
+    if not found or not ended:
+        raise Failure(f"{name} lacks the marks between which its tables stand")
+    return before + begin + written + end + behind
 
 
 def main(words: list[str]) -> int:
@@ -53,15 +83,20 @@ def main(words: list[str]) -> int:
     if words not in ([], ["--check"]):
         print(__doc__, file=sys.stderr)
         return 2
-    path = TOP / PAGE
-    page = path.read_text(encoding="utf-8")
     try:
-        text = renewed(page, TOP)
+        return max([_written(bool(words), *it) for it in WRITTEN])
     except Failure as failure:
         print(failure)
         return 1
-    if text != page and words:
-        print(f"{PAGE} is out of date: write its tables by ./tools/pages.py")
+
+
+def _written(is_check: bool, name: str, begin: str, end: str, write: Callable[[], str]) -> int:
+    """Writes or checks a page, and gives the status. Raises Failure."""
+    path = TOP / name
+    page = path.read_text(encoding="utf-8")
+    text = renewed(name, page, begin, end, write())
+    if text != page and is_check:
+        print(f"{name} is out of date: write its tables by ./tools/pages.py")
         return 1
     path.write_text(text, encoding="utf-8")
     return 0

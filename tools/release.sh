@@ -36,13 +36,14 @@ trap 'exit 1' HUP INT TERM
 # The folder of the release: files of the commit, the program, and what is made of them.
 here=$work/$name
 mkdir -p "$here/libexec"
-git archive HEAD README.md CHANGELOG.md CONTRIBUTING.md clients/scadserve docs examples gallery install.sh memory.sh pyproject.toml scadserve \
+git archive HEAD README.md CHANGELOG.md CONTRIBUTING.md clients/scadserve docs examples gallery install.sh library memory.sh pyproject.toml scadserve \
     tools/wheel.py | tar -x -C "$here"
 cp "$program" "$here/libexec/scadserve"
 PYTHONPATH=$here/clients python3 -B -c 'from scadserve.tools.catalogue import *; print(*STARTERS, sep="\n")' >"$here/TOOLS"
 git archive HEAD $(cat "$here/TOOLS") | tar -x -C "$here"
 PYTHONPATH=$here/clients python3 -B -m scadserve.tools.manual "$here/man"
 PYTHONPATH=$here/clients python3 -B -m scadserve.tools.completion "$here/completion"
+python3 -B "$top/tools/statement.py" --html "$here/docs/statement" || stop "the statement makes no pages as HTML"
 {
     echo "scadserve $version for x86_64 Linux"
     # (not how many tests passed: those that need what a machine lacks are skipped, and two clones make the same bytes)

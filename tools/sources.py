@@ -22,9 +22,13 @@ class Declared(NamedTuple):
     seen: str
     path: Path
 
+    def is_trait(self) -> bool:
+        """Whether it is a trait."""
+        return " trait " in f" {self.lines[0]}"
+
     def names(self) -> list[str]:
-        """The types that its text names as a page has it; none where contracts see something else."""
-        text = " ".join(it.split("//")[0] for it in shown(self) if not it.startswith("///"))
+        """The types that its text names; none where contracts see something else."""
+        text = " ".join(it.split("//")[0] for it in self.lines)
         return [] if self.seen else [it for it in re.findall(r"\b[A-Z]\w+", text) if it != self.target.name]
 
 
@@ -44,12 +48,19 @@ class Call(NamedTuple):
 
     def reached(self) -> list[Target]:
         """What the words of its clauses lead to, in order."""
-        words = [token.split(".")[0] for line in self.lines[1:] for token in tokens_of([line.split("//")[0]])]
+        clauses = self.lines[self.signature() :]
+        words = [token.split(".")[0] for line in clauses for token in tokens_of([line.split("//")[0]])]
         return [self.scope[word] for word in words if word in self.scope]
 
-    def bounds(self) -> list[str]:
-        """The traits that bound its type parameters."""
-        return re.findall(r"\b[A-Z]: (\w+)", self.lines[0])
+    def types(self) -> list[str]:
+        """The types and traits that its signature names: the bounds of its parameters, what it takes and what it gives."""
+        signature = " ".join(self.lines[: self.signature()])
+        return [it for it in re.findall(r"\b[A-Z]\w+", signature) if it not in LIBRARY]
+
+    def signature(self) -> int:
+        """How many lines stand before its clauses."""
+        clauses = [at for at, it in enumerate(self.lines) if re.match(r"\s*(?:ensures|requires) ", it)]
+        return clauses[0] if clauses else len(self.lines)
 
 
 class Sources:
@@ -58,42 +69,74 @@ class Sources:
     def __init__(self, top: Path) -> None:
         """The sources of a repository."""
         self.top = top
+        self.texts: dict[Path, str] = {}
+        self.scopes: dict[Path, dict[str, Target]] = {}
+        self.listed: dict[str, list[Path]] = {}
+        self.homes: dict[tuple[Path, str], Target | None] = {}
+        self.types: dict[tuple[str, str], Declared] = {}
+
+    def text(self, path: Path) -> str:
+        """The text of a source, read once."""
+        if path not in self.texts:
+            self.texts[path] = path.read_text(encoding="utf-8")
+        return self.texts[path]
+
+    def scope(self, path: Path) -> dict[str, Target]:
+        """The names that the ghost imports of a source bring."""
+        if path not in self.scopes:
+            lines = imports(self.text(path).splitlines())
+            self.scopes[path] = {word: target for line in lines for word, target in import_of(line)}
+        return self.scopes[path]
 
     def files(self, crate: str) -> list[Path]:
-        """The files of a crate in order."""
-        return sorted((self.top / "crates" / crate / "src").rglob("*.rt"))
+        """The files of a crate in order, listed once."""
+        if crate not in self.listed:
+            self.listed[crate] = sorted((self.top / "crates" / crate / "src").rglob("*.rt"))
+        return self.listed[crate]
 
     def calls(self, pattern: str, crates: Iterable[str]) -> list[Call]:
         """The public calls of some crates whose first lines fit a pattern, in the order of their files and lines."""
         found = []
         for crate, path in [(crate, path) for crate in sorted(crates) for path in self.files(crate)]:
-            lines = path.read_text(encoding="utf-8").splitlines()
-            scope = {word: target for line in imports(lines) for word, target in import_of(line)}
+            lines = self.text(path).splitlines()
             for at in [at for at, line in enumerate(lines) if re.match(pattern, line)]:
                 upto = next(it for it in range(at, len(lines)) if lines[it].strip() in ("{", "{}"))
                 name = re.split(r"[(<]", lines[at].split("fn ")[1])[0]
-                found.append(Call(name, comment_above(lines, at), tuple(lines[at:upto]), scope, crate, path))
+                found.append(Call(name, comment_above(lines, at), tuple(lines[at:upto]), self.scope(path), crate, path))
         return found
 
     def declared(self, target: Target) -> Declared:
-        """The type, trait or constant that a target names: in the file that it tells, or else the only one of the crate."""
+        """The type, trait or constant that a target names, looked for once."""
+        if (target.crate, target.name) not in self.types:
+            self.types[target.crate, target.name] = self.found(target)
+        return self.types[target.crate, target.name]
+
+    def found(self, target: Target) -> Declared:
+        """The same: in the file that the target tells, or else the only one of the crate."""
         begins = re.compile(rf"\s*(?:pub(?:\(crate\))? )?(?:struct|enum|trait|const|type) {re.escape(target.name)}\b")
         told = self.top / "crates" / target.crate / "src" / (target.module.replace(".", "/") + ".rt")
         found = []
         for path in self.files(target.crate):
-            lines = path.read_text(encoding="utf-8").splitlines()
+            lines = self.text(path).splitlines()
             found += [(path, lines, at) for at, it in enumerate(lines) if begins.match(it)]
         there = [it for it in found if it[0] == told] or found
         if len(there) != 1:
             raise Failure(f"{target.crate}: {len(found)} types are named {target.name}, and not 1")
         path, lines, at = there[0]
-        return Declared(target, comment_above(lines, at), tuple(block(lines, at)), model(lines, target.name), path)
+        home = Target("type", target.crate, "", target.name)
+        return Declared(home, comment_above(lines, at), tuple(block(lines, at)), model(lines, target.name), path)
 
     def type_named(self, path: Path, crate: str, name: str) -> Target | None:
         """Where a type or a trait leads that a file names, by its imports; None where it is the library's or a variant."""
         if name in LIBRARY:
             return None
-        text = path.read_text(encoding="utf-8")
+        if (path, name) not in self.homes:
+            self.homes[path, name] = self.home(path, crate, name)
+        return self.homes[path, name]
+
+    def home(self, path: Path, crate: str, name: str) -> Target | None:
+        """The same, by the text of the file."""
+        text = self.text(path)
         home = next((used for used in RUST_USE.findall(text) if re.search(rf"\b{name}\b", used)), None)
         if home is not None:
             first = home.strip().split("::")[0]
@@ -101,19 +144,6 @@ class Sources:
         elif not re.search(rf"\b(?:struct|enum|trait) {name}\b", text):
             return None
         return Target("type", crate, "", name) if (self.top / "crates" / crate).is_dir() else None
-
-
-def shown(declared: Declared) -> list[str]:
-    """A type as the page has it: its comment, and its text or what contracts see of it; of a trait what they alone see."""
-    comment = [f"/// {it}".rstrip() for it in declared.comment]
-    lines = [it for it in declared.lines if not it.lstrip().startswith("#[")]
-    if declared.seen:
-        return [*comment, re.split(r" ?[({;]", lines[0])[0] + f";  // a clause sees: {declared.seen}"]
-    if " trait " in f" {lines[0]}":
-        members = [at for at, it in enumerate(lines) if it.lstrip().startswith("ghost ")]
-        kept = [it for at in members for it in [*(f"    // {said}" for said in comment_above(lines, at)), lines[at]]]
-        return [*comment, lines[0], *kept, "}"]
-    return comment + lines
 
 
 def imports(lines: list[str]) -> list[str]:

@@ -1,12 +1,15 @@
-"""The words of docs/STATEMENT.md that no source has: its headings, the promise in plain words, and the names of the library."""
+"""The words of the pages of docs/statement that no source has: what each page is for, the promise in plain words, the classes
+of definitions, and the names of the library."""
 
 from __future__ import annotations
 
 from typing import NamedTuple
 
+from reached import Cut
+
 
 class Heading(NamedTuple):
-    """A heading, what stands below it, whose size that is, and the crates whose definitions stand there."""
+    """A class of definitions: its name, what these are, whose size that is, and the crates in which they stand."""
 
     title: str
     about: str
@@ -14,7 +17,7 @@ class Heading(NamedTuple):
     crates: str
 
 
-# A crate whose definitions are reached and that stands below no heading is an error.
+# A crate whose definitions are reached and that is of no class is an error.
 HEADINGS: list[Heading] = [
     Heading(
         "Bytes and words",
@@ -72,6 +75,12 @@ HEADINGS: list[Heading] = [
         "memo_core subtree_memo parallel_eval",
     ),
     Heading(
+        "Hulls, rays and costs",
+        "What laws speak of beyond the promise: hulls of points, crossings of faces, and counts of evaluations.",
+        "the laws'",
+        "closed_faces shape_hulls source_laws ray_crossings",
+    ),
+    Heading(
         "Statuses",
         "What the program reads, writes and answers as a whole.",
         "the program's own",
@@ -79,59 +88,152 @@ HEADINGS: list[Heading] = [
     ),
 ]
 
-HEAD = (
-    "This page is the whole of what `serve` promises: the contract of the public call `serve`, and each definition "
-    "that its clauses reach. Whoever trusts the theorem trusts this page and what is assumed below, and needs no other file. "
-    "These are {definitions} definitions and types in {lines} lines, of which most are the language's own. The prover has "
-    "checked that the code meets these words. That they say what is meant, only a reader can judge. At the end stand the laws: "
-    "those that leave nothing open, and those for makers, with what these name beyond the promise."
-)
-
-READING = (
-    "Each definition has a comment above it that says what it means, and then its text, which counts. A definition uses only "
-    "what stands above it on the page, or beside it in a group. The language is antt, in which a statement is a type."
-)
-
-BEGINNING = (
-    "The page goes from the bottom up. Whoever would rather come from above begins with these, and looks up what they name: a "
-    "definition begins with its name at the left, as in `pub Fits :`."
-)
-
-LAWS = (
-    "Public calls that do nothing when they run; their clauses are proved. They show that the words above can be met, and how "
-    "many answers they leave: each source has a meaning or a first fault, one alone, and one answer. So some judge of shapes "
-    "is right, of which `IsMeaning` asks."
-)
-
-# The laws for makers: their crates in the order of the page, each with the names of its laws that count, as a pattern.
-MAKER_CALLS: dict[str, str] = {
-    "csg_tree": "joins_keep_within_reach",
-    "scad_meaning": "programs_mean_proper_trees",
-    "closed_faces": r"\w+",
-    "shape_hulls": r"\w+",
-    "source_laws": r"\w+",
-    "watertight": r"\w+",
-    "ray_crossings": r"\w+",
+# What each page is: its title, and the paragraphs at its head, of which the index has the first.
+PAGES: dict[str, tuple[str, tuple[str, ...]]] = {
+    "PROMISE": (
+        "The promise",
+        (
+            "What `serve` promises, and each definition that a reader has to believe so that the promise says what it means.",
+            "The prover has checked that the code meets the clauses below. That the definitions say what is meant, only a"
+            " reader can judge: that is what this page is for. Whoever trusts it, with what is assumed, trusts that a "
+            "status tells what was done, that replies are those which a client's commands define but for where memory ran"
+            " out, and that each solid's text is the watertight boundary of what its source means. It needs no other page"
+            " for that.",
+        ),
+    ),
+    "ALGORITHM": (
+        "Which text it is",
+        (
+            "Which of the texts that bound a tree is answered, and when a limit of size comes in place of a text.",
+            "A tree has many texts that bound it: faces may be cut otherwise, and vertices stand in another order. The "
+            "field `rule` of `AnswersExport` says which one is answered, as one function of the unit and the source. "
+            "Whoever only wants to know that a part is right needs none of this.",
+        ),
+    ),
+    "TALLY": (
+        "The tally",
+        (
+            "What the printed tally tells: the memo, its journal, and what a client's entries weigh.",
+            "It is printed where `--tally` asks for it. No other byte of the output rests on this page.",
+        ),
+    ),
+    "LAWS": (
+        "Laws",
+        (
+            "What follows: that the definitions leave nothing open, and what a maker may rely on in each text.",
+            "These are public calls that do nothing when they run; their clauses are proved over the definitions of the "
+            "other pages. The first ones show that these definitions can be met, and how many answers they leave: each "
+            "source has a meaning or a first fault, one alone, and one answer. So some judge of shapes is right, of which"
+            " `IsMeaning` asks.",
+        ),
+    ),
+    "COSTS": (
+        "Costs",
+        (
+            "How many evaluations a program's meaning takes, by its tokens and by what it counts.",
+            "These laws are of the meaning of a program, and not of the evaluator's steps: no contract ties the two.",
+        ),
+    ),
 }
 
-MAKER_LAWS = (
-    "These say what a maker may rely on in a text that `serve` answers, and what each shape of a source is. They, too, are public "
-    "calls that do nothing when they run, and their clauses are proved over the definitions above. The definitions that they name "
-    "beyond those stand behind them, each file behind those that it names."
+INDEX = (
+    "The statement is what the program's proof is a proof of. It stands on five pages, which `tools/statement.py` writes "
+    "from the sources, and which a test compares with them. [PROMISE](statement/PROMISE.md) is the one to read: it has "
+    "the contract of the call `serve`, what is assumed, and each definition that a reader has to believe. The others say "
+    "more, for whoever asks more.",
+    "A release has the same pages as HTML, in `share/doc/scadserve/docs/statement`: there each name is a link to its "
+    "definition, whose comment shows under the pointer, each definition says who uses it, and there is a search. In the "
+    "sources `tools/statement.py --html FOLDER` makes them.",
 )
+
+# Names that stand on another page than what names them. One that is not named there is an error. The first page on which one
+# stands has all that it reaches beyond PROMISE, and the next one what it reaches beyond both.
+CUTS: tuple[Cut, ...] = (
+    Cut(
+        "AnswersExport",
+        "AnswersSource",
+        "ALGORITHM",
+        "which of the texts that bound the tree is answered, and which limit comes in place of one: one function of unit and source",
+    ),
+    Cut("TellsTally", "HaveLegalJournal", "TALLY", "where the tally is printed: it is one that a memo can have, asked call by call"),
+)
+
+# The worked example: cases that the gate runs, each with its crate and what it shows.
+EXAMPLE: tuple[tuple[str, str, str], ...] = (
+    (
+        "language_cases",
+        "program cube([1.0,2,3]);",
+        "What the promise says of a cube, with rows of the specification that the gate runs, whose answers were written "
+        "by hand. A source is bytes. `Lexes` says its tokens, each as long as possible, and `WholeProgram` the one "
+        "program that these write; each name, number and sign has the place at which it begins, and `1.0` is the whole "
+        "number 1:",
+    ),
+    (
+        "language_cases",
+        "tree cube([1,2,3]);",
+        "`Means` says which tree this program means: the `meet` of six half spaces, which are those of a box. The row has"
+        " it by its sides, as x from 0 to 1, y from 0 to 2 and z from 0 to 3:",
+    ),
+    (
+        "server_cases",
+        "serve run / a put 1 cube([1,2,3]);|a export|",
+        "`IsWatertightBoundary` says what a text has to be for that tree: 4OFF, whose faces lie on the six planes, turn "
+        "left seen from outside, and cover each point of one plane exactly where the box begins or ends. A client `a` "
+        "that puts this line and asks for an export is answered so (`|` ends a line): `ok` with the number of lines, and "
+        "then the solid in 16 lines, which are a head, 8 vertices (x y z w, in homogeneous coordinates) and 6 faces of 4 "
+        "corners each, told by their numbers:",
+    ),
+)
+
+FURTHER: dict[str, str] = {
+    "steps": "`StatusTells` and what else a clause names are the first step; what these name is the second, and so on, "
+    "each once. Behind a step stands what its definitions are of, and how many.",
+    "exits": "The program makes the first of these calls, which hands on to the second one, and ends with the number of "
+    "its status. The last lines are the program's own, and have no clause.",
+    "library": "These stand in the toolchain's library, whose own definitions say the same in full. The other pages use no others.",
+    "classes": "Lines of definitions and types with their comments, by what they are of.",
+}
+
+READING = (
+    "Each definition has a comment that says what it means, behind its first line or above it, and then its text, which "
+    "counts. What is indented belongs to the definition above it. The language is antt, in which a statement is a type; "
+    "what has braces is a type or a trait of the sources. The words `pub`, `abbrev` and `unfoldable` are left out, of "
+    "which only files and proofs take notice, and so are imports."
+)
+
+# The laws of each page that has some: their crates in order, each with the names that count, as a pattern. No crate is the
+# one of the promise itself.
+LAWS: dict[str, dict[str, str]] = {
+    "LAWS": {
+        "": r"\w+",
+        "csg_tree": "joins_keep_within_reach",
+        "scad_meaning": "programs_mean_proper_trees",
+        "closed_faces": r"\w+",
+        "shape_hulls": r"\w+",
+        "source_laws": r"designs_\w+|placed_\w+|programs_keep_\w+",
+        "watertight": r"\w+",
+        "ray_crossings": r"\w+",
+    },
+    "COSTS": {"source_laws": r"\w+_take_few_evaluations|\w+_take_more"},
+}
 
 # The promise in plain words, clause by clause. A clause of the call that has no words here is an error, and so is the opposite.
 PROMISE: dict[str, str] = {
     "told": "The status tells what was done. At `Done` the words chose settings, the whole input was read, and just its "
-    "output was written. The replies of each client are those that its own commands define. Each solid is the "
-    "watertight boundary of the tree that the client's source means. Each other status says which fault there was, and "
-    "what was written before it.",
-    "reads": "Where the words are outside the grammar, or choose the demonstration, nothing is read. Whatever the status, no more "
-    "bytes are read than a script may have, and those of one read more.",
+    "output was written. The replies of each client are those that its own commands define, whatever the order of"
+    " threads, but for where memory ran out: there a reply says so. Each solid is the watertight boundary of the "
+    "tree that the client's source means. Each other status says which fault there was, and what was written "
+    "before it.",
+    "reads": "Where the words are outside the grammar, or choose the demonstration, nothing is read. Whatever the status,"
+    " no more bytes are read than a script may have, and those of one read more.",
     "causes": "A source that failed is told as that, and so is a sink. The counts of their faults never fall.",
-    "complete": "Where neither count rose and the words choose settings, the status is `Done`, `BadScript` or `NoMemory`.",
-    "script": "Where the source tells its bytes and these are a script, the status is not `BadScript`.",
-    "no_script": "Where a script is asked for, and the bytes have a fault, the status is not `Done`.",
+    "complete": "Where neither count rose and the words choose settings, the status is `Done`, `BadScript` or `NoMemory`."
+    " This follows from `told`: a `ReadFault` or a `WriteFault` tells that a count rose, and `BadWords` that "
+    "no settings are chosen.",
+    "script": "Where the source tells its bytes and these are a script, the status is not `BadScript`. This follows from "
+    "`told`, by which the bytes had a fault then, and from the law that no bytes are both "
+    "(`bytes_are_one_script`).",
+    "no_script": "Where a script is asked for, and the bytes have a fault, the status is not `Done`. This follows in the same way.",
 }
 
 # What is assumed, and what is not claimed.
@@ -149,47 +251,30 @@ ASSUMED: list[tuple[str, str]] = [
     ),
     (
         "The ported crates",
-        "The kit's crates `itoa`, `lru`, `indexmap`, `smallvec`, `clap`, `sha2` and `hex` are proved in the kit against their "
-        "own statements. Those statements are trusted. A clause says what a call does with the source and the sink that it is "
-        "given, and not that it touches nothing else. Some libraries of the kit reach files and streams by number; `tools/house.py` "
-        "refuses a crate that stands on any but these seven, which reach none.",
+        "The kit's crates `itoa`, `lru`, `indexmap`, `smallvec`, `clap`, `sha2` and `hex` are proved in the kit against "
+        "their own statements. Those statements are trusted; `tools/audit.py` prints those of the calls that the program "
+        "makes. A clause says what a call does with the source and the sink that it is given, and not that it touches "
+        "nothing else. Some libraries of the kit reach files and streams by number; `tools/house.py` refuses a crate that"
+        " stands on any but these seven, which reach none.",
     ),
     (
         "Standard input and output",
-        "`serve` takes any source and any sink. Clauses on bytes hold where these tell their bytes, as those in memory do. The "
-        "program hands in `ReadSource` and `WriteSink`, over standard input and output, and these two tell no bytes: this is "
-        "the one edge. There `Consumes`, `IsAtEnd` and `Appends` hold of anything. What a `read` or a `write` of the operating "
-        "system does to a stream is as trusted as the system is, and that both pass bytes on as they are is tested.",
+        "`serve` takes any source and any sink, and `serve_streams` any reader and any writer of std; their clauses are "
+        "of the bytes that these tell, as those in memory do. The program hands in standard input and standard output, "
+        "which tell none: there `Consumes`, `IsAtEnd` and `Appends` hold of anything, and this is the one edge. What is "
+        "trusted is what the system's standard input and output do: that a read gives the next bytes, that a write takes "
+        "those that it is given, and that each says how many.",
     ),
     (
-        "The first and the last step",
+        "The first step",
         "`run_program` takes the words behind the program's name and hands them, with standard input and standard output, to "
-        "`serve_to_exit`, whose clauses stand at the end. It is proved safe and has no clause: its lines are to be read, "
-        "with those that take the words, in `crates/script_server/src/program.rt`. So are the bodies of `ReadSource` and "
-        "`WriteSink`, in `crates/outside_io/src/adapters.rt`: that they call the reader or the writer once, and tell a fault only "
-        "where it failed, is in no clause.",
+        "`serve_streams`. It is proved safe and has no clause: its lines are to be read, with those that take the words, in "
+        "`crates/script_server/src/program.rt`.",
     ),
     (
         "These definitions",
-        "That they say what is meant is for the reader to judge. The laws at the end show that they leave nothing open.",
+        "That they say what is meant is for the reader to judge. The [laws](LAWS.md) show that they leave nothing open.",
     ),
-]
-
-# Where a reader from above begins. A name that isn't reached, or twice, is an error.
-WAY: list[tuple[str, str]] = [
-    ("StatusTells", "what each status tells of the words, the source and the sink"),
-    ("IsOutputFor", "what is written for the clients of a script"),
-    ("Fits", "which replies a client's commands define"),
-    ("AnswersExport", "what the export of a source is answered"),
-    ("Means", "the tree that a source means"),
-    ("Lexes", "the tokens of a source, or its first fault"),
-    ("WholeProgram", "the program that tokens write"),
-    ("IsMeaning", "what a program means"),
-    ("IsBoundary", "when a text is the boundary of a tree"),
-    ("IsClosedSurface", "when faces leave no hole along their edges"),
-    ("IsWatertightBoundary", "and when it keeps within reach and is watertight"),
-    ("AreWatertight", "when faces leave none at any point of space"),
-    ("HaveLegalJournal", "what the printed tally tells"),
 ]
 
 NOTATION: list[tuple[str, str]] = [
@@ -201,15 +286,16 @@ NOTATION: list[tuple[str, str]] = [
     ("`Unit {0}`, `⊤`", "always"),
     ("`x ≡ y`, `x ≢ y`", "equal, not equal"),
     ("`f x y`", "the function `f` of `x` and `y`; `λ x. t` is the function that gives `t` for `x`"),
-    ("`abbrev pub f : A → B`", "`f` takes an `A` and gives a `B`; its equations follow, and the first that fits counts"),
-    ("`unfoldable pub f : A → B`", "the same; only proofs tell the two apart"),
-    ("`pub data T : Type 0 where`", "the type of its variants, which follow with what each holds"),
+    ("`f : A → B`", "`f` takes an `A` and gives a `B`; its equations follow, and the first that fits counts"),
+    ("`data T : Type 0 where`", "the type of its variants, which follow with what each holds"),
     ("`{A : Type 0} →`", "for each type `A`, which is found by what follows"),
     ("`elim x [ p ↦ a | q ↦ b ]`", "`a` where `x` is `p`, and `b` where it is `q`"),
     ("`A → Type 0`", "a statement about an `A`; a record is the statement that each of its fields holds"),
     ("`record { a = x }`", "the record whose field `a` is `x`; `record r { a = x }` is `r` but for that; `r.a` is the field"),
     ("`u8` to `u64`, `i64`, `bool`, `Vec`", "in a type of the sources: `ℕ`, `ℤ`, `Bool` and `List`"),
     ("`x.now`, `x.old`, `x.new`", "what a reference points to: in a call that changes it, before and after"),
+    ("`S.left`, `K.held`", "what the trait of a source or a sink tells of one"),
+    ("`I.remaining`, `O.contents`", "the bytes that a reader of std has left, and those that a writer has taken, where it tells them"),
     ("`mutual`, `module _ (x : A) where`", "definitions that use one another; definitions that all take `x` first"),
 ]
 
@@ -312,6 +398,8 @@ LIBRARY: dict[str, str] = {
     "Err": "it failed",
     "IfOk": "a statement holds of the value, where it went well",
     "IfErr": "a statement holds of what failed, where it failed",
+    "OnOk": "a statement holds, where it went well",
+    "OnErr": "a statement holds, where it failed",
     "IsErrOf": "it failed with this",
     "exit_status": "the number with which a program ends",
     "Ordering": "`Less`, `Equal` or `Greater`",
@@ -329,6 +417,9 @@ LIBRARY: dict[str, str] = {
     "Appends": "`Appends old new bytes`: where a sink tells its bytes, they are the old ones and then `bytes`; else always",
     "Consumes": "`Consumes old new bytes`: where a source tells its bytes, the old are `bytes` and then the new; else always",
     "IsAtEnd": "where a source tells its bytes, none are left; else always",
+    "ReadConsumes": "at `Ok`, the bytes that it put in front were consumed, and none only at the end; else nothing was",
+    "WriteAppends": "at `Ok`, as many of the bytes as it says were appended; else nothing was",
+    "ReadsAtMost": "at `Ok`, no more bytes were read than there is room for",
     "sha256": "the SHA-256 of bytes (FIPS 180-4)",
     "encode_lower": "bytes as hexadecimal digits in lower case",
 }

@@ -76,7 +76,9 @@ def _package() -> Iterator[File]:
     for file in sorted((TOP / "clients/scadserve").rglob("*")):
         if file.is_file() and file.suffix != ".pyc":
             yield f"scadserve/{file.relative_to(TOP / 'clients/scadserve').as_posix()}", file.read_bytes(), False
-    yield "scadserve/release/docs/FAULTS.md", (TOP / "docs/FAULTS.md").read_bytes(), False
+    pages = (TOP / "docs" / name for name in ("FAULTS.md", "OPENSCAD.md", "differences.txt"))
+    for file in (*pages, *sorted((TOP / "library").glob("*.scad"))):
+        yield f"scadserve/release/{file.relative_to(TOP).as_posix()}", file.read_bytes(), False
 
 
 def _tools() -> Iterator[File]:

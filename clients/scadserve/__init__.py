@@ -16,8 +16,9 @@ from .server.scripts import BadScript, BadWords, Malformed, NotStarted, OutOfMem
 
 if TYPE_CHECKING:
     from .solving import Fault, Point, Solid, Source, solve
+    from .source.notes import Note
 
-__all__ = ["solve", "Solid", "Fault", "Point", "Source"]
+__all__ = ["solve", "Solid", "Fault", "Note", "Point", "Source"]
 __all__ += ["ServerFailed", "NotStarted", "BadWords", "BadScript", "ReadFault", "WriteFault", "OutOfMemory", "OutOfTime", "Malformed"]
 
 

@@ -68,13 +68,18 @@ class Browser:
         """Gives the page another size, of pixels that are those of the screen."""
         self.ask("Emulation.setDeviceMetricsOverride", width=width, height=height, deviceScaleFactor=1, mobile=False)
 
-    def ask(self, method, **values):
-        """The result of a method; events that come before it are kept."""
+    def send(self, method, values):
+        """Calls a method, and gives the number that its result will have."""
         number = next(self.numbers)
         message = {"id": number, "method": method, "params": values}
         if self.session:
             message["sessionId"] = self.session
         os.write(self.writing, json.dumps(message).encode() + b"\0")
+        return number
+
+    def ask(self, method, **values):
+        """The result of a method; events that come before it are kept."""
+        number = self.send(method, values)
         while True:
             said = self.listen()
             if said.get("id") == number:
@@ -82,6 +87,9 @@ class Browser:
                     raise AssertionError(f"{method}: {said['error']}")
                 return said["result"]
             self.events.append(said)
+            if said.get("method") == "Page.javascriptDialogOpening":
+                # (whoever leaves a page that asks whether to stay leaves it)
+                self.send("Page.handleJavaScriptDialog", {"accept": True})
 
     def listen(self):
         """The next message of the browser."""
@@ -96,9 +104,13 @@ class Browser:
         return json.loads(message)
 
     def open(self, path):
-        """Opens a file, and waits until it has drawn its first frame."""
+        """Opens a file, and waits until it is there."""
+        self.visit(f"file://{path}")
+
+    def visit(self, address):
+        """Opens a page, and waits until it is there."""
         self.events.clear()
-        self.ask("Page.navigate", url=f"file://{path}")
+        self.ask("Page.navigate", url=address)
         self.wait("document.readyState === 'complete'")
 
     def run(self, script):

@@ -1,6 +1,7 @@
 """`--by-openscad`: what comes of OpenSCAD's front end, compared with what OpenSCAD itself makes of a few parts."""
 
 import os
+import re
 import subprocess
 import sys
 import tempfile
@@ -43,14 +44,45 @@ class Front(Calls):
         openscad = self.stand_in("cube(size = [0.5, 0.5, 0.5], center = false);\n")
         status, _, said = self.call("--by-openscad", "part.scad", environment=openscad)
         self.assertEqual(
-            said.decode().splitlines()[:2],
-            ['ECHO: "by the stand-in"', "part.scad: unit 1/1000: no corner moved (print by off2stl --unit 1/1000)"],
+            said.decode().splitlines(),
+            [
+                'ECHO: "by the stand-in"',
+                "part.scad: on a grid of 1/1000: no corner moved",
+                "part.scad: a length of its text is 0.001 mm, so its mesh comes of off2stl --unit 1/1000",
+            ],
         )
         [(_, script)] = self.runs()
         self.assertEqual(
             [line.partition(" ")[2] for line in script.decode().splitlines() if " put " in line],
-            ["put 1 // A small box.", "put 2 // of mine", "put 3 // unit: 1/1000", "put 4 translate([0, 0, 0]) cube([500, 500, 500]);"],
+            ["put 1 // unit: 1/1000", "put 2 translate([0, 0, 0]) cube([500, 500, 500]);"],
         )
+
+    def test_the_unit_of_the_source_is_that_of_its_mesh(self):
+        """A grid of 1/1000, on which the stand-in for the server makes a box of one step."""
+        openscad = self.stand_in("cube(size = [1, 1, 1], center = false);\n")
+        for source, words, unit, side, step in (
+            ("cube(1);\n", (), "1", "0.001", "1/1000"),
+            ("// unit: 1/10\ncube(1);\n", (), "0.1", "0.0001", "1/10000"),
+            ("/* Unit: 2 */\ncube(1);\n", (), "2", "0.002", "1/500"),
+            ("// unit: nonsense\ncube(1);\n", ("--unit", "1e1"), "10", "0.01", None),
+        ):
+            with self.subTest(source):
+                self.write("part.scad", source)
+                status, _, said = self.call("--by-openscad", *words, "part.scad", "-o", "a.stl", tool=SCAD2STL, environment=openscad)
+                self.assertEqual(status, 0, said)
+                lines = said.decode().splitlines()
+                self.assertIn(f"; unit {unit} mm; box {side} x {side} x {side}; volume ", lines[-1])
+                self.assertNotIn("unit", "".join(lines[:-1]))
+                if step is not None:
+                    said = self.call("--by-openscad", "part.scad", "-o", "a.4off", environment=openscad)[2].decode()
+                    self.assertTrue(said.endswith(f", so its mesh comes of off2stl --unit {step}\n"), said)
+
+    def test_a_unit_is_read_of_what_is_included_and_told_before_openscad_runs(self):
+        self.write("lib.scad", "// unit: 1/10\n")
+        self.write("part.scad", "include <lib.scad>\ninclude <not/there.scad>\n// unit: 1/5\n")
+        for tool in (SCAD2STL, None):
+            status, _, said = self.call("--by-openscad", "part.scad", "-o", "a", *(["--format", "stl"] if tool else []), tool=tool, environment={"OPENSCAD": "none"})
+            self.assertEqual((status, said.decode().splitlines()[0]), (1, "part.scad:3:1: error: BadUnit: lib.scad:1 says another unit, 1/10"))
 
     def test_an_error_of_openscad_is_one_here_though_it_ends_well(self):
         self.write("part.scad", "cube(1);\nassert(false);\n")
@@ -64,7 +96,7 @@ class Front(Calls):
         self.write("part.scad", "wedge();\n")
         status, out, said = self.call("--by-openscad", "part.scad", environment=self.stand_in("group() {\n\twedge(h = 1);\n}\n"))
         self.assertEqual((status, out, self.runs()), (1, b"", []))
-        self.assertIn("part.scad.csg:2:2: error: UnknownModule: wedge", said.decode())
+        self.assertIn("part.scad: error: UnknownModule: node 2, wedge is no node that is known here\n    cure: ", said.decode())
 
     def test_a_missing_openscad_is_told(self):
         self.write("part.scad", "cube(1);\n")
@@ -167,7 +199,7 @@ class Compared(Calls):
         with open(self.path("part.4off"), "rb") as file:
             text = file.read()
         told = said.decode()
-        unit = Fraction(told[told.index("unit ") + 5 :].partition(":")[0])
+        unit = Fraction(re.search(": on a grid of (.*?):", told)[1])
         subprocess.run(["openscad", "-o", self.path("part.off"), self.path("part.scad")], capture_output=True, check=True)
         with open(self.path("part.off"), encoding="ascii") as file:
             mesh = of_off(file.read())

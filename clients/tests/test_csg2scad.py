@@ -211,7 +211,9 @@ class Limits(unittest.TestCase):
 
     def test_what_vanishes_is_told_with_its_place(self):
         found = converted(
-            read("cube(size = [9, 9, 9], center = false);\n cube(size = [20, 0.3, 2], center = false);"), Wanted(unit=Fraction(1)), Front(".")
+            read("cube(size = [9, 9, 9], center = false);\n cube(size = [20, 0.3, 2], center = false);"),
+            Wanted(unit=Fraction(1), tolerance=Fraction(1)),
+            Front("."),
         )
         self.assertIn("cube at 2:2", found.told[1])
         self.assertIn("corners moved by 0.3 at most", found.told[0])
@@ -226,18 +228,16 @@ class Refusals(unittest.TestCase):
     def test_each_names_the_node_and_its_place(self):
         turned = "rotate_extrude(angle = 360, $fn = 8) { square(size = [4, 4], center = true); }"
         points = "points = [[0, 0, 0], [1, 0, 0], [0, 1, 0], [0, 0, 1]]"
-        inward = tetrahedron((0, 0, 0), (0, 3, 0), (3, 0, 0), (0, 0, 3))
         for text, word, said in (
             ("group() {\n  wedge(h = 3);\n}", "UnknownModule", "2:3: UnknownModule: wedge"),
             ("square(size = [1, 1], center = false);", "WrongDimension", "1:1: WrongDimension: square: the design is flat"),
-            ("cube(size = [1, 1, 1]);\nsquare(size = [1, 1]);", "WrongDimension", "2:1: WrongDimension: square"),
-            ("linear_extrude(height = 1) { cube(size = [1, 1, 1]); }", "WrongDimension", "1:30: WrongDimension: cube"),
+            ("linear_extrude(height = 1) { cube(size = [1, 1, 1]); }", "Empty", "1:1: Empty: this design makes no solid at all"),
             ("cube(size = [1, nan, 1]);", "BadArgument", "1:1: BadArgument: cube: size"),
             ("multmatrix([[1, 0, 0, 0], [0, 1, 0, 0], [0, 0, 1, 0], [0, 0, 1, 1]]) { cube(size = [1, 1, 1]); }", "BadArgument", "multmatrix"),
             (turned, "BadArgument", "1:1: BadArgument: rotate_extrude"),
             (f"polyhedron({points}, faces = [[0, 1, 2], [0, 3, 1]]);", "NotClosed", "1:1: NotClosed: polyhedron"),
             (f"polyhedron({points}, faces = [[0, 1, 9]]);", "BadPoint", "1:1: BadPoint: polyhedron"),
-            (inward, "NotConvex", "1:1: NotConvex: polyhedron: its faces look inward"),
+            (tetrahedron((0, 0, 0), (0, 3, 0), (3, 0, 0), (3, 3, 0)), "NotConvex", "1:1: NotConvex: polyhedron: its faces bound no volume"),
         ):
             with self.assertRaises(CsgFault) as caught:
                 lines(text)
@@ -255,7 +255,7 @@ class Tool(Case):
     def test_a_file_is_written_and_what_changed_is_told(self):
         source = self.file("part.csg", b"cube(size = [2.5, 1, 1], center = false);\n")
         status, said = self.call(source, "-o", self.path("part.scad"))
-        self.assertEqual((status, said), (0, "part.csg: unit 1/1000: no corner moved (print by off2stl --unit 1/1000)\n"))
+        self.assertEqual((status, said), (0, "part.csg: on a grid of 1/1000: no corner moved\n"))
         self.assertEqual(self.bytes_of("part.scad"), b"// unit: 1/1000\ntranslate([0, 0, 0]) cube([2500, 1000, 1000]);\n")
 
     def test_faults(self):

@@ -22,10 +22,10 @@ class Nodes(unittest.TestCase):
         self.assertEqual([it.name for it in node.shown()], ["cylinder"])
 
     def test_values(self):
-        [node] = read("polygon(points = [[0, 0], [-nan, inf]], paths = undef, convexity = 1, on = false);")
+        [node] = read("polygon(points = [[0, 0], [-nan, inf]], paths = undef, convexity = true);")
         self.assertTrue(math.isnan(node.arguments["points"][1][0]))
         self.assertEqual(node.arguments["points"][1][1], math.inf)
-        self.assertEqual((node.arguments["paths"], node.arguments["on"]), (None, False))
+        self.assertEqual((node.arguments["paths"], node.arguments["convexity"]), (None, True))
 
     def test_a_text_has_no_escapes_and_may_hold_quotation_marks(self):
         [node] = read('text(text = "a "b"\n\\c", size = 10, font = "");')
@@ -69,11 +69,11 @@ class Faults(unittest.TestCase):
         self.assert_fault('text(text = "a", b = "c", size = 10);', 1, 18)  # (of the text: a", b = "c)
 
     def test_numbers_that_are_wanted(self):
-        [node] = read("cube(size = [1, inf, 2], h = true);")
-        for call in (lambda: node.numbers("size", 3), lambda: node.numbers("size", 2), lambda: node.number("h"), lambda: node.number("r")):
+        [node] = read("cylinder($fn = [1, inf, 2], h = true);")
+        for call in (lambda: node.numbers("$fn", 3), lambda: node.numbers("$fn", 2), lambda: node.number("h"), lambda: node.number("r")):
             with self.assertRaises(CsgFault) as caught:
                 call()
-            self.assertEqual((caught.exception.word, caught.exception.said[:6]), ("BadArgument", "cube: "))
+            self.assertEqual((caught.exception.word, caught.exception.said[:10]), ("BadArgument", "cylinder: "))
 
 
 if __name__ == "__main__":

@@ -60,7 +60,7 @@ class Designs(unittest.TestCase):
         found = converted(read(BAR), Wanted(), Front("."))
         # (ten to a turn: half a step and a slice are 0.2 and 0.11 high, a corner out at 7.07 isn't reached by
         # 7.07 (1 - cos 18 degrees) = 0.346, and a slice of 10 degrees lies within the arcs by 0.027)
-        self.assertIn("what turns on the way in straight steps, since a part has at most 1024 planes: linear_extrude at 1:1 (1001 steps)", found.told[1])
+        self.assertIn("what turns on the way in straight steps, since a part has at most 1024 planes: linear_extrude at 1:1, node 1 (1001 steps)", found.told[1])
         self.assertIn("nothing is off by more than 0.37", found.told[1])
         # (two of ten are turned by half turns)
         text = found.text.decode()

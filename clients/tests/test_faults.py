@@ -44,7 +44,13 @@ class Lines(unittest.TestCase):
         ("NotWhole", b"cube(.5e1);", 6, ".5e1 is no whole number"),
         ("NotWhole", b"w = 7 / 2;", 7, "what / gives is no whole number"),
         ("NotWhole", b"w = pow(2, -1);", 5, "what pow gives is no whole number"),
-        ("TooLarge", b"w = 9007199254740992;", 5, "at 9007199254740992 a number is past 2^53 - 1, or 65,535 in a multmatrix"),
+        ("TooLarge", b"w = 9007199254740992;", 5, "9007199254740992 is past 2^53 - 1"),
+        ("TooLarge", b"w = pow(2, 53);", 5, "what pow gives is past 2^53 - 1"),
+        ("TooLarge", b"w = a + b;", 7, "what + gives is past 2^53 - 1"),
+        ("TooLarge", b"multmatrix([[1, 70000, 0, 0]]) cube(1);", 1, "70000 in multmatrix is past 65,535"),
+        ("TooLarge", b"multmatrix(m) cube(1);", 1, "a factor of multmatrix is past 65,535, or a move past 2^53 - 1 grid steps"),
+        ("TooLarge", b"translate([m, m, m]) cube(1);", 1, "what translate moves a point to is past 2^53 - 1 grid steps"),
+        ("TooLarge", b"cube(m);", 1, "a length of cube is past 2^53 - 1 grid steps"),
         ("UnknownName", b"cube($x);", 6, "$x has no value here"),
         ("UnknownModule", b"cub(1);", 1, "there is no module cub"),
         ("NotInProfile", b"x = 2 ^ 3;", 7, "^ is left out of this profile of OpenSCAD"),
@@ -117,7 +123,7 @@ class Explanations(Calls):
     @unittest.skipUnless(os.path.isfile(faults.DOCUMENT), "docs/FAULTS.md is not there")
     def test_an_unknown_word_is_told(self):
         self.assertEqual(
-            self.call("--explain", "Nonsense"), (2, b"", b"scad2off: docs/FAULTS.md does not explain Nonsense\n")
+            self.call("--explain", "Nonsense"), (2, b"", b"scad2off: neither docs/FAULTS.md nor docs/differences.txt explains Nonsense\n")
         )
 
 

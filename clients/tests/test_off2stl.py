@@ -63,15 +63,26 @@ class Telling(Case):
         for unit, rest in (
             ("1/10", "unit 0.1 mm; box 2 x 1.2 x 1.6; volume 3.84"),
             ("0.1", "unit 0.1 mm; box 2 x 1.2 x 1.6; volume 3.84"),
-            ("25.4", "unit 25.4 mm; box 508 x 304.8 x 406.4; volume 62926325.76"),
-            ("1/3", "unit 1/3 mm; box 20/3 x 4 x 16/3; volume 1280/9; 6 corners rounded to the nearest the format has"),
+            ("1e-1", "unit 0.1 mm; box 2 x 1.2 x 1.6; volume 3.84"),
+            (".5", "unit 0.5 mm; box 10 x 6 x 8; volume 480"),
+            ("25.4", "unit 25.4 mm; box 508 x 304.8 x 406.4; volume 62926326"),
+            ("1/3", "unit 1/3 mm; box 6.66667 x 4 x 5.33333; volume 142.222; 6 corners rounded to the nearest the format has"),
         ):
             self.assertEqual(self.told(BLOCK, "--unit", unit), f"6 faces, 12 triangles, 1 part, closed; {rest}")
 
+    def test_exact_numbers(self):
+        for unit, rest in (
+            ("25.4", "unit 25.4 mm; box 508 x 304.8 x 406.4; volume 62926325.76"),
+            ("1/3", "unit 1/3 mm; box 20/3 x 4 x 16/3; volume 1280/9; 6 corners rounded to the nearest the format has"),
+        ):
+            told = self.told(BLOCK, "--exact-numbers", "--unit", unit)
+            self.assertEqual(told, f"6 faces, 12 triangles, 1 part, closed; {rest}")
+
     def test_thirds_are_rounded(self):
         # The corner that is cut off has the legs 1, 2/3 and 2/3: a sixth of their product is missing, 2/27.
-        expected = "7 faces, 14 triangles, 1 part, closed; unit 1 mm; box 1 x 1 x 1; volume 25/27; 2 corners rounded "
-        self.assertEqual(self.told(CUT_CUBE), expected + "to the nearest the format has")
+        expected = "7 faces, 14 triangles, 1 part, closed; unit 1 mm; box 1 x 1 x 1; volume {}; 2 corners rounded "
+        self.assertEqual(self.told(CUT_CUBE), expected.format("0.925926") + "to the nearest the format has")
+        self.assertEqual(self.told(CUT_CUBE, "--exact-numbers"), expected.format("25/27") + "to the nearest the format has")
         expected = "7 faces, 14 triangles, 1 part, closed; unit 3 mm; box 3 x 3 x 3; volume 25"
         self.assertEqual(self.told(CUT_CUBE, "--unit", "3"), expected)
 
@@ -93,7 +104,7 @@ class Telling(Case):
         # a corner inside one of the two tells them apart.
         expected = "6 faces, 6 triangles, 1 part, closed; unit 1 mm; box 1 x 1 x 1/1" + 30 * "0"
         rounded = "4 corners rounded to the nearest the format has, 8 triangles lost by that"
-        self.assertEqual(self.told(thin), f"{expected}; volume 1/1{30 * '0'}; {rounded}")
+        self.assertEqual(self.told(thin, "--exact-numbers"), f"{expected}; volume 1/1{30 * '0'}; {rounded}")
         self.assert_closed(self.triangles("a.stl")[0], 0)
 
     def test_a_volume_with_too_many_digits(self):
@@ -101,7 +112,8 @@ class Telling(Case):
         p, q, r = 10**36 + 7, 10**36 + 9, 10**36 + 33
         tips = [(0, 0, 0), (Fraction(1, p), 0, 0), (0, Fraction(1, q), 0), (0, 0, Fraction(1, r))]
         tetrahedron = [[tips[a], tips[b], tips[c]] for a, b, c in ((0, 2, 1), (0, 1, 3), (0, 3, 2), (1, 2, 3))]
-        self.assertIn("; volume about 1.66666666667e-109; ", self.told(off(tetrahedron)))
+        self.assertIn("; volume about 1.66666666667e-109; ", self.told(off(tetrahedron), "--exact-numbers"))
+        self.assertIn("; volume 1.66667e-109; ", self.told(off(tetrahedron)))
 
     def test_an_edge_that_no_point_can_be_put_inside(self):
         far = Fraction(4095)
@@ -254,7 +266,7 @@ class Faults(Case):
         file = self.file("a.4off", BLOCK)
         for words in ("--wide", "--uni 2", "--format ply", "--format", "-o", "--info -o a.stl", "b.4off"):
             self.assert_fault(2, [file, *words.split()], "off2stl: ")
-        for unit in ("0", "0/7", "1/0", "-1", "1e9", "1.", ".5", "1/2/3", "x", "", " 1", "1" * 10, "0.0"):
+        for unit in ("0", "0/7", "1/0", "-1", "1e9", ".", "1e", "1e-1/2", "1/2/3", "x", "", " 1", "1" * 10, "0.0", "0e5"):
             self.assert_fault(2, [f"--unit={unit}", file], "is no number above 0")
         for out in ("a", "a.ply", "stl"):
             self.assert_fault(2, ["-o", self.path(out), file], "is no format: say --format")
@@ -360,7 +372,7 @@ class Calling(Case):
 
     def test_help(self):
         done = subprocess.run([TOP + "/bin/off2stl", "--help"], capture_output=True, check=True)
-        for word in ("--unit", "--format", "--info", "-o OUT", "FILE"):
+        for word in ("--unit", "--exact-numbers", "--format", "--info", "-o OUT", "FILE"):
             self.assertIn(word, done.stdout.decode())
 
 

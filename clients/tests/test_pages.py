@@ -2,6 +2,7 @@
 
 from __future__ import annotations
 
+import functools
 import re
 import subprocess
 import sys
@@ -14,7 +15,7 @@ from tests import calls
 
 TOP = Path(calls.TOP)
 PAGES = [*sorted(TOP.glob("*.md")), *sorted((TOP / "docs").rglob("*.md"))]
-LONG = {"STATEMENT.md", "SPECIFICATION.md", "FAULTS.md"}
+LONG = {"PROMISE.md", "ALGORITHM.md", "TALLY.md", "LAWS.md", "COSTS.md", "SPECIFICATION.md", "FAULTS.md", "PROOFS.md"}
 # A page that tools/gallery.sh makes, with a line for each part's files.
 WIDE = {"GALLERY"}
 # Pages, and folders of pages, in which the phrases of docs/WORDS.md are not written.
@@ -33,10 +34,13 @@ SOURCES = {".rt", ".antt", ".py", ".sh", ".txt", ".scad", ".rs"}
 sys.path.insert(0, str(TOP / "tools"))
 
 import statement  # noqa: E402
-from definitions import Failure, Library, Target  # noqa: E402
+import statement_pages  # noqa: E402
+from definitions import Definition, Failure, Library, Target, tokens_of  # noqa: E402
 from house import Crate, House  # noqa: E402
+from layout import laid_definition, laid_group, laid_type  # noqa: E402
 from pages import about, tables  # noqa: E402
-from sources import Sources, shown  # noqa: E402
+from reached import Cut, in_groups  # noqa: E402
+from sources import Sources  # noqa: E402
 from statement_words import Heading  # noqa: E402
 
 STATUS = """/// How it ended.
@@ -111,6 +115,43 @@ pub fn words_are_long()
 """
 
 
+# The files of a server of a few lines, and the words that tools/statement_words.py has for it.
+SMALL = {
+    "low/src/status.rt": STATUS,
+    "low/specs/Words.antt": WORDS,
+    "high/specs/Answers.antt": ANSWERS,
+    "high/src/server.rt": SERVER,
+    "law/specs/Lengths.antt": LENGTHS,
+    "law/src/lib.rt": LAW,
+    "law/stdout": "is 1\n    yes\n",
+}
+SMALL_WORDS = """
+HEADINGS = [
+    Heading("Words", "Words are read.", "ours", "low"),
+    Heading("Answers", "Words are answered.", "ours", "high"),
+    Heading("Laws", "What follows.", "ours", "law"),
+]
+PROMISE = {"told": "It is told."}
+LAWS = {"LAWS": {"law": "words_.*"}}
+EXAMPLE = (("law", "is 1", "Is it?"),)
+CUTS = (Cut("Tells", "length_of", "ALGORITHM", "how long it is"),)
+"""
+
+
+def write_small_server(top: Path) -> None:
+    """Writes the crates of a server of a few lines below a folder."""
+    for path, text in SMALL.items():
+        file = top / "crates" / path
+        file.parent.mkdir(parents=True, exist_ok=True)
+        file.write_text(text, encoding="utf-8")
+
+
+@functools.lru_cache(maxsize=None)
+def statement_here() -> statement_pages.Statement:
+    """What the pages of this repository rest on, read once."""
+    return statement_pages.read(TOP)
+
+
 class Written(unittest.TestCase):
     """The pages that tools write."""
 
@@ -120,7 +161,12 @@ class Written(unittest.TestCase):
         self.assertEqual((said.returncode, said.stdout.decode()), (0, ""))
 
     def test_the_statement_is_up_to_date(self) -> None:
-        self.check("statement.py")
+        with mock.patch.object(statement, "read", lambda top: statement_here()):
+            texts, missing = statement.written(TOP)
+        self.assertEqual((missing, statement.out_of_date(TOP, texts)), ([], []), "write them by ./tools/statement.py")
+
+    def test_the_audit_is_the_one_that_is_printed(self) -> None:
+        self.check("audit.py")
 
     def test_the_tables_of_crates_are_up_to_date(self) -> None:
         self.check("pages.py")
@@ -194,7 +240,7 @@ class Form(unittest.TestCase):
         words = {it.name for it in (TOP / "crates").iterdir()} | {it.name for it in TOP.iterdir()}
         for file in files:
             words.update(re.findall(r"\w+", file.read_text(encoding="utf-8")))
-        for page in [it for it in PAGES if it.name not in ("STATEMENT.md", "CHANGELOG.md", "OPENSCAD.md")]:
+        for page in [it for it in PAGES if it.parent.name != "statement" and it.name not in ("CHANGELOG.md", "OPENSCAD.md")]:
             for name in re.findall(r"`(\w+_\w+)(?:`|\(| )", page.read_text(encoding="utf-8")):
                 self.assertTrue(name in words, f"{page.name} has {name}, which is no name of the sources")
 
@@ -285,28 +331,88 @@ class Definitions(unittest.TestCase):
             "    ghost Value = { List ℕ };\n\n    ghost view = { λ n. n.items.items };\n}\n",
         )
         declared = Sources(self.top).declared(Target("type", "low", "lists", "Numbers"))
-        self.assertEqual(shown(declared), ["/// Numbers in order.", "pub struct Numbers;  // a clause sees: List ℕ"])
+        self.assertEqual(laid_type(declared), ["// Numbers in order.", "struct Numbers;  // a clause sees: List ℕ"])
+
+    def test_names_have_their_places(self) -> None:
+        self.write(
+            "low/specs/Places.antt",
+            "use Rattle.std.specs.Prelude.{ℕ, ◌≡◌}\n\n-- a number\nabbrev pub one : ℕ\none = 1\n\n"
+            "-- a pair\npub record Pair (n : ℕ) : Type 0 where\n  pub first : n ≡ one\n  pub next : first ≡ one\n",
+        )
+        library = Library(self.top)
+        pair = library.definition(Target("spec", "low", "Places", "Pair"))
+        assert pair
+        places = [(str(token), token.line, token.column) for target, _, token in library.named_in(pair)]
+        self.assertEqual([it for it in places if it[0] == "one"], [("one", 1, 18), ("one", 2, 21)])
+        for word, line, column in places:
+            self.assertEqual(pair.lines[line][column : column + len(word)], word)
 
 
-class Statement(unittest.TestCase):
-    """What tools/statement.py writes of a server of a few lines, and what it refuses."""
+class Layout(unittest.TestCase):
+    """How tools/layout.py lays definitions out."""
 
-    HEADINGS = [Heading("Words", "Words are read.", "ours", "low"), Heading("Answers", "Words are answered.", "ours", "high")]
+    def definition(self, text: str) -> Definition:
+        folder = tempfile.TemporaryDirectory()
+        self.addCleanup(folder.cleanup)
+        file = Path(folder.name, "crates/low/specs/Some.antt")
+        file.parent.mkdir(parents=True)
+        file.write_text(text, encoding="utf-8")
+        return Library(Path(folder.name)).file("low", "Some").definitions[0]
+
+    def test_a_short_comment_stands_behind_and_equations_are_indented(self) -> None:
+        found = laid_definition(self.definition("-- whether it is one\nabbrev pub is_one : ℕ → Bool\nis_one n = nat_eq n 1\n"))
+        self.assertEqual(found, ["is_one : ℕ → Bool  -- whether it is one", "  is_one n = nat_eq n 1"])
+
+    def test_what_goes_on_keeps_its_comment_above(self) -> None:
+        text = "-- a sum\nabbrev pub sum : ℕ → ℕ\n    → ℕ\n-- its equation\nsum n m =\n    n + m\n"
+        self.assertEqual(laid_definition(self.definition(text)), [
+            "-- a sum", "sum : ℕ → ℕ", "    → ℕ", "  -- its equation", "  sum n m =", "      n + m",
+        ])  # fmt: skip
+
+    def test_plain_fields_share_a_line_and_statements_do_not(self) -> None:
+        text = "-- a pair\npub record Pair : Type 0 where\n  pub a : ℕ\n  pub b : List (List ℕ)\n  pub is : a ≡ 1\n  pub and : P a\n"
+        self.assertEqual(laid_definition(self.definition(text)), [
+            "record Pair : Type 0 where  -- a pair", "  a : ℕ; b : List (List ℕ)", "  is : a ≡ 1", "  and : P a",
+        ])  # fmt: skip
+
+    def test_no_word_of_a_definition_is_lost(self) -> None:
+        read = statement_here()
+        silent = {"pub", "abbrev", "unfoldable", ";"}
+        count = 0
+        for part in read.parts:
+            for it in [it for it in part.items if isinstance(it, Definition)]:
+                lines = [line for line in it.lines if not line.lstrip().startswith("unfolding ")]
+                wanted = [str(token) for token in tokens_of(lines) if token not in silent]
+                self.assertEqual([str(it) for it in tokens_of(laid_definition(it)) if it not in silent], wanted, it.target.name)
+                count += 1
+        self.assertGreater(count, 1000)
+
+    def test_no_comment_of_a_definition_is_lost(self) -> None:
+        read = statement_here()
+        for part in read.parts:
+            for members in in_groups(part.items):
+                text = " ".join(re.sub(r"(?:--|//) ", " ", "\n".join(laid_group(members))).split())
+                for it in members:
+                    for said in it.comment:
+                        self.assertIn(" ".join(said.split()), text, it.target.name)
+
+
+class SmallServer(unittest.TestCase):
+    """A server of a few lines, in the place of the repository."""
 
     def setUp(self) -> None:
         folder = tempfile.TemporaryDirectory()
         self.addCleanup(folder.cleanup)
         self.top = Path(folder.name)
-        self.write("low/src/status.rt", STATUS)
-        self.write("low/specs/Words.antt", WORDS)
-        self.write("high/specs/Answers.antt", ANSWERS)
-        self.write("high/src/server.rt", SERVER)
-        self.write("law/specs/Lengths.antt", LENGTHS)
-        self.write("law/src/lib.rt", LAW)
-        changes = {"HEADINGS": self.HEADINGS, "PROMISE": {"told": "It is told."}, "WAY": [("Tells", "what is told")]}
-        changes["MAKER_CALLS"] = {"law": "words_.*"}
-        for name, value in changes.items():
-            patch = mock.patch.object(statement, name, value)
+        write_small_server(self.top)
+        words: dict[str, object] = {"Heading": Heading, "Cut": Cut}
+        exec(SMALL_WORDS, words)
+        self.change(**{name: value for name, value in words.items() if name.isupper()})
+
+    def change(self, **values: object) -> None:
+        """Puts other words in place of the tool's own."""
+        for name, value in values.items():
+            patch = mock.patch.object(statement_pages, name, value)
             patch.start()
             self.addCleanup(patch.stop)
 
@@ -315,52 +421,86 @@ class Statement(unittest.TestCase):
         file.parent.mkdir(parents=True, exist_ok=True)
         file.write_text(text, encoding="utf-8")
 
-    def test_it_has_just_what_the_clauses_reach(self) -> None:
-        text, missing = statement.page(self.top)
-        self.assertEqual(missing, [])
+
+class Statement(SmallServer):
+    """What tools/statement.py writes of a server of a few lines, and what it refuses."""
+
+    def texts(self) -> dict[str, str]:
+        """The text of each page."""
+        return {Path(it).stem: text for it, text in statement.written(self.top)[0].items()}
+
+    def test_the_promise_has_just_what_the_clauses_reach_from_above(self) -> None:
+        text = self.texts()["PROMISE"]
         self.assertIn("- **told**: It is told.", text)
-        self.assertIn("-- is told\nabbrev pub Tells : ℕ → Status → Type 0", text)
-        self.assertIn("/// How it ended.\npub enum Status", text)
+        self.assertIn("\nTells : ℕ → Status → Type 0  -- is told\n  Tells word Done = ", text)
+        self.assertIn("\nenum Status {  // How it ended.\n    Done,  // Well.\n}", text)
         self.assertNotIn("unused", text)
-        self.assertLess(text.index("pub is_word"), text.index("pub Tells"))
-        self.assertIn("| [Words](#words) | 3 | 12 | ours |", text)
+        self.assertLess(text.index("\nTells :"), text.index("\nis_word :"))
+        self.assertIn("```text\nis 1\n    yes\n```", text)
 
-    def test_laws_for_makers_stand_with_what_they_name_beyond_the_promise(self) -> None:
-        text, _ = statement.page(self.top)
-        law, further = text.index("pub fn words_are_long()"), text.index("pub IsLong")
-        self.assertLess(text.index("## Laws for makers"), law)
-        self.assertLess(law, further)
-        self.assertEqual(text.count("pub is_word"), 1)
+    def test_each_line_of_a_page_is_counted(self) -> None:
+        for name in ("PROMISE", "ALGORITHM", "LAWS"):
+            text = self.texts()[name]
+            rows = [it.split(" | ") for it in text.splitlines() if it.startswith("| ") and it.endswith((" | ours |", " |  |"))]
+            lines = [int(it[3]) for it in rows]
+            self.assertEqual((sum(lines[:-1]), lines[-1]), (text.count("\n"), text.count("\n")), name)
+            self.assertIn(f"| {lines[-1]} |", self.texts()["STATEMENT"])
 
-    def test_a_crate_without_its_laws_for_makers_is_refused(self) -> None:
-        with mock.patch.object(statement, "MAKER_CALLS", {"low": "words_.*"}), self.assertRaisesRegex(Failure, "low, which has"):
-            statement.page(self.top)
+    def test_what_is_cut_stands_on_its_own_page(self) -> None:
+        texts = self.texts()
+        self.assertNotIn("length_of :", texts["PROMISE"])
+        self.assertIn("| `length_of` | `Tells` | [ALGORITHM](ALGORITHM.md) | how long it is |", texts["PROMISE"])
+        self.assertIn("length_of : ℕ → ℕ", texts["ALGORITHM"])
+        self.assertNotIn("is_word :", texts["ALGORITHM"])
+
+    def test_laws_stand_with_what_they_name_beyond_the_promise(self) -> None:
+        text = self.texts()["LAWS"]
+        self.assertLess(text.index("pub fn words_are_long()"), text.index("\nIsLong :"))
+        self.assertNotIn("is_word :", text)
+
+    def test_a_page_that_is_out_of_date_or_no_longer_written_is_told(self) -> None:
+        texts, _ = statement.written(self.top)
+        for path, text in texts.items():
+            (self.top / path).parent.mkdir(parents=True, exist_ok=True)
+            (self.top / path).write_text(text, encoding="utf-8")
+        self.assertEqual(statement.out_of_date(self.top, texts), [])
+        (self.top / "docs/statement/LAWS.md").write_text("other\n", encoding="utf-8")
+        (self.top / "docs/statement/OLD.md").write_text("old\n", encoding="utf-8")
+        self.assertEqual(statement.out_of_date(self.top, texts), ["docs/statement/LAWS.md", "docs/statement/OLD.md"])
+
+    def refuses(self, said: str) -> None:
+        """No page is written, for a reason that is told."""
+        with self.assertRaisesRegex(Failure, said):
+            statement.written(self.top)
+
+    def test_laws_that_are_not_there_are_refused(self) -> None:
+        self.change(LAWS={"LAWS": {"low": "words_.*"}})
+        self.refuses("low, which has none")
+
+    def test_a_cut_that_nothing_names_is_refused(self) -> None:
+        self.change(CUTS=(Cut("Tells", "unused", "ALGORITHM", ""),))
+        self.refuses("cuts unused")
+
+    def test_an_example_that_no_case_shows_is_refused(self) -> None:
+        self.change(EXAMPLE=(("law", "is 2", "Is it?"),))
+        self.refuses("no case `is 2`")
 
     def test_a_definition_without_a_comment_is_told(self) -> None:
         self.write("low/specs/Words.antt", WORDS.replace("-- whether it is a word\n", ""))
-        _, missing = statement.page(self.top)
+        _, missing = statement.written(self.top)
         self.assertEqual(missing, ["crates/low/specs/Words.antt:4: is_word has no comment"])
 
     def test_a_crate_without_a_heading_is_refused(self) -> None:
-        with mock.patch.object(statement, "HEADINGS", self.HEADINGS[1:]), self.assertRaisesRegex(Failure, "no heading .* low"):
-            statement.page(self.top)
-
-    def test_what_stands_above_what_it_names_is_refused(self) -> None:
-        with mock.patch.object(statement, "HEADINGS", self.HEADINGS[::-1]), self.assertRaisesRegex(Failure, "stands above"):
-            statement.page(self.top)
+        self.change(HEADINGS=statement_pages.HEADINGS[1:])
+        self.refuses("no heading .* low")
 
     def test_a_clause_without_plain_words_is_refused(self) -> None:
-        with mock.patch.object(statement, "PROMISE", {}), self.assertRaisesRegex(Failure, "not for .*told"):
-            statement.page(self.top)
+        self.change(PROMISE={})
+        self.refuses("not for .*told")
 
     def test_a_name_of_the_library_without_words_is_refused(self) -> None:
-        with mock.patch.object(statement, "LIBRARY", {}), self.assertRaisesRegex(Failure, "no words for"):
-            statement.page(self.top)
-
-    def test_a_beginning_that_is_not_reached_is_refused(self) -> None:
-        with mock.patch.object(statement, "WAY", [("unused", "nothing")]):
-            with self.assertRaisesRegex(Failure, "begins with unused"):
-                statement.page(self.top)
+        self.change(LIBRARY={})
+        self.refuses("no words for")
 
 
 class Crates(unittest.TestCase):

@@ -18,13 +18,14 @@ from pathlib import Path
 
 from scadserve.tools.catalogue import STARTER, STARTERS, TOOLS
 from scadserve.version import VERSION
+from tests import test_pages
 from tests.calls import TOP
 from tests.needs import needs
 
 NAME = f"scadserve-{VERSION}-x86_64-linux"
 TARBALL, PACKAGE = f"{NAME}.tar.gz", f"scadserve_{VERSION}_amd64.deb"
 # What the release is made from, beside the starters of the tools.
-TAKEN = "README.md CHANGELOG.md CONTRIBUTING.md clients docs examples gallery install.sh memory.sh pyproject.toml scadserve tools .gitignore".split()
+TAKEN = "README.md CHANGELOG.md CONTRIBUTING.md clients docs examples gallery install.sh library memory.sh pyproject.toml scadserve tools .gitignore".split()
 # (the Python that runs this, and no rt)
 PATH = f"{os.path.dirname(sys.executable)}:/usr/bin:/bin"
 TRY_IT = "scad2off examples/bracket.scad -o $0/b.4off && off2stl $0/b.4off -o $0/b.stl && off2svg $0/b.4off -o $0/b.svg"
@@ -59,6 +60,9 @@ def repository(at: Path) -> None:
             shutil.copytree(source, copy, ignore=shutil.ignore_patterns("__pycache__", "tests"))
         else:
             shutil.copy(source, copy)
+    test_pages.write_small_server(at)
+    with open(at / "tools/statement_words.py", "a", encoding="utf-8") as words:
+        words.write(test_pages.SMALL_WORDS)
     (at / "crates/scadserve/src").mkdir(parents=True)
     (at / "crates/scadserve/src/main.rt").write_text("fn main() {}\n")
     (at / "crates.txt").write_text("scadserve:\n")
@@ -76,7 +80,8 @@ def build(at: Path, gate: str = "7 passed, 0 failed", tests: str = "3 passed, 0 
     (at / "crates/scadserve/out/scadserve").write_bytes(program)
     (at / "crates/scadserve/out/scadserve").chmod(0o755)
     listed = ""
-    for name in ("HANDLES", "crates.txt", "crates/scadserve/src/main.rt"):
+    sources = [at / "HANDLES", at / "crates.txt", *at.glob("crates/*/src/**/*"), *at.glob("crates/*/specs/**/*")]
+    for name in sorted(str(it.relative_to(at)) for it in sources if it.is_file()):
         listed += f"{sum_of((at / name).read_bytes())}  {name}\n"
     told = {"commit": git(at, "rev-parse", "HEAD"), "kit": "some kit", "gate": gate, "tests": tests}
     told.update(program=sum_of(program), sources=sum_of(listed.encode()))
@@ -123,6 +128,13 @@ class Release(unittest.TestCase):
         self.assertEqual((done.returncode, done.stdout), (1, ""))
         self.assertIn(said, done.stderr)
         self.assertEqual([it for it in os.listdir(at / "out") if it.startswith("scadserve")], [])
+
+    def test_it_has_the_statement_as_html(self) -> None:
+        text = (self.here / "docs/statement/PROMISE.html").read_text(encoding="utf-8")
+        self.assertIn('<section id="high.Tells">', text)
+        self.assertIn('<a href="ALGORITHM.html#low.length_of">length_of</a>', text)
+        for name in ("index.html", "LAWS.html", "statement.js", "statement.css", "names.js"):
+            self.assertTrue((self.here / "docs/statement" / name).exists(), name)
 
     def test_what_is_not_that_of_a_green_gate_makes_no_release(self) -> None:
         at = self.folder / "refused"
@@ -173,8 +185,14 @@ class Release(unittest.TestCase):
         for name in (STARTER, *TOOLS):
             done = run(name, "--version", at=at, PATH=f"{path}:{PATH}")
             self.assertEqual((done.returncode, done.stdout, done.stderr), (0, f"{name} {VERSION}\n", ""))
-        done = run("scad2off", "--explain", "NotWhole", at=at, PATH=f"{path}:{PATH}")
-        self.assertTrue(done.stdout.startswith("## NotWhole\n"), done.stderr)
+        for word, begins in (("NotWhole", "## NotWhole\n"), ("if-child", "if-child: ")):
+            done = run("scad2off", "--explain", word, at=at, PATH=f"{path}:{PATH}")
+            self.assertTrue(done.stdout.startswith(begins), done.stderr)
+        # (the library is found from any folder)
+        with tempfile.TemporaryDirectory() as room:
+            Path(room, "part.scad").write_text("use <round.scad>\nprism(5, 2);\n")
+            done = run("scad2off", "--script", "part.scad", at=Path(room), PATH=f"{path}:{PATH}")
+            self.assertEqual((done.returncode, "module prism(" in done.stdout), (0, True), done.stderr)
 
     def test_the_unpacked_tarball_works(self) -> None:
         self.assert_works(f"{self.here}:{self.here}/bin", self.here)
@@ -193,6 +211,8 @@ class Release(unittest.TestCase):
             for place in (f"man/man1/{name}.1", f"bash-completion/completions/{name}", f"zsh/site-functions/_{name}"):
                 self.assertTrue((share / place).is_file(), place)
         self.assertEqual(sorted(os.listdir(prefix / "bin")), sorted((STARTER, *TOOLS)))
+        service = (share / "systemd/user/scadlive.service").read_text()
+        self.assertIn(f'\nExecStart="{prefix}/bin/scadlive" %h/scad\n', service)
 
     def test_a_changed_program_is_not_installed(self) -> None:
         moved = self.folder / "changed"

@@ -111,6 +111,9 @@ class Units(Case):
             ("\n\t//unit:1/100mm\nw = 6;", "0.01", "0.06"),
             ("// unit: 1/10\n/* again */ // unit: 0.1\nw = 6;\n", "0.1", "0.6"),
             ('// the unit: 1/10\n/* // unit: 2\n// unit: 3 */ echo("// unit: 4"); // units: 5\nw = 6;\n', "1", "6"),
+            ("/* unit: 1/10 */\nw = 6;\n", "0.1", "0.6"),
+            ("// Unit: .5 mm\nw = 6;\n", "0.5", "3"),
+            ("/** a box\r\n * UNIT: 1e-1 mm\r\n **/\r\nw = 6; /*unit:.1*/ /* the unit: 7 */", "0.1", "0.6"),
         ):
             with self.subTest(source):
                 self.assertEqual(self.unit_of(source), (unit, side))
@@ -120,12 +123,21 @@ class Units(Case):
         self.assertEqual(self.unit_of("// unit: nonsense\nw = 6;\n", "--unit", "1/4"), ("0.25", "1.5"))
 
     def test_what_is_no_unit_is_told_at_its_place(self):
-        for said in ("tenths", "0", "1/0", "-1", "", "mm", "1e1", "1/10 cm", "\xff"):
-            with self.subTest(said):
-                status, out, lines = self.make("-o", "a.stl", self.write("part.scad", f"w = 6;\n  // unit: {said}\n"))
-                self.assertEqual((status, out, self.names(), self.runs()), (1, b"", ["part.scad"], []))
-                self.assertTrue(lines[0].startswith("part.scad:2:3: error: BadUnit: "), lines)
-                self.assertTrue(lines[-1].startswith("    cure: write // unit: 1/10 once"), lines)
+        for said in ("tenths", "0", "1/0", "-1", "", "mm", "1e9", "1/10 cm", "\xff"):
+            for comment, column in ((f"  // unit: {said}\n", 3), (f"/* Unit: {said} */\n", 4)):
+                with self.subTest(comment):
+                    status, out, lines = self.make("-o", "a.stl", self.write("part.scad", f"w = 6;\n{comment}"))
+                    self.assertEqual((status, out, self.names(), self.runs()), (1, b"", ["part.scad"], []))
+                    self.assertTrue(lines[0].startswith(f"part.scad:2:{column}: error: BadUnit: "), lines)
+                    self.assertTrue(lines[-1].startswith("    cure: write // unit: 1/10 once"), lines)
+
+    def test_scad2off_tells_the_same(self):
+        for source in ("// unit: tenths\nw = 6;\n", "// unit: 1/10\nw = 6;\n/* unit: 1 */\n"):
+            name = self.write("part.scad", source)
+            _, _, lines = self.make("-o", "a.stl", name)
+            status, out, said = self.call(name)
+            self.assertEqual((status, out, said.decode().splitlines()), (1, b"", lines))
+        self.assertEqual(self.call(self.write("part.scad", "// unit: 1/10\nw = 6;\n"))[::2], (0, b""))
 
     def test_two_units_are_told(self):
         self.write("lib.scad", "\n// unit: 1/10\n")

@@ -1,9 +1,15 @@
 """Scripts are written within their limits; what the server says of its end is told by exceptions."""
 
 import os
+import pathlib
+import shlex
+import signal
+import subprocess
 import sys
 import tempfile
+import time
 import unittest
+from unittest import mock
 
 from scadserve.server import scripts
 from scadserve.server.scripts import Fault, Limit, Malformed, Ok, Script, Solid, Text, passed_limit, run
@@ -32,7 +38,8 @@ class Limits(unittest.TestCase):
         script = Script()
         for number in range(16):
             script.client(f"c{number}").show()
-        script.client("c0").show()
+        with self.assertRaisesRegex(ValueError, "^the script has a client c0 already$"):
+            script.client("c0")
         self.assert_refused("TooManyClients", script.client, "c16")
 
     def test_a_line_has_1024_bytes(self):
@@ -267,6 +274,32 @@ class Runs(unittest.TestCase):
             run([script], ["/there/is/no/server"])
         self.assertEqual(str(caught.exception), "/there/is/no/server does not start: No such file or directory")
 
+    def test_the_server_is_a_program_or_words_or_that_of_the_environment(self):
+        script = Script()
+        script.client("a").export()
+        with tempfile.TemporaryDirectory() as folder:
+            program = os.path.join(folder, "server")
+            with open(program, "w", encoding="utf-8") as it:
+                it.write(f'#!/bin/sh\nexec {shlex.join(STAND_IN)} "$@"\n')
+            os.chmod(program, 0o755)
+            with mock.patch.dict(os.environ, {"SCADSERVE": program}):
+                found = [run([script]), run([script], program), run([script], [program]), run([script], STAND_IN)]
+        self.assertEqual([it[0]["a"][0].faces for it in found], [0] * 4)
+
+    def test_arguments_that_are_none(self):
+        script = Script()
+        for how, kind, said in (
+            ({"server": []}, ValueError, "a server has the name of a program, and [] has none"),
+            ({"server": b"x"}, TypeError, "a server is a program or a list of words, and not b'x'"),
+            ({"workers": True}, TypeError, "workers is a whole number, and not True"),
+            ({"memo": -1}, ValueError, "memo is 0 to 2,000,000, and not -1"),
+        ):
+            with self.assertRaises(kind) as raised:
+                run([script], **how)
+            self.assertEqual(str(raised.exception), said)
+        with self.assertRaisesRegex(TypeError, r"^scripts are a list: run\(\[script\]\)$"):
+            run(script)
+
     def test_an_output_that_is_no_answer_is_malformed(self):
         for line in (b"//= cut off", b"//= silence", b"//= solid 3", b"//= ok 1"):
             with self.subTest(line=line), self.assertRaises(Malformed):
@@ -281,6 +314,77 @@ class Runs(unittest.TestCase):
         self.assertEqual(bytes(script).split(b"\n")[1], b"a put 2 \r\r")
         output = b"== a\n1 ok 1\n2 ok 2\n3 ok 3\n4 ok 4\n5 text 4\n" + line + b"\n\r\nx\r\r\n\n"
         self.assertEqual(scripts.read(bytes(script), output)["a"][4], Text((line, b"\r", b"x\r\r", b"")))
+
+
+# A program that runs a server in its main thread, or in one that doesn't keep it from ending; and the server, which leaves a file
+# once it runs, and another one at its end.
+PROGRAM = """import sys, threading, time
+sys.path.insert(0, {package!r})
+from scadserve.server.scripts import Script, run
+script = Script()
+script.client("a").export()
+if sys.argv[1] == "thread":
+    threading.Thread(target=run, args=([script], {server!r}), daemon=True).start()
+    time.sleep(float(sys.argv[2]))
+else:
+    run([script], {server!r})
+"""
+SERVER = """#!/bin/sh
+trap 'touch {folder}/ended; exit 1' TERM
+touch {folder}/began
+while :; do sleep 0.05; done
+"""
+
+
+class Ends(unittest.TestCase):
+    """What was begun is ended when Python ends."""
+
+    def setUp(self):
+        folder = tempfile.TemporaryDirectory()
+        self.addCleanup(folder.cleanup)
+        self.folder = folder.name
+        self.server = os.path.join(self.folder, "server")
+        with open(self.server, "w", encoding="utf-8") as it:
+            it.write(SERVER.format(folder=self.folder))
+        os.chmod(self.server, 0o755)
+
+    def wait_for(self, name):
+        for _ in range(5_000):
+            if os.path.exists(os.path.join(self.folder, name)):
+                return
+            time.sleep(0.01)
+        self.fail(f"no file {name}")
+
+    def begin(self, *words):
+        package = os.path.dirname(os.path.dirname(os.path.dirname(os.path.realpath(scripts.__file__))))
+        code = PROGRAM.format(package=package, server=self.server)
+        found = subprocess.Popen([sys.executable, "-S", "-c", code, *words], stderr=subprocess.DEVNULL, restore_signals=True)
+        self.addCleanup(found.wait)
+        self.addCleanup(found.kill)
+        self.wait_for("began")
+        return found
+
+    def test_a_signal(self):
+        for number in (signal.SIGTERM, signal.SIGHUP, signal.SIGINT):
+            with self.subTest(number):
+                for name in ("began", "ended"):
+                    pathlib.Path(self.folder, name).unlink(missing_ok=True)
+                process = self.begin("main")
+                process.send_signal(number)
+                # (it ends by the signal, as it would without a server)
+                self.assertEqual(process.wait(50), -number)
+                self.wait_for("ended")
+
+    def test_the_end_of_the_main_thread(self):
+        self.assertEqual(self.begin("thread", "0.5").wait(50), 0)
+        self.wait_for("ended")
+
+    def test_signals_mean_afterwards_what_they_meant(self):
+        script = Script()
+        script.client("a").export()
+        before = [signal.getsignal(it) for it in (signal.SIGTERM, signal.SIGHUP)]
+        run([script], STAND_IN)
+        self.assertEqual([signal.getsignal(it) for it in (signal.SIGTERM, signal.SIGHUP)], before)
 
 
 if __name__ == "__main__":

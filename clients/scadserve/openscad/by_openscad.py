@@ -1,6 +1,6 @@
 """Sources by OpenSCAD's own front end: OpenSCAD evaluates a file, and what is sent to the server is the source that comes of it.
 
-    call = Call(.., read=Reader(is_exact=False), coarser=Reader.coarser)
+    call = Call(.., read=Reader(Wanted()), coarser=Reader.coarser)
 
 Where the solid of such a source passes a limit of the server, it is converted once more with fewer planes.
 """
@@ -8,70 +8,110 @@ Where the solid of such a source passes a limit of the server, it is converted o
 from __future__ import annotations
 
 import os
-import re
+from dataclasses import replace
+from fractions import Fraction
+from typing import Callable, NamedTuple, Sequence
 
 from ..ending import BadCall
 from ..files import say
+from ..source.faults import FAULTS
 from ..source.sources import Line, Refused, Source, Spot
+from ..source.telling import refused_told
+from ..source.units import unit_of_file
+from . import included
 from .conversion import Conversion, Wanted, converted
-from .front import Front, NotEvaluated, NotThere, evaluated
+from .front import Front, NotEvaluated, NotThere, Told, evaluated, warned
 from .grid import PLANES
 from .reader import CsgFault, Node, read
 
 # By so much fewer planes are taken, and down to so many.
 _SHARE, _LEAST = 0.7, 64
-_COMMENT = re.compile(r"(?:[ \t]*//[^\n]*\n)*")
+# What kind of fault an error of OpenSCAD's is, by how it begins.
+_WORDS = {"Parser error": "Expected", "Assertion": "AssertFailed", "Recursion": "TooDeep", "For loop": "TooManyTurns"}
+# The cures of faults that OpenSCAD tells, and of those that a source in whole numbers has not, or has others for.
+_CURES = {
+    **{word: FAULTS[word][1] for word in ("Expected", "AssertFailed", "TooDeep", "NotClosed", "BadPoint")},
+    "TooManyTurns": "let the loop end sooner",
+    "Warned": "without --strict the part is made, and may lack what this is about",
+    "Empty": "look for a * or %, an if, or a difference that leaves nothing",
+    "WrongDimension": "linear_extrude(1) makes a solid of flat shapes, and --flat 1 of a design that is flat as a whole",
+    "TooCoarse": "ask for it, or make several parts of it: each may be finer",
+    "OutOfRange": "move it to the middle, or make it smaller",
+    "TooManyPlanes": "take fewer fragments ($fn), or make several parts of it",
+    "TooManyParts": "make several parts of it",
+    "NotConvex": "join convex shapes by union; corners of a polyhedron's faces go clockwise as seen from outside",
+}
+_ABOVE = "what OpenSCAD says stands above"
+_NODES = "openscad --render -o part.csg PART.scad writes the nodes, and docs/OPENSCAD.md says which are taken"
+
+
+class _Evaluated(NamedTuple):
+    """What OpenSCAD made of a file: its nodes, what renders them, and how often it warned."""
+
+    nodes: "list[Node]"
+    front: Front
+    warnings: int
 
 
 class Reader:
-    """Reads sources by OpenSCAD, and says what was changed of each."""
+    """Reads sources by OpenSCAD, and tells what it says and what was changed of each, on standard error or otherwise."""
 
-    def __init__(self, is_exact: bool) -> None:
-        self._is_exact = is_exact
-        self._evaluated: "dict[str, tuple[list[Node], Front, str]]" = {}
+    def __init__(self, wanted: Wanted, unit: "Fraction | None" = None, tell: "Callable[[str], None]" = say) -> None:
+        self._wanted, self._unit, self._tell = wanted, unit, tell
+        self._units: "dict[str, Fraction | None]" = {}
+        self._evaluated: "dict[str, _Evaluated]" = {}
+        self._warnings: "dict[str, int]" = {}
         self._planes: "dict[str, int]" = {}
 
-    def __call__(self, file: str, definitions: "list[str]", folders: "list[str]") -> Source:
+    def __call__(self, file: str, definitions: "Sequence[str]", folders: "Sequence[str]") -> Source:
         """The source that comes of a file. Raises OSError, BadCall and Refused."""
         if file == "-":
             raise BadCall("OpenSCAD reads files alone, and not standard input")
-        with open(file, "rb") as it:
-            text = it.read().decode("utf-8", "replace")
+        included.check(file, folders)
+        self._units[file] = self._unit or unit_of_file(file, folders)
         try:
             csg, said = evaluated(file, definitions, folders)
         except NotThere as error:
             raise BadCall(f"--by-openscad runs OpenSCAD, and {error}") from error
         except NotEvaluated as error:
-            say(str(error))
-            raise _refused(file, 1, 1, "Expected", "OpenSCAD has an error in this source, which stands above") from error
-        say(said)
-        comment = _COMMENT.match(text)
-        front = Front(os.path.dirname(os.path.abspath(file)))
+            self._tell(str(error))
+            raise _not_evaluated(file, error.error) from error
+        warnings = warned(said)
+        if warnings and self._wanted.is_strict:
+            *others, last = (_told(file, it, "Warned", it.said) for it in warnings)
+            self._tell("".join(map(refused_told, others)))
+            raise last
+        self._tell(said)
+        front = Front(os.path.dirname(os.path.abspath(file)), self._wanted.is_strict)
         try:
-            self._evaluated[file] = read(csg), front, comment[0] if comment else ""
+            self._evaluated[file] = _Evaluated(read(csg), front, len(warnings))
         except CsgFault as fault:
-            raise _refused(file, fault.line, fault.column, fault.word, fault.said) from fault
+            raise _refused(file, fault) from fault
         return self._converted(file, PLANES)
 
     def coarser(self, source: Source) -> Source | None:
         """The source of the same file with fewer planes; None where there is none. Raises Refused."""
         planes = int(self._planes[source.name] * _SHARE)
-        if self._is_exact or planes < _LEAST:
+        if self._wanted.is_exact or planes < _LEAST:
             return None
-        say(f"{source.name}: its solid passes a limit of the server, so it is tried with {planes} planes at most\n")
+        self._tell(f"{source.name}: its solid passes a limit of the server, so it is tried with {planes} planes at most\n")
         return self._converted(source.name, planes)
 
+    def last(self, source: Source) -> str:
+        """What is told last of a part: how often OpenSCAD warned of it."""
+        return warnings_told(source.name, self._warnings[source.name])
+
     def _converted(self, file: str, planes: int) -> Source:
-        nodes, front, comment = self._evaluated[file]
+        nodes, front, _ = self._evaluated[file]
         self._planes[file] = planes
         try:
-            found = converted(nodes, Wanted(is_exact=self._is_exact, planes=planes), front)
+            found = converted(nodes, replace(self._wanted, planes=planes), front)
         except CsgFault as fault:
-            raise _refused(file, fault.line, fault.column, fault.word, fault.said) from fault
-        say(conversion_told(file, found))
-        ascii_comment = comment.encode("ascii", "replace")
-        lines = [*ascii_comment.split(b"\n")[:-1], *found.text.split(b"\n")[:-1]]
-        return Source(file, [Line(it, it, file, number) for number, it in enumerate(lines, 1)], (), len(lines))
+            raise _refused(file, fault) from fault
+        self._tell(conversion_told(file, found))
+        self._warnings[file] = self._evaluated[file].warnings + found.warnings
+        lines = [Line(it, it, file, number) for number, it in enumerate(found.text.split(b"\n")[:-1], 1)]
+        return Source(file, lines, (), len(lines), self._units[file], found.unit)
 
 
 def conversion_told(name: str, found: Conversion) -> str:
@@ -79,7 +119,41 @@ def conversion_told(name: str, found: Conversion) -> str:
     return "".join(f"{name}: {it}\n" for it in found.told)
 
 
-def _refused(file: str, line: int, column: int, word: str, said: str) -> Refused:
-    """A fault of the evaluated form, whose place there it names."""
-    cure = "docs/OPENSCAD.md says what --by-openscad takes; openscad -o part.csg PART.scad writes that form"
-    return Refused(Spot(f"{file}.csg", line, column, None), word, said, cure)
+def warnings_told(name: str, count: int) -> str:
+    """What is told last of a part of which OpenSCAD warned so often, where it did."""
+    often = f"{count} warning{'s' * (count != 1)} by OpenSCAD: the part may lack something; --strict makes each of them a fault"
+    return f"{name}: {often}\n" if count else ""
+
+
+def _not_evaluated(file: str, error: Told) -> Refused:
+    """The fault of an error by which OpenSCAD evaluates nothing."""
+    word = next((word for begins, word in _WORDS.items() if error.said.startswith(begins)), None)
+    if word is not None:
+        return _told(file, error, word, error.said)
+    return _told(file, error, "NotInProfile", f"OpenSCAD evaluates nothing: {error.said}")
+
+
+def _told(file: str, told: Told, word: str, said: str) -> Refused:
+    """A fault by OpenSCAD, at the file and the line that it names."""
+    folder = os.path.dirname(file)
+    own = not told.file or os.path.join(folder, told.file) == os.path.join(folder, os.path.basename(file))
+    place = file if own else os.path.join(folder, told.file)
+    text = _line(place, told.line)
+    spot = Spot(place if text is not None or own else told.file, told.line, 0, text)
+    return Refused(spot, word, said, _CURES.get(word, _ABOVE))
+
+
+def _line(file: str, number: int) -> "bytes | None":
+    """A line of a file; None where it has none."""
+    try:
+        with open(file, "rb") as it:
+            lines = it.read().split(b"\n")
+    except OSError:
+        return None
+    return lines[number - 1] if 0 < number <= len(lines) else None
+
+
+def _refused(file: str, fault: CsgFault) -> Refused:
+    """A fault of the evaluated form, which says no lines of the source: it is told by the number of its node."""
+    place = f"node {fault.ordinal}, " if fault.ordinal else ""
+    return Refused(Spot(file, 0, 0, None), fault.word, place + fault.said, _CURES.get(fault.word, _NODES))

@@ -11,18 +11,19 @@ from __future__ import annotations
 
 import contextlib
 import math
-from collections import Counter
+import sys
 from dataclasses import dataclass
 from fractions import Fraction
 from typing import Sequence
 
+from .dimensions import Sorting
 from .extrude import turns
 from .frames import frames
 from .front import Front
 from .grid import PLANES, ROOM, Rounded, Rounder, TooMany, placed, written
-from .reader import CsgFault, Node
+from .reader import DEEPEST, CsgFault, Node
 from .space import Space
-from .tree import IDENTITY, Detail, Leaf, Solid, dimension, leaves
+from .tree import IDENTITY, Detail, Leaf, Solid, leaves
 
 #: The grid steps that are tried, the finest first, in OpenSCAD's lengths.
 UNITS = [Fraction(1, it) for it in (1000, 500, 400, 200, 100, 80, 50, 40, 20, 10, 8, 5, 4, 2)]
@@ -32,51 +33,76 @@ _STILL = 0.02
 # What is left out is tried from little to much, as the size of the design halved so often, and then between two of these.
 _LEAST_BELOW, _STEPS_BELOW = 18, (14, 12, 10, 8, 6, 5, 4, 3)
 _HALVINGS, _FINE_BELOW = 3, 10
+# A design may be off by so much of its size, where nothing else is asked for.
+_TOLERANCE = 1 / 100
+#: What is told of a design that is empty.
+NO_SOLID = "this design makes no solid at all"
+_MIXED = "shapes in the plane and in space are joined, of which the first one's count"
+# So many nodes are named in a line at most.
+_NAMED = 8
+# As many calls of Python's stand in one another for each node at most.
+_FRAMES = 20
 
 
 @dataclass(frozen=True)
 class Wanted:
-    """What is asked for: a grid step, all corners of curves, at most so many planes, and how high a plan is made."""
+    """What is asked for: a grid step, all corners of curves, at most so many planes, how high a plan is made, how far a point may
+    be off, whether corners may be left out past that, and whether what OpenSCAD warns of is a fault."""
 
     unit: Fraction | None = None
     is_exact: bool = False
     planes: int = PLANES
     height: Fraction | None = None
+    tolerance: Fraction | None = None
+    may_be_fewer: bool = False
+    is_strict: bool = False
 
 
 @dataclass(frozen=True)
 class Conversion:
-    """A source of ours, the length of a unit of it in OpenSCAD's, how far a point is off at most, and what is told of it."""
+    """A source of ours, the length of a unit of it in OpenSCAD's, how far a point is off at most, what is told of it, and of how
+    much OpenSCAD warned."""
 
     text: bytes
     unit: Fraction
     off: float
     told: list[str]
+    warnings: int = 0
 
 
 def converted(nodes: Sequence[Node], wanted: Wanted, front: Front) -> Conversion:
     """The source of a design. Raises CsgFault where there is none that has its solid."""
-    return _Converter(_solid_nodes(nodes, wanted), wanted, front).conversion()
+    sys.setrecursionlimit(max(sys.getrecursionlimit(), _FRAMES * DEEPEST))
+    try:
+        solid_nodes, left_out = _solid_nodes(nodes, wanted)
+        return _Converter(solid_nodes, left_out, wanted, front).conversion()
+    except ArithmeticError:
+        raise CsgFault(1, 1, "OutOfRange", "a corner or a factor of it is too large to be worked with") from None
 
 
-def _solid_nodes(nodes: Sequence[Node], wanted: Wanted) -> list[Node]:
-    """The nodes that count, as shapes in space. Raises CsgFault where there are none, or shapes in the plane alone."""
+def _solid_nodes(nodes: Sequence[Node], wanted: Wanted) -> tuple[list[Node], list[Node]]:
+    """The nodes that count, as shapes in space, and those that OpenSCAD leaves out. Raises CsgFault where there are none, or
+    shapes in the plane alone."""
     top = [it for it in nodes if it.is_shown()]
     first = top[0] if top else Node("group", {}, "", 1, 1)
-    group = Node("group", {}, "", first.line, first.column, top)
-    of_all = dimension(group)
-    if of_all is None:
-        raise CsgFault(first.line, first.column, "Empty", "this design makes no solid at all")
-    if of_all == 3:
-        return top
+    sorting = Sorting()
+    found = sorting.sorted(first.with_children("group", top))
+    left_out = sorting.left_out
+    if wanted.is_strict and left_out:
+        raise left_out[0].fault("WrongDimension", f"OpenSCAD leaves it out: {_MIXED}")
+    if found.dimension is None:
+        raise CsgFault(first.line, first.column, "Empty", NO_SOLID)
+    if found.dimension == 3:
+        return found.node.children, left_out
     if wanted.height is None:
-        raise first.fault("WrongDimension", "the design is flat, which OpenSCAD makes no solid of either: --flat 1 makes it 1 high")
-    return [Node("linear_extrude", {"height": float(wanted.height)}, "", first.line, first.column, top)]
+        said = "the design is flat, which OpenSCAD makes no solid of either: --flat 1 makes it 1 high"
+        raise first.fault("WrongDimension", said + "".join(f". {it}" for it in _left_out_told(left_out)))
+    return [Node("linear_extrude", {"height": float(wanted.height)}, "", first.line, first.column, found.node.children)], left_out
 
 
 class _Converter:
-    def __init__(self, nodes: list[Node], wanted: Wanted, front: Front) -> None:
-        self._nodes, self._wanted, self._front = nodes, wanted, front
+    def __init__(self, nodes: list[Node], left_out: list[Node], wanted: Wanted, front: Front) -> None:
+        self._nodes, self._left_out, self._wanted, self._front = nodes, left_out, wanted, front
         self._rounder = Rounder(wanted.planes)
 
     def conversion(self) -> Conversion:
@@ -91,11 +117,24 @@ class _Converter:
         if self._wanted.is_exact and detail.hulls:
             raise detail.hulls[0].fault("NotConvex", "a slice of it has hollow sides, and isn't cut into convex parts")
         if rounded.tree is None:
-            raise self._fault("Empty", "this design makes no solid at all" + "".join(_vanished(rounded)))
-        told = [_unit_told(unit, rounded), *_fewer_told(detail), *_vanished(rounded), *self._front.said]
+            raise self._fault("Empty", NO_SOLID + "".join(f". {it}" for it in _vanished(rounded)))
+        self._check_tolerance(solid, rounded.moved + detail.off)
+        left = [*_left_out_told(self._left_out), *_inward_told(detail)]
+        told = [_unit_told(unit, rounded), *_fewer_told(detail), *_vanished(rounded), *left, *self._front.said]
         comments = "".join(f"// {it}\n" for it in told[1:] if it not in self._front.said)
         text = f"// unit: {unit}\n" + comments + "".join(f"{it}\n" for it in written(rounded.tree))
-        return Conversion(text.encode("ascii", "replace"), unit, rounded.moved + detail.off, told)
+        warnings = len(self._left_out) + self._front.warnings()
+        return Conversion(text.encode("ascii", "replace"), unit, rounded.moved + detail.off, told, warnings)
+
+    def _check_tolerance(self, solid: Solid, off: float) -> None:
+        """Raises CsgFault where some point is farther off than it may be."""
+        wanted = self._wanted
+        most = math.inf if wanted.may_be_fewer else _TOLERANCE * _size(solid)
+        most = most if wanted.tolerance is None else float(wanted.tolerance)
+        if off > most:
+            said = f"a point is off by {off:.2g}, and {most:.2g} is allowed"
+            # (more by what two digits may leave out)
+            raise self._fault("TooCoarse", f"{said}: --tolerance {off * 1.06:.2g} allows that, or --fewer")
 
     def _fault(self, word: str, said: str) -> CsgFault:
         return CsgFault(self._nodes[0].line, self._nodes[0].column, word, said)
@@ -103,13 +142,13 @@ class _Converter:
     def _solid(self, detail: Detail) -> Solid:
         solid = Space(detail, self._front.flat, self._front.solid).solid(self._nodes, IDENTITY)
         if solid is None:
-            raise self._fault("Empty", "this design makes no solid at all")
+            raise self._fault("Empty", NO_SOLID)
         return solid
 
     def _unit(self, solid: Solid) -> Fraction:
         """The step of the grid."""
         all_leaves = list(leaves(solid))
-        greatest = max(max(map(abs, corner)) for leaf in all_leaves for corner in leaf.corners)
+        greatest = max(abs(number) for leaf in all_leaves for corner in leaf.corners for number in corner)
         # (where sides run along no axis, a corner is rounded as the sum of two)
         room = ROOM + 0.49 if all(it.frame is None for it in all_leaves) else ROOM - 1
         units = UNITS if self._wanted.unit is None else [self._wanted.unit]
@@ -146,8 +185,7 @@ class _Converter:
 
     def _fewer(self, solid: Solid, unit: Fraction, many: TooMany) -> tuple[Fraction, Detail, Rounded]:
         """The design with the least detail left out by which planes and shapes suffice. Raises CsgFault."""
-        corners = [corner for leaf in leaves(solid) for corner in leaf.corners]
-        size = math.dist([min(axis) for axis in zip(*corners)], [max(axis) for axis in zip(*corners)])
+        size = _size(solid)
         has_turns = any(it.name == "linear_extrude" and turns(it) for node in self._nodes for it in node.all())
         ways = [Detail(), *([Detail(cuts=False)] if has_turns else [])]
         tried = [it for it in (self._least(math.log2(size), unit, way) for way in ways) if it is not None]
@@ -187,6 +225,12 @@ class _Converter:
             return None
 
 
+def _size(solid: Solid) -> float:
+    """The way from the least corner of a solid's box to its greatest."""
+    axes = list(zip(*(corner for leaf in leaves(solid) for corner in leaf.corners)))
+    return math.dist([min(it) for it in axes], [max(it) for it in axes])
+
+
 def _is_still(all_leaves: Sequence[Leaf], unit: Fraction) -> bool:
     """Whether no corner moves on a grid of this step."""
     for leaf in all_leaves:
@@ -200,7 +244,7 @@ def _is_still(all_leaves: Sequence[Leaf], unit: Fraction) -> bool:
 def _unit_told(unit: Fraction, rounded: Rounded) -> str:
     still = rounded.moved <= _STILL * unit
     moved = "no corner moved" if still else f"corners moved by {rounded.moved:.2g} at most"
-    return f"unit {unit}: {moved} (print by off2stl --unit {unit})"
+    return f"on a grid of {unit}: {moved}"
 
 
 def _fewer_told(detail: Detail) -> list[str]:
@@ -208,8 +252,8 @@ def _fewer_told(detail: Detail) -> list[str]:
     kinds = ", ".join(
         f"{count} {name} ({detail.fewest[name][0]} of {detail.fewest[name][1]} at least)" for name, count in sorted(detail.fewer.items())
     )
-    steps = ", ".join(f"{node.name} at {node.line}:{node.column} ({count} steps)" for node, count in detail.steps)
-    hulls = ", ".join(f"{node.name} at {node.line}:{node.column}" for node in detail.hulls)
+    steps = ", ".join(f"{node.called()} ({count} steps)" for node, count in detail.steps)
+    hulls = ", ".join(it.called() for it in detail.hulls)
     since = f", since a part has at most {PLANES} planes"
     told = [f"fewer corners on curves{since}: {kinds}"] if kinds else []
     told += [f"what turns on the way in straight steps{since}: {steps}"] if steps else []
@@ -218,8 +262,23 @@ def _fewer_told(detail: Detail) -> list[str]:
 
 
 def _vanished(rounded: Rounded) -> list[str]:
-    if not rounded.vanished:
-        return []
-    places = Counter(f"{it.name} at {it.line}:{it.column}" for it in rounded.vanished)
-    shown = ", ".join(list(places)[:8]) + (f" and {len(places) - 8} more" if len(places) > 8 else "")
-    return [f"vanished, since it is thinner than the grid: {shown}"]
+    """What is told of nodes of which nothing is left on the grid, and of those that lost some of their pieces."""
+    left = {id(it.node) for it in leaves(rounded.tree)}
+    whole = [it for it in rounded.vanished if id(it) not in left]
+    part = [it for it in rounded.vanished if id(it) in left]
+    told = [f"vanished, since it is thinner than the grid: {_named(whole)}"] if whole else []
+    return told + ([f"without pieces that are thinner than the grid: {_named(part)}"] if part else [])
+
+
+def _left_out_told(left_out: Sequence[Node]) -> list[str]:
+    return [f"left out, as OpenSCAD does, since {_MIXED}: {_named(left_out)}"] if left_out else []
+
+
+def _inward_told(detail: Detail) -> list[str]:
+    return [f"turned, since all faces looked inward: {_named(detail.inward)}"] if detail.inward else []
+
+
+def _named(nodes: Sequence[Node]) -> str:
+    """Nodes of the evaluated form, each once."""
+    places = list(dict.fromkeys(it.called() for it in nodes))
+    return ", ".join(places[:_NAMED]) + (f" and {len(places) - _NAMED} more" if len(places) > _NAMED else "")

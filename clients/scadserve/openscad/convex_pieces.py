@@ -113,7 +113,7 @@ def nested(loops: Sequence[Loop]) -> list[tuple[Loop, list[Loop]]]:
         around = [other for other in range(at) if _is_within(loop, ordered[other])]
         depths.append(len(around))
         parents.append(around[-1] if around else None)
-    found = {at: (loop, []) for at, loop in enumerate(ordered) if depths[at] % 2 == 0}
+    found: dict[int, tuple[Loop, list[Loop]]] = {at: (loop, []) for at, loop in enumerate(ordered) if depths[at] % 2 == 0}
     for at, loop in enumerate(ordered):
         parent = parents[at]
         if depths[at] % 2 and parent is not None:

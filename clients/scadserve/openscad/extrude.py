@@ -16,8 +16,8 @@ from .reader import Node
 from .slices import rising
 from .slices import Slice as SlicedPiece
 from .steps import OF_OUTLINES, Line, Step, Turning, lines_of, round_off
-from .tree import joined, leaves, moved
-from .tree import DIFFERENCE, INTERSECTION, UNION, Carved, Detail, Join, Leaf, Matrix, Solid, Vector, frame_of, is_level
+from .tree import bounded, curve, frame_of, is_level, joined, leaves, moved, quotient
+from .tree import DIFFERENCE, INTERSECTION, MOST_SLICES, UNION, Carved, Detail, Join, Leaf, Matrix, Solid, Vector
 
 # More steps than these have no boxes round them.
 _MOST_LAYERS = 256
@@ -45,7 +45,7 @@ class Extrusion:
     def __init__(self, node: Node, matrix: Matrix, plane: Plane, detail: Detail, plan: Plan) -> None:
         self._node, self._matrix, self._plane, self._detail, self._plan = node, matrix, plane, detail, plan
         self._height = node.number("height")
-        self._low = -self._height / 2 if node.arguments.get("center") is True else 0.0
+        self._low = -self._height / 2 if node.truth("center") else 0.0
         scale = node.arguments.get("scale", 1.0)
         self._scale = [max(0.0, it) for it in (node.numbers("scale", 2) if isinstance(scale, list) else [node.number("scale", 1.0)] * 2)]
         self._twist = math.radians(node.number("twist", 0.0))
@@ -175,12 +175,13 @@ class Extrusion:
             self._detail.is_off(off)
             whole = [(End(0.0, 0.0), End(0.0, 1.0))]
             return self._joined(outline, sound, whole, whole, True)
-        parts = []
+        parts: list[Solid | None] = []
         for it in steps:
             ends = End(it.turned, it.low), End(it.turned, it.high)
             part = self._joined(outline, sound, [ends], [ends], True)
             layer = self._layer(ends, steps)
-            within = None if part is None or layer is None else joined(INTERSECTION, [layer, part])
+            both: list[Solid | None] = [layer, part]
+            within: Solid | None = None if part is None or layer is None else joined(INTERSECTION, both)
             parts.append(part if part is None or within is None else Carved(within, [], part))
         return joined(UNION, parts)
 
@@ -207,7 +208,7 @@ class Extrusion:
         self, outline: Outline, sound: Sequence[tuple[Loop, list[Loop]]], slices: list[Slice], longer: list[Slice], is_straight: bool
     ) -> Solid | None:
         """The solid of closed lines without their holes."""
-        parts = []
+        parts: list[Solid | None] = []
         for loop, holes in sound:
             filled = self._filled(outline, loop, slices, is_straight)
             parts.append(joined(DIFFERENCE, [filled, *(self._filled(outline, hole, longer, is_straight) for hole in holes)]))
@@ -227,7 +228,7 @@ class Extrusion:
         """The solid of what a closed line bounds, in the form with fewer planes."""
         cut, carving = self._forms(outline, loop) if is_straight else (pieces_of(outline, loop), None)
         ring = loop if area2(loop) > 0 else loop[::-1]
-        pieces = joined(UNION, [self._piece(it, slices, ring) for it in cut])
+        pieces: Solid | None = joined(UNION, [self._piece(it, slices, ring) for it in cut])
         if pieces is None or carving is None:
             return pieces
         lids: list[tuple[Leaf, list[Vector]]] = []
@@ -281,22 +282,26 @@ class Extrusion:
         return [(wide * (x * cos + y * sin) / FINE, deep * (y * cos - x * sin) / FINE, z) for x, y in piece]
 
     def _slices(self, radius: float) -> int:
-        """How many slices OpenSCAD makes, as its version 2021.01 does."""
-        given = self._node.arguments.get("slices")
+        """How many slices OpenSCAD makes, as its version 2021.01 does. Raises CsgFault past a bound."""
+        return bounded(self._node, "slices", self._unbounded_slices(radius), MOST_SLICES)
+
+    def _unbounded_slices(self, radius: float) -> int:
         turn = abs(self._twist)
-        fn, fa, fs = (self._node.number(name, default) for name, default in (("$fn", 0.0), ("$fa", 12.0), ("$fs", 2.0)))
-        if not turn:
-            if self._scale[0] == self._scale[1]:
-                return 1
-            across = greatest(self._plan, lambda x, y: math.hypot(x * (1 - self._scale[0]), y * (1 - self._scale[1])))
-            return max(1, int(fn) if fn > 0 else math.ceil(math.hypot(across, self._height) / fs - 1e-9))
-        if isinstance(given, float):
-            return max(1, int(given))
+        fn, fa, fs = curve(self._node)
+        if not turn and self._scale[0] == self._scale[1]:
+            return 1
+        if "slices" in self._node.arguments:
+            return max(1, int(self._node.number("slices")))
         least = max(math.ceil(math.degrees(turn) / 120 - 1e-9), 1)
+        if math.isnan(fn):
+            return least
+        if not turn:
+            across = greatest(self._plan, lambda x, y: math.hypot(x * (1 - self._scale[0]), y * (1 - self._scale[1])))
+            return max(1, int(fn) if fn > 0 else _ceiling(quotient(math.hypot(across, self._height), fs)))
         if fn > 0:
-            return max(math.ceil(math.degrees(turn) * fn / 360 - 1e-9), least)
+            return max(_ceiling(math.degrees(turn) * fn / 360), least)
         length = math.hypot(self._way(radius, turn), self._height)
-        return max(min(math.ceil(math.degrees(turn) / fa - 1e-9), math.ceil(length / fs - 1e-9)), least)
+        return max(min(_ceiling(quotient(math.degrees(turn), fa)), _ceiling(quotient(length, fs))), least)
 
     def _way(self, radius: float, turn: float) -> float:
         """How long the way of a corner is, seen from above: an arc of a circle, or of a spiral of Archimedes."""
@@ -309,6 +314,11 @@ class Extrusion:
 
         end = turn * scale / (scale - 1) if scale > 1 else turn / (1 - scale)
         return length(end) - length(end - turn)
+
+
+def _ceiling(number: float) -> int:
+    """The least whole number above one, but for its last digits; of one that OpenSCAD's numbers don't hold the least that they do."""
+    return math.ceil(number - 1e-9) if abs(number) < 2**31 else -(2**31)
 
 
 def _slices(levels: Sequence[float]) -> list[Slice]:

@@ -49,7 +49,7 @@ class Plane:
 
     def as_one(self, nodes: Sequence[Node]) -> Outline | None:
         """The union of nodes as the outlines that OpenSCAD makes of it; None where it makes none."""
-        union = Node("union", {}, "", nodes[0].line, nodes[0].column, list(nodes))
+        union = nodes[0].with_children("union", list(nodes))
         try:
             loops = self._render(union)
         except CsgFault:
@@ -87,7 +87,7 @@ class Plane:
 
     def _square(self, node: Node, matrix: Matrix) -> Outline | None:
         x, y = node.numbers("size", 2)
-        left, low = (-x / 2, -y / 2) if node.arguments.get("center") is True else (0.0, 0.0)
+        left, low = (-x / 2, -y / 2) if node.truth("center") else (0.0, 0.0)
         loop = [(left, low), (left + x, low), (left + x, low + y), (left, low + y)]
         return Outline([_moved(matrix, loop)], node, False) if x > 0 and y > 0 else None
 
@@ -130,6 +130,8 @@ def _hull(node: Node, within: Plan | None) -> Outline | None:
 def _paths(node: Node) -> list[list[Place]]:
     """The closed lines of a polygon. Raises CsgFault."""
     points, paths = node.arguments.get("points"), node.arguments.get("paths")
+    if points is None:
+        return []
     if not isinstance(points, list):
         raise node.fault("BadArgument", "points is no list")
     places = [(x, y) for x, y in (node.numbers("points", 2, it) for it in points)]
@@ -137,13 +139,7 @@ def _paths(node: Node) -> list[list[Place]]:
         return [places]
     if not isinstance(paths, list):
         raise node.fault("BadArgument", "paths is no list")
-    loops = []
-    for path in paths:
-        numbers = path if isinstance(path, list) else []
-        if not all(isinstance(it, float) and 0 <= it < len(places) for it in numbers):
-            raise node.fault("BadPoint", "a path names a point that is not there")
-        loops.append([places[int(it)] for it in numbers if isinstance(it, float)])
-    return loops
+    return [[places[it] for it in node.indices("a path", path, len(places))] for path in paths]
 
 
 def _moved(matrix: Matrix, loop: Sequence[Place]) -> list[Place]:

@@ -86,7 +86,8 @@ def _triangles(corners: Sequence[Point], plane: "Plane | None") -> "list[tuple[P
     """The triangles of a face, as they are seen from where its greatest side is."""
     if plane is None or len(corners) == 3:
         return []
-    axis = max(range(3), key=lambda it: abs(plane[it]))
+    a, b, c, _ = plane
+    axis = max(range(3), key=[abs(a), abs(b), abs(c)].__getitem__)
     seen = [(it[(axis + 1) % 3], it[(axis + 2) % 3]) if plane[axis] > 0 else (it[(axis + 2) % 3], it[(axis + 1) % 3]) for it in corners]
     try:
         found = convex_pieces.triangles(seen)

@@ -1,7 +1,7 @@
 """Polyhedra of OpenSCAD's evaluated form as convex parts: one where they are convex, and else cones from a point that sees all.
 
 A face goes clockwise round its corners as seen from outside. Parts have the polyhedron's own corners, and that one point. Where
-no point sees all faces, corners and faces are given, for a carving on the grid.
+no point sees all faces, corners and faces are given, for a carving on the grid. A terrain is a column under each of its triangles.
 """
 
 from __future__ import annotations
@@ -31,14 +31,52 @@ class Surface(NamedTuple):
 def faces_of(node: Node, count: int) -> list[list[int]]:
     """The faces of a `polyhedron` of so many points. Raises CsgFault."""
     faces = node.arguments.get("faces")
+    if faces is None:
+        return []
     if not isinstance(faces, list):
         raise node.fault("BadArgument", "faces is no list")
-    found = []
-    for face in faces:
-        numbers = face if isinstance(face, list) else []
-        if not numbers or not all(isinstance(it, float) and 0 <= it < count for it in numbers):
-            raise node.fault("BadPoint", "a face names a point that is not there")
-        found.append([int(it) for it in numbers if isinstance(it, float)])
+    return [node.indices("a face", face, count) for face in faces]
+
+
+def looks_inward(places: Sequence[Vector], faces: Sequence[Sequence[int]]) -> bool:
+    """Whether the faces of a closed polyhedron go counterclockwise as seen from outside, all of them: its volume is below 0."""
+    points, numbers = _merged(places)
+    return sum(_volume6((0, 0, 0), [points[numbers[at]] for at in (face[0], c, b)]) for face in faces for b, c in zip(face[1:], face[2:])) < 0
+
+
+def columns(node: Node, places: Sequence[Vector], faces: Sequence[Sequence[int]]) -> "list[list[Vector]]":
+    """The corners of the columns of a terrain, one under each triangle of it down to its floor. Neighbours have a side in common.
+
+    Four triangles round a point that lie on one plane have one. Raises CsgFault where what looks down isn't the floor.
+    """
+    points, numbers = _merged(places)
+    floor = min(z for _, _, z in points)
+    rings = [[points[numbers[it]] for it in face] for face in faces]
+    upward = []
+    for ring in rings:
+        # (clockwise as seen from outside)
+        turned = sum(p[0] * q[1] - q[0] * p[1] for p, q in zip(ring, [*ring[1:], *ring[:1]]))
+        if turned > 0 and any(z > floor for _, _, z in ring):
+            raise node.fault("NotConvex", "it is no terrain: some face of it looks down, and isn't its floor")
+        upward += [ring] if turned < 0 else []
+    tops = [part for ring in upward for part in ([ring] if len(ring) == 3 else [[ring[0], q, r] for q, r in zip(ring[1:], ring[2:])])]
+    return [[_place(it) for x, y, z in top for it in ((x, y, floor), (x, y, z))] for top in _joined_tops(tops)]
+
+
+def _joined_tops(tops: "list[list[exact_hull.Point]]") -> "list[list[exact_hull.Point]]":
+    """Triangles, of which four round one point that lie on one plane are one square."""
+    found: "list[list[exact_hull.Point]]" = []
+    at = 0
+    while at < len(tops):
+        four = tops[at : at + 4]
+        middle = set(four[0]).intersection(*four[1:]) if len(four) == 4 else set()
+        corners = list(dict.fromkeys(it for top in four for it in top if it not in middle))
+        if len(middle) == 1 and len(corners) == 4 and _volume6(corners[3], corners[:3]) == _volume6(next(iter(middle)), corners[:3]) == 0:
+            found.append(corners)
+            at += 4
+        else:
+            found.append(tops[at])
+            at += 1
     return found
 
 
@@ -53,7 +91,7 @@ def cut(node: Node, places: Sequence[Vector], faces: Sequence[Sequence[int]]) ->
         return []
     _check_closed(node, rings)
     if sum(_volume6((0, 0, 0), [points[it] for it in triangle]) for triangle in triangles) <= 0:
-        raise node.fault("NotConvex", "its faces look inward: they go clockwise as seen from outside")
+        raise node.fault("NotConvex", "its faces bound no volume: they go clockwise round their corners as seen from outside")
     planes = [it for it in (_plane([points[it] for it in triangle]) for triangle in triangles) if it]
     size = max(max(abs(it) for it in point) for point in points)
     used = sorted({it for ring in rings for it in ring})

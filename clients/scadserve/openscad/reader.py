@@ -1,4 +1,4 @@
-"""Reads OpenSCAD's evaluated form, which `openscad -o part.csg part.scad` writes: nodes with arguments and children.
+"""Reads OpenSCAD's evaluated form, which `openscad --render -o part.csg part.scad` writes: nodes with arguments and children.
 
 There all is evaluated: numbers are decimals with six digits, and what is left of the language are nodes like
 `multmatrix([[1, 0, 0, 5], ..]) { cube(size = [2, 2, 2], center = false); }`. Its texts are written as they are, without an
@@ -13,6 +13,8 @@ from bisect import bisect_right
 from dataclasses import dataclass, field
 from typing import Iterator, Union
 
+from .arguments import INSTEAD, LEAVES, READ, is_taken
+
 #: A number, a truth, a text, `undef` as None, or a list of these.
 Value = Union[float, bool, str, None, "list[Value]"]
 
@@ -25,22 +27,26 @@ _TOKEN = re.compile(
 )
 _BLANK = re.compile(r"(?:\s|//[^\n]*|/\*.*?\*/)*", re.DOTALL)
 _WORDS: dict[str, Value] = {"true": True, "false": False, "undef": None, "nan": math.nan, "inf": math.inf}
-_OF_TEXT = {"text", "size", "spacing", "font", "direction", "language", "script", "halign", "valign", "$fn", "$fa", "$fs"}
 #: Nodes inside one another: more than these have no reader here.
 DEEPEST = 400
+#: So many nodes are read.
+MOST_NODES = 100_000
+#: Numbers greater than this in size are no lengths, angles or factors of a part that can be built.
+GREATEST = 1e12
 
 
 class CsgFault(Exception):
-    """What can't be converted: its line and column, from 1, the name of its kind, and what is wrong there."""
+    """What can't be converted: its line and column, from 1, the name of its kind, what is wrong there, and the node's number."""
 
-    def __init__(self, line: int, column: int, word: str, said: str) -> None:
+    def __init__(self, line: int, column: int, word: str, said: str, ordinal: int = 0) -> None:
         super().__init__(f"{line}:{column}: {word}: {said}")
-        self.line, self.column, self.word, self.said = line, column, word, said
+        self.line, self.column, self.word, self.said, self.ordinal = line, column, word, said, ordinal
 
 
 @dataclass(frozen=True)
 class Node:
-    """A node: its name, its named arguments and the first one without a name, as "", its children and marks, and its place."""
+    """A node: its name, its named arguments and the first one without a name, as "", its children and marks, its place, and its
+    number in the text, from 1; 0 for one that stands in no text."""
 
     name: str
     arguments: dict[str, Value]
@@ -48,17 +54,31 @@ class Node:
     line: int
     column: int
     children: list[Node] = field(default_factory=list)
+    ordinal: int = 0
 
     def fault(self, word: str, said: str) -> CsgFault:
         """A fault at this node, which is named."""
-        return CsgFault(self.line, self.column, word, f"{self.name}: {said}")
+        return CsgFault(self.line, self.column, word, f"{self.name}: {said}", self.ordinal)
+
+    def called(self) -> str:
+        """What it is called in messages."""
+        return f"{self.name} at {self.line}:{self.column}, node {self.ordinal}"
+
+    def with_children(self, name: str, children: list[Node]) -> Node:
+        """A node of another name with these children, told at the place of this one."""
+        return Node(name, {}, "", self.line, self.column, children, self.ordinal)
 
     def number(self, name: str, default: float | None = None) -> float:
         """A number that is given. Raises CsgFault where it isn't, or is none or infinite."""
         value = self.arguments.get(name, default)
         if isinstance(value, bool) or not isinstance(value, (int, float)) or not math.isfinite(value):
             raise self.fault("BadArgument", f"{name} is no finite number")
-        return float(value)
+        return self._within(name, float(value))
+
+    def _within(self, name: str, value: float) -> float:
+        if abs(value) > GREATEST:
+            raise self.fault("OutOfRange", f"{name or 'its argument'} holds {value:.6g}, and numbers up to {GREATEST:.6g} are read")
+        return value
 
     def numbers(self, name: str, count: int, value: Value = None) -> list[float]:
         """So many numbers in a list, of an argument or of the value that is given. Raises CsgFault."""
@@ -68,7 +88,23 @@ class Node:
         for it in found:
             if isinstance(it, bool) or not isinstance(it, (int, float)) or not math.isfinite(it):
                 raise self.fault("BadArgument", f"{name or 'its argument'} holds what is no finite number")
-        return [float(it) for it in found]  # type: ignore[arg-type]
+        return [self._within(name, float(it)) for it in found]  # type: ignore[arg-type]
+
+    def indices(self, what: str, named: Value, count: int) -> list[int]:
+        """The points, of so many, that a face or a path of it names. Raises CsgFault."""
+        found: list[int] = []
+        for it in named if isinstance(named, list) and named else [None]:
+            if isinstance(it, bool) or not isinstance(it, float) or not 0 <= it < count:
+                raise self.fault("BadPoint", f"{what} names a point that is not there")
+            found.append(int(it))
+        return found
+
+    def truth(self, name: str) -> bool:
+        """A truth, false where none is given. Raises CsgFault."""
+        value = self.arguments.get(name, False)
+        if not isinstance(value, bool):
+            raise self.fault("BadArgument", f"{name} is neither true nor false")
+        return value
 
     def is_shown(self) -> bool:
         """Whether it counts: what is marked `%` or `*` doesn't."""
@@ -131,16 +167,19 @@ def read(text: str) -> list[Node]:
     """The nodes of a text. Raises CsgFault at the first place where it is none as OpenSCAD writes them."""
     tokens = _Tokens(text)
     top: list[Node] = []
-    within = [top]
+    within, count = [top], 0
     while tokens.kind is not None or len(within) > 1:
         if tokens.kind == "symbol" and tokens.word == "}" and len(within) > 1:
             tokens.next()
             within.pop()
             continue
-        node = _head(tokens)
+        count += 1
+        node = _head(tokens, count)
+        if count > MOST_NODES:
+            raise node.fault("TooManyParts", f"more than {MOST_NODES} nodes")
         within[-1].append(node)
-        if tokens.kind == "symbol" and tokens.word == ";":
-            tokens.next()
+        if node.name in LEAVES or (tokens.kind == "symbol" and tokens.word == ";"):
+            tokens.take(";")
             continue
         tokens.take("{")
         within.append(node.children)
@@ -157,7 +196,7 @@ def _root(top: list[Node]) -> list[Node]:
     return top
 
 
-def _head(tokens: _Tokens) -> Node:
+def _head(tokens: _Tokens, ordinal: int) -> Node:
     """A node up to its arguments' end."""
     marks = ""
     while tokens.kind == "symbol" and tokens.word in "#!%*":
@@ -166,6 +205,8 @@ def _head(tokens: _Tokens) -> Node:
     if tokens.kind != "name":
         raise tokens.fault("a node's name should stand here")
     name = tokens.next()
+    if name not in READ:
+        raise CsgFault(line, column, "UnknownModule", f"{name} is no node that is known here", ordinal)
     tokens.take("(")
     arguments: dict[str, Value] = {}
     while not (tokens.kind == "symbol" and tokens.word == ")"):
@@ -173,12 +214,13 @@ def _head(tokens: _Tokens) -> Node:
             tokens.take(",")
         line_of, column_of = tokens.place()
         key, value = _argument(tokens)
-        if key in arguments or (name == "text" and key not in _OF_TEXT):
-            # (a text that holds what looks like the end of it and another argument)
-            raise CsgFault(line_of, column_of, "BadArgument", f"{name}: {key or 'an argument'} is given twice, or unknown")
+        if key in arguments or not is_taken(name, key):
+            # (also of a text that holds what looks like the end of it and another argument)
+            what = f"{key or 'an argument without a name'} is {'given twice' if key in arguments else 'no argument that is read here'}"
+            raise CsgFault(line_of, column_of, "BadArgument", f"{name}: {what}{INSTEAD.get((name, key), '')}", ordinal)
         arguments[key] = value
     tokens.next()
-    return Node(name, arguments, marks, line, column)
+    return Node(name, arguments, marks, line, column, ordinal=ordinal)
 
 
 def _argument(tokens: _Tokens) -> tuple[str, Value]:

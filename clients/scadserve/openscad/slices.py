@@ -24,7 +24,7 @@ class Slice:
     def __init__(self, below: "Sequence[Vector]", above: "Sequence[Vector]", rising: "Sequence[bool]") -> None:
         """With each side's diagonal: whether it goes up along the outline, from the corner where the side begins."""
         self._below, self._above, self._rising = below, above, rising
-        self._size = max(max(map(abs, it)) for it in (*below, *above))
+        self._size = max(abs(number) for it in (*below, *above) for number in it)
 
     def is_hull(self) -> bool:
         """Whether it is the hull of its corners."""

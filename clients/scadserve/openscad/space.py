@@ -8,11 +8,11 @@ from typing import Callable, Dict, List, Sequence, Tuple
 from . import exact_hull
 from .extrude import Extrusion, turns
 from .flat import FINE, Plan, Plane, Render
-from .polyhedron import Surface, cut, faces_of
+from .polyhedron import Surface, columns, cut, faces_of, looks_inward
 from .reader import Node
 from .steps import OF_OUTLINES
-from .tree import frame_of, fragments, is_mirrored, is_union, joined, leaves, matrix_of, moved, stretch, times
-from .tree import DIFFERENCE, IDENTITY, INTERSECTION, UNION, Detail, Faced, Join, Leaf, Matrix, Solid, Vector, circle, dimension
+from .tree import bounded, circle, frame_of, fragments, is_mirrored, is_union, joined, leaves, matrix_of, moved, stretch, times
+from .tree import DIFFERENCE, IDENTITY, INTERSECTION, MOST_OF_BALL, UNION, Detail, Faced, Join, Leaf, Matrix, Solid, Vector
 from .turned import Turned
 
 #: What renders a node of space: the points and the faces of its boundary.
@@ -31,7 +31,7 @@ class Space:
         self._of: Dict[str, Callable[[Node, Matrix], "Solid | None"]] = {
             "cube": self._cube, "cylinder": self._cylinder, "sphere": self._sphere, "polyhedron": self._polyhedron,
             "linear_extrude": self._extruded, "rotate_extrude": self._turned, "hull": self._hull,
-            "minkowski": self._minkowski, "resize": self._resized, "import": self._rendered, "surface": self._rendered,
+            "minkowski": self._minkowski, "resize": self._resized, "import": self._rendered, "surface": self._terrain,
         }  # fmt: skip
 
     def solid(self, nodes: Sequence[Node], matrix: Matrix) -> Solid | None:
@@ -51,7 +51,7 @@ class Space:
 
     def _cube(self, node: Node, matrix: Matrix) -> Solid | None:
         sides = node.numbers("size", 3)
-        low = [-it / 2 if node.arguments.get("center") is True else 0.0 for it in sides]
+        low = [-it / 2 if node.truth("center") else 0.0 for it in sides]
         ends = [(it, it + side) for it, side in zip(low, sides)]
         corners = [(x, y, z) for x in ends[0] for y in ends[1] for z in ends[2]]
         return Leaf(moved(matrix, corners), frame_of(matrix), node) if min(sides) > 0 else None
@@ -64,7 +64,7 @@ class Space:
         kept, off = self._detail.ring(count, max(low, high) * stretch(matrix))
         self._detail.is_off(off)
         self._detail.note(node, len(kept), count)
-        z = -height / 2 if node.arguments.get("center") is True else 0.0
+        z = -height / 2 if node.truth("center") else 0.0
         corners: list[Vector] = []
         for radius, at in ((low, z), (high, z + height)):
             corners += [(x, y, at) for x, y in circle(radius, count, kept)] if radius > 0 else [(0.0, 0.0, at)]
@@ -76,6 +76,7 @@ class Space:
             return None
         count = fragments(node, radius)
         rings = (count + 1) // 2
+        bounded(node, "corners", count * rings, MOST_OF_BALL)
         kept, off = self._detail.ring(count, radius * stretch(matrix), 0.5)
         # (the first ring and the middle one, of which there may be two, stay, and the lower half is as the upper one)
         half, besides = list(range(rings // 2 + 1)), 0.0
@@ -92,12 +93,17 @@ class Space:
 
     def _polyhedron(self, node: Node, matrix: Matrix) -> Solid | None:
         points = node.arguments.get("points")
+        if points is None:
+            return None
         if not isinstance(points, list):
             raise node.fault("BadArgument", "points is no list")
         places = [(x, y, z) for x, y, z in (node.numbers("points", 3, it) for it in points)]
         return self._cut(node, matrix, places, faces_of(node, len(places)))
 
     def _cut(self, node: Node, matrix: Matrix, places: list[Vector], faces: list[list[int]]) -> Solid | None:
+        if looks_inward(places, faces):
+            self._detail.note_inward(node)
+            faces = [face[::-1] for face in faces]
         found = cut(node, places, faces)
         if isinstance(found, Surface):
             rings = [ring[::-1] for ring in found.rings] if is_mirrored(matrix) else found.rings
@@ -107,6 +113,11 @@ class Space:
     def _rendered(self, node: Node, matrix: Matrix) -> Solid | None:
         return self._cut(node, matrix, *self._render_solid(node))
 
+    def _terrain(self, node: Node, matrix: Matrix) -> Solid | None:
+        places, faces = self._render_solid(node)
+        way = frame_of(matrix)
+        return joined(UNION, [Leaf(moved(matrix, it), way, node) for it in columns(node, places, faces)]) if faces else None
+
     def _extruded(self, node: Node, matrix: Matrix) -> Solid | None:
         share = OF_OUTLINES if self._detail.may_step and node.number("twist", 0.0) else 1.0
         with self._detail.moving(stretch(matrix), share):
@@ -115,7 +126,7 @@ class Space:
 
     def _extruded_plan(self, node: Node, matrix: Matrix) -> Plan | None:
         """What is extruded, as the outlines that OpenSCAD makes of it where these turn on the way, or have fewer planes."""
-        children = _flat_children(node)
+        children = node.shown()
         if not self._detail.most and children and turns(node):
             plan = self._plane.plan(children, IDENTITY)
             return (self._plane.as_one(children) or plan) if isinstance(plan, Join) else plan
@@ -130,7 +141,7 @@ class Space:
 
     def _turned(self, node: Node, matrix: Matrix) -> Solid | None:
         with self._detail.moving(stretch(matrix)):
-            plan = self._plane.plan(_flat_children(node), IDENTITY)
+            plan = self._plane.plan(node.shown(), IDENTITY)
             return None if plan is None else Turned(node, matrix, self._plane, self._detail, plan).solid()
 
     def _hull(self, node: Node, matrix: Matrix) -> Solid | None:
@@ -141,10 +152,10 @@ class Space:
             corners = [corner for leaf in leaves(within) for corner in leaf.corners]
         else:
             corners = moved(matrix, self._render_solid(node)[0])
-        return Leaf(_corners(corners), frame_of(matrix), node)
+        return Leaf(_corners(corners), frame_of(matrix), node) if corners else None
 
     def _minkowski(self, node: Node, matrix: Matrix) -> Solid | None:
-        """The sums of leaves of one child and of the next, which unions are pairs by pairs."""
+        """The sums of leaves of one child and of the next, which unions are pairs by pairs; of other joins what OpenSCAD renders."""
         before = self._detail.off
         sums: list[list[Vector]] = []
         off = 0.0
@@ -155,7 +166,8 @@ class Space:
             if within is None:
                 continue
             if not is_union(within):
-                raise node.fault("NotConvex", "a difference or an intersection stands in it, which isn't cut into convex pieces")
+                self._detail.off = max(before, off)
+                return self._rendered(node, matrix)
             parts = [list(leaf.corners) for leaf in leaves(within)]
             if sum(map(len, sums)) * sum(map(len, parts)) > _MOST_SUMS:
                 raise node.fault("LongList", f"more than {_MOST_SUMS} sums of corners")
@@ -170,11 +182,13 @@ class Space:
             return None
         corners = [corner for leaf in leaves(within) for corner in leaf.corners] if is_union(within) else self._boundary(node)
         sides = [max(axis) - min(axis) for axis in zip(*corners)]
+        if not corners or min(sides) == 0:
+            return None
         new = node.numbers("newsize", 3)
         auto = node.arguments.get("auto")
         factors = [size / side if size > 0 else 1.0 for size, side in zip(new, sides)]
         greatest = new.index(max(new))
-        for axis, is_auto in enumerate(auto if isinstance(auto, list) else []):
+        for axis, is_auto in enumerate(auto[:3] if isinstance(auto, list) else []):
             if is_auto and new[axis] == 0:
                 factors[axis] = factors[greatest]
         scale = tuple(tuple(factors[i] if i == k else 0.0 for k in range(4)) for i in range(3))
@@ -182,15 +196,7 @@ class Space:
 
     def _boundary(self, node: Node) -> list[Vector]:
         """The corners of what is in a node, as OpenSCAD has them."""
-        group = Node("union", {}, "", node.line, node.column, node.shown())
-        return self._render_solid(group)[0]
-
-
-def _flat_children(node: Node) -> list[Node]:
-    for it in node.shown():
-        if dimension(it) == 3:
-            raise it.fault("WrongDimension", "a shape in space stands in an extrusion, where OpenSCAD leaves it out")
-    return node.shown()
+        return self._render_solid(node.with_children("union", node.shown()))[0]
 
 
 def _without_move(matrix: Matrix) -> Matrix:

@@ -10,7 +10,7 @@ import math
 from collections import Counter
 from contextlib import contextmanager
 from dataclasses import dataclass, field
-from typing import Generic, Iterable, Iterator, List, Optional, Sequence, TypeVar, Union
+from typing import Any, Generic, Iterable, Iterator, List, Optional, Sequence, TypeVar, Union, overload
 
 from .reader import CsgFault, Node
 
@@ -21,6 +21,8 @@ IDENTITY: Matrix = ((1.0, 0.0, 0.0, 0.0), (0.0, 1.0, 0.0, 0.0), (0.0, 0.0, 1.0, 
 UNION, DIFFERENCE, INTERSECTION = "union", "difference", "intersection"
 # More sides of slices than these have more planes than a part may have.
 _MOST_SIDES = 512
+#: More corners of a circle, slices of an extrusion, and corners of a ball than these are no part that can be built.
+MOST_CORNERS, MOST_SLICES, MOST_OF_BALL = 10_000, 10_000, 1_000_000
 
 
 @dataclass(frozen=True)
@@ -68,7 +70,8 @@ class Faced:
     faces: "List[List[int]]"
 
 
-Solid = Union[Leaf, "Join[Leaf]", Carved, Faced]
+Part = Union[Leaf, Carved, Faced]
+Solid = Union[Leaf, Carved, Faced, "Join[Part]"]
 
 
 def joined(operation: str, parts: "Sequence[Optional[Union[L, Join[L]]]]") -> "Optional[Union[L, Join[L]]]":
@@ -90,12 +93,21 @@ def _flattened(parts: "Sequence[Union[L, Join[L]]]") -> "List[Union[L, Join[L]]]
     return found
 
 
-def leaves(tree: "Optional[Union[L, Join[L]]]") -> Iterable[L]:
+# (the first names the leaves of solids, which the second would call parts)
+@overload
+def leaves(tree: "Optional[Solid]") -> Iterable[Leaf]: ...  # type: ignore[misc]
+
+
+@overload
+def leaves(tree: "Optional[Union[L, Join[L]]]") -> Iterable[L]: ...
+
+
+def leaves(tree: Any) -> Iterable[Any]:
     """The leaves, from left to right; of a polyhedron one with all its corners."""
     if isinstance(tree, Carved):
-        yield from leaves(tree.pieces)  # type: ignore[misc]
+        yield from leaves(tree.pieces)
     elif isinstance(tree, Faced):
-        yield tree.leaf  # type: ignore[misc]
+        yield tree.leaf
     elif isinstance(tree, Join):
         for it in tree.parts:
             yield from leaves(it)
@@ -158,7 +170,7 @@ def is_mirrored(m: Matrix) -> bool:
 
 def frame_of(m: Matrix) -> Matrix | None:
     """A matrix without its move; None where it turns axes by quarters alone."""
-    if all(sorted(map(abs, row[:3]))[1] < 1e-12 for row in m):
+    if all(sorted(abs(it) for it in row[:3])[1] < 1e-12 for row in m):
         return None
     return tuple((*row[:3], 0.0) for row in m)
 
@@ -177,7 +189,7 @@ def is_level(m: Matrix) -> bool:
     (a, b, *_), (c, d, *_), (e, f, *_) = m
     normal = (c * f - e * d, e * b - a * f, a * d - c * b)
     length = math.sqrt(sum(it * it for it in normal))
-    return length == 0 or max(map(abs, normal)) > length * (1 - 1e-10)
+    return length == 0 or max(abs(it) for it in normal) > length * (1 - 1e-10)
 
 
 @dataclass
@@ -196,6 +208,8 @@ class Detail:
     steps: list[tuple[Node, int]] = field(default_factory=list)
     #: Extrusions of which slices are the hulls of their corners, though their sides are hollow.
     hulls: list[Node] = field(default_factory=list)
+    #: Polyhedra whose faces looked inward, and were turned.
+    inward: list[Node] = field(default_factory=list)
     _besides: float = 0.0
     _sides: int = 0
 
@@ -230,6 +244,11 @@ class Detail:
         """Notes that slices of an extrusion are the hulls of their corners, though their sides are hollow."""
         if node not in self.hulls:
             self.hulls.append(node)
+
+    def note_inward(self, node: Node) -> None:
+        """Notes that the faces of a polyhedron looked inward, and were turned."""
+        if node not in self.inward:
+            self.inward.append(node)
 
     def may_cut(self, sides: int) -> bool:
         """Whether slices with so many sides may be cut into convex parts: where so few are that two planes for each may suffice."""
@@ -266,41 +285,34 @@ class Detail:
 
 
 def fragments(node: Node, radius: float) -> int:
-    """How many corners OpenSCAD gives a circle: its manual's rule of $fn, $fa and $fs."""
-    fn, fa, fs = node.arguments.get("$fn", 0.0), node.arguments.get("$fa", 12.0), node.arguments.get("$fs", 2.0)
-    if not all(isinstance(it, (int, float)) for it in (fn, fa, fs)):
-        raise node.fault("BadArgument", "$fn, $fa or $fs is no number")
-    if radius < 2**-20 or math.isinf(fn) or math.isnan(fn):  # type: ignore[arg-type]
+    """How many corners OpenSCAD gives a circle: its manual's rule of $fn, $fa and $fs. Raises CsgFault past a bound."""
+    fn, fa, fs = curve(node)
+    if radius < 2**-20 or not math.isfinite(fn):
         return 3
-    if fn > 0:  # type: ignore[operator]
-        return int(max(fn, 3))  # type: ignore[type-var, arg-type]
-    return math.ceil(max(min(360 / fa, radius * 2 * math.pi / fs), 5))  # type: ignore[operator]
+    count = max(fn, 3.0) if fn > 0 else math.ceil(max(min(quotient(360, fa), quotient(radius * 2 * math.pi, fs), 2.0**31), 5))
+    return bounded(node, "corners of a circle", int(count), MOST_CORNERS)
+
+
+def curve(node: Node) -> tuple[float, float, float]:
+    """A node's $fn, $fa and $fs. Of what is no extrusion OpenSCAD takes no $fa and no $fs below 0.01. Raises CsgFault."""
+    least = -math.inf if node.name.endswith("_extrude") else 0.01
+    fn = node.arguments.get("$fn", 0.0)
+    is_endless = isinstance(fn, float) and not math.isfinite(fn)
+    return math.nan if is_endless else node.number("$fn", 0.0), max(node.number("$fa", 12.0), least), max(node.number("$fs", 2.0), least)
+
+
+def quotient(dividend: float, divisor: float) -> float:
+    """The quotient of a number above 0; of 0 without end."""
+    return dividend / divisor if divisor else math.inf
+
+
+def bounded(node: Node, what: str, count: int, most: int) -> int:
+    """The count, of which a node makes no more than so many. Raises CsgFault."""
+    if count > most:
+        raise node.fault("TooManyPlanes", f"it has {count} {what}, and {most} are read")
+    return count
 
 
 def circle(radius: float, count: int, kept: Iterable[int]) -> list[tuple[float, float]]:
     """The corners of a circle that are kept."""
     return [(radius * math.cos(2 * math.pi * it / count), radius * math.sin(2 * math.pi * it / count)) for it in kept]
-
-
-#: Nodes of the plane, and of space.
-FLAT = {"square", "circle", "polygon", "text", "offset", "projection"}
-SOLID = {"cube", "cylinder", "sphere", "polyhedron", "linear_extrude", "rotate_extrude", "surface"}
-GROUPS = {"group", "union", "color", "render", "multmatrix", "difference", "intersection", "hull", "minkowski", "resize"}
-
-
-def dimension(node: Node) -> int | None:
-    """2 for a shape in the plane, 3 for one in space, None for nothing. Raises CsgFault where both are joined."""
-    if node.name == "import":
-        file = str(node.arguments.get("file", "")).lower()
-        return 2 if file.endswith((".dxf", ".svg")) else 3
-    if node.name in FLAT or node.name in SOLID:
-        return 2 if node.name in FLAT else 3
-    if node.name not in GROUPS:
-        raise CsgFault(node.line, node.column, "UnknownModule", f"{node.name} is no node that is known here")
-    found: int | None = None
-    for it in node.shown():
-        of_child = dimension(it)
-        if found is not None and of_child is not None and of_child != found:
-            raise it.fault("WrongDimension", "shapes in the plane and in space are joined, of which OpenSCAD leaves some out")
-        found = found or of_child
-    return found

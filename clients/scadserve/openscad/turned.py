@@ -54,7 +54,7 @@ class Turned:
         return whole if self._is_round or whole is None else self._sector(whole, radius)
 
     def _outline(self, outline: Outline, side: int) -> Solid | None:
-        parts = []
+        parts: list[Solid | None] = []
         for loop, holes in self._plane.sound(outline):
             cut = [self._loop(outline, hole, side) for hole in holes]
             parts.append(joined(DIFFERENCE, [self._loop(outline, loop, side), *cut]))

@@ -4,7 +4,7 @@ from __future__ import annotations
 
 from typing import Iterator, NamedTuple, Sequence
 
-from .scripts import Answers, NoMemory, Ok, Reply, Script
+from .scripts import Answers, Client, NoMemory, Ok, Reply, Script
 
 NAMES = "abcdefghijklmnop"
 
@@ -26,6 +26,7 @@ class Batch:
 
     def __init__(self, half: bool) -> None:
         self.script = Script(half)
+        self._clients: dict[str, Client] = {}
         self._exports: list[Export] = []
 
     def __len__(self) -> int:
@@ -35,7 +36,8 @@ class Batch:
         """Adds a source to a client that has room for it, by turns; tells whether there is one."""
         turn = len(self) % len(NAMES)
         for name in NAMES[turn:] + NAMES[:turn]:
-            client = self.script.client(name)
+            client = self._clients.get(name) or self.script.client(name)
+            self._clients[name] = client
             if client.has_room(source):
                 edits = client.source(source)
                 self._exports.append(Export(number, len(source), name, edits, client.export()))

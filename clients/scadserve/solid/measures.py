@@ -72,6 +72,11 @@ def direction(plane: Sequence[int]) -> tuple[float, float, float]:
     return a / length, b / length, c / length
 
 
+def rounded(number: Fraction) -> str:
+    """The number as a decimal number of six figures, or of all that stand before the point where these are more."""
+    return f"{round(number)}" if abs(number) >= 10**6 - Fraction(1, 2) else f"{float(number):.6g}"
+
+
 def shown(number: Fraction, exact: bool = True) -> str:
     """The number as digits: a decimal number where that is exact and short, else a fraction, else 'about' a decimal."""
     if exact:

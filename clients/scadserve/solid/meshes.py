@@ -34,7 +34,7 @@ class Mesh:
 
     #: Any text that can be shown; formats of ASCII have `_` for other letters.
     name: str
-    #: How many millimetres a unit is, by which the points are multiplied.
+    #: How many millimetres a unit of the source is.
     unit: Fraction
     points: list[Printed]
     triangles: list[Ring]
@@ -49,9 +49,10 @@ class Mesh:
     hollows: int
 
 
-def mesh(name: str, surface: Surface, unit: Fraction, form: str) -> Mesh:
-    """The triangles of a surface with their corners times the unit, rounded for this format."""
-    printer = _Printer(unit, form)
+def mesh(name: str, surface: Surface, unit: Fraction, form: str, step: Fraction = Fraction(1)) -> Mesh:
+    """The triangles of a surface with their corners times the unit, rounded for this format. A length of the surface is a
+    step, in units."""
+    printer = _Printer(unit * step, form)
     rounded = sum(not printer.is_exact(surface.corners[it]) for it in set(surface.places))
     whole = _contracted(surface, printer)
     lost = len(surface.planes) - len(whole.planes)

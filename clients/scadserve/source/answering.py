@@ -6,7 +6,7 @@ from dataclasses import replace
 from typing import Iterator, Sequence
 
 from ..server.batches import batches
-from ..server.scripts import SERVER, Fault, Reply, run
+from ..server.scripts import SERVER, Fault, Reply, Started, run
 from .sources import Source
 
 
@@ -17,18 +17,20 @@ def answered(
     workers: int | None = None,
     memo: int | None = None,
     until: float | None = None,
+    started: Started | None = None,
 ) -> Iterator[tuple[Source, Reply]]:
     """The sources, in order, each with what its export is answered. All are within the limits of a source.
 
-    The server, its workers, its memo and its time are those of `run` of `server`, and so is what is raised.
+    The server, its workers, its memo, its time and what is handed its processes are those of `run` of `server`, and so is
+    what is raised.
     """
     for batch in batches([it.sent() for it in sources], half):
-        [answers] = run([batch.script], server, workers, memo, until)
+        [answers] = run([batch.script], server, workers, memo, until, started)
         pairs = [(sources[number], reply) for number, reply in batch.replies(answers)]
         # A file that ends in the middle of a statement has its fault in the definitions behind it: such files are
         # exported once more alone, and told their own fault.
         alone = [replace(source, definitions=()) for source, reply in pairs if _is_behind(source, reply)]
-        own = answered(alone, half, server, workers, memo, until)
+        own = answered(alone, half, server, workers, memo, until, started)
         for source, reply in pairs:
             bare, bare_reply = next(own) if _is_behind(source, reply) else (source, reply)
             yield (bare, bare_reply) if _is_at_end(bare, bare_reply) else (source, reply)

@@ -67,9 +67,11 @@ class _Changed:
         return lines, places
 
 
-def calls_to(found: Structure, at: int, word: str, half: bool, server: Sequence[str] | None) -> list[int]:
+def calls_to(
+    found: Structure, at: int, word: str, half: bool, server: Sequence[str] | None, until: float | None = None
+) -> list[int]:
     """The calls that led to a fault at a token, as the numbers of their names, the inner ones first. None is told where that
-    is not known; no server is asked where none is given."""
+    is not known; no server is asked where none is given, nor after this time."""
     told: list[int] = []
     definitions: list[tuple[Definition, list[Call]]] = []
     while len(told) < MOST_CALLS:
@@ -83,7 +85,7 @@ def calls_to(found: Structure, at: int, word: str, half: bool, server: Sequence[
         if len(outside) == 1:
             told.append(outside[0].name)
             continue
-        name = _asked(found, at, word, definitions, half, server) if server is not None else None
+        name = _asked(found, at, word, definitions, half, server, until) if server is not None else None
         if name is None:
             break
         told.append(name)
@@ -103,6 +105,7 @@ def _asked(
     definitions: Sequence[tuple[Definition, list[Call]]],
     half: bool,
     server: Sequence[str],
+    until: float | None,
 ) -> int | None:
     """The call of the last of these definitions that led to the fault, by way of the others."""
     changed = _Changed(found)
@@ -118,7 +121,7 @@ def _asked(
     client.source(lines)
     place = client.export()
     try:
-        [answers] = run([script], server)
+        [answers] = run([script], server, until=until)
     except (ServerFailed, Malformed):
         return None
     reply = answers["a"][place]

@@ -100,10 +100,10 @@ def _of_argument(found: Structure, at: int) -> Cause | None:
         number = next((number for number, it in enumerate(call.arguments) if it.first == at), None)
         if number is not None and (told := _of_call(found, call, number)):
             return told
-    call = next((it for it in found.calls if it.name == at), None)
-    if call is None or found.defined_at(call) is not None:
+    of_name = next((it for it in found.calls if it.name == at), None)
+    if of_name is None or found.defined_at(of_name) is not None:
         return None
-    return _missing(found, call) if call.kind == MODULE else _of_count(found, call)
+    return _missing(found, of_name) if of_name.kind == MODULE else _of_count(found, of_name)
 
 
 def _of_call(found: Structure, call: Call, number: int) -> Cause | None:

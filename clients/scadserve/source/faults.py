@@ -23,7 +23,7 @@ FAULTS: dict[str, tuple[str, str]] = {
     "OpenComment": ("this comment is not closed", "close it by */"),
     "OpenText": ("this text is not closed on its line", 'close it by " on the same line'),
     "NotWhole": ("{} is no whole number", "write lengths in tenths, 25 for 2.5, and print by off2stl --unit 1/10"),
-    "TooLarge": ("at {} a number is past 2^53 - 1, or 65,535 in a multmatrix", "take smaller ones: the room ends at 4,095"),
+    "TooLarge": ("{} is past 2^53 - 1", "take smaller numbers: the room ends at 4,095"),
     "TypeMismatch": ("a value of another type is wanted at {}", PAGE),
     "ZeroDivisor": ("a division by 0", "test the divisor first: b == 0 ? 0 : a / b"),
     "BadSize": ("a side, a height or a radius is below 1", "leave out what has no size, as in if (w > 2 * t) cube(w - 2 * t);"),
@@ -70,6 +70,10 @@ FORMS: dict[str, str] = {
     **dict.fromkeys(["for", "function", "linear_extrude", "mirror", "polygon", "rotate"], PAGE),
     "hull": "a hull is of unions alone: make its cuts around it, as in difference() { hull() .. }",
 }
+# A number of a `multmatrix` is this at most; the modules that move points; and those that have lengths.
+MOST_FACTOR = 65_535
+MOVES = {"translate", "scale", "rotate", "mirror"}
+SHAPES = {"cube", "cylinder", "square", "circle", "polygon", "polyhedron", "linear_extrude"}
 # The cures of a division that does not come out even, and of a number with an exponent.
 EVEN = "count in tenths, 70 / 2 for 7 / 2, or drop the rest: (w - w % 2) / 2"
 PLAIN = "write numbers without an exponent, 10 for 1e1"
@@ -154,6 +158,8 @@ def what_is_wrong(word: str, line: bytes | None, column: int) -> tuple[str, str]
     shown = _token(line, column)
     if word == "NotInProfile" and shown in FORMS:
         return OTHER_FORM.format(shown), FORMS[shown]
+    if word == "TooLarge" and not re.match(r"[0-9.]", shown):
+        return _too_large(shown, line[column:]), cure
     if word == "NotWhole" and not re.match(r"[0-9.]", shown):
         return said.format(f"what {shown} gives"), EVEN
     if word == "NotWhole" and "e" in shown.lower():
@@ -165,6 +171,17 @@ def what_is_wrong(word: str, line: bytes | None, column: int) -> tuple[str, str]
     if word == "BadCharacter" and re.match(r"[A-Za-z_]", shown):
         return said.format(shown), NAMED
     return said.format(shown), cure
+
+
+def _too_large(shown: str, behind: bytes) -> str:
+    """What is said of a number that is too large at a token which is none, with what stands behind that on its line."""
+    if shown == "multmatrix":
+        number = next((it.decode() for it in re.findall(rb"-?[0-9]+", behind) if abs(int(it)) > MOST_FACTOR), None)
+        what = f"{number} in multmatrix" if number else "a factor of multmatrix"
+        return f"{what} is past {MOST_FACTOR:,}" + ("" if number else ", or a move past 2^53 - 1 grid steps")
+    if shown in MOVES:
+        return f"what {shown} moves a point to is past 2^53 - 1 grid steps"
+    return f"a length of {shown} is past 2^53 - 1 grid steps" if shown in SHAPES else f"what {shown} gives is past 2^53 - 1"
 
 
 def _token(line: bytes, column: int) -> str:
@@ -184,7 +201,10 @@ def printable(text: bytes) -> str:
 
 
 def excerpt(line: bytes, column: int) -> str:
-    """The part of a line that is near to a byte of it, from 1, and a line with a caret below that byte."""
+    """The part of a line that is near to a byte of it, from 1, and a line with a caret below that byte; its beginning alone where
+    the byte is 0, which is none."""
+    if column == 0:
+        return f"    {printable(line[:120].rstrip())}\n"
     first = max(0, column - 61)
     before, after = printable(line[first : column - 1]), printable(line[column - 1 : column + 59].rstrip(b"\r"))
     below = "".join(it if it == "\t" else " " for it in before)

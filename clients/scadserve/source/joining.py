@@ -1,17 +1,20 @@
 """Reads a source with all that it includes: `include <FILE>` is replaced by the text of that file, wherever it stands.
 
-A file is looked for in the folder of the file that names it, then in those of `-I`, then in those of OPENSCADPATH. Each line
-keeps its place. `use <FILE>` between the statements of the program is taken out of the text, and the file is noted.
+A file is looked for in the folder of the file that names it, then in those of `-I`, then in those of OPENSCADPATH, then in
+`library/`. Each line keeps its place. `use <FILE>` between the statements of the program is taken out of the text, and the file
+is noted.
 """
 
 from __future__ import annotations
 
 import os
 import re
+import stat
 from dataclasses import dataclass, field
 from typing import NamedTuple, Sequence
 
 from ..files import called, read_file, reason
+from ..top import LIBRARY
 from .faults import FILES
 from .sources import Line, Origin, Refused, Spot
 from .tokens import PIECE
@@ -23,7 +26,8 @@ MOST_FILES, MOST_NESTED = 1_024, 64
 MOST_LINES = 16 * 4_096
 
 WORD = rb"(?P<word>include|use)[ \t\r\n]*<(?P<file>[^\t\r\n>]+)>"
-_ANY_WORD = re.compile(WORD)
+#: What names another file, wherever it stands, in a comment too.
+WORD_OF_FILE = re.compile(WORD)
 _PIECE = re.compile(WORD + b"|" + PIECE.pattern, re.DOTALL)
 _OPENING, _CLOSING = (b"(", b"[", b"{"), (b")", b"]", b"}")
 
@@ -68,42 +72,61 @@ class Joined:
     behind: Sequence[bytes] = ()
 
 
-class Folders:
-    """The folders in which files are looked for, beside that of the file that names them, and how many were read."""
+def folders_of_environment() -> list[str]:
+    """The folders that OPENSCADPATH names."""
+    return list(filter(None, os.environ.get("OPENSCADPATH", "").split(os.pathsep)))
 
-    def __init__(self, folders: Sequence[str]) -> None:
-        of_environment = os.environ.get("OPENSCADPATH", "").split(os.pathsep)
-        self._folders = [*folders, *filter(None, of_environment)]
+
+class Folders:
+    """The folders in which files are looked for, beside that of the file that names them, and how many were read. Files are
+    bounded by what a script may have, or not. Where `roots` are given, which have no links in them, no file is there but the
+    ordinary ones below these and those of the library."""
+
+    def __init__(self, folders: Sequence[str], is_bounded: bool = True, roots: Sequence[str] | None = None) -> None:
+        self._is_bounded = is_bounded
+        self._folders = [*folders, *folders_of_environment(), LIBRARY]
+        self._roots = None if roots is None else [*roots, os.path.realpath(LIBRARY)]
         self._read = 0
 
     def first(self, path: str) -> File:
         """The file of a call; `-` is standard input. Raises OSError."""
-        return File(path, called(path), read_file(path, MOST_BYTES + 1))
+        return File(path, called(path), self._bytes_of(path))
 
     def find(self, file: File, at: int, word: str, named: str, opened: Sequence[str]) -> File:
         """The file that a file names so at a byte. Raises Refused, also where it is one of those that are opened."""
         folder = os.path.dirname(file.path) if file.path != "-" else ""
-        there = [it for it in (os.path.join(it, named) for it in [folder, *self._folders]) if os.path.exists(it)]
+        there = [it for it in (os.path.join(it, named) for it in [folder, *self._folders]) if self._is_there(it)]
         path = next((it for it in there if not os.path.isdir(it)), None)
         if path is None:
             raise file.refused(at, "NoFile", f"{named} is a folder" if there else f"there is no file {named}")
+        if is_pipe(path):
+            raise file.refused(at, "NoFile", f"{path} is a pipe")
         if os.path.realpath(path) in opened:
             raise file.refused(at, "Ring", f"{path} is being read already")
         self._read += 1
         if self._read > MOST_FILES or len(opened) > MOST_NESTED:
             raise file.refused(at, "TooManyFiles")
         try:
-            data = read_file(path, MOST_BYTES + 1)
+            data = self._bytes_of(path)
         except OSError as error:
             raise file.refused(at, "NoFile", f"{path} can't be opened: {reason(error)}") from None
-        if len(data) > MOST_BYTES:
+        if self._is_bounded and len(data) > MOST_BYTES:
             raise file.refused(at, "TooLarge", f"{path} has more than a script's 1 MiB")
         return File(path, path, data, Origin(file.spot(at), word, file.origin))
+
+    def _bytes_of(self, path: str) -> bytes:
+        return read_file(path, MOST_BYTES + 1 if self._is_bounded else -1)
+
+    def _is_there(self, path: str) -> bool:
+        if self._roots is None:
+            return os.path.exists(path)
+        real = os.path.realpath(path)
+        return os.path.isfile(real) and any(os.path.commonpath([real, it]) == it for it in self._roots)
 
     def join(self, file: File, opened: Sequence[str] = ()) -> Joined:
         """A file with all that it includes, while these files are opened. Raises Refused."""
         joined = Joined(file)
-        if opened or _ANY_WORD.search(file.data):
+        if opened or WORD_OF_FILE.search(file.data):
             self._add(joined, file, (*opened, file.identity()))
         else:
             _add_lines(joined, file, 0, len(file.data))
@@ -129,10 +152,15 @@ class Folders:
             elif self._add(joined, found, (*opened, found.identity())):
                 start = skipped = _end_of_line(file.data, start)
                 is_comment = True
-            if len(joined.lines) > MOST_LINES or joined.size > MOST_BYTES:
+            if self._is_bounded and (len(joined.lines) > MOST_LINES or joined.size > MOST_BYTES):
                 raise file.refused(piece.start(), "TooLarge")
         _add_lines(joined, file, start, len(file.data))
         return is_comment
+
+
+def is_pipe(path: str) -> bool:
+    """Whether a path is that of a pipe: it would be waited for, without an end where nobody writes to it."""
+    return stat.S_ISFIFO(os.stat(path).st_mode)
 
 
 def _is_taken(joined: Joined, piece: re.Match[bytes]) -> bool:

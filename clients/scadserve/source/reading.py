@@ -14,15 +14,23 @@ def read_source(file: str, definitions: Sequence[str] = (), folders: Sequence[st
     """The source in a file, with NAME=VALUE to be assigned behind it; `-` is standard input. What it includes and uses is
     looked for in these folders too. Raises OSError where the file can't be read, and Refused."""
     there = Folders(folders)
-    return _joined(there, there.first(file), definitions)
+    return joined_source(there, there.first(file), definitions)
 
 
 def source_of(data: bytes, name: str, definitions: Sequence[str] = (), folders: Sequence[str] = ()) -> Source:
     """The same of a source with these bytes, which stands in no folder but the one that the program runs in."""
-    return _joined(Folders(folders), File("-", name, data), definitions)
+    return joined_source(Folders(folders), File("-", name, data), definitions)
 
 
-def _joined(there: Folders, first: File, definitions: Sequence[str]) -> Source:
+def source_within(
+    data: bytes, file: str, definitions: Sequence[str], folders: Sequence[str], roots: Sequence[str]
+) -> Source:
+    """The same of these bytes as the text of a file, be it there or not, which names no file but those below these roots."""
+    return joined_source(Folders(folders, roots=roots), File(file, file, data), definitions)
+
+
+def joined_source(there: Folders, first: File, definitions: Sequence[str] = ()) -> Source:
+    """The same of a file that was read already. Raises Refused."""
     source = Source(first.name, [], definitions, len(first.data.removesuffix(b"\n").split(b"\n")) if first.data else 0)
     source.lines = with_uses(there, there.join(first), source.sent())
     return source

@@ -3,17 +3,26 @@
 from __future__ import annotations
 
 from dataclasses import dataclass
+from fractions import Fraction
 from typing import NamedTuple, Sequence
+
+#: The unit of a source that says none.
+MILLIMETRE = Fraction(1)
 
 
 class Spot(NamedTuple):
     """Where a fault is told: a file by its name in messages, a line and a byte of it, both from 1, and that line. Its
-    bytes are None at the end of a source; the file is `-D NAME=VALUE` where the fault is in such a definition."""
+    bytes are None at the end of a source; the file is `-D NAME=VALUE` where the fault is in such a definition. The column is 0
+    where it isn't known, and so is the line."""
 
     file: str
     line: int
     column: int
     text: bytes | None
+
+    def place(self) -> str:
+        """What is said of it, in the form that editors read."""
+        return ":".join([self.file, *(str(it) for it in (self.line, self.column) if it)])
 
 
 class Origin(NamedTuple):
@@ -70,6 +79,10 @@ class Source:
     lines: list[Line]
     definitions: Sequence[str] = ()
     own_lines: int = 0
+    #: How many millimetres a length of the file is, by an option or a comment; None where nothing says it, or nobody asked.
+    unit: Fraction | None = None
+    #: How many lengths of the file a length of what is sent is: the step of the grid, where OpenSCAD has evaluated the file.
+    step: Fraction = Fraction(1)
 
     def sent(self) -> list[bytes]:
         """The lines that the server is sent."""

@@ -40,20 +40,23 @@ class Span:
 
 @dataclass
 class Definition(Span):
-    """A module or a function: the numbers of its name and its parameters, and its body or value."""
+    """A module or a function: the numbers of its name and its parameters, its body or value, and the scope that it stands in
+    and its own, which has the parameters."""
 
     kind: str
     name: int
     parameters: list[int]
     body: Span
     scope: Scope
+    own: Scope
 
 
 @dataclass
 class Assignment(Span):
-    """An assignment: the number of its name."""
+    """An assignment: the number of its name, and the scope that it stands in."""
 
     name: int
+    scope: Scope
 
 
 @dataclass
@@ -67,9 +70,28 @@ class Call(Span):
 
 @dataclass(eq=False)
 class Scope(Span):
-    """A scope and the one around it."""
+    """A scope, the one around it, and what it binds: of each kind and name the numbers of the tokens, in order. A parameter is
+    a variable here. So are the variables of a loop, each in a scope of its own, in which those behind it are and the body."""
 
     around: Scope | None
+    #: Of an assignment's value: it sees no variable that the scope around it binds from this token on.
+    before: int | None = None
+    #: Of a function: it may be called while the scope around it has not bound all of its variables.
+    is_function: bool = False
+    bound: dict[tuple[str, bytes], list[int]] = field(default_factory=dict)
+
+
+@dataclass(eq=False)
+class Instance(Span):
+    """An instance: its marks stand before its core, which is its name or keyword. The instance around it, its arguments, the
+    scope of its first body, and the instances in its bodies that stand in no definition there."""
+
+    core: int
+    around: Instance | None
+    call: Call | None = None
+    scope: Scope | None = None
+    has_else: bool = False
+    children: list[Instance] = field(default_factory=list)
 
 
 @dataclass
@@ -78,10 +100,15 @@ class Structure:
 
     tokens: Sequence[Token]
     roles: dict[int, str] = field(default_factory=dict)
+    #: In which scope each name is bound or looked for, but for names of arguments.
+    places: dict[int, Scope] = field(default_factory=dict)
     scopes: list[Scope] = field(default_factory=list)
     definitions: list[Definition] = field(default_factory=list)
     #: Those of the program's own scope.
     assignments: list[Assignment] = field(default_factory=list)
+    #: Those of all other scopes.
+    inner_assignments: list[Assignment] = field(default_factory=list)
+    instances: list[Instance] = field(default_factory=list)
     calls: list[Call] = field(default_factory=list)
 
     def text(self, at: int) -> bytes:
@@ -100,25 +127,39 @@ class Structure:
         return max(around, key=lambda it: (it.scope.first - it.scope.last, it.first)) if around else None
 
 
-class _Reader:
+class Reader:
     """Reads statements from a place in the tokens."""
 
     def __init__(self, tokens: Sequence[Token]) -> None:
         self.found = Structure(tokens)
         self._at = 0
         self._deep = 0
+        self._scope = self._opened(None)
+        self._around: Instance | None = None
 
     def program(self) -> Structure:
-        scope = self._opened(None)
+        """How the program of these tokens is built. Raises NoProgram."""
         while self._at < len(self.found.tokens):
-            self._statement(scope)
-        scope.last = self._at
+            self._statement()
+        self._scope.last = self._at
         return self.found
 
-    def _opened(self, around: Scope | None) -> Scope:
-        scope = Scope(self._at, self._at, around)
-        self.found.scopes.append(scope)
-        return scope
+    def _opened(self, around: Scope | None, before: int | None = None, is_function: bool = False) -> Scope:
+        """A scope that begins here, and is the one at hand now."""
+        self._scope = Scope(self._at, self._at, around, before, is_function)
+        self.found.scopes.append(self._scope)
+        return self._scope
+
+    def _close(self, around: Scope) -> None:
+        """Ends the scopes that were opened inside of one."""
+        while self._scope is not around and self._scope.around is not None:
+            self._scope.last = self._at - 1
+            self._scope = self._scope.around
+
+    def _bind(self, kind: str, name: int) -> None:
+        """Binds the name at a token in the scope at hand."""
+        self.found.places[name] = self._scope
+        self._scope.bound.setdefault((kind, self.found.text(name)), []).append(name)
 
     def _is(self, *texts: bytes, ahead: int = 0) -> bool:
         return self.found.text(self._at + ahead) in texts
@@ -144,50 +185,73 @@ class _Reader:
         if not self._is_name():
             self._fail()
         self.found.roles[self._at] = role
+        self.found.places[self._at] = self._scope
         self._at += 1
         return self._at - 1
 
-    def _statement(self, scope: Scope) -> None:
+    def _statement(self) -> None:
         if self._is(b";"):
             self._at += 1
         elif self._is(b"{"):
-            self._block(scope)
+            self._block()
         elif self._is(b"module", b"function"):
-            self._definition(scope)
+            self._definition()
         elif self._is_name() and self._is(b"=", ahead=1):
-            first = self._at
-            name = self._named(VARIABLE)
-            self._at += 1
-            self._expression(b";")
-            self._take(b";")
-            if scope.around is None:
-                self.found.assignments.append(Assignment(first, self._at - 1, name))
+            self._assignment()
         else:
-            self._instance(scope)
+            self._instance()
 
-    def _block(self, scope: Scope) -> None:
+    def _assignment(self) -> None:
+        first, scope = self._at, self._scope
+        name = self._named(VARIABLE)
+        self._bind(VARIABLE, name)
+        self._at += 1
+        # (parameters stand before the scope, and are bound before all else)
+        assigned = scope.bound[VARIABLE, self.found.text(name)]
+        self._opened(scope, before=next(it for it in assigned if it >= scope.first))
+        self._expression(b";")
+        self._close(scope)
+        self._take(b";")
+        of_scope = self.found.assignments if scope.around is None else self.found.inner_assignments
+        of_scope.append(Assignment(first, self._at - 1, name, scope))
+
+    def _block(self) -> None:
         self._go_deeper()
         self._take(b"{")
         while not self._is(b"}"):
-            self._statement(scope)
+            self._statement()
         self._take(b"}")
         self._deep -= 1
 
-    def _definition(self, scope: Scope) -> None:
-        first = self._at
+    def _definition(self) -> None:
+        first, scope = self._at, self._scope
         kind = MODULE if self._is(b"module") else FUNCTION
         self._at += 1
         name = self._named(kind)
+        self._bind(kind, name)
+        if kind == FUNCTION:
+            self._opened(scope, is_function=True)
         parameters = self._parameters()
-        start = self._at
+        self._close(scope)
+        body, own = Span(self._at, self._at - 1), self._opened(scope, is_function=kind == FUNCTION)
+        found = Definition(first, self._at - 1, kind, name, parameters, body, scope, own)
+        self.found.definitions.append(found)
+        self._bind_all(parameters)
         if kind == MODULE:
-            self._body(scope)
+            around, self._around = self._around, None
+            self._body_in(own)
+            self._around = around
         else:
             self._take(b"=")
             self._expression(b";")
+            self._close(scope)
             self._take(b";")
-        body = Span(start, self._at - 1)
-        self.found.definitions.append(Definition(first, self._at - 1, kind, name, parameters, body, scope))
+        self._close(scope)
+        found.last = body.last = self._at - 1
+
+    def _bind_all(self, parameters: Sequence[int]) -> None:
+        for it in parameters:
+            self._bind(VARIABLE, it)
 
     def _parameters(self) -> list[int]:
         self._take(b"(")
@@ -202,66 +266,112 @@ class _Reader:
         self._take(b")")
         return found
 
-    def _instance(self, scope: Scope) -> None:
+    def _instance(self) -> None:
+        found = Instance(self._at, self._at, self._at, self._around)
+        self.found.instances.append(found)
+        if self._around is not None:
+            self._around.children.append(found)
+        self._around = found
         while self._is(b"*", b"%", b"#", b"!"):
             self._at += 1
+        found.core = self._at
+        self._core(found)
+        found.last = self._at - 1
+        self._around = found.around
+
+    def _core(self, found: Instance) -> None:
+        """Takes what stands behind the marks of an instance."""
         if self._is(b"if"):
             self._at += 1
             self._take(b"(")
             self._expression(b")")
             self._take(b")")
-            self._body(scope)
+            found.scope = self._body()
             if self._is(b"else"):
                 self._at += 1
-                self._body(scope)
+                found.has_else = True
+                self._body()
             return
+        around = self._scope
         if self._is(b"for", b"intersection_for", b"let", b"each"):
-            self._at += 1
-            self._arguments(None, VARIABLE)
+            self._binders()
         else:
-            call = Call(self._at, self._at, MODULE, self._named(MODULE))
-            self.found.calls.append(call)
-            self._arguments(call, ARGUMENT)
-        self._body(scope)
+            found.call = Call(self._at, self._at, MODULE, self._named(MODULE))
+            self.found.calls.append(found.call)
+            self._arguments(found.call)
+        found.scope = self._body()
+        self._close(around)
 
-    def _body(self, around: Scope) -> None:
-        self._go_deeper()
+    def _body(self) -> Scope:
+        around = self._scope
         scope = self._opened(around)
+        self._body_in(scope)
+        self._close(around)
+        return scope
+
+    def _body_in(self, scope: Scope) -> None:
+        """Takes the body whose scope was opened for it."""
+        self._go_deeper()
         if self._is(b";"):
             self._at += 1
         elif self._is(b"{"):
-            self._block(scope)
+            self._block()
         else:
-            self._instance(scope)
-        scope.last = self._at - 1
+            self._instance()
+        self._close(scope)
         self._deep -= 1
 
-    def _arguments(self, call: Call | None, role: str) -> None:
-        """Takes what stands in the brackets behind a name or a `for`; names before a `=` have this role."""
+    def _binders(self) -> None:
+        """Takes a `for`, or a like word, and the variables behind it; the scope of the last of them is left open."""
+        is_function = self._is(b"function")
+        self._at += 1
+        self._take(b"(")
+        while not self._is(b")"):
+            name = None
+            if self._is_name() and (self._is(b"=", ahead=1) or (is_function and self._is(b",", b")", ahead=1))):
+                name = self._named(VARIABLE)
+                self._at += self._is(b"=")
+            if name is None or self.found.text(name + 1) == b"=":
+                self._expression(b",", b")")
+            if name is not None:
+                self._opened(self._scope)
+                self._bind(VARIABLE, name)
+            if not self._is(b")"):
+                self._take(b",")
+        self._take(b")")
+
+    def _arguments(self, call: Call) -> None:
+        """Takes what stands in the brackets behind the name of a call."""
         self._take(b"(")
         while not self._is(b")"):
             start = self._at
             if self._is_name() and self._is(b"=", ahead=1):
-                self._named(role)
+                self._named(ARGUMENT)
                 self._at += 1
             self._expression(b",", b")")
-            if call is not None:
-                call.arguments.append(Span(start, self._at - 1))
+            call.arguments.append(Span(start, self._at - 1))
             if not self._is(b")"):
                 self._take(b",")
         self._take(b")")
-        if call is not None:
-            call.last = self._at - 1
+        call.last = self._at - 1
 
     def _expression(self, *ends: bytes) -> None:
-        """Takes what stands before one of these ends, at least one token, with the brackets in it closed."""
+        """Takes what stands before one of these ends, at least one token, with the brackets in it closed. What a `let`, a `for`
+        or a `function` in it binds is known to its end, or to that of the side of a choice in which it stands."""
         self._go_deeper()
         if self._is(*ends):
             self._fail()
+        around = self._scope
+        sides: list[Scope] = []
         while not self._is(*ends):
             if self._at >= len(self.found.tokens) or self._is(b")", b"]", b"}", b";", b"{"):
                 self._fail()
+            if self._is(b"?"):
+                sides.append(self._scope)
+            elif self._is(b":"):
+                self._close(sides.pop() if sides else around)
             self._part()
+        self._close(around)
         self._deep -= 1
 
     def _part(self) -> None:
@@ -272,12 +382,11 @@ class _Reader:
         elif self._is_name() and self._is(b"(", ahead=1):
             call = Call(self._at, self._at, FUNCTION, self._named(FUNCTION))
             self.found.calls.append(call)
-            self._arguments(call, ARGUMENT)
+            self._arguments(call)
         elif self._is_name():
             self._named(VARIABLE)
         elif text in (b"for", b"let", b"function") and self._is(b"(", ahead=1):
-            self._at += 1
-            self._arguments(None, VARIABLE)
+            self._binders()
         elif text in (b"(", b"["):
             self._at += 1
             while not self._is(CLOSING[text]):
@@ -291,4 +400,4 @@ class _Reader:
 
 def structure_of(tokens: Sequence[Token]) -> Structure:
     """How the program of these tokens is built. Raises NoProgram."""
-    return _Reader(tokens).program()
+    return Reader(tokens).program()

@@ -43,6 +43,6 @@ def tokens(lines: Sequence[bytes]) -> list[Token]:
     for piece in PIECE.finditer(b"\n".join(lines)):
         kind = piece.lastgroup or ""
         if kind not in ("gap", "open"):
-            line = bisect_right(starts, piece.start()) - 1
-            found.append(Token(kind, piece[0], line, piece.start() - starts[line]))
+            number = bisect_right(starts, piece.start()) - 1
+            found.append(Token(kind, piece[0], number, piece.start() - starts[number]))
     return found

@@ -8,14 +8,14 @@ file, and modules and functions in those that use them too. What can't be told a
 
 from __future__ import annotations
 
-from typing import Sequence
+from typing import Callable, Sequence
 
 from . import specials
 from .file_scopes import Name, FileScope, new_name, refused
 from .joining import Folders, Joined
 from .sources import Edit, Line
-from .structure import VARIABLE, NoProgram, structure_of
-from .tokens import tokens
+from .structure import VARIABLE, NoProgram, Structure, structure_of
+from .tokens import Token, tokens
 
 
 def with_uses(folders: Folders, joined: Joined, definitions: Sequence[bytes]) -> list[Line]:
@@ -24,7 +24,7 @@ def with_uses(folders: Folders, joined: Joined, definitions: Sequence[bytes]) ->
         return joined.lines
     scopes: dict[str, FileScope] = {}
     joined.behind = definitions
-    main = _scope_of(folders, joined, (joined.file.identity(),), scopes)
+    main = scope_of(folders, joined, (joined.file.identity(),), scopes)
     libraries = [it for it in scopes.values() if it is not main]
     _rename(main, libraries)
     specials.hand_over(list(scopes.values()))
@@ -32,18 +32,25 @@ def with_uses(folders: Folders, joined: Joined, definitions: Sequence[bytes]) ->
     return lines + _edited(main, main.joined.lines)
 
 
-def _scope_of(folders: Folders, joined: Joined, opened: tuple[str, ...], scopes: dict[str, FileScope]) -> FileScope:
-    """The scope of a file, with the lines behind it. The scopes that it uses are added before it."""
+def scope_of(
+    folders: Folders,
+    joined: Joined,
+    opened: tuple[str, ...],
+    scopes: dict[str, FileScope],
+    built: Callable[[Sequence[Token]], Structure] = structure_of,
+) -> FileScope:
+    """The scope of a file, with the lines behind it, while these files are opened. The scopes that it uses are added before
+    it. `built` says how tokens are built. Raises Refused."""
     uses: list[FileScope] = []
     for file in joined.uses:
         identity = file.identity()
         if identity not in scopes:
-            scopes[identity] = _scope_of(folders, folders.join(file, opened), (*opened, identity), scopes)
+            scopes[identity] = scope_of(folders, folders.join(file, opened), (*opened, identity), scopes, built)
         # (of two files that define a name the later use counts)
         uses = [scopes[identity], *(it for it in uses if it is not scopes[identity])]
     found = tokens([*(it.sent for it in joined.lines), *joined.behind])
     try:
-        structure = structure_of(found)
+        structure = built(found)
     except NoProgram as fault:
         raise refused(joined, found[fault.at] if fault.at < len(found) else None, fault.word) from None
     scope = FileScope(joined, uses, structure)

@@ -9,7 +9,7 @@ from ..ending import BadCall
 from .words import Words, say_bad
 
 #: Each is a module of this package that has `main` and `parser`, and a file of the same name in `bin/` that starts it.
-TOOLS = ("scad2off", "scad2stl", "off2stl", "off2svg", "off2html", "off2in", "csg2scad")
+TOOLS = ("scad2off", "scad2stl", "off2stl", "off2svg", "off2html", "off2in", "csg2scad", "scadlive", "scadls")
 #: The starter of the program, whose words are read by the program, and told here.
 STARTER = "scadserve"
 #: All starters, by their place from the top.

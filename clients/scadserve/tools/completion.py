@@ -14,7 +14,7 @@ from .catalogue import STARTER, TOOLS, parser_of
 from .manual import help_of, value_of
 
 # The ending of the files that a tool reads, by the first part of its name.
-_ENDINGS = {"scad": ".scad", "off": ".4off", "csg": ".csg"}
+_ENDINGS = {"scad": ".scad", "off": ".4off", "csg": ".csg", "scadlive": ".scad"}
 _BASH = """# Completes the words of {name} in bash.
 _{name}() {{
     local word=${{COMP_WORDS[COMP_CWORD]}} before=${{COMP_WORDS[COMP_CWORD - 1]}}
@@ -68,7 +68,7 @@ def zsh(name: str) -> str:
     """The function that completes a tool's words in zsh."""
     options, files = _words_of(name)
     specs = [it for action in options for it in _of_option(parser_of(name), action, name)]
-    if all(it.choices for it in files):
+    if files and all(it.choices for it in files):
         specs.append(f"1:word:({_choices(files)})")
     else:
         for it in files:

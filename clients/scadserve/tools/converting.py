@@ -12,6 +12,7 @@ from __future__ import annotations
 import os
 from argparse import Namespace
 from dataclasses import dataclass
+from fractions import Fraction
 from time import monotonic
 from typing import TYPE_CHECKING, Callable, NamedTuple, Sequence
 
@@ -23,7 +24,7 @@ from ..source.faults import STATUSES
 from ..source.reading import read_source, unused
 from ..source.sources import Refused, Source
 from ..source.telling import limit_told, refused_told, reply_told
-from .words import say_bad
+from .words import say_bad, wanted_of
 
 if TYPE_CHECKING:
     from ..openscad.by_openscad import Reader
@@ -53,6 +54,8 @@ class Call:
     definitions: Sequence[str] = ()
     folders: Sequence[str] = ()
     allow_empty: bool = False
+    #: Whether it is noted where OpenSCAD takes a source for another solid.
+    has_notes: bool = True
     server: Sequence[str] = SERVER
     #: What the files that the tool makes begin with: such a file is removed where its source has a fault now.
     begins: tuple[bytes, ...] = ()
@@ -60,16 +63,18 @@ class Call:
     read: Callable[[str, Sequence[str], Sequence[str]], Source] = read_source
     #: A source of the same file whose solid is smaller, for one that passes a limit of the server; None where there is none.
     coarser: Callable[[Source], Source | None] | None = None
+    #: What is said of a source last, when what was made of it is written.
+    last: Callable[[Source], str] | None = None
 
 
-def front_end(asked: Namespace) -> Reader | None:
-    """What reads sources by OpenSCAD's front end, where the words ask for that."""
+def front_end(asked: Namespace, unit: Fraction | None = None) -> Reader | None:
+    """What reads sources by OpenSCAD's front end, where the words ask for that; the unit of each is this one, if there is one."""
     if not asked.by_openscad:
         return None
     # (a third of the package, without which the tools are quicker to start)
     from ..openscad.by_openscad import Reader
 
-    return Reader(asked.exact)
+    return Reader(wanted_of(asked), unit)
 
 
 def told(tool: str, work: Callable[[], int]) -> int:
@@ -97,6 +102,8 @@ def convert(call: Call, write: Callable[[Source, str, Solid], int]) -> int:
     for source, reply in answered([it.source for it in parts], call.half, call.server):
         quick = monotonic() - began < QUICK if quick is None else quick
         out = next(outs)
+        if call.has_notes and isinstance(reply, Solid):
+            _say_notes(source)
         try:
             statuses.append(_finished(call, *_smaller(call, source, reply), out, write, quick))
         except Refused as refused:
@@ -167,6 +174,13 @@ def _read(call: Call, file: str) -> Source:
     return source
 
 
+def _say_notes(source: Source) -> None:
+    """Says where OpenSCAD takes a source for another solid."""
+    from ..source.notes import notes_told
+
+    say(notes_told(source))
+
+
 def _smaller(call: Call, source: Source, reply: Reply) -> tuple[Source, Reply]:
     """The source and its answer, or those of one of the same file that is within the server's limits. Raises Refused."""
     while isinstance(reply, Complex) and call.coarser is not None:
@@ -182,7 +196,10 @@ def _finished(
 ) -> int:
     """Writes what is made of a part, or says why there is nothing, and gives the part's status."""
     if isinstance(reply, Solid) and (reply.faces or call.allow_empty):
-        return write(source, out, reply)
+        status = write(source, out, reply)
+        if call.last is not None and not status:
+            say(call.last(source))
+        return status
     if isinstance(reply, NoMemory):
         say(reply_told(source, reply))
         return NO_MEMORY

@@ -1,26 +1,26 @@
-"""The tool csg2scad: OpenSCAD's evaluated form, which `openscad -o part.csg part.scad` writes, as a source of ours."""
+"""The tool csg2scad: OpenSCAD's evaluated form, which `openscad --render -o part.csg part.scad` writes, as a source of ours."""
 
 from __future__ import annotations
 
 import argparse
 import os
 import re
-from fractions import Fraction
+from dataclasses import replace
 from typing import Sequence
 
 from ..ending import BAD_CALL, BadCall, PART_FAULT, ended
 from ..files import called, identity, read_file, reason, refusal_to_write, say
 from ..openscad import reader
-from ..openscad.by_openscad import conversion_told
-from ..openscad.conversion import Wanted, converted
+from ..openscad.by_openscad import conversion_told, warnings_told
+from ..openscad.conversion import converted
 from ..openscad.front import Front
 from ..openscad.grid import PLANES
 from ..openscad.reader import CsgFault
-from .words import Words, say_bad, write_out
+from ..source.units import unit_argument
+from .words import Words, front_end_wishes, say_bad, wanted_of, write_out
 
-_UNIT = re.compile(r"[0-9]{1,9}(?:\.[0-9]{1,9}|/0*[1-9][0-9]{0,8})?")
-_DESCRIPTION = """Writes the solid of OpenSCAD's evaluated form, as openscad -o part.csg part.scad writes it, as a source of scad2off:
-each convex leaf as the hull of its corners, rounded to a grid. What was changed is told on standard error."""
+_DESCRIPTION = """Writes the solid of OpenSCAD's evaluated form, as openscad --render -o part.csg part.scad writes it, as a source of
+scad2off: each convex leaf as the hull of its corners, rounded to a grid. What was changed is told on standard error."""
 _EPILOG = "The status is 0 where all was written, 1 where the design can't be converted, 2 where words or files are faulty."
 
 
@@ -34,10 +34,10 @@ def parser() -> Words:
     words = Words("csg2scad", _DESCRIPTION, _EPILOG)
     words.add_argument("file", nargs="?", default="-", metavar="FILE.csg", help="else standard input")
     words.add_argument("-o", dest="out", metavar="FILE", default="-", help="the source to write; else standard output")
-    words.add_argument("--unit", type=_unit, help="the step of the grid in OpenSCAD's lengths, as 1/20; else it is chosen")
+    words.add_argument("--unit", type=unit_argument, help="the step of the grid in OpenSCAD's lengths, as 1/20; else it is chosen")
     words.add_argument("--exact", action="store_true", help="leave no corner of a curve out: refuse where planes run out")
     words.add_argument("--planes", type=_count, default=PLANES, metavar="N", help=f"take so many planes at most; else {PLANES}")
-    words.add_argument("--flat", type=_unit, metavar="H", help="make a design in the plane H high")
+    front_end_wishes(words)
     words.add_argument("--folder", metavar="DIR", help="where the files that the design imports are; else where FILE.csg is")
     return words
 
@@ -53,22 +53,16 @@ def _told(words: Sequence[str]) -> int:
 def _converted(asked: argparse.Namespace) -> int:
     name = called(asked.file)
     text = _text(asked.file, asked.out)
-    wanted = Wanted(asked.unit, asked.exact, asked.planes, asked.flat)
+    wanted = replace(wanted_of(asked), unit=asked.unit, planes=asked.planes)
     try:
-        found = converted(reader.read(text), wanted, Front(asked.folder or os.path.dirname(os.path.abspath(asked.file))))
+        found = converted(reader.read(text), wanted, Front(asked.folder or os.path.dirname(os.path.abspath(asked.file)), asked.strict))
     except CsgFault as fault:
         say(f"{name}:{fault.line}:{fault.column}: error: {fault.word}: {fault.said}\n")
         return PART_FAULT
     say(conversion_told(name, found))
     write_out(asked.out, found.text)
+    say(warnings_told(name, found.warnings))
     return 0
-
-
-def _unit(text: str) -> Fraction:
-    """A length above 0, written as a whole number, a decimal number or a fraction."""
-    if _UNIT.fullmatch(text) is None or Fraction(text) == 0:
-        raise argparse.ArgumentTypeError(f"{text!r} is no number above 0 like 2, 0.05 or 1/20")
-    return Fraction(text)
 
 
 def _count(text: str) -> int:

@@ -2,7 +2,8 @@
 
     part.4off: 46 faces, 72 triangles, 1 part, closed; unit 1/10 mm; box 2 x 1.2 x 1.6; volume 0.824
 
-Box and volume are exact, in millimetres, of the solid before its corners are rounded for the format. Closed says of the
+Box and volume are those of the solid before its corners are rounded for the format, in millimetres and to six figures, or
+exact. Closed says of the
 triangles that are written that each has one neighbour at each of its edges, which goes along it the other way. Nothing is
 repaired, and no corners are joined but those that rounding makes one.
 """
@@ -13,18 +14,18 @@ import os
 import sys
 from argparse import Namespace
 from fractions import Fraction
-from typing import Sequence
+from typing import NamedTuple, Sequence
 
 from ..ending import PART_FAULT
 from ..files import called
 from ..solid import closing
 from ..solid.formats import WRITERS
 from ..solid.fouroff import Boundary
-from ..solid.measures import Volume, box, shown
+from ..solid.measures import Volume, box, rounded, shown
 from ..solid.merging import merged
 from ..solid.meshes import Mesh, mesh
 from ..solid.surface import NotClosed, surface_of
-from ..source.units import unit_argument
+from ..source.units import MILLIMETRE, unit_argument
 from . import off2tool
 from .off2tool import BadSolid
 from .words import Words
@@ -36,6 +37,7 @@ _BINARY = ("binstl", "3mf")
 def mesh_words(words: Words) -> None:
     """The words that each tool takes which writes meshes."""
     words.add_argument("--unit", type=unit_argument, metavar="U", help="how many millimetres a unit is: 1/10, 25.4; else 1")
+    words.add_argument("--exact-numbers", action="store_true", help="tell box and volume exactly, else to six figures")
     words.add_argument("--format", choices=list(WRITERS), help="else the ending of OUT says it, or it is stl")
 
 
@@ -55,8 +57,21 @@ def ending_of(form: str) -> str:
     return ".stl" if form == "binstl" else f".{form}"
 
 
-def export(file: str, boundary: Boundary, unit: Fraction, form: str) -> tuple[Mesh, str]:
-    """The mesh of the solid in a file, with corners times the unit and rounded for this format, and the line that tells of it.
+class Lengths(NamedTuple):
+    """The lengths of a solid: how many millimetres a unit is, how many units a length of its text is, and whether box and
+    volume are told exactly."""
+
+    unit: Fraction
+    step: Fraction = MILLIMETRE
+    is_exact: bool = False
+
+    def told(self, number: Fraction, is_known: bool = True) -> str:
+        """A number of the solid, which is known exactly or not, as digits."""
+        return shown(number, is_known) if self.is_exact else rounded(number)
+
+
+def export(file: str, boundary: Boundary, lengths: Lengths, form: str) -> tuple[Mesh, str]:
+    """The mesh of the solid in a file, with corners in millimetres and rounded for this format, and the line that tells of it.
 
     Raises BadSolid where the boundary isn't closed or looks inward, or rounding leaves nothing.
     """
@@ -65,15 +80,15 @@ def export(file: str, boundary: Boundary, unit: Fraction, form: str) -> tuple[Me
         surface = merged(surface_of(boundary, rings))
     except NotClosed as fault:
         raise BadSolid(f"{called(file)}: error: {fault}") from None
-    solid = mesh(off2tool.stem(file), surface, unit, form)
+    solid = mesh(off2tool.stem(file), surface, lengths.unit, form, lengths.step)
     volume = off2tool.check(file, boundary, solid.triangles)
     if not solid.triangles:
         what = f"{called(file)}: error: rounding makes one corner of all, so nothing is written"
         raise BadSolid(f"{what}: take a larger --unit, or another --format than binstl", PART_FAULT)
-    return solid, f"{called(file)}: {_summary(boundary, rings, solid, volume)}\n"
+    return solid, f"{called(file)}: {_summary(boundary, rings, solid, volume, lengths)}\n"
 
 
-def _summary(boundary: Boundary, rings: Sequence[closing.Ring], solid: Mesh, volume: Volume) -> str:
+def _summary(boundary: Boundary, rings: Sequence[closing.Ring], solid: Mesh, volume: Volume, lengths: Lengths) -> str:
     """What is told of a solid that is closed."""
     counts = [
         f"{len(boundary.faces)} faces",
@@ -88,8 +103,9 @@ def _summary(boundary: Boundary, rings: Sequence[closing.Ring], solid: Mesh, vol
     ):
         if count:
             counts.append(f"{_counted(count, what)} {how}")
-    sides = " x ".join(shown((high - low) * solid.unit) for low, high in box(boundary))
-    told = [f"unit {shown(solid.unit)} mm", f"box {sides}", f"volume {shown(volume.value * solid.unit**3, volume.exact)}"]
+    length = lengths.unit * lengths.step
+    sides = " x ".join(lengths.told((high - low) * length) for low, high in box(boundary))
+    told = [f"unit {shown(lengths.unit)} mm", f"box {sides}", f"volume {lengths.told(volume.value * length**3, volume.exact)}"]
     if solid.rounded:
         told.append(f"{_counted(solid.rounded, 'corner')} rounded to the nearest the format has")
     if solid.lost:

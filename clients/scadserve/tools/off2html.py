@@ -75,7 +75,8 @@ def _read(asked: Namespace) -> Shown:
     boundary = off2tool.read(asked.file, asked.out)
     rings = closing.close(boundary)
     volume = off2tool.check(asked.file, boundary, rings)
-    return Shown(off2tool.stem(asked.file), boundary, rings, volume, tuple(asked.view), asked.unit)
+    right, up = asked.view
+    return Shown(off2tool.stem(asked.file), boundary, rings, volume, (right, up), asked.unit)
 
 
 def _watch(asked: Namespace, stamp: Stamp, solid: Shown) -> NoReturn:

@@ -13,7 +13,7 @@ from ..solid.formats import BEGINS, WRITERS
 from ..source.units import MILLIMETRE
 from . import off2tool
 from .converting import counted, test_place
-from .exporting import ending_of, export, format_of, mesh_words
+from .exporting import Lengths, ending_of, export, format_of, mesh_words
 from .words import Words, outs_of, test_outs, write_out
 
 TOOL = "off2stl"
@@ -37,8 +37,9 @@ def _convert(words: Sequence[str]) -> int:
 
 def _write(asked: Namespace, file: str, out: str) -> None:
     """Writes one solid. Raises BadCall and BadSolid."""
+    lengths = Lengths(asked.unit or MILLIMETRE, is_exact=asked.exact_numbers)
     with off2tool.nothing_old(out, BEGINS):
-        solid, told = export(file, off2tool.read(file, out), asked.unit or MILLIMETRE, asked.format)
+        solid, told = export(file, off2tool.read(file, out), lengths, asked.format)
     if asked.info:
         write_out("-", told.encode("utf-8", "surrogateescape"))
     else:

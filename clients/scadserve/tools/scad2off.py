@@ -5,11 +5,15 @@ from __future__ import annotations
 from typing import Sequence
 
 from ..ending import BAD_CALL, BadCall, ended
+from ..files import say
 from ..server.batches import batches
 from ..server.scripts import Solid, server_of_environment
+from ..solid.measures import shown
+from ..source.differences import explained
 from ..source.faults import explanation
 from ..source.reading import read_source
-from ..source.sources import Source
+from ..source.sources import MILLIMETRE, Source
+from ..source.units import with_unit
 from .converting import Call, convert, front_end, parts_of, told
 from .scad2off_words import options_of, parser as parser
 from .words import outs_of, say_bad, write_out
@@ -35,22 +39,24 @@ def _do(words: Sequence[str]) -> int:
         half=asked.half,
         definitions=asked.definitions,
         folders=asked.folders,
+        has_notes=not asked.no_notes and not asked.by_openscad,
         allow_empty=asked.allow_empty,
         server=server_of_environment(),
         begins=(b"4OFF\n",),
-        read=reader or read_source,
+        read=reader or (lambda *it: with_unit(read_source(*it))),
         coarser=reader.coarser if reader else None,
+        last=reader.last if reader else None,
     )
     return _script_written(call) if asked.script else convert(call, _text_written)
 
 
 def _explained(word: str) -> int:
     try:
-        said = explanation(word)
+        said = explanation(word) or explained(word)
     except OSError as error:
         raise BadCall(f"cannot open {error.filename}: {error.strerror}") from error
     if said is None:
-        raise BadCall(f"docs/FAULTS.md does not explain {word}")
+        raise BadCall(f"neither docs/FAULTS.md nor docs/differences.txt explains {word}")
     write_out("-", said.encode())
     return 0
 
@@ -67,10 +73,13 @@ def _script_written(call: Call) -> int:
     return 0
 
 
-def _text_written(_: Source, out: str, solid: Solid) -> int:
+def _text_written(source: Source, out: str, solid: Solid) -> int:
     try:
         write_out(out, solid.text)
     except BadCall as bad:
         say_bad(TOOL, bad)
         return BAD_CALL
+    length = (source.unit or MILLIMETRE) * source.step
+    if source.step != MILLIMETRE:
+        say(f"{source.name}: a length of its text is {shown(length)} mm, so its mesh comes of off2stl --unit {length}\n")
     return 0

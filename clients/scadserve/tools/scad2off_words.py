@@ -33,7 +33,7 @@ def parser() -> Words:
     )
     words.add_argument("--script", action="store_true", help="print the script that the server would be given")
     words.add_argument(
-        "--explain", metavar="WORD", help="say what the word of a fault means, with an example and its cure"
+        "--explain", metavar="WORD", help="say what the word of a fault, or the form of a note, means, with an example"
     )
     return words
 

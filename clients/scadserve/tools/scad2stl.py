@@ -16,10 +16,10 @@ from ..solid import fouroff
 from ..solid.formats import BEGINS, WRITERS
 from ..source.reading import read_source
 from ..source.sources import Source
-from ..source.units import MILLIMETRE, unit_of
+from ..source.units import MILLIMETRE, with_unit
 from . import off2tool
 from .converting import Call, convert, front_end, told
-from .exporting import ending_of, export, format_of, mesh_words
+from .exporting import Lengths, ending_of, export, format_of, mesh_words
 from .scad2off_words import STATUSES
 from .words import Words, front_end_words, outs_of, source_words, test_front_end, test_outs, write_out
 
@@ -40,7 +40,7 @@ def main(words: Sequence[str]) -> int:
 
 def _do(words: Sequence[str]) -> int:
     asked = _read_words(words)
-    reader = front_end(asked)
+    reader = front_end(asked, asked.unit)
     call = Call(
         TOOL,
         asked.files,
@@ -49,29 +49,22 @@ def _do(words: Sequence[str]) -> int:
         half=asked.half,
         definitions=asked.definitions,
         folders=asked.folders,
+        has_notes=not asked.no_notes and not asked.by_openscad,
         server=server_of_environment(),
         begins=BEGINS,
-        read=reader or (read_source if asked.unit else _source_with_unit),
+        read=reader or (lambda *it: with_unit(read_source(*it), asked.unit)),
         coarser=reader.coarser if reader else None,
+        last=reader.last if reader else None,
     )
     return convert(call, lambda source, out, solid: off2tool.told(TOOL, lambda: _write(asked, source, out, solid)))
 
 
-def _source_with_unit(file: str, definitions: Sequence[str] = (), folders: Sequence[str] = ()) -> Source:
-    """The source in a file. Raises OSError, and Refused where its comments say no one unit too."""
-    source = read_source(file, definitions, folders)
-    unit_of(source)
-    return source
-
-
 def _write(asked: Namespace, source: Source, out: str, solid: Solid) -> None:
     """Writes one solid. Raises BadCall and BadSolid."""
-    unit = asked.unit or unit_of(source) or MILLIMETRE
-    if asked.unit and asked.by_openscad:  # (that of OpenSCAD's lengths, in which the source's own unit is one)
-        unit = asked.unit * (unit_of(source) or MILLIMETRE)
+    lengths = Lengths(source.unit or MILLIMETRE, source.step, asked.exact_numbers)
     file = "-" if source.name == called("-") else source.name
     with off2tool.nothing_old(out, BEGINS):
-        mesh, line = export(file, fouroff.read(solid.text), unit, asked.format)
+        mesh, line = export(file, fouroff.read(solid.text), lengths, asked.format)
     write_out(out, WRITERS[asked.format](mesh))
     say(line)
 

@@ -7,13 +7,18 @@ from __future__ import annotations
 
 import argparse
 import os
-from typing import Mapping, NoReturn, Sequence
+import re
+from fractions import Fraction
+from typing import TYPE_CHECKING, Mapping, NoReturn, Sequence
 
 from ..ending import BadCall
 from ..files import called, reason, say, write_file
 from ..source.structure import NoProgram, structure_of
 from ..source.tokens import tokens
 from ..version import VERSION
+
+if TYPE_CHECKING:
+    from ..openscad.conversion import Wanted
 
 
 class Words(argparse.ArgumentParser):
@@ -80,10 +85,15 @@ def source_words(words: Words, made: str, ending: str) -> None:
         dest="definitions",
         metavar="NAME=VALUE",
         action="append",
-        type=_definition,
+        type=definition,
         default=[],
         help="assign a variable behind the source's own lines: this is what counts then",
     )
+    reading_words(words)
+
+
+def reading_words(words: Words) -> None:
+    """The words of each tool that reads sources with what they include."""
     words.add_argument(
         "-I",
         dest="folders",
@@ -92,6 +102,19 @@ def source_words(words: Words, made: str, ending: str) -> None:
         default=[],
         help="look in DIR too for what a source includes or uses, before the folders of OPENSCADPATH",
     )
+    words.add_argument("--no-notes", action="store_true", help="don't say where OpenSCAD takes a source for another solid")
+
+
+def seconds_argument(text: str) -> float:
+    """A time in seconds. Raises ArgumentTypeError."""
+    try:
+        seconds = float(text)
+    except ValueError:
+        seconds = 0.0
+    # (no clock counts further, and neither is a number that is none)
+    if not 0 < seconds <= 1_000_000:
+        raise argparse.ArgumentTypeError(f"{text!r} is no number of seconds above 0")
+    return seconds
 
 
 def front_end_words(words: Words) -> None:
@@ -104,18 +127,55 @@ def front_end_words(words: Words) -> None:
     words.add_argument(
         "--exact", action="store_true", help="with --by-openscad: leave no corner of a curve out, and refuse where planes run out"
     )
+    front_end_wishes(words, "with --by-openscad: ")
+
+
+def front_end_wishes(words: Words, when: str = "") -> None:
+    """What may be asked of a design that OpenSCAD has evaluated."""
+    words.add_argument("--flat", type=length_argument, metavar="H", help=f"{when}make a design in the plane H high")
+    words.add_argument("--strict", action="store_true", help=f"{when}take what OpenSCAD warns of, or leaves out, for a fault")
+    words.add_argument(
+        "--tolerance",
+        type=length_argument,
+        metavar="D",
+        help=f"{when}refuse a solid that is off by more than D, else by more than a hundredth of its size",
+    )
+    words.add_argument("--fewer", action="store_true", help=f"{when}leave corners of curves out where planes run out, however far that is off")
+
+
+def wanted_of(asked: argparse.Namespace) -> Wanted:
+    """What is asked for by these words."""
+    # (the front end is loaded where it is asked for alone, so that the tools start quickly)
+    from ..openscad.conversion import Wanted
+
+    return Wanted(
+        is_exact=asked.exact, height=asked.flat, tolerance=asked.tolerance, may_be_fewer=asked.fewer, is_strict=asked.strict
+    )
 
 
 def test_front_end(asked: argparse.Namespace) -> None:
     """Raises BadCall where words go with OpenSCAD's front end alone, or not with it."""
-    if asked.exact and not asked.by_openscad:
-        raise BadCall("--exact is for --by-openscad")
+    for word in ("exact", "flat", "strict", "tolerance", "fewer"):
+        if getattr(asked, word) and not asked.by_openscad:
+            raise BadCall(f"--{word} is for --by-openscad")
+    if asked.exact and asked.fewer:
+        raise BadCall("--exact and --fewer can't both be given")
     if asked.half and asked.by_openscad:
         raise BadCall("--by-openscad chooses its grid itself, so it takes no --half")
 
 
-def _definition(text: str) -> str:
-    """One assignment, without the `;` behind it."""
+_LENGTH = re.compile(r"[0-9]{1,9}(?:\.[0-9]{1,9}|/0*[1-9][0-9]{0,8})?")
+
+
+def length_argument(text: str) -> Fraction:
+    """A length above 0, written as a whole number, a decimal number or a fraction."""
+    if _LENGTH.fullmatch(text) is None or Fraction(text) == 0:
+        raise argparse.ArgumentTypeError(f"{text!r} is no number above 0 like 2, 0.05 or 1/20")
+    return Fraction(text)
+
+
+def definition(text: str) -> str:
+    """One assignment, without the `;` behind it. Raises ArgumentTypeError."""
     text = text.strip(" ").rstrip("; ")
     try:
         found = structure_of(tokens([text.encode("utf-8", "surrogateescape") + b";"]))

@@ -1,4 +1,4 @@
-// The page of off2html: a solid to turn, move and zoom.
+// The viewer of off2html and of scadlive: a solid to turn, move and zoom.
 //
 // It is seen from far away, in parallel, and drawn by a depth buffer of the page's own onto a canvas. So it looks the same in each
 // browser, with a graphics card or without, and what is in front is known for each pixel. While it moves, the picture is as
@@ -558,8 +558,10 @@ class Page {
   #isRequested = false;
   #frames = 0;
 
-  constructor(solid, view) {
+  /** Shows a solid in this view. Keys are those that are pressed in the `keyed` element. */
+  constructor(solid, view, keyed = document) {
     this.solid = solid;
+    this.keyed = keyed;
     this.camera = new Camera(solid, view);
     this.canvas = element("view");
     this.painter = new Painter(this.canvas, solid, this.camera);
@@ -573,6 +575,16 @@ class Page {
     this.#showStates();
     this.#draw(false);
     window.setInterval(() => this.isWatching && this.#probe(), WATCH_PAUSE);
+  }
+
+  /** Shows another solid in place of this one, from where the viewer is, and as large. */
+  replace(solid) {
+    this.camera.zoom *= solid.radius / this.solid.radius;
+    this.solid = this.camera.solid = solid;
+    this.painter = new Painter(this.canvas, solid, this.camera);
+    this.corner = NOTHING;
+    element("corner").textContent = "";
+    this.#draw(false);
   }
 
   /** Takes the view that the page had before it was loaded again. */
@@ -591,7 +603,7 @@ class Page {
 
   #listen() {
     const { canvas } = this;
-    document.addEventListener("keydown", (event) => this.#pressed(event));
+    this.keyed.addEventListener("keydown", (event) => this.#pressed(event));
     document.querySelectorAll("button[data-key]").forEach((button) => {
       button.addEventListener("click", () => this.#keys[button.dataset.key]());
     });
@@ -696,7 +708,7 @@ class Page {
   #showStates() {
     document.documentElement.style.colorScheme = this.isDark ? "dark" : "light";
     for (const [key, isOn] of Object.entries({ e: this.hasEdges, d: this.isDark, w: this.isWatching })) {
-      document.querySelector(`button[data-key="${key}"]`).setAttribute("aria-pressed", isOn);
+      document.querySelector(`button[data-key="${key}"]`)?.setAttribute("aria-pressed", isOn);
     }
   }
 
@@ -808,7 +820,9 @@ class Page {
 
 if (window.parent !== window && window.location.search.startsWith("?mark=")) {
   window.parent.postMessage(document.documentElement.dataset.mark, "*");
-} else {
+} else if (element("solid")) {
   const data = JSON.parse(element("solid").textContent);
   new Page(new Solid(data), data.view);
 }
+
+export { Page, Solid };

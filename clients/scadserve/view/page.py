@@ -41,7 +41,7 @@ def page(solid: Shown, is_watching: bool = False, notice: str = "") -> bytes:
     """The page of a solid, the same for the same one; it may load itself again, and have a notice above the picture."""
     beside = Path(__file__)
     form = Template(beside.with_suffix(".html").read_text("utf-8"))
-    drawn = {"view": solid.view, "unit": str(solid.unit or 1), **planes(solid.boundary, solid.rings)}
+    drawn: dict[str, object] = {"view": solid.view, "unit": str(solid.unit or 1), **planes(solid.boundary, solid.rings)}
     values = {
         "title": escape(solid.title),
         "facts": "\n".join(f"<div><dt>{name}</dt><dd>{escape(fact)}</dd></div>" for name, fact in _facts(solid).items()),

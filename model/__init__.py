@@ -1,0 +1,1 @@
+"""The meaning of sources and scripts, run from its definitions."""

@@ -1,0 +1,136 @@
+"""Words of a source, and the tokens that they stand for: the crate `scad_lexer`."""
+
+from __future__ import annotations
+
+import re
+from typing import NamedTuple
+
+from .text_place import Fault, Place, least_too_large
+
+# Each word as long as possible: no part behind another one can take a byte from it.
+word_of_bytes = re.compile(rb"""
+    (?P<Blank>[ \t\r\n]+|//[^\n]*|/\*.*?\*/)
+    |(?P<UnclosedComment>/\*)
+    |(?P<Name>[A-Za-z_][A-Za-z0-9_]*)
+    |(?P<Special>\$[A-Za-z_][A-Za-z0-9_]*)
+    |(?P<Numeral>(?:[0-9]+(?:\.[0-9]*)?|\.[0-9]+)(?:[eE][+-]?[0-9]+)?)(?P<AndLetter>[A-Za-z_])?
+    |(?P<Text>"(?:\\[^\n]|[^"\\\n])*")
+    |(?P<UnclosedText>")
+    |(?P<Symbol><=|>=|==|!=|&&|\|\||[](){},;=:?.+*/%<>!\#^[-])
+""", re.VERBOSE | re.DOTALL)
+
+reserved = frozenset((
+    "module", "function", "if", "else", "for", "intersection_for", "true", "false", "undef", "use", "include", "let", "each"))
+
+numeral_class, name_class, child_count_class, special_class = "NUMERAL", "NAME", "$children", "SPECIAL"
+text_class, end_class = "TEXT", "END"
+
+
+class Token(NamedTuple):
+    """A token by its class: one of those above, or a reserved name or symbol itself. It has a number or bytes."""
+
+    kind: str
+    at: Place
+    value: int | bytes
+
+
+class BadWord(Exception):
+    """The fault of a word, and how many bytes of the word stand before it."""
+
+    def __init__(self, kind: str, before: int) -> None:
+        super().__init__(kind, before)
+        self.kind = kind
+        self.before = before
+
+
+def zero_fraction(rest: bytes) -> bool:
+    """Behind the whole part of a numeral: nothing, or a point and zeros."""
+    return rest == b"" or (rest[:1] == b"." and rest[1:].strip(b"0") == b"")
+
+
+def decimal_from(digits: bytes) -> int:
+    """The number that decimal digits write; one of more than 16 of them is too large, whatever it is."""
+    significant = digits.lstrip(b"0")
+    return int(significant or b"0") if len(significant) <= 16 else least_too_large
+
+
+def numeral_meaning(word: bytes) -> int:
+    """Its whole part, where only zeros are behind its point."""
+    rest = word.lstrip(b"0123456789")
+    if not zero_fraction(rest):
+        raise BadWord("NotWhole", 0)
+    number = decimal_from(word[:len(word) - len(rest)])
+    if number >= least_too_large:
+        raise BadWord("TooLarge", 0)
+    return number
+
+
+def letter_after_numeral(word: bytes) -> int:
+    """The numeral's fault, or that of the letter."""
+    numeral_meaning(word[:-1])
+    raise BadWord("BadCharacter", len(word) - 1)
+
+
+escape_of = {34: 34, 92: 92, 110: 10, 116: 9, 114: 13}
+
+
+def bytes_written(inside: bytes) -> bytes:
+    """The bytes that a text's inside writes."""
+    written, at = bytearray(), 0
+    while at < len(inside):
+        byte = inside[at]
+        if byte == 92 and inside[at + 1] in escape_of:
+            written.append(escape_of[inside[at + 1]])
+            at += 2
+        elif byte != 92 and 32 <= byte <= 126:
+            written.append(byte)
+            at += 1
+        else:
+            raise BadWord("BadCharacter", 1 + at)
+    return bytes(written)
+
+
+def word_meaning(kind: str, word: bytes, at: Place) -> Token | None:
+    """The token that a word makes at a place, if it makes one."""
+    if kind == "Blank":
+        return None
+    if kind == "Name":
+        name = word.decode("ascii")
+        return Token(name if name in reserved else name_class, at, word)
+    if kind == "Symbol":
+        return Token(word.decode("ascii"), at, word)
+    if kind == "Numeral":
+        return Token(numeral_class, at, numeral_meaning(word))
+    if kind == "Text":
+        return Token(text_class, at, bytes_written(word[1:-1]))
+    if kind == "Special":
+        return Token(child_count_class if word == b"$children" else special_class, at, word[1:])
+    if kind == "AndLetter":
+        return Token(numeral_class, at, letter_after_numeral(word))
+    raise BadWord({"UnclosedComment": "OpenComment", "UnclosedText": "OpenText"}[kind], 0)
+
+
+def place_after(place: Place, word: bytes) -> Place:
+    """The place behind these bytes: a newline begins a line."""
+    newlines = word.count(b"\n")
+    if not newlines:
+        return Place(place.line, place.column + len(word))
+    return Place(place.line + newlines, len(word) - word.rindex(b"\n"))
+
+
+def lexes(text: bytes) -> list[Token]:
+    """What a whole source gives: its tokens, or its first fault."""
+    tokens, at, offset = [], Place(1, 1), 0
+    while offset < len(text):
+        found = word_of_bytes.match(text, offset)
+        if found is None:
+            raise Fault("BadCharacter", at)
+        word = found.group()
+        try:
+            token = word_meaning(str(found.lastgroup), word, at)
+        except BadWord as bad:
+            raise Fault(bad.kind, place_after(at, word[:bad.before])) from None
+        if token is not None:
+            tokens.append(token)
+        at, offset = place_after(at, word), found.end()
+    return [*tokens, Token(end_class, at, b"")]
