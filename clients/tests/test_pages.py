@@ -18,6 +18,17 @@ PAGES = [*sorted(TOP.glob("*.md")), *sorted((TOP / "docs").rglob("*.md"))]
 LONG = {"PROMISE.md", "ALGORITHM.md", "TALLY.md", "LAWS.md", "COSTS.md", "SPECIFICATION.md", "FAULTS.md", "PROOFS.md"}
 # A page that tools/gallery.sh makes, with a line for each part's files.
 WIDE = {"GALLERY"}
+# Pages, and folders of pages, in which the phrases of docs/WORDS.md are not written.
+PLAIN = [
+    "CONTRIBUTING.md",
+    "docs/ARCHITECTURE.md",
+    "docs/CONTRACTS.md",
+    "docs/GATE.md",
+    "docs/LANGUAGE.md",
+    "docs/SPECIFICATION.md",
+    "docs/THEOREMS.md",
+    "docs/WORDS.md",
+]
 SOURCES = {".rt", ".antt", ".py", ".sh", ".txt", ".scad", ".rs"}
 sys.path.insert(0, str(TOP / "tools"))
 
@@ -176,19 +187,51 @@ class Form(unittest.TestCase):
                 if not is_code and not line.startswith(("|", "    ")):
                     self.assertLessEqual(len(line), 128, f"{page.name}:{number}")
 
-    def test_each_choice_has_its_reason_and_what_was_tried(self) -> None:
+    def test_each_choice_has_its_reason(self) -> None:
         pages = [it for it in PAGES if it.parent.name == "decisions" and it.name != "README.md"]
         self.assertTrue(pages)
         for page in pages:
             for entry in re.split(r"^- ", page.read_text(encoding="utf-8"), flags=re.MULTILINE)[1:]:
                 entry = " ".join(entry.split("\n\n")[0].split())
-                self.assertRegex(entry, r"^\*\*.+?\*\*.* \*Why:\* .+ \*Tried:\* .+", page.name)
+                self.assertRegex(entry, r"^\*\*.+?\*\*.* \*Why:\* .+?( \*(Tried|Considered):\* .+)?$", page.name)
+                self.assertNotRegex(entry, r"(?i):\* nothing else", page.name)
 
     def test_the_list_of_choices_names_each_page(self) -> None:
         folder = TOP / "docs/decisions"
         named = set(re.findall(r"\]\((\w+\.md)\)", (folder / "README.md").read_text(encoding="utf-8")))
         self.assertEqual(named, {it.name for it in folder.glob("*.md")} - {"README.md"})
 
+    def test_each_theorem_has_its_call_and_its_files(self) -> None:
+        lines = (TOP / "docs/THEOREMS.md").read_text(encoding="utf-8").splitlines()
+        rows = [it.split(" | ") for it in lines if it.startswith("| ")]
+        places = {"W": ["crates/{}/must-fail", "wrong-bodies/{}"], "C": ["crates/{}/stdout"], "T": ["clients/tests/{}"]}
+        self.assertGreater(len(rows), 10)
+        for _, contract, definitions, tried in rows[1:]:
+            for calls_named, crate, file in re.findall(r"((?:`\w+`(?:, )?)+): `(\w+): (\w+)`", contract):
+                source = (TOP / f"crates/{crate}/src/{file}.rt").read_text(encoding="utf-8")
+                for name in re.findall(r"`(\w+)`", calls_named):
+                    self.assertRegex(source, rf"pub fn {name}\b|ensures {name}\b")
+            for group in definitions.split("; "):
+                crate, files = group.replace("`", "").split(": ")
+                for file in files.split(", "):
+                    self.assertTrue((TOP / f"crates/{crate}/specs/{file}.antt").is_file(), f"{crate}: {file}")
+            for kind, names in re.findall(r"\b([WCT]) ((?:`[\w.]+`(?:, )?)+)", tried):
+                for name in re.findall(r"`([\w.]+)`", names):
+                    self.assertTrue(any((TOP / it.format(name)).exists() for it in places[kind]), f"{kind} {name}")
+
+    def test_phrases_that_are_not_written_are_not_there(self) -> None:
+        table = (TOP / "docs/WORDS.md").read_text(encoding="utf-8").split("## Phrases that are not written")[1]
+        phrases = re.findall(r"^\| `([^`]+)` \|", table, re.MULTILINE)
+        self.assertGreater(len(phrases), 5)
+        for name in PLAIN:
+            path = TOP / name
+            for page in sorted(path.glob("*.md")) if path.is_dir() else [path]:
+                text = page.read_text(encoding="utf-8")
+                text = text.split("## Phrases that are not written")[0] if page.name == "WORDS.md" else text
+                text = re.sub(r"<!-- made by .*?<!-- end -->", "", text, flags=re.DOTALL)
+                text = " ".join(text.split()).lower()
+                for phrase in phrases:
+                    self.assertNotRegex(text, rf"\b{re.escape(phrase.lower())}\b", page.name)
 
     def test_names_of_the_code_are_there(self) -> None:
         folders = ("crates", "clients", "tools", "bench", "examples")
