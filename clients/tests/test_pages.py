@@ -15,7 +15,7 @@ from tests import calls
 
 TOP = Path(calls.TOP)
 PAGES = [*sorted(TOP.glob("*.md")), *sorted((TOP / "docs").rglob("*.md"))]
-LONG = {"PROMISE.md", "ALGORITHM.md", "TALLY.md", "LAWS.md", "COSTS.md", "SPECIFICATION.md", "FAULTS.md", "PROOFS.md"}
+LONG = {"PROMISE.md", "ALGORITHM.md", "TALLY.md", "LAWS.md", "COSTS.md", "SPECIFICATION.md", "FAULTS.md", "PROOFS.md", "OPENSCAD.md"}
 # A page that tools/gallery.sh makes, with a line for each part's files.
 WIDE = {"GALLERY"}
 # Pages, and folders of pages, in which the phrases of docs/WORDS.md are not written.
