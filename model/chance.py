@@ -34,6 +34,7 @@ class Maker:
         self.chance = chance
         self.wild = chance.choice((0.0, 0.0, 0.004, 0.02, 0.1))
         self.flat = False
+        self.signed = False
         self.functions: dict[str, Sequence[str]] = {}
         self.modules: dict[str, Sequence[str]] = {}
 
@@ -51,6 +52,8 @@ class Maker:
     def numeral(self) -> str:
         if self.is_wild():
             return self.one_of(*LARGE, *BROKEN, "0", "00", "1.0", "2.", ".0")
+        if self.signed and self.chance.random() < 0.4:
+            return self.one_of("0", f"-{self.chance.randrange(1, 12)}", str(self.chance.randrange(60)))
         return str(int(self.chance.random() ** 2 * 7) + 1)
 
     def size(self, depth: int = 0) -> str:
@@ -69,6 +72,8 @@ class Maker:
         if self.is_wild():
             return self.anything(depth)
         below = depth + 1
+        if self.signed and self.chance.random() < 0.3:
+            return f"{self.number(below)} {self.one_of(*OPERATORS[:5])} {self.number(below)}"
         return self.one_of(
             self.variable, self.variable, lambda: f"{self.number(below)} {self.one_of('+', '-', '*')} {self.number(below)}",
             lambda: f"-{self.number(below)}", lambda: f"({self.number(below)})", lambda: self.call(below),
@@ -362,9 +367,22 @@ class Maker:
             faces = self.chance.choice((faces[1:], [*faces, faces[0]], [face[::-1] for face in faces], [first, *faces[1:]]))
         return f"polyhedron({points}, {faces});"
 
-    def program(self) -> str:
+    def probe(self) -> str:
+        """A statement whose solid or fault tells a value."""
+        self.signed = True
+        x = self.anything()
+        kind = "is_undef(x) ? 1 : is_num(x) ? 2 : is_bool(x) ? 3 : is_list(x) ? len(x) + 4 : 4"
+        told = f"is_num(x) ? x : is_list(x) ? len(x) : -1, x == {self.anything(2)} ? 5 : 9"
+        return self.one_of(
+            lambda: f"translate([{self.number()}, {self.number()}, {self.number()}]) cube(1);",
+            lambda: f"x = {x}; translate([{told}]) cube({kind});", lambda: f"if ({x}) cube(1); else cube(2);",
+            lambda: f"assert(({x}) {self.one_of('==', '!=', '<')} {self.anything(2)});",
+            lambda: f"for (i = {self.usually((self.values,), (self.anything,))}) translate([2 * i, 0]) cube(1);",
+            lambda: f"translate({self.list()}) cube(2);", lambda: f"x = {x}; y = {self.anything()}; translate([x, y]) cube(1);")
+
+    def program(self, statements: str) -> str:
         """Statements, and behind or before them what they use."""
-        text = self.statements(0)
+        text = statements
         for _ in range(3):
             text += "".join(" " + it for it in self.missing(text))
         for name in (*NUMBERS, *LISTS, "t"):
@@ -468,7 +486,8 @@ def source(chance: Random) -> bytes:
     elif at < 0.05:
         text = limits(chance)
     else:
-        text = Maker(chance).program()
+        maker = Maker(chance)
+        text = maker.program(maker.statements(0) if at < 0.8 else maker.probe())
     if chance.random() < 0.12:
         text = mutated(chance, text)
     if chance.random() < 0.2:

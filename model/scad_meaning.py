@@ -259,7 +259,10 @@ def each_in_scope(evaluator: Evaluator, here: Context, statements: StatementTerm
 
 
 def body_design(evaluator: Evaluator, op: str, here: Context, body: BodyTerm) -> InstanceDesign:
-    """A body's members in a new scope inside where it stands, joined by an operation."""
+    """A body's members in a new scope inside where it stands, joined by an operation. Where nothing is evaluated, that is
+    told at once: loops may have 100,000 turns."""
+    if not assignments_of(body.statements) and not evaluated_instances(body.statements):
+        return no_design
     scope = entered_scope(body.statements, None, here.env)
     return joined_members(op, each_in_scope(evaluator, inside_scope(here, scope), body.statements))
 
