@@ -408,7 +408,8 @@ class Handler(BaseHTTPRequestHandler):
                 unit_said = str(scale) if scale else None
                 notes = [it.as_json() for it in solved.notes]
                 answer: dict[str, object] = {"solid": solved.text.decode(), "unit": unit_said, "notes": notes, "parameters": found}
-                self._send_json({**answer, "milliseconds": _since(began)})
+                answer["milliseconds"] = _since(began)
+                self._send_json(answer)
                 return
             from .downloads import written  # (which takes a while to load)
 
@@ -419,7 +420,8 @@ class Handler(BaseHTTPRequestHandler):
             status = HTTPStatus.UNPROCESSABLE_ENTITY if fault.is_of_source else HTTPStatus.SERVICE_UNAVAILABLE
             faults, notes = [it.as_json() for it in fault.faults], [it.as_json() for it in fault.notes]
             told: dict[str, object] = {"faults": faults, "notes": notes, "parameters": found}
-            self._send_json({**told, "milliseconds": _since(began)}, status)
+            told["milliseconds"] = _since(began)
+            self._send_json(told, status)
             return
         name = os.path.basename(request.file)[: -len(".scad")] + FORMATS[form].ending
         disposition = f"attachment; filename*=UTF-8''{quote(name, safe='')}"

@@ -11,7 +11,7 @@ import math
 from bisect import bisect, bisect_left
 from dataclasses import dataclass, field
 from fractions import Fraction
-from typing import Callable, Iterable, Iterator, List, Mapping, Sequence, TypeVar, Union
+from typing import Callable, Iterable, Iterator, List, Mapping, Sequence, TypeVar, Union, cast
 
 from .exact_hull import Hull, Plane, Point, hull
 from .frames import Frame, basis, whole
@@ -276,7 +276,7 @@ def _written(tree: "Union[L, Join[L]]", depth: int, modules: List[List[str]], te
         yield from _broken(text_of(tree))
         return
     if depth == 24:
-        lines = list(_written(tree, 0, modules, text_of))
+        lines = list(_written(cast("Union[L, Join[L]]", tree), 0, modules, text_of))
         modules.append(lines)
         yield f"part_{len(modules)}();"
         return

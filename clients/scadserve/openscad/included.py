@@ -22,7 +22,7 @@ _ORDINARY = "copy it to an ordinary file: OpenSCAD reads a file more than once"
 
 def check(file: str, folders: Sequence[str]) -> None:
     """Looks at a source and at all that it includes or uses, where that is there. Raises OSError and Refused."""
-    around = [*folders, *os.environ.get("OPENSCADPATH", "").split(os.pathsep), *map(os.path.expanduser, _LIBRARIES)]
+    around = [*folders, *os.environ.get("OPENSCADPATH", "").split(os.pathsep), *(os.path.expanduser(it) for it in _LIBRARIES)]
     seen: set[str] = set()
     waiting = [(file, Spot(file, 1, 0, None))]
     while waiting:
